@@ -1,0 +1,10 @@
+// Programs of the register language: registers, instructions, functions and their numbers.
+#![tactic(auto)]
+
+mod instr;
+mod number;
+mod program;
+
+pub use instr::{FieldCount, Instr, IntReg, Operator, RefReg};
+pub use number::{read_i64, read_u32};
+pub use program::{Fun, Line, Program};

@@ -1,0 +1,79 @@
+// Programs: functions with their code, in which every index is in range.
+
+ghost use Rattle.std.specs.Prelude.{◌≡◌, Some, option_copied, slice_get};
+ghost use Rattle.hh_lang.specs.Form.{IsProgram, line_at};
+
+use crate::instr::Instr;
+use listed::Listed;
+use std::marker::Model;
+
+/// An instruction, and the number of the text's line that it stands on, from 1.
+#[derive(Clone, Copy)]
+pub struct Line {
+    pub instr: Instr,
+    pub number: u32,
+}
+
+/// A function: its name in ASCII letters, digits and `_`, and its code.
+#[derive(Drop)]
+pub struct Fun {
+    pub name: Listed<u8>,
+    pub code: Listed<Line>,
+}
+
+/// A program whose indices are all in range, whose functions all end with a return, and which has a `main`.
+#[derive(Drop)]
+pub struct Program {
+    functions: Listed<Fun>,
+    main: u32,
+}
+
+impl Model for Program {
+    ghost use Rattle.hh_lang.specs.Form.{ProgramText, IsProgram};
+
+    ghost Value = { ProgramText };
+
+    ghost view = { λ p. record { functions = p.functions; main = p.main } };
+
+    ghost invariant = { λ p. IsProgram (record { functions = p.functions; main = p.main }) };
+}
+
+impl Program {
+    /// The program of these functions, of which one is main.
+    pub fn new(functions: Listed<Fun>, main: u32) -> Program
+        requires { IsProgram (record { functions = functions; main = main }) }
+        ensures { result ≡ record { functions = functions; main = main } }
+    {
+        Program { functions, main }
+    }
+
+    /// The number of the function `main`.
+    pub fn main(&self) -> u32
+        ensures { result ≡ self.now.main }
+    {
+        self.main
+    }
+
+    pub fn functions(&self) -> &Listed<Fun>
+        ensures { result.now ≡ self.now.functions }
+    {
+        &self.functions
+    }
+
+    /// What stands at a place of a function's code, if there is such a place.
+    pub fn line(&self, function: u32, place: u32) -> Option<Line>
+        ensures { result ≡ line_at self.now function place }
+    {
+        match self.functions.get(function as usize) {
+            None => None,
+            Some(fun) => fun.code.get(place as usize).copied(),
+        }
+    }
+
+    /// The laws of its form, for callers who hold a program.
+    pub fn form(&self)
+        ensures { IsProgram self.now }
+    {
+        let _ = &self.functions;
+    }
+}
