@@ -1,0 +1,18 @@
+-- Sources and sinks in memory, as contracts see them.
+use Rattle.std.specs.Prelude.{ℕ, List}
+
+-- the bytes still to come, the most that a call gives, the calls so far, the calls that fail (the first is 1), the faults so far
+pub record Input : Type 0 where
+  pub left : List ℕ
+  pub most : ℕ
+  pub calls : ℕ
+  pub failing : List ℕ
+  pub faults : ℕ
+
+-- the bytes taken so far, and the same as above
+pub record Output : Type 0 where
+  pub written : List ℕ
+  pub most : ℕ
+  pub calls : ℕ
+  pub failing : List ℕ
+  pub faults : ℕ

@@ -1,0 +1,133 @@
+// The trusted edge: standard input and output as a source and a sink. They tell no content, only their faults.
+
+ghost use Rattle.std.specs.Prelude.{◌≡◌, ◌<◌, ◌≤◌, length, None};
+
+use crate::fault::{Failed, one_more};
+use crate::sink::Sink;
+use crate::source::Source;
+use std::io::{Read, Write};
+
+/// A reader, as of standard input, as a source.
+#[derive(Drop)]
+pub struct FileSource<R> {
+    reader: R,
+    faults: u64,
+}
+
+/// A writer, as of standard output, as a sink. A writer that takes nothing of a piece has failed.
+#[derive(Drop)]
+pub struct OutSink<W> {
+    writer: W,
+    faults: u64,
+}
+
+impl<R> FileSource<R> {
+    pub fn new(reader: R) -> FileSource<R>
+        ensures { result ≡ record { reader = reader; faults = 0 } }
+    {
+        FileSource { reader, faults: 0 }
+    }
+}
+
+impl<R: Read> Source for FileSource<R> {
+    ghost use Rattle.std.specs.Prelude.{None};
+
+    ghost left = { λ _. None };
+
+    ghost faults = { λ s. s.faults };
+
+    fn take(&mut self, buf: &mut [u8]) -> Result<usize, Failed> {
+        match self.reader.read(buf) {
+            Ok(count) => Ok(count),
+            Err(_) => {
+                self.faults = one_more(self.faults);
+                Err(Failed)
+            }
+        }
+    }
+}
+
+impl<W> OutSink<W> {
+    pub fn new(writer: W) -> OutSink<W>
+        ensures { result ≡ record { writer = writer; faults = 0 } }
+    {
+        OutSink { writer, faults: 0 }
+    }
+}
+
+impl<W: Write> Sink for OutSink<W> {
+    ghost use Rattle.std.specs.Prelude.{None};
+
+    ghost written = { λ _. None };
+
+    ghost faults = { λ s. s.faults };
+
+    fn put(&mut self, bytes: &[u8]) -> Result<usize, Failed> {
+        match self.writer.write(bytes) {
+            Ok(count) if count > 0 => Ok(count),
+            _ => {
+                self.faults = one_more(self.faults);
+                Err(Failed)
+            }
+        }
+    }
+}
+
+#[cfg(test)]
+mod tests {
+    use super::*;
+    use std::io;
+    use std::io::ErrorKind;
+    use std::test::Fail;
+
+    // A reader and a writer that fail at each second call, and take one byte at the others.
+    #[derive(Drop)]
+    struct Flaky {
+        fails: bool,
+    }
+
+    impl Read for Flaky {
+        fn read(&mut self, buf: &mut [u8]) -> io::Result<usize> {
+            self.fails = !self.fails;
+            if self.fails || buf.is_empty() {
+                return Err(io::Error::from(ErrorKind::BrokenPipe));
+            }
+            buf[0] = 7;
+            Ok(1)
+        }
+    }
+
+    impl Write for Flaky {
+        fn write(&mut self, buf: &[u8]) -> io::Result<usize> {
+            self.fails = !self.fails;
+            Ok(if self.fails || buf.is_empty() { 0 } else { 1 })
+        }
+
+        fn flush(&mut self) -> io::Result<()> {
+            Ok(())
+        }
+    }
+
+    #[test]
+    fn a_reader_is_a_source(rt: HostRuntime) {
+        let mut source = FileSource::new(Flaky { fails: false });
+        let mut buf = [0u8; 4];
+        assert_eq!(rt; source.take(&mut buf), Err(Failed));
+        assert_eq!(rt; source.faults, 1);
+        assert_eq!(rt; source.take(&mut buf), Ok(1));
+        assert_eq!(rt; buf[0], 7);
+        assert_eq!(rt; source.faults, 1);
+    }
+
+    #[test]
+    fn a_writer_is_a_sink(rt: HostRuntime) -> Result<(), Fail> {
+        let mut sink = OutSink::new(Flaky { fails: false });
+        assert_eq!(rt; sink.put(b"ab"), Err(Failed));
+        assert_eq!(rt; sink.put(b"ab"), Ok(1));
+        assert_eq!(rt; sink.faults, 1);
+        let mut sink = OutSink::new(Vec::new(rt.alloc()));
+        assert_eq!(rt; sink.put(b"ab"), Ok(2));
+        assert_eq!(rt; sink.writer.as_slice(), b"ab".as_slice());
+        Ok(())
+    }
+}

@@ -1,0 +1,16 @@
+// What the program meets outside: where bytes come from, where they go, and the gate that its workers pass.
+#![tactic(auto)]
+
+mod adapters;
+mod fault;
+mod gate;
+mod memory;
+mod sink;
+mod source;
+
+pub use adapters::{FileSource, OutSink};
+pub use fault::Failed;
+pub use gate::{EmptyGate, Gate, Point};
+pub use memory::{MemSink, MemSource};
+pub use sink::Sink;
+pub use source::Source;

@@ -1,0 +1,210 @@
+// Sources and sinks in memory, which tell their bytes and fail at chosen calls.
+
+ghost use Rattle.std.specs.Prelude.{◌≡◌, ◌<◌, ◌≤◌, ◌↔◌, ◌++◌, [], ◌⊎◌, length, take, drop, min, IfOk, OnErr, IsErr, IsTrue, Contains, Some};
+ghost use Rattle.outside_io.specs.Fault.{HasRisen, raised};
+ghost use Rattle.outside_io.specs.Told.{Gives, with_more};
+
+use crate::fault::{Failed, one_more};
+use crate::sink::Sink;
+use crate::source::Source;
+use std::alloc::{AllocError, Global};
+use std::marker::Model;
+
+/// Bytes in memory as a source.
+#[derive(Drop)]
+pub struct MemSource {
+    bytes: Vec<u8>,
+    at: usize,
+    most: usize,
+    calls: u64,
+    failing: Vec<u64>,
+    faults: u64,
+}
+
+impl Model for MemSource {
+    ghost use Rattle.std.specs.Prelude.{ℕ, ◌<◌, ◌≤◌, length, drop};
+    ghost use Rattle.outside_io.specs.Memory.{Input};
+
+    ghost Value = { Input };
+
+    ghost view = { λ s. record { left = drop s.at s.bytes.items; most = s.most; calls = s.calls; failing = s.failing.items; faults = s.faults } };
+
+    ghost invariant = { λ s. (s.at ≤ length s.bytes.items) × (0 < s.most) };
+}
+
+/// Bytes in memory as a sink.
+#[derive(Drop)]
+pub struct MemSink {
+    bytes: Vec<u8>,
+    most: usize,
+    calls: u64,
+    failing: Vec<u64>,
+    faults: u64,
+}
+
+impl Model for MemSink {
+    ghost use Rattle.std.specs.Prelude.{ℕ, ◌<◌};
+    ghost use Rattle.outside_io.specs.Memory.{Output};
+
+    ghost Value = { Output };
+
+    ghost view = { λ s. record { written = s.bytes.items; most = s.most; calls = s.calls; failing = s.failing.items; faults = s.faults } };
+
+    ghost invariant = { λ s. 0 < s.most };
+}
+
+// Copies the first bytes of one list over the first ones of another.
+fn copy_front(to: &mut [u8], from: &[u8], count: usize)
+    requires room { count ≤ length to.old }
+    requires there { count ≤ length from.now }
+    ensures { take count to.new ≡ take count from.now }
+{
+    to[..count].copy_from_slice(&from[..count]);
+}
+
+impl MemSource {
+    /// A source of these bytes that gives at most so many in a call, and fails at the calls with these numbers, from 1.
+    pub fn new(bytes: Vec<u8>, most: usize, failing: Vec<u64>) -> MemSource
+        requires { 0 < most }
+        ensures { result ≡ record { left = bytes.items; most = most; calls = 0; failing = failing.items; faults = 0 } }
+    {
+        MemSource {
+            bytes,
+            at: 0,
+            most,
+            calls: 0,
+            failing,
+            faults: 0,
+        }
+    }
+
+    /// The bytes that are still to come.
+    pub fn left(&self) -> &[u8]
+        ensures { result.now ≡ self.now.left }
+    {
+        &self.bytes[self.at..]
+    }
+}
+
+impl Source for MemSource {
+    ghost use Rattle.std.specs.Prelude.{Some};
+
+    ghost left = { λ s. Some s.left };
+
+    ghost faults = { λ s. s.faults };
+
+    fn take(&mut self, buf: &mut [u8]) -> Result<usize, Failed>
+        requires { 0 < length buf.old }
+        ensures within { IfOk result (λ n. n ≤ length buf.new) }
+        ensures given { IfOk result (λ n. Gives (Some self.old.left) (Some self.new.left) (take n buf.new)) }
+        ensures failed { OnErr result (HasRisen self.old.faults self.new.faults) }
+        ensures kept { OnErr result (self.new.left ≡ self.old.left) }
+        ensures never_falls { self.old.faults ≤ self.new.faults }
+        ensures fails { IsErr result ↔ Contains self.old.failing (raised self.old.calls) }
+        ensures amount { IfOk result (λ n. n ≡ min (length buf.new) (min self.old.most (length self.old.left))) }
+        ensures counted { self.new.calls ≡ raised self.old.calls }
+        ensures settings { (self.new.most ≡ self.old.most) × (self.new.failing ≡ self.old.failing) }
+    {
+        self.calls = one_more(self.calls);
+        if self.failing.contains(&self.calls) {
+            self.faults = one_more(self.faults);
+            return Err(Failed);
+        }
+        let left = &self.bytes[self.at..];
+        let count = buf.len().min(self.most.min(left.len()));
+        copy_front(buf, left, count);
+        self.at += count;
+        Ok(count)
+    }
+}
+
+impl MemSink {
+    /// An empty sink that takes at most so many bytes in a call, and fails at the calls with these numbers, from 1.
+    /// A call fails too where there is no memory for what it takes.
+    pub fn new(alloc: Global, most: usize, failing: Vec<u64>) -> MemSink
+        requires { 0 < most }
+        ensures { result ≡ record { written = []; most = most; calls = 0; failing = failing.items; faults = 0 } }
+    {
+        MemSink {
+            bytes: Vec::new(alloc),
+            most,
+            calls: 0,
+            failing,
+            faults: 0,
+        }
+    }
+
+    /// The bytes that it took.
+    pub fn written(&self) -> &[u8]
+        ensures { result.now ≡ self.now.written }
+    {
+        self.bytes.as_slice()
+    }
+}
+
+impl Sink for MemSink {
+    ghost use Rattle.std.specs.Prelude.{Some};
+
+    ghost written = { λ s. Some s.written };
+
+    ghost faults = { λ s. s.faults };
+
+    fn put(&mut self, bytes: &[u8]) -> Result<usize, Failed>
+        requires { 0 < length bytes.now }
+        ensures within { IfOk result (λ n. n ≤ length bytes.now) }
+        ensures some { IfOk result (λ n. 0 < n) }
+        ensures taken { IfOk result (λ n. Some self.new.written ≡ with_more (Some self.old.written) (take n bytes.now)) }
+        ensures failed { OnErr result (HasRisen self.old.faults self.new.faults) }
+        ensures kept { OnErr result (Some self.new.written ≡ Some self.old.written) }
+        ensures never_falls { self.old.faults ≤ self.new.faults }
+        ensures fails { Contains self.old.failing (raised self.old.calls) → IsErr result }
+        ensures amount { IfOk result (λ n. n ≡ min self.old.most (length bytes.now)) }
+        ensures counted { self.new.calls ≡ raised self.old.calls }
+        ensures settings { (self.new.most ≡ self.old.most) × (self.new.failing ≡ self.old.failing) }
+    {
+        self.calls = one_more(self.calls);
+        if self.failing.contains(&self.calls) {
+            self.faults = one_more(self.faults);
+            return Err(Failed);
+        }
+        let count = self.most.min(bytes.len());
+        match self.bytes.extend_from_slice(&bytes[..count]) {
+            Ok(()) => Ok(count),
+            Err(AllocError) => {
+                self.faults = one_more(self.faults);
+                Err(Failed)
+            }
+        }
+    }
+}
+
+#[cfg(test)]
+mod tests {
+    use super::*;
+    use std::test::Fail;
+
+    #[test]
+    fn a_source_gives_its_bytes_and_fails_where_told(rt: HostRuntime) -> Result<(), Fail> {
+        let alloc = rt.alloc();
+        let mut source = MemSource::new(b"hello".to_vec(alloc)?, 4, vec![in alloc; 2]?);
+        let mut buf = [0u8; 8];
+        assert_eq!(rt; source.take(&mut buf), Ok(4));
+        assert_eq!(rt; &buf[..4], b"hell".as_slice());
+        assert_eq!(rt; source.take(&mut buf), Err(Failed));
+        assert_eq!(rt; source.left(), b"o".as_slice());
+        assert_eq!(rt; source.take(&mut buf), Ok(1));
+        assert_eq!(rt; source.take(&mut buf), Ok(0));
+        Ok(())
+    }
+
+    #[test]
+    fn a_sink_keeps_what_it_took(rt: HostRuntime) -> Result<(), Fail> {
+        let alloc = rt.alloc();
+        let mut sink = MemSink::new(alloc, 3, vec![in alloc; 2]?);
+        assert_eq!(rt; sink.put(b"hello"), Ok(3));
+        assert_eq!(rt; sink.put(b"lo"), Err(Failed));
+        assert_eq!(rt; sink.put(b"lo"), Ok(2));
+        assert_eq!(rt; sink.written(), b"hello".as_slice());
+        Ok(())
+    }
+}
