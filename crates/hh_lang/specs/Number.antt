@@ -1,5 +1,6 @@
 -- How numbers are written: an optional minus and decimal digits.
-use Rattle.std.specs.Prelude.{ℕ, ℤ, pos, neg_ℤ, List, drop, cond}
+use Rattle.std.specs.Prelude.{ℕ, ◌^◌, ℤ, pos, negsuc, neg_ℤ, Bool, true, ◌&&◌, List, [], ◌∷◌, drop, cond, length, nat_lt, Option, Some, None, if◌then◌else◌}
+use Rattle.std.specs.Char.{digit_value}
 use Rattle.std.specs.Str.Parse.{IsNumeral, digits_value, starts_with_minus}
 
 -- the digits of a number, behind its minus
@@ -12,3 +13,21 @@ IsNumber bs = IsNumeral 10 (digits_of bs)
 
 abbrev pub number_of : List ℕ → ℤ
 number_of bs = cond (starts_with_minus bs) (neg_ℤ (pos (digits_value 10 (digits_of bs)))) (pos (digits_value 10 (digits_of bs)))
+
+-- THE SAME AS TESTS
+
+abbrev pub are_digits : List ℕ → Bool
+are_digits [] = true
+are_digits (c ∷ cs) = nat_lt (digit_value c) 10 && are_digits cs
+
+abbrev pub is_numeral : List ℕ → Bool
+is_numeral ds = nat_lt 0 (length ds) && are_digits ds
+
+-- from -2^63 to 2^63 - 1
+abbrev pub fits_i64 : ℤ → Bool
+fits_i64 (pos n) = nat_lt n (2 ^ 63)
+fits_i64 (negsuc n) = nat_lt n (2 ^ 63)
+
+-- the number that a text writes, if it writes one that fits
+abbrev pub signed_number : List ℕ → Option ℤ
+signed_number bs = if is_numeral (digits_of bs) && fits_i64 (number_of bs) then Some (number_of bs) else None

@@ -3,7 +3,7 @@
 ghost use Rattle.std.specs.Prelude.{◌≡◌, ◌<◌, ◌^◌, SomeIff, FitsSigned};
 ghost use Rattle.std.specs.Int.{w64};
 ghost use Rattle.std.specs.Str.Parse.{IsNumeral, digits_value};
-ghost use Rattle.hh_lang.specs.Number.{IsNumber, number_of};
+ghost use Rattle.hh_lang.specs.Number.{IsNumber, number_of, signed_number};
 
 /// Reads decimal digits without a sign; None where it isn't such a text, or its number doesn't fit.
 pub fn read_u32(bytes: &[u8]) -> Option<u32>
@@ -18,8 +18,8 @@ pub fn read_u32(bytes: &[u8]) -> Option<u32>
     }
 }
 
-/// Reads an optional minus and decimal digits; None where it isn't such a text, or its number doesn't fit.
-pub fn read_i64(bytes: &[u8]) -> Option<i64>
+// The number that a text writes, by what it says.
+fn parse_i64(bytes: &[u8]) -> Option<i64>
     ensures { SomeIff result (IsNumber bytes.now × FitsSigned w64 (number_of bytes.now)) (number_of bytes.now) }
 {
     if bytes.first() == Some(&b'+') {
@@ -29,6 +29,14 @@ pub fn read_i64(bytes: &[u8]) -> Option<i64>
         Ok(text) => text.parse::<i64>().ok(),
         Err(_) => None,
     }
+}
+
+/// Reads an optional minus and decimal digits; None where it isn't such a text, or its number doesn't fit.
+pub fn read_i64(bytes: &[u8]) -> Option<i64>
+    ensures exact { SomeIff result (IsNumber bytes.now × FitsSigned w64 (number_of bytes.now)) (number_of bytes.now) }
+    ensures value { result ≡ signed_number bytes.now }
+{
+    parse_i64(bytes)
 }
 
 #[cfg(test)]

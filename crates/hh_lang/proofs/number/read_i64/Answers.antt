@@ -1,5 +1,5 @@
-use Rattle.hh_lang.proofs.Digits.{numbers_are_utf8}
+use Rattle.hh_lang.proofs.Tests.{as_option}
 use Rattle.hh_lang.proofs.number.read_i64.Goals as goal
 
-pub returns-in-Err : goal.returns-in-Err
-returns-in-Err c = λ h. c.in-Err.ensures.cases.0 (numbers_are_utf8 c.args.bytes.now h.0)
+pub returns-clause-value : goal.returns-clause-value
+returns-clause-value c = as_option c.args.bytes.now c.parse_i64.result c.parse_i64.ensures

@@ -1,0 +1,50 @@
+-- The tests on texts of numbers say what the relations say.
+use Rattle.std.proofs.Common.{◌≡◌, ◌<◌, ◌^◌, ℕ, Bool, true, false, List, [], ◌∷◌, cond, length, arith, refl, ap}
+use Rattle.std.specs.Prelude.{ℤ, pos, negsuc, ◌&&◌, nat_lt, Option, Some, None, SomeIff, FitsSigned}
+use Rattle.std.specs.Int.{w64}
+use Rattle.std.specs.Char.{digit_value}
+use Rattle.std.specs.Str.Parse.{IsNumeral, AllDigits}
+use Rattle.std.proofs.lemmas.Bool.{and_parts}
+use Rattle.hh_lang.specs.Number.{IsNumber, digits_of, number_of, are_digits, is_numeral, fits_i64, signed_number}
+
+digits_pass : (ds : List ℕ) → AllDigits 10 ds → are_digits ds ≡ true
+digits_pass [] h = refl
+digits_pass (c ∷ cs) h = let i = digits_pass cs h.1 in let d : digit_value c < 10 = h.0 in grind (arith, i, d)
+
+below_ten : (d : ℕ) → nat_lt d 10 ≡ true → d < 10
+below_ten d e = grind (arith, e)
+
+passed_digits : (ds : List ℕ) → are_digits ds ≡ true → AllDigits 10 ds
+passed_digits [] e = tt
+passed_digits (c ∷ cs) e = let both = and_parts (nat_lt (digit_value c) 10) (are_digits cs) e in (below_ten (digit_value c) both.0, passed_digits cs both.1)
+
+fits_passes : (z : ℤ) → FitsSigned w64 z → fits_i64 z ≡ true
+fits_passes (pos n) h = let f : n < 2 ^ 63 = h.sfits in grind (arith, f)
+fits_passes (negsuc n) h = let f : n < 2 ^ 63 = h.sfits in grind (arith, f)
+
+passed_fits : (z : ℤ) → fits_i64 z ≡ true → FitsSigned w64 z
+passed_fits (pos n) e = record { sfits = let f : n < 2 ^ 63 = grind (arith, e) in f }
+passed_fits (negsuc n) e = record { sfits = let f : n < 2 ^ 63 = grind (arith, e) in f }
+
+numeral_passes : (ds : List ℕ) → IsNumeral 10 ds → is_numeral ds ≡ true
+numeral_passes ds h = let i = digits_pass ds h.1 in let l : 0 < length ds = h.0 in grind (arith, i, l)
+
+passed_numeral : (ds : List ℕ) → is_numeral ds ≡ true → IsNumeral 10 ds
+passed_numeral ds e = let both = and_parts (nat_lt 0 (length ds)) (are_digits ds) e in (grind (arith, both.0), passed_digits ds both.1)
+
+abbrev test : List ℕ → Bool
+test bs = is_numeral (digits_of bs) && fits_i64 (number_of bs)
+
+passes : (bs : List ℕ) → IsNumber bs × FitsSigned w64 (number_of bs) → test bs ≡ true
+passes bs h = let a = numeral_passes (digits_of bs) h.0 in let b = fits_passes (number_of bs) h.1 in rw (a, b) refl
+
+passed : (bs : List ℕ) → test bs ≡ true → IsNumber bs × FitsSigned w64 (number_of bs)
+passed bs e = let both = and_parts (is_numeral (digits_of bs)) (fits_i64 (number_of bs)) e in (passed_numeral (digits_of bs) both.0, passed_fits (number_of bs) both.1)
+
+none_by : (bs : List ℕ) (b : Bool) → test bs ≡ b → (IsNumber bs × FitsSigned w64 (number_of bs) → ⊥) → None ≡ cond b (Some (number_of bs)) None
+none_by bs true e fails = absurd (fails (passed bs e))
+none_by bs false e fails = refl
+
+pub as_option : (bs : List ℕ) (r : Option ℤ) → SomeIff r (IsNumber bs × FitsSigned w64 (number_of bs)) (number_of bs) → r ≡ signed_number bs
+as_option bs None h = none_by bs (test bs) refl h
+as_option bs (Some z) h = rw (passes bs h.0) (ap Some h.1)
