@@ -1,0 +1,160 @@
+-- What an instruction changes in the store: nothing, or one new object, or one object that a register names.
+use Rattle.std.proofs.Common.{◌≡◌, ℕ, ℤ, pos, ◌==◌, Bool, true, false, cond, Option, Some, None, List, [], ◌∷◌, ◌++◌, length, slice_get, slice_set, ◌⊎◌, inl, inr, refl, eqb-true}
+use Rattle.listed.proofs.Members.{In}
+use Rattle.hh_lang.specs.declared.instr.Instr.{Instr}
+use Rattle.hh_lang.specs.declared.instr.Instr.TheVariants.{Set, Mov, Movr, Nil as NilOf, Calc, Same, Jmp, Jz, Newm, Pack, Getr, Geti, Putr, Puti, Cntr, Cnti, Freeze, Cas, Call, Par, Ret, Out}
+use Rattle.hh_model.specs.declared.data.Name.{Name}
+use Rattle.hh_model.specs.declared.data.Object.{Object}
+use Rattle.hh_model.specs.declared.data.Frame.{Frame}
+use Rattle.hh_model.specs.declared.data.Trap.{Trap}
+use Rattle.hh_model.specs.declared.data.Trap.TheVariants.{Nil, Range, Frozen, Div as DivTrap, Size}
+use Rattle.hh_model.specs.Effect.{Effect, Goes, Prints, Calls, Forks, Returns, Traps, Stops, Setting, effect, object_at, put_object, row_of, or_trap, with_object, made, read_effect, int_in, ref_in, onward, same_name, calculated, counts_in, place_in, flat, with_int}
+use Rattle.hh_model.specs.Precedence.{precedes}
+use Rattle.hh_model.specs.Store.{IsWriteTo}
+use Rattle.hh_model.proofs.Carried.{at_in, in_take, none_in}
+
+-- a new object of the task, at its strand; a mutable one refers to nothing, an immutable one to what registers hold
+pub record Allocates (s : Setting) (f : Frame) (store store' : List (List Object)) : Type 0 where
+  pub new : Object
+  pub strand : new.strand ≡ s.strand
+  pub fields : (r : Name) → In new.refs (Some r) → (new.mutable ≡ false) × In f.refs (Some r)
+  pub is : store' ≡ slice_set store s.task (row_of (slice_get store s.task) ++ new ∷ [])
+
+-- a reference field of a mutable object, set to what a register holds
+abbrev pub SetsRef : Frame → Object → Object → Type 0
+SetsRef f x y = (x.mutable ≡ true) × ((at : ℕ) × (v : Option Name) × (y ≡ record x { refs = slice_set x.refs at v }) × ((r : Name) → v ≡ Some r → In f.refs (Some r)))
+
+-- a number field of a mutable object
+abbrev pub SetsInt : Object → Object → Type 0
+SetsInt x y = (x.mutable ≡ true) × ((at : ℕ) × (k : ℤ) × (y ≡ record x { ints = slice_set x.ints at k }))
+
+-- an object that the task owns becomes immutable
+abbrev pub Freezes : Setting → Name → Object → Object → Type 0
+Freezes s n x y = (s.owner n.task ≡ s.task) × (y ≡ record x { mutable = false })
+
+pub record Writes (s : Setting) (f : Frame) (instr : Instr) (store store' : List (List Object)) : Type 0 where
+  pub name : Name
+  pub old : Object
+  pub new : Object
+  pub held : In f.refs (Some name)
+  pub was : object_at store name ≡ Some old
+  pub by : IsWriteTo f instr name
+  pub how : SetsRef f old new ⊎ (SetsInt old new ⊎ Freezes s name old new)
+  pub is : store' ≡ put_object store name new
+
+abbrev pub Change : Setting → Frame → Instr → List (List Object) → List (List Object) → Type 0
+Change s f instr store store' = (store' ≡ store) ⊎ (Allocates s f store store' ⊎ Writes s f instr store store')
+
+abbrev pub Changes : Setting → Frame → Instr → List (List Object) → Effect → Type 0
+Changes s f instr store (Goes f' store') = Change s f instr store store'
+Changes s f instr store (Prints k) = Unit {0}
+Changes s f instr store (Calls g) = Unit {0}
+Changes s f instr store (Forks g h) = Unit {0}
+Changes s f instr store Returns = Unit {0}
+Changes s f instr store (Traps t) = Unit {0}
+Changes s f instr store (Stops n) = Unit {0}
+
+module _ (s : Setting) (f : Frame) (instr : Instr) (store : List (List Object)) where
+  abbrev D : Effect → Type 0
+  D e = Changes s f instr store e
+
+  trap_changes : {A : Type 0} (t : Trap) (o : Option A) (go : A → Effect) → ((x : A) → o ≡ Some x → D (go x)) → D (or_trap t o go)
+  trap_changes t None go each = tt
+  trap_changes t (Some x) go each = each x refl
+
+  object_by : (r : Option Name) (go : Name → Object → Effect) → ((n : Name) (x : Object) → r ≡ Some n → object_at store n ≡ Some x → D (go n x)) → D (with_object store r go)
+  object_by None go each = tt
+  object_by (Some n) go each = trap_changes Nil (object_at store n) (go n) (λ x e. each n x refl e)
+
+  object_changes : (i : ℕ) (go : Name → Object → Effect) → ((n : Name) (x : Object) → ref_in f i ≡ Some n → object_at store n ≡ Some x → D (go n x)) → D (with_object store (ref_in f i) go)
+  object_changes i go each = object_by (ref_in f i) go each
+
+  either_changes : (b : Bool) (x y : Effect) → (b ≡ true → D x) → (b ≡ false → D y) → D (cond b x y)
+  either_changes true x y k l = k refl
+  either_changes false x y k l = l refl
+
+  read_changes : (d : ℕ) (r : Option Name) → D (read_effect s f store d r)
+  read_changes d None = inl refl
+  read_changes d (Some n) = trap_changes Nil (object_at store n) _ (λ x e. either_changes (precedes s.edges x.strand s.strand) _ _ (λ h. inl refl) (λ h. tt))
+
+  made_changes : (d : ℕ) (o : Object) → o.strand ≡ s.strand → ((r : Name) → In o.refs (Some r) → (o.mutable ≡ false) × In f.refs (Some r)) → D (made s f store d o)
+  made_changes d o same fields = inr (inl (record { new = o; strand = same; fields = fields; is = refl }))
+
+  set_ref : (i v at : ℕ) (n : Name) (x : Object) → ref_in f i ≡ Some n → object_at store n ≡ Some x → IsWriteTo f instr n → x.mutable ≡ true → (g : Frame)
+      → D (Goes g (put_object store n (record x { refs = slice_set x.refs at (ref_in f v) })))
+  set_ref i v at n x reg is by mutable g = inr (inr (record {
+    name = n;
+    old = x;
+    new = record x { refs = slice_set x.refs at (ref_in f v) };
+    held = at_in f.refs i n reg;
+    was = is;
+    by = by;
+    how = inl (mutable, (at, ref_in f v, refl, λ r e. at_in f.refs v r e));
+    is = refl;
+  }))
+
+  set_int : (i at : ℕ) (k : ℤ) (n : Name) (x : Object) → ref_in f i ≡ Some n → object_at store n ≡ Some x → IsWriteTo f instr n → x.mutable ≡ true → (g : Frame)
+      → D (Goes g (put_object store n (record x { ints = slice_set x.ints at k })))
+  set_int i at k n x reg is by mutable g = inr (inr (record {
+    name = n;
+    old = x;
+    new = record x { ints = slice_set x.ints at k };
+    held = at_in f.refs i n reg;
+    was = is;
+    by = by;
+    how = inr (inl (mutable, (at, k, refl)));
+    is = refl;
+  }))
+
+  freezes : (i : ℕ) (n : Name) (x : Object) → ref_in f i ≡ Some n → object_at store n ≡ Some x → IsWriteTo f instr n → s.owner n.task ≡ s.task → (g : Frame)
+      → D (Goes g (put_object store n (record x { mutable = false })))
+  freezes i n x reg is by own g = inr (inr (record {
+    name = n;
+    old = x;
+    new = record x { mutable = false };
+    held = at_in f.refs i n reg;
+    was = is;
+    by = by;
+    how = inr (inr (own, refl));
+    is = refl;
+  }))
+
+pub effect_changes : (s : Setting) (f : Frame) (store : List (List Object)) (instr : Instr) → Changes s f instr store (effect s f store instr)
+effect_changes s f store (Set d k) = inl refl
+effect_changes s f store (Mov d a) = inl refl
+effect_changes s f store (Movr d a) = inl refl
+effect_changes s f store (NilOf d) = inl refl
+effect_changes s f store (Calc op d a b) = trap_changes s f (Calc op d a b) store DivTrap (calculated op (int_in f a) (int_in f b)) _ (λ x e. inl refl)
+effect_changes s f store (Same d a b) = inl refl
+effect_changes s f store (Jmp to) = inl refl
+effect_changes s f store (Jz a to) = inl refl
+effect_changes s f store (Newm d a b) =
+    trap_changes s f (Newm d a b) store Size (counts_in s.field_limit (int_in f a) (int_in f b)) _ (λ n e.
+    made_changes s f (Newm d a b) store d _ refl (λ r h. absurd (none_in n.0 r h)))
+effect_changes s f store (Pack d r i) = made_changes s f (Pack d r i) store d _ refl (λ n h. (refl, in_take r f.refs (Some n) h))
+effect_changes s f store (Getr d o k) =
+    object_changes s f (Getr d o k) store o _ (λ n x reg is. trap_changes s f (Getr d o k) store Range (place_in (length x.refs) (int_in f k)) _ (λ at e.
+    read_changes s f (Getr d o k) store d (flat (slice_get x.refs at))))
+effect_changes s f store (Geti d o k) =
+    object_changes s f (Geti d o k) store o _ (λ n x reg is. trap_changes s f (Geti d o k) store Range (place_in (length x.ints) (int_in f k)) _ (λ at e. inl refl))
+effect_changes s f store (Putr o k v) =
+    object_changes s f (Putr o k v) store o _ (λ n x reg is. trap_changes s f (Putr o k v) store Range (place_in (length x.refs) (int_in f k)) _ (λ at e.
+    either_changes s f (Putr o k v) store x.mutable _ (Traps Frozen) (λ h. set_ref s f (Putr o k v) store o v at n x reg is reg h (onward f)) (λ h. tt)))
+effect_changes s f store (Puti o k v) =
+    object_changes s f (Puti o k v) store o _ (λ n x reg is. trap_changes s f (Puti o k v) store Range (place_in (length x.ints) (int_in f k)) _ (λ at e.
+    either_changes s f (Puti o k v) store x.mutable _ (Traps Frozen) (λ h. set_int s f (Puti o k v) store o at (int_in f v) n x reg is reg h (onward f)) (λ h. tt)))
+effect_changes s f store (Cntr d o) = object_changes s f (Cntr d o) store o _ (λ n x reg is. inl refl)
+effect_changes s f store (Cnti d o) = object_changes s f (Cnti d o) store o _ (λ n x reg is. inl refl)
+effect_changes s f store (Freeze o) =
+    object_changes s f (Freeze o) store o _ (λ n x reg is.
+    either_changes s f (Freeze o) store (s.owner n.task == s.task) (Goes (onward f) (put_object store n (record x { mutable = false }))) (Traps Frozen)
+    (λ h. freezes s f (Freeze o) store o n x reg is reg (eqb-true (s.owner n.task) s.task h) (onward f)) (λ h. tt))
+effect_changes s f store (Cas d o k c v) =
+    object_changes s f (Cas d o k c v) store o _ (λ n x reg is. trap_changes s f (Cas d o k c v) store Range (place_in (length x.refs) (int_in f k)) _ (λ at e.
+    either_changes s f (Cas d o k c v) store x.mutable _ (Traps Frozen)
+    (λ h. either_changes s f (Cas d o k c v) store (same_name (flat (slice_get x.refs at)) (ref_in f c)) _ _
+    (λ h'. set_ref s f (Cas d o k c v) store o v at n x reg is reg h (onward (with_int f d (pos 1)))) (λ h'. inl refl)) (λ h. tt)))
+effect_changes s f store (Call g) = tt
+effect_changes s f store (Par g h) = tt
+effect_changes s f store Ret = tt
+effect_changes s f store (Out a) = tt

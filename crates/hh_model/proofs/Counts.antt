@@ -1,0 +1,188 @@
+-- How many tasks, objects and joins so many steps make.
+use Rattle.std.proofs.Common.{◌≡◌, ℕ, ℤ, zero, suc, ◌+◌, ◌*◌, ◌<◌, ◌≤◌, ◌^◌, Option, Some, List, [], ◌∷◌, ◌++◌, length, slice_get, slice_set, inl, inr, refl, ap, sym, subst, ◌∙◌, arith, length-set, length-append}
+use Rattle.listed.proofs.Members.{got_cases}
+use Rattle.hh_lang.specs.Form.{ProgramText}
+use Rattle.hh_model.specs.declared.data.Name.{Name}
+use Rattle.hh_model.specs.declared.data.Object.{Object}
+use Rattle.hh_model.specs.declared.data.Task.{Task}
+use Rattle.hh_model.specs.declared.data.State.{State}
+use Rattle.hh_model.specs.declared.data.Status.TheVariants.{Waiting}
+use Rattle.hh_model.specs.Effect.{row_of, onward}
+use Rattle.std.proofs.lemmas.Option.{same_Some}
+use Rattle.hh_model.specs.Step.{root, child, joined_task, resumed, ended_task, result_of, step, start, run, run_from, sibling}
+use Rattle.hh_model.specs.Machine.{Progress, IsReached, IsSound, advanced}
+use Rattle.hh_model.proofs.Closed.{grown_cases, three_cases}
+use Rattle.hh_model.proofs.Runs.{grown_length}
+use Rattle.hh_model.proofs.Kept.{Kept, step_kept, start_kept, run_kept, path_is_precedence_in}
+use Rattle.hh_model.proofs.Steps.{Alters, step_cases}
+
+-- after so many steps
+pub record Counted (k : ℕ) (tasks : List Task) (store : List (List Object)) : Type 0 where
+  pub made : length tasks ≤ 2 * k + 1
+  pub rows : length store ≡ length tasks
+  pub objects : (t : ℕ) → length (row_of (slice_get store t)) ≤ k
+  pub joins : (t : ℕ) (x : Task) → slice_get tasks t ≡ Some x → x.joins ≤ k
+
+-- a row that is set
+row_set : (store : List (List Object)) (u t k : ℕ) (row : List Object) → length row ≤ k → length (row_of (slice_get store t)) ≤ k → length (row_of (slice_get (slice_set store u row) t)) ≤ k
+row_set [] u t k row le old = old
+row_set (r ∷ store) zero zero k row le old = le
+row_set (r ∷ store) zero (suc t) k row le old = old
+row_set (r ∷ store) (suc u) zero k row le old = old
+row_set (r ∷ store) (suc u) (suc t) k row le old = row_set store u t k row le old
+
+two_rows : (store : List (List Object)) (t k : ℕ) → length (row_of (slice_get store t)) ≤ k → length (row_of (slice_get (store ++ [] ∷ [] ∷ []) t)) ≤ k
+two_rows [] zero k old = omega arith
+two_rows [] (suc zero) k old = omega arith
+two_rows [] (suc (suc t)) k old = omega arith
+two_rows (r ∷ store) zero k old = old
+two_rows (r ∷ store) (suc t) k old = two_rows store t k old
+
+module _ (p : ProgramText) (m : State) (t : ℕ) (K : Kept m) (k : ℕ) (I : Counted k m.tasks m.store) where
+  more : (u : ℕ) → length (row_of (slice_get m.store u)) ≤ suc k
+  more u = let h : length (row_of (slice_get m.store u)) ≤ k = I.objects u in omega arith
+
+  later : Counted (suc k) m.tasks m.store
+  later = record {
+    made = let h : length m.tasks ≤ 2 * k + 1 = I.made in omega arith;
+    rows = I.rows;
+    objects = more;
+    joins = λ u x e. let h : x.joins ≤ k = I.joins u x e in omega arith;
+  }
+
+  -- the store after an instruction
+  changed : (x : Task) (store : List (List Object)) → Alters p m t x store → (length store ≡ length m.tasks) × ((u : ℕ) → length (row_of (slice_get store u)) ≤ suc k)
+  changed x store (inl e) = (ap length e ∙ I.rows, λ u. subst (λ w. length (row_of (slice_get w u)) ≤ suc k) (sym e) (more u))
+  changed x store (inr (line, il, inl e)) = (ap length e ∙ I.rows, λ u. subst (λ w. length (row_of (slice_get w u)) ≤ suc k) (sym e) (more u))
+  changed x store (inr (line, il, inr (inl a))) = (
+    ap length a.is ∙ (length-set m.store t (row_of (slice_get m.store t) ++ a.new ∷ []) ∙ I.rows),
+    λ u. subst (λ w. length (row_of (slice_get w u)) ≤ suc k) (sym a.is)
+        (row_set m.store t u (suc k) (row_of (slice_get m.store t) ++ a.new ∷ [])
+        (let h : length (row_of (slice_get m.store t)) ≤ k = I.objects t in omega (arith, length-append (row_of (slice_get m.store t)) (a.new ∷ []))) (more u)),
+  )
+  changed x store (inr (line, il, inr (inr w))) =
+      let row : List Object = slice_set (row_of (slice_get m.store w.name.task)) w.name.count w.new in (
+        ap length w.is ∙ (length-set m.store w.name.task (slice_set (row_of (slice_get m.store w.name.task)) w.name.count w.new) ∙ I.rows),
+        λ u. subst (λ s. length (row_of (slice_get s u)) ≤ suc k) (sym w.is)
+            (row_set m.store w.name.task u (suc k) (slice_set (row_of (slice_get m.store w.name.task)) w.name.count w.new)
+            (let h : length (row_of (slice_get m.store w.name.task)) ≤ k = I.objects w.name.task in omega (arith, length-set (row_of (slice_get m.store w.name.task)) w.name.count w.new)) (more u)),
+      )
+
+  joins_set : (y : Task) → y.joins ≤ suc k → (u : ℕ) (z : Task) → slice_get (slice_set m.tasks t y) u ≡ Some z → z.joins ≤ suc k
+  joins_set y le u z e = elim (got_cases m.tasks t u y z e) [
+    | inl here ↦ subst (λ (w : Task). w.joins ≤ suc k) (sym here.1) le
+    | inr old ↦ later.joins u z old
+  ]
+
+  counted_step : Counted (suc k) (step p m t).tasks (step p m t).store
+  counted_step =
+      step_cases p m t K (λ m'. Counted (suc k) m'.tasks m'.store) later (λ x e is run. later)
+      (λ x y store outs is run ep es ej names fields alters grows. record {
+        made = let h : length m.tasks ≤ 2 * k + 1 = I.made in omega (arith, length-set m.tasks t y);
+        rows = (changed x store alters).0 ∙ sym (length-set m.tasks t y);
+        objects = (changed x store alters).1;
+        joins = joins_set y (let h : x.joins ≤ k = I.joins t x is in omega (arith, ej));
+      })
+      (λ x parent e is run pp which result. record {
+        made = let h : length m.tasks ≤ 2 * k + 1 = I.made in omega (arith, length-set m.tasks t (ended_task x (result_of x.top)));
+        rows = I.rows ∙ sym (length-set m.tasks t (ended_task x (result_of x.top)));
+        objects = more;
+        joins = joins_set (ended_task x (result_of x.top)) (let h : x.joins ≤ k = I.joins t x is in omega arith);
+      })
+      (λ x g h is run top. record {
+        made =
+            let b : length m.tasks ≤ 2 * k + 1 = I.made in
+            omega (arith, grown_length m.tasks t x (record x { status = Waiting; top = onward x.top }) (child t (x.depth + 1) g x.top) (child t (x.depth + 1) h x.top) is);
+        rows =
+            let b : length m.store ≡ length m.tasks = I.rows in
+            omega (arith, length-append m.store ([] ∷ [] ∷ []), grown_length m.tasks t x (record x { status = Waiting; top = onward x.top }) (child t (x.depth + 1) g x.top) (child t (x.depth + 1) h x.top) is);
+        objects = λ u. two_rows m.store u (suc k) (more u);
+        joins = λ u z e.
+            elim (grown_cases (slice_set m.tasks t (record x { status = Waiting; top = onward x.top })) (child t (x.depth + 1) g x.top) (child t (x.depth + 1) h x.top) u z e) [
+              | inl old ↦ joins_set (record x { status = Waiting; top = onward x.top }) (let b : x.joins ≤ k = I.joins t x is in omega arith) u z old
+              | inr new ↦ elim new [
+                | inl a ↦ subst (λ (w : Task). w.joins ≤ suc k) (sym a.1) (omega arith)
+                | inr a ↦ subst (λ (w : Task). w.joins ≤ suc k) (sym a.1) (omega arith)
+              ]
+            ];
+      })
+      (λ parent l xp xl xr rl rr ip il ir pl left dl dr wl wr nl nr side. record {
+        made =
+            let b : length m.tasks ≤ 2 * k + 1 = I.made in
+            let e : length (slice_set (slice_set (slice_set m.tasks l (joined_task xl)) (l + 1) (joined_task xr)) parent (resumed xp rl rr)) ≡ length m.tasks = three m l parent xl xr xp rl rr in
+            omega arith;
+        rows = I.rows ∙ sym (three m l parent xl xr xp rl rr);
+        objects = more;
+        joins = λ u z e.
+            elim (three_cases m.tasks l parent (joined_task xl) (joined_task xr) (resumed xp rl rr) u z e) [
+              | inl top ↦ subst (λ (w : Task). w.joins ≤ suc k) (sym top.1) (let b : xp.joins ≤ k = I.joins parent xp ip in omega arith)
+              | inr more' ↦ elim more' [
+                | inl a ↦ subst (λ (w : Task). w.joins ≤ suc k) (sym a) (let b : xr.joins ≤ k = I.joins (l + 1) xr ir in omega arith)
+                | inr more'' ↦ elim more'' [
+                  | inl a ↦ subst (λ (w : Task). w.joins ≤ suc k) (sym a) (let b : xl.joins ≤ k = I.joins l xl il in omega arith)
+                  | inr old ↦ later.joins u z old
+                ]
+              ]
+            ];
+      })
+    where
+      three : (m : State) (l parent : ℕ) (xl xr xp : Task) (rl rr : ℤ × Option Name) → length (slice_set (slice_set (slice_set m.tasks l (joined_task xl)) (l + 1) (joined_task xr)) parent (resumed xp rl rr)) ≡ length m.tasks
+      three m l parent xl xr xp rl rr =
+          length-set (slice_set (slice_set m.tasks l (joined_task xl)) (l + 1) (joined_task xr)) parent (resumed xp rl rr)
+          ∙ (length-set (slice_set m.tasks l (joined_task xl)) (l + 1) (joined_task xr) ∙ length-set m.tasks l (joined_task xl))
+
+-- RUNS
+
+pub run_push : (p : ProgramText) (m : State) (ts : List ℕ) (t : ℕ) → run_from p m (ts ++ t ∷ []) ≡ step p (run_from p m ts) t
+run_push p m [] t = refl
+run_push p m (u ∷ ts) t = run_push p (step p m u) ts t
+
+-- the limit of fields stays
+pub step_limit : (p : ProgramText) (m : State) (t : ℕ) → Kept m → (step p m t).field_limit ≡ m.field_limit
+step_limit p m t K =
+    step_cases p m t K (λ m'. m'.field_limit ≡ m.field_limit) refl (λ x e is run. refl) (λ x y store outs is run ep es ej names fields alters grows. refl)
+    (λ x parent e is run pp which result. refl) (λ x g h is run top. refl) (λ parent l xp xl xr rl rr ip il ir pl left dl dr wl wr nl nr side. refl)
+
+start_counted : (p : ProgramText) (limit : ℕ) → Counted 0 (start p limit).tasks (start p limit).store
+start_counted p limit = record { made = omega arith; rows = refl; objects = none; joins = first }
+  where
+    none : (t : ℕ) → length (row_of (slice_get ([] ∷ []) t)) ≤ 0
+    none zero = omega arith
+    none (suc t) = omega arith
+
+    first : (t : ℕ) (x : Task) → slice_get (start p limit).tasks t ≡ Some x → x.joins ≤ 0
+    first zero x e = subst (λ (w : Task). w.joins ≤ 0) (same_Some (root p) x e) (omega arith)
+    first (suc t) x e = absurd cc
+
+run_counted : (p : ProgramText) (m : State) (ts : List ℕ) (k : ℕ) → Kept m → Counted k m.tasks m.store → (n : ℕ) → n ≡ k + length ts → Counted n (run_from p m ts).tasks (run_from p m ts).store
+run_counted p m [] k K I n e = subst (λ j. Counted j m.tasks m.store) (let h : k ≡ n = omega arith in h) I
+run_counted p m (t ∷ ts) k K I n e = run_counted p (step p m t) ts (suc k) (step_kept p m t K) (counted_step p m t K k I) n (omega arith)
+
+-- MACHINES
+
+pub start_reached : (p : ProgramText) (limit : ℕ) (m : State) → m ≡ start p limit → IsReached (record { program = p; state = m; steps = 0 })
+start_reached p limit m e = ([], refl, e ∙ ap (start p) (ap (λ (s : State). s.field_limit) (sym e)))
+
+pub step_reached : (g : Progress) (t : ℕ) → IsReached g → IsReached (advanced g t)
+step_reached g t r =
+    let K : Kept g.state = subst Kept (sym r.2) (run_kept g.program (start g.program g.state.field_limit) r.0 (start_kept g.program g.state.field_limit)) in (
+      r.0 ++ t ∷ [],
+      length-append r.0 (t ∷ []) ∙ ap (λ k. k + 1) r.1,
+      ap (λ s. step g.program s t) r.2 ∙ (sym (run_push g.program (start g.program g.state.field_limit) r.0 t)
+          ∙ ap (λ limit. run g.program limit (r.0 ++ t ∷ [])) (sym (step_limit g.program g.state t K))),
+    )
+
+pub reached_sound : (g : Progress) → IsReached g → g.steps < 2 ^ 30 → IsSound g.state
+reached_sound g r few =
+    let K : Kept g.state = subst Kept (sym r.2) (run_kept g.program (start g.program g.state.field_limit) r.0 (start_kept g.program g.state.field_limit)) in
+    let I : Counted (length r.0) g.state.tasks g.state.store =
+    subst (λ (s : State). Counted (length r.0) s.tasks s.store) (sym r.2) (run_counted g.program (start g.program g.state.field_limit) r.0 0 (start_kept g.program g.state.field_limit) (start_counted g.program g.state.field_limit) (length r.0) (omega arith)) in
+    record {
+      path = path_is_precedence_in g.state K;
+      above = K.tree.low;
+      above_sibling = λ t q e. K.tree.low (sibling t) q (K.tree.pairs t q e);
+      rows = I.rows;
+      few_tasks = let h : length g.state.tasks ≤ 2 * length r.0 + 1 = I.made in omega (arith, r.1);
+      few_objects = λ t. let h : length (row_of (slice_get g.state.store t)) ≤ length r.0 = I.objects t in omega (arith, r.1);
+      few_joins = λ t x e. let h : x.joins ≤ length r.0 = I.joins t x e in omega (arith, r.1);
+    }

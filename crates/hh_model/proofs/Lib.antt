@@ -1,0 +1,17 @@
+pub mod Lists
+pub mod Climbs
+pub mod Walks
+pub mod Paths
+pub mod Tree
+pub mod Joins
+pub mod Forks
+pub mod Stores
+pub mod Runs
+pub mod Kept
+pub mod Carried
+pub mod Changes
+pub mod Steps
+pub mod Closed
+pub mod Disentangled
+pub mod Counts
+pub mod Taken

@@ -1,0 +1,29 @@
+-- Lists that were written, and their last items.
+use Rattle.std.proofs.Common.{◌≡◌, ℕ, zero, suc, ◌<◌, Some, List, [], ◌∷◌, ◌++◌, length, slice_get, slice_set, refl, ap, sym, arith}
+use Rattle.hh_model.specs.Step.{last_of, front_of}
+
+-- what stands there already changes nothing
+pub set_got : {A : Type 0} (xs : List A) (k : ℕ) (x : A) → slice_get xs k ≡ Some x → slice_set xs k x ≡ xs
+set_got [] k x e = refl
+set_got (y ∷ ys) zero x e = let h : y ≡ x = cc in ap (λ z. z ∷ ys) (sym h)
+set_got (y ∷ ys) (suc k) x e = ap (λ zs. y ∷ zs) (set_got ys k x e)
+
+pub last_push : {A : Type 0} (xs : List A) (x : A) → last_of (xs ++ x ∷ []) ≡ Some x
+last_push [] x = refl
+last_push (y ∷ []) x = refl
+last_push (y ∷ z ∷ xs) x = last_push (z ∷ xs) x
+
+pub front_push : {A : Type 0} (xs : List A) (x : A) → front_of (xs ++ x ∷ []) ≡ xs
+front_push [] x = refl
+front_push (y ∷ []) x = refl
+front_push (y ∷ z ∷ xs) x = ap (λ zs. y ∷ zs) (front_push (z ∷ xs) x)
+
+pub set_front : {A : Type 0} (xs ys : List A) (k : ℕ) (x : A) → k < length xs → slice_set (xs ++ ys) k x ≡ slice_set xs k x ++ ys
+set_front [] ys k x lt = absurd (omega arith)
+set_front (y ∷ xs) ys zero x lt = refl
+set_front (y ∷ xs) ys (suc k) x lt = ap (λ zs. y ∷ zs) (set_front xs ys k x (omega arith))
+
+pub set_again : {A : Type 0} (xs : List A) (k : ℕ) (x y : A) → slice_set (slice_set xs k x) k y ≡ slice_set xs k y
+set_again [] k x y = refl
+set_again (z ∷ xs) zero x y = refl
+set_again (z ∷ xs) (suc k) x y = ap (λ zs. z ∷ zs) (set_again xs k x y)

@@ -1,0 +1,36 @@
+-- What contracts see of a machine.
+use Rattle.std.specs.Prelude.{◌≡◌, ℕ, ◌+◌, ◌<◌, ◌^◌, List, Some, length, slice_get}
+use Rattle.hh_lang.specs.Form.{ProgramText}
+use Rattle.hh_model.specs.declared.data.Task.{Task}
+use Rattle.hh_model.specs.declared.data.State.{State}
+use Rattle.hh_model.specs.Effect.{row_of}
+use Rattle.hh_model.specs.Step.{start, step, run, parents, sibling}
+use Rattle.hh_model.specs.PathLaw.{PathIsPrecedenceIn}
+
+-- the program, the state, and how many steps were taken
+pub record Progress : Type 0 where
+  pub program : ProgramText
+  pub state : State
+  pub steps : ℕ
+
+-- before the first step
+abbrev pub begun : ProgramText → ℕ → Progress
+begun p limit = record { program = p; state = start p limit; steps = 0 }
+
+-- after one step more
+abbrev pub advanced : Progress → ℕ → Progress
+advanced g t = record g { state = step g.program g.state t; steps = g.steps + 1 }
+
+-- the state is what a run of as many steps leaves: so every law on runs holds of it
+abbrev pub IsReached : Progress → Type 0
+IsReached g = (ts : List ℕ) × (length ts ≡ g.steps) × (g.state ≡ run g.program g.state.field_limit ts)
+
+-- what the code needs of a state: it holds in every run of fewer than 2 ^ 30 steps
+pub record IsSound (m : State) : Type 0 where
+  pub path : PathIsPrecedenceIn m
+  pub above : (t p : ℕ) → parents m.tasks t ≡ Some p → p < t
+  pub above_sibling : (t p : ℕ) → parents m.tasks t ≡ Some p → p < sibling t
+  pub rows : length m.store ≡ length m.tasks
+  pub few_tasks : length m.tasks + 1 < 2 ^ 32
+  pub few_objects : (t : ℕ) → length (row_of (slice_get m.store t)) < 2 ^ 32
+  pub few_joins : (t : ℕ) (x : Task) → slice_get m.tasks t ≡ Some x → x.joins + 1 < 2 ^ 32

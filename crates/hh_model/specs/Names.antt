@@ -1,0 +1,51 @@
+-- The names that tasks and objects hold, and the words that a step allocates.
+use Rattle.std.specs.Prelude.{ℕ, ◌+◌, Option, Some, None, List, [], ◌∷◌, ◌++◌}
+use Rattle.hh_lang.specs.declared.instr.Instr.{Instr}
+use Rattle.hh_lang.specs.declared.instr.Instr.TheVariants.{Newm, Pack}
+use Rattle.hh_model.specs.declared.data.Name.{Name}
+use Rattle.hh_model.specs.declared.data.Object.{Object}
+use Rattle.hh_model.specs.declared.data.Frame.{Frame}
+use Rattle.hh_model.specs.declared.data.Status.{Status}
+use Rattle.hh_model.specs.declared.data.Status.TheVariants.{Running, Waiting, Ended, Joined}
+use Rattle.hh_model.specs.declared.data.Task.{Task}
+use Rattle.hh_model.specs.Effect.{object_at, counts_in, int_in}
+
+-- the names in a list of references
+abbrev pub named : List (Option Name) → List Name
+named [] = []
+named (None ∷ refs) = named refs
+named (Some n ∷ refs) = n ∷ named refs
+
+abbrev pub refs_of : Option Object → List Name
+refs_of None = []
+refs_of (Some o) = named o.refs
+
+-- the names in the reference fields of the object of a name
+abbrev pub refs_at : List (List Object) → Name → List Name
+refs_at store n = refs_of (object_at store n)
+
+-- the names in the registers of frames
+abbrev pub registers : List Frame → List Name
+registers [] = []
+registers (f ∷ fs) = named f.refs ++ registers fs
+
+-- what a task holds: its frames' registers while it runs or waits, its result once it has ended, nothing once it has joined
+abbrev pub held_by : Status → List Frame → List Name
+held_by Running frames = registers frames
+held_by Waiting frames = registers frames
+held_by (Ended k r) frames = named (r ∷ [])
+held_by Joined frames = []
+
+abbrev pub task_names : Task → List Name
+task_names x = held_by x.status (x.top ∷ x.below)
+
+-- an object takes a word for each field, and two more
+abbrev pub words_for : Option (ℕ × ℕ) → Option ℕ
+words_for None = None
+words_for (Some n) = Some (2 + n.0 + n.1)
+
+-- the words that an instruction allocates, where it allocates
+abbrev pub words_asked : ℕ → Frame → Instr → Option ℕ
+words_asked limit f (Newm d a b) = words_for (counts_in limit (int_in f a) (int_in f b))
+words_asked limit f (Pack d r i) = Some (2 + r + i)
+words_asked limit f _ = None

@@ -1,0 +1,111 @@
+// What a step reads of the whole state.
+
+ghost use Rattle.std.specs.Prelude.{◌≡◌, ◌<◌, length, option_copied, slice_get, IfSome};
+ghost use Rattle.hh_model.specs.Effect.{object_at};
+ghost use Rattle.hh_model.specs.Step.{can_step, is_on_path, owner_of, parents, joined, kept_by, strand_of};
+
+use crate::data::{Name, Object, State, Status, Strand};
+
+impl State {
+    /// Whether the task runs and the machine hasn't ended.
+    pub(crate) fn can_step(&self, t: u32) -> bool
+        ensures { result ≡ can_step self.now t }
+    {
+        match (&self.end, self.tasks.get(t as usize)) {
+            (None, Some(task)) => match task.status {
+                Status::Running => true,
+                _ => false,
+            },
+            _ => false,
+        }
+    }
+
+    /// The object of a name.
+    pub(crate) fn object(&self, name: Name) -> Option<&Object>
+        ensures { option_copied result ≡ object_at self.now.store name }
+    {
+        match self.store.get(name.task as usize) {
+            Some(row) => row.get(name.count as usize),
+            None => None,
+        }
+    }
+
+    /// The strand that a task is on.
+    pub(crate) fn strand(&self, t: u32) -> Strand
+        requires { t < length self.now.tasks }
+        ensures { IfSome (slice_get self.now.tasks t) (λ x. result ≡ strand_of t x) }
+    {
+        Strand {
+            task: t,
+            joins: self.tasks.at(t as usize).joins,
+        }
+    }
+
+    fn parent(&self, t: u32) -> Option<u32>
+        ensures { result ≡ parents self.now.tasks t }
+    {
+        match self.tasks.get(t as usize) {
+            Some(task) => task.parent,
+            None => None,
+        }
+    }
+
+    fn has_joined(&self, t: u32) -> bool
+        ensures { result ≡ joined self.now.tasks t }
+    {
+        match self.tasks.get(t as usize) {
+            Some(task) => match task.status {
+                Status::Joined => true,
+                _ => false,
+            },
+            None => false,
+        }
+    }
+
+    /// What a task ended with, where it has ended and not joined.
+    pub(crate) fn result(&self, t: u32) -> Option<(i64, Option<Name>)>
+        ensures { result ≡ kept_by (slice_get self.now.tasks t) }
+    {
+        match self.tasks.get(t as usize) {
+            Some(task) => match task.status {
+                Status::Ended(int, reference) => Some((int, reference)),
+                _ => None,
+            },
+            None => None,
+        }
+    }
+
+    /// The task that owns what a task allocated.
+    pub(crate) fn owner(&self, task: u32) -> u32
+        ensures { result ≡ owner_of self.now.tasks task }
+    {
+        let mut at = task;
+        for _ in 0..task {
+            if !self.has_joined(at) {
+                return at;
+            }
+            match self.parent(at) {
+                Some(parent) => at = parent,
+                None => return at,
+            }
+        }
+        at
+    }
+
+    /// Whether a task is another one or stands above it.
+    pub(crate) fn is_on_path(&self, above: u32, task: u32) -> bool
+        ensures { result ≡ is_on_path self.now.tasks above task }
+    {
+        let mut at = task;
+        for _ in 0..task {
+            if at == above {
+                return true;
+            }
+            match self.parent(at) {
+                Some(parent) => at = parent,
+                None => return false,
+            }
+        }
+        at == above
+    }
+}

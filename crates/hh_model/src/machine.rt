@@ -1,0 +1,138 @@
+// The machine as a value that takes steps.
+
+ghost use Rattle.std.specs.Prelude.{◌≡◌, ◌<◌, ◌^◌, ◌↔◌, IfOk, OnOk, OnErr, Err, false};
+ghost use Rattle.hh_model.specs.Step.{can_step, start};
+
+use crate::data::{End, Frame, State, Status, Task};
+use hh_lang::Program;
+use listed::Listed;
+use std::alloc::{AllocError, Global};
+use std::marker::Model;
+
+/// Why a step wasn't taken; the machine is as before.
+#[derive(Clone, Copy, PartialEq, Eq, Debug)]
+pub enum StepError {
+    /// The task isn't running, or the machine has ended.
+    Idle,
+    /// Want of memory.
+    NoMemory,
+}
+
+/// A machine that runs a program and never frees an object.
+#[derive(Drop)]
+pub struct Machine<'p> {
+    program: &'p Program,
+    state: State,
+    steps: u32,
+    alloc: Global,
+}
+
+impl<'p> Model for Machine<'p> {
+    ghost use Rattle.hh_model.specs.Machine.{Progress, IsReached};
+
+    ghost Value = { Progress };
+
+    ghost view = { λ m. record { program = m.program.now; state = m.state; steps = m.steps } };
+
+    ghost invariant = { λ m. IsReached (record { program = m.program.now; state = m.state; steps = m.steps }) };
+}
+
+impl<'p> Machine<'p> {
+    ghost use Rattle.std.specs.Prelude.{◌≡◌, ◌<◌, ◌^◌, ◌↔◌, IfOk, OnOk, OnErr, Err, false};
+    ghost use Rattle.hh_model.specs.Step.{can_step};
+    ghost use Rattle.hh_model.specs.Machine.{begun, advanced, IsReached};
+
+    /// A machine before its first step, whose objects may have so many fields.
+    pub fn start(
+        alloc: Global,
+        program: &'p Program,
+        field_limit: u32,
+    ) -> Result<Machine<'p>, AllocError>
+        ensures { IfOk result (λ m. m ≡ begun program.entry.now field_limit) }
+    {
+        Ok(Machine {
+            program,
+            state: first_state(alloc, program, field_limit)?,
+            steps: 0,
+            alloc,
+        })
+    }
+
+    /// One step of a task.
+    pub fn step(&mut self, t: u32) -> Result<(), StepError>
+        requires { self.old.steps < 2 ^ 30 }
+        ensures ok { OnOk result (self.new ≡ advanced self.old t) }
+        ensures idle { (result ≡ Err StepError.Idle) ↔ (can_step self.old.state t ≡ false) }
+        ensures err { OnErr result (self.new ≡ self.old) }
+    {
+        if !self.state.can_step(t) {
+            return Err(StepError::Idle);
+        }
+        match self.state.step(self.alloc, self.program, t) {
+            Ok(()) => {
+                self.steps += 1;
+                Ok(())
+            }
+            Err(_) => Err(StepError::NoMemory),
+        }
+    }
+
+    /// What the steps have written out, the oldest first.
+    pub fn outputs(&self) -> &[i64]
+        ensures { result.now ≡ self.now.state.outputs }
+    {
+        self.state.outputs.as_slice()
+    }
+
+    /// How the run ended, if it has.
+    pub fn end(&self) -> Option<End>
+        ensures { result ≡ self.now.state.end }
+    {
+        self.state.end
+    }
+
+    /// The whole state.
+    pub fn state(&self) -> &State
+        ensures { result.now ≡ self.now.state }
+    {
+        &self.state
+    }
+
+    /// The state is what a run of as many steps leaves, so each law on runs holds of it.
+    pub fn reached(&self)
+        ensures { IsReached self.now }
+    {
+        let _ = &self.state;
+    }
+}
+
+/// The state before the first step.
+fn first_state(alloc: Global, program: &Program, field_limit: u32) -> Result<State, AllocError>
+    ensures { IfOk result (λ m. m ≡ start program.now field_limit) }
+{
+    let root = Task {
+        parent: None,
+        depth: 0,
+        status: Status::Running,
+        top: Frame {
+            function: program.main(),
+            next: 0,
+            ints: [0; 16],
+            refs: [None; 16],
+        },
+        below: Listed::new(alloc),
+        joins: 0,
+    };
+    let mut tasks = Listed::new(alloc);
+    tasks.push(root)?;
+    let mut store = Listed::new(alloc);
+    store.push(Listed::new(alloc))?;
+    Ok(State {
+        field_limit,
+        tasks,
+        store,
+        edges: Listed::new(alloc),
+        outputs: Listed::new(alloc),
+        end: None,
+    })
+}
