@@ -1,0 +1,6 @@
+pub mod Runs
+pub mod Lines
+pub mod Straight
+pub mod Steps
+pub mod Journals
+pub mod Turns
