@@ -4,3 +4,5 @@ pub mod Straight
 pub mod Steps
 pub mod Journals
 pub mod Turns
+pub mod Inputs
+pub mod Deliveries

@@ -5,3 +5,5 @@ pub mod Journal
 pub mod Course
 pub mod Shared
 pub mod Drive
+pub mod Answer
+pub mod Input

@@ -1,14 +1,20 @@
 // The top call: from the words of a command line and a source of bytes to what is written, and the status.
 #![tactic(auto)]
 
+mod answer;
 mod course;
 mod driver;
 mod entry;
+mod input;
 mod reader;
 mod shared;
 mod spoken;
 mod statements;
+mod text;
+mod top_call;
 mod words;
 
+pub use answer::{Answer, Ran, Status};
 pub use entry::{Entry, Kind};
 pub use shared::Shared;
+pub use top_call::command;

@@ -1,7 +1,7 @@
 // Reads a straight-line program from a text.
 
-ghost use Rattle.std.specs.Prelude.{◌≡◌, ◌<◌, ◌≤◌, ◌+◌, ◌++◌, ◌∷◌, [], ◌^◌, length, take, drop, IfOk, OnOk, OnErr, option_map, Option, Some, None, codes};
-ghost use Rattle.command_core.specs.Program.{spoken_in, spoken_from, onto_spoken, body_code, closing, main_code, within_limit, program_of, of_code, instruction_limit, IsStraight};
+ghost use Rattle.std.specs.Prelude.{◌≡◌, ◌<◌, ◌≤◌, ◌+◌, ◌++◌, ◌∷◌, [], ◌^◌, length, take, drop, IfOk, OnOk, OnErr, option_map, IfSome, Option, Some, None, codes};
+ghost use Rattle.command_core.specs.Program.{spoken_in, spoken_from, onto_spoken, body_code, closing, main_code, within_limit, program_of, of_code, instruction_limit, IsStraight, IsStraightProgram};
 ghost use Rattle.command_core.specs.Words.{lines_of};
 ghost use Rattle.command_core.specs.Statements.{said_by};
 
@@ -95,7 +95,8 @@ fn read_main(alloc: Global, spoken: &[Spoken]) -> Result<Option<Listed<Line>>, A
 fn program_of_code(alloc: Global, code: Listed<Line>) -> Result<Program, AllocError>
     requires sized { length code ≤ instruction_limit + 1 }
     requires straight { IsStraight code }
-    ensures { IfOk result (λ p. p ≡ of_code code) }
+    ensures value { IfOk result (λ p. p ≡ of_code code) }
+    ensures straight { IfOk result IsStraightProgram }
 {
     let name = Listed::from_vec(b"main".to_vec(alloc)?);
     let mut functions = Listed::new(alloc);
@@ -106,7 +107,8 @@ fn program_of_code(alloc: Global, code: Listed<Line>) -> Result<Program, AllocEr
 /// The program that a text is; None where it isn't one of straight-line form.
 pub(crate) fn read_straight(alloc: Global, text: &[u8]) -> Result<Option<Program>, AllocError>
     requires { length text.now < 2 ^ 31 }
-    ensures { IfOk result (λ p. p ≡ program_of text.now) }
+    ensures value { IfOk result (λ p. p ≡ program_of text.now) }
+    ensures straight { IfOk result (λ p. IfSome p IsStraightProgram) }
 {
     let spoken = spoken_lines(alloc, text)?;
     match read_main(alloc, spoken.as_slice())? {
