@@ -18,3 +18,6 @@ pub use answer::{Answer, Ran, Status};
 pub use entry::{Entry, Kind};
 pub use shared::Shared;
 pub use top_call::command;
+
+#[cfg(test)]
+mod tests;
