@@ -1,0 +1,6 @@
+mod Views
+mod Keeps
+mod SplitJoin
+mod SeatLists
+pub mod Laws
+mod Payments
