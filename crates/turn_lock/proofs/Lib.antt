@@ -3,4 +3,3 @@ mod Keeps
 mod SplitJoin
 mod SeatLists
 pub mod Laws
-mod Payments

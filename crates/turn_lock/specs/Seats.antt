@@ -69,12 +69,6 @@ module _ {T E P S : Type 0} where
     pub each_seat : (k : ℕ) (s : Seat (Option T) (View T E P S)) → slice_get seats k ≡ Some s → HasNoTurn z s × ((view s).worker ≡ k)
     pub first_seat : (s : Seat (Option T) (View T E P S)) → slice_get seats 0 ≡ Some s → ((view s).count ≡ length seats) × ((view s).joined ≡ [])
 
-  -- the two seats of a turn of two workers, neither with the turn
-  pub record AreTwoSeats (z : TableId) (a b : Seat (Option T) (View T E P S)) : Type 0 where
-    pub idle : HasNoTurn z a × HasNoTurn z b
-    pub numbers : ((view a).worker ≡ 0) × ((view b).worker ≡ 1)
-    pub first : ((view a).count ≡ 2) × ((view a).joined ≡ [])
-
   -- the journal ends with one entry, by which the seat's own entries grew
   pub record GaveOne (worker_of : E → ℕ) (journal : List E) (v w : View T E P S) : Type 0 where
     pub before : List E

@@ -11,6 +11,3 @@ pub use kept::Kept;
 pub use steps::{Rule, Seat, ViewOf};
 pub use turn::Turn;
 pub use view::View;
-
-#[cfg(test)]
-mod tests;

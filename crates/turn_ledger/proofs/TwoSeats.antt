@@ -1,25 +1,16 @@
--- What the tests' payments come to, and the two seats of their turn.
-use Rattle.std.proofs.Common.{◌≡◌, ℕ, zero, suc, ◌+◌, List, [], ◌∷◌, ◌++◌, length, sum_by, slice_get, refl, sym, ap, ◌∙◌, subst, arith, Option, Some, None, length-append}
-use Rattle.std.proofs.lemmas.List.Sums.{sum_by-append}
+-- The two seats of a turn of two workers.
+use Rattle.std.proofs.Common.{◌≡◌, ℕ, zero, suc, ◌+◌, List, [], ◌∷◌, ◌++◌, length, slice_get, refl, sym, ap, ◌∙◌, subst, arith, Option, Some, None, length-append, is_some, unwrap_or, true≢false}
 use Rattle.atomic_table.specs.Seated.{TableId}
 use Rattle.atomic_table.specs.declared.shared.Seat.{Seat}
 use Rattle.turn_lock.specs.declared.view.View.{View}
-use Rattle.turn_lock.specs.Journal.{entries_by}
-use Rattle.turn_lock.specs.Seats.{view, HasNoTurn, AreNewSeats, AreAllSeats, AreTwoSeats}
-use Rattle.turn_lock.proofs.Keeps.{some_apart, some_one}
-use Rattle.turn_lock.proofs.Laws.{entries_by-append, entries_by-own}
+use Rattle.turn_lock.specs.Seats.{view, HasNoTurn, AreNewSeats, AreAllSeats}
+use Rattle.turn_ledger.specs.Payments.{AreTwoSeats}
 
-abbrev pub of : ℕ × ℕ → ℕ
-of p = p.0
+some_apart : {A : Type 0} (o : Option A) (x : A) → o ≡ Some x → o ≡ None → ⊥
+some_apart o x e n = true≢false (ap is_some (sym e ∙ n))
 
-abbrev pub amount : ℕ × ℕ → ℕ
-amount p = p.1
-
--- one payment more of this worker
-pub paid_more : (w a before paid : ℕ) (taken after own : List (ℕ × ℕ)) → entries_by of w taken ≡ own → before ≡ sum_by amount own → after ≡ taken ++ (w, a) ∷ [] → paid ≡ before + a
-    → paid ≡ sum_by amount (entries_by of w after)
-paid_more w a before paid taken after own e had is more = let now = ap (entries_by of w) is ∙ (entries_by-append of w taken ((w, a) ∷ []) ∙ (ap (λ l. entries_by of w taken ++ l) (entries_by-own of w (w, a) refl) ∙ ap (λ l. l ++ (w, a) ∷ []) e)) in
-    let sums : sum_by amount (entries_by of w after) ≡ sum_by amount own + (0 + a) = ap (sum_by amount) now ∙ sum_by-append amount own ((w, a) ∷ []) in omega arith
+some_one : {A : Type 0} (x y : A) → Some x ≡ Some y → x ≡ y
+some_one x y e = ap (λ o. unwrap_or o x) e
 
 none_of : {A : Type 0} (l : List A) (n : ℕ) → length l + n ≡ n → l ≡ []
 none_of [] n e = refl
