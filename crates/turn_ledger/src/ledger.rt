@@ -1,5 +1,5 @@
 //! A journal of payments, with what they come to.
-ghost use Rattle.std.specs.Prelude.{◌≡◌, ◌^◌, ◌<◌, ◌++◌, [], ◌∷◌, length, IfOk, IfErr};
+ghost use Rattle.std.specs.Prelude.{◌≡◌, ◌++◌, [], ◌∷◌, ◌↔◌, length, IsTrue, IfOk, IfErr};
 
 use std::alloc::Global;
 use std::marker::Model;
@@ -70,7 +70,7 @@ impl Kept for Ledger {
 impl Ledger {
     ghost use Rattle.turn_ledger.specs.declared.ledger.Payment.{Payment};
     ghost use Rattle.std.specs.Prelude.{sum_by};
-    ghost use Rattle.turn_ledger.specs.Payments.{amount_of};
+    ghost use Rattle.turn_ledger.specs.Payments.{amount_of, CanTake};
 
     pub fn new(alloc: Global, terms: Terms) -> Ledger
         ensures { result ≡ ([], terms) }
@@ -82,23 +82,26 @@ impl Ledger {
         }
     }
 
-    /// With one payment more; as it was where the amount is above the limit, the total or the number of payments is
-    /// very large, or there is no memory.
-    pub fn with_payment(mut self, payment: Payment) -> Result<Ledger, Ledger>
-        ensures paid { IfOk result (λ l. (l ≡ (self.0 ++ payment ∷ [], self.1)) × (length l.0 < 2 ^ 63)) }
-        ensures refused { IfErr result (λ l. l ≡ self) }
+    /// Whether the payment is within the terms, and the ledger has room for it.
+    pub fn can_take(&self, payment: Payment) -> bool
+        ensures { IsTrue result ↔ CanTake self.now payment }
     {
-        let Some(total) = self.total.checked_add(u64::from(payment.amount)) else {
-            return Err(self);
-        };
-        if payment.amount > self.terms.limit
-            || self.payments.len() > 1_000_000
-            || self.payments.reserve(1).is_err()
-        {
+        payment.amount <= self.terms.limit
+            && u64::from(payment.amount) <= u64::MAX - self.total
+            && self.payments.len() < 1 << 62
+    }
+
+    /// With one payment more. For want of memory the ledger comes back as it was.
+    pub fn with_payment(mut self, payment: Payment) -> Result<Ledger, Ledger>
+        requires { CanTake self payment }
+        ensures paid { IfOk result (λ l. l ≡ (self.0 ++ payment ∷ [], self.1)) }
+        ensures no_memory { IfErr result (λ l. l ≡ self) }
+    {
+        if self.payments.reserve(1).is_err() {
             return Err(self);
         }
         self.payments.push_reserved(payment);
-        self.total = total;
+        self.total += u64::from(payment.amount);
         Ok(self)
     }
 

@@ -62,10 +62,12 @@ fn give_with_payment(
     ensures seat { IfOk result (λ _. HasNoTurn (identity turn.now) seat.new) }
     ensures same { IfOk result (λ _. SameWorker (view seat.old) (view seat.new)) }
 {
-    let value = value
-        .with_payment(Payment { worker: 0, amount })
-        .ok()
-        .ok_or("no memory")?;
+    let payment = Payment { worker: 0, amount };
+    if !value.can_take(payment) {
+        drop(value);
+        return Err(Fail::from("not within the terms"));
+    }
+    let value = value.with_payment(payment).ok().ok_or("no memory")?;
     turn.give_back(seat, value, None);
     Ok(())
 }

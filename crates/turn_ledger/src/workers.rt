@@ -29,7 +29,12 @@ pub fn pay<R: Wait>(
     let Some(paid) = account.paid.checked_add(u64::from(payment.amount)) else {
         return;
     };
-    match turn.take(rt, seat).with_payment(payment) {
+    let ledger = turn.take(rt, seat);
+    if !ledger.can_take(payment) {
+        turn.give_same(seat, ledger);
+        return;
+    }
+    match ledger.with_payment(payment) {
         Ok(value) => {
             account.paid = paid;
             turn.give_back(seat, value, Some(account));
