@@ -1,0 +1,95 @@
+-- What clauses say of a hand.
+use Rattle.std.specs.Prelude.{◌≡◌, ◌≢◌, ℕ, ◌+◌, ◌<◌, ◌≤◌, List, [], ◌∷◌, ◌++◌, Some, slice_get, length}
+use Rattle.crossbeam_deque.specs.Handles.{stealer_deque, worker_deque, worker_port, worker_view, worker_capacity, worker_index}
+use Rattle.steal_scheduler.specs.declared.view.View.{View}
+use Rattle.steal_scheduler.specs.declared.theft.Theft.{Theft}
+use Rattle.steal_scheduler.specs.declared.hand.Hand.{Hand}
+use Rattle.steal_scheduler.specs.Rule.{opening_view, guest_view, with_put, TookBack}
+use Rattle.steal_scheduler.specs.Thefts.{theft_view, SameTheft}
+
+-- what the hand's pass keeps at its own deque
+abbrev pub own_view : Hand → View
+own_view h = worker_view h.own
+
+abbrev pub own_port : Hand → ℕ
+own_port h = worker_port h.own
+
+-- the numbers that the deque had no room for, and those put after them, the newest last
+abbrev pub own_list : Hand → List ℕ
+own_list h = h.list.items
+
+-- how the hand steals from each deque, in the order of the workers
+abbrev pub thefts : Hand → List Theft
+thefts h = h.thefts.items
+
+-- the slots of the newest ring of the own deque
+abbrev pub capacity : Hand → ℕ
+capacity h = worker_capacity h.own
+
+-- the index of the next put, which taking back takes down again
+abbrev pub index : Hand → ℕ
+index h = worker_index h.own
+
+-- it steals from the own deque of this hand
+abbrev pub StealsFrom : Theft → Hand → Type 0
+StealsFrom t g = stealer_deque t.stealer ≡ worker_deque g.own
+
+-- the same deques
+pub record SameHand (old new : Hand) : Type 0 where
+  pub deque : worker_deque new.own ≡ worker_deque old.own
+  pub port : own_port new ≡ own_port old
+  pub room : capacity old ≤ capacity new
+  pub workers : length (thefts new) ≡ length (thefts old)
+
+-- the number went on the deque
+pub record PutOnDeque (old new : Hand) (x : ℕ) : Type 0 where
+  pub list_was : own_list old ≡ []
+  pub list_is : own_list new ≡ []
+  pub view_is : own_view new ≡ with_put (own_view old) (x ∷ [])
+  pub index_is : index new ≡ index old + 1
+
+-- the number went on the list: it wasn't empty, or the deque, which had taken as many as it has slots, refused the number
+pub record PutOnList (old new : Hand) (x : ℕ) : Type 0 where
+  pub list_is : own_list new ≡ own_list old ++ x ∷ []
+  pub view_is : own_view new ≡ own_view old
+  pub index_is : index new ≡ index old
+  pub refused : own_list old ≡ [] → capacity old ≤ index old
+
+-- the number was the newest of the list
+pub record TookFromList (old new : Hand) (x : ℕ) : Type 0 where
+  pub newest : own_list old ≡ own_list new ++ x ∷ []
+  pub view_is : own_view new ≡ own_view old
+  pub index_is : index new ≡ index old
+
+-- the list is empty, and the number was the newest that the hand had put on its deque and not taken back
+pub record TookFromDeque (old new : Hand) (x : ℕ) : Type 0 where
+  pub list_was : own_list old ≡ []
+  pub list_is : own_list new ≡ []
+  pub took : TookBack (own_view old) (x ∷ []) (own_view new)
+  pub index_falls : index new ≤ index old
+
+-- list and own deque as before
+pub record KeepsOwn (old new : Hand) : Type 0 where
+  pub list_is : own_list new ≡ own_list old
+  pub view_is : own_view new ≡ own_view old
+  pub index_is : index new ≡ index old
+
+-- of a hand's thefts the victim's changed from one view to another, of which the fact holds, and the others stayed
+pub record ChangesAt (old new : List Theft) (victim : ℕ) (then : View → View → Type 0) : Type 0 where
+  pub others : (k : ℕ) → k ≢ victim → slice_get new k ≡ slice_get old k
+  pub at_victim : (t u : Theft) → slice_get old victim ≡ Some t → slice_get new victim ≡ Some u → SameTheft t u × then (theft_view t) (theft_view u)
+
+-- a hand of a worker among n, before its first call
+pub record IsNewHand (n : ℕ) (h : Hand) : Type 0 where
+  pub list : own_list h ≡ []
+  pub view_is : own_view h ≡ opening_view
+  pub at_start : index h ≡ 0
+  pub room : 0 < capacity h
+  pub workers : length (thefts h) ≡ n
+
+-- a hand for each worker, of which each can steal from each one's deque
+pub record AreNewHands (n : ℕ) (hands : List Hand) : Type 0 where
+  pub count : length hands ≡ n
+  pub each_hand : (k : ℕ) (h : Hand) → slice_get hands k ≡ Some h → IsNewHand n h
+  pub reaches : (k j : ℕ) (h g : Hand) (t : Theft) → slice_get hands k ≡ Some h → slice_get hands j ≡ Some g → slice_get (thefts h) j ≡ Some t
+      → StealsFrom t g × (theft_view t ≡ guest_view)

@@ -1,0 +1,4 @@
+pub mod Rule
+pub mod Thefts
+pub mod Hands
+pub mod New

@@ -1,0 +1,47 @@
+-- The rule of one deque between any two steps, and what each step tells.
+use Rattle.std.specs.Prelude.{◌≡◌, ℕ, ◌+◌, ◌==◌, ◌≤◌, true, false, List, [], ◌++◌, length, sum_by, if◌then◌else◌}
+use mathlib.Core.Option.{some}
+use lib.ListN.{get_elem?}
+use Rattle.steal_scheduler.specs.declared.view.View.{View}
+
+-- how often x stands in the list
+abbrev pub times : ℕ → List ℕ → ℕ
+times x xs = sum_by (λ y. if y == x then 1 else 0) xs
+
+-- what the owner knows of a new deque
+abbrev pub opening_view : View
+opening_view = record { owns = true; put = []; taken = []; kept = [] }
+
+-- what a thief knows before its first theft
+abbrev pub guest_view : View
+guest_view = record { owns = false; put = []; taken = []; kept = [] }
+
+-- after the owner put these
+abbrev pub with_put : View → List ℕ → View
+with_put v xs = record v { put = v.put ++ xs; kept = v.kept ++ xs }
+
+-- after a thief took these
+abbrev pub with_taken : View → List ℕ → View
+with_taken v xs = record v { taken = v.taken ++ xs }
+
+-- the owner took back the newest of what it had kept
+pub record TookBack (v : View) (xs : List ℕ) (w : View) : Type 0 where
+  pub owns : w.owns ≡ v.owns
+  pub put : w.put ≡ v.put
+  pub taken : w.taken ≡ v.taken ++ xs
+  pub newest : v.kept ≡ w.kept ++ xs
+
+-- the numbers put on the deque are those that all hands took from it and those left, each as often;
+-- and what the owner put and has not taken back is, in order, what was stolen and what is left
+pub record Dealt (items : List ℕ) (views : List View) : Type 0 where
+  pub balanced : (x : ℕ) → sum_by (λ v. times x v.put) views ≡ sum_by (λ v. times x v.taken) views + times x items
+  pub stolen : List ℕ
+  pub in_order : (port : ℕ) (v : View) → get_elem? views port ≡ some v → v.owns ≡ true → (port ≡ 0) × (v.kept ≡ stolen ++ items)
+
+-- what a pass knows, whenever the deque is empty
+abbrev pub WhenEmpty : ℕ → View → Type 0 → Type 0
+WhenEmpty port v fact = (views : List View) → Dealt [] views → get_elem? views port ≡ some v → fact
+
+-- what a pass knows, whenever the deque holds at most one number
+abbrev pub WhenFew : ℕ → View → Type 0 → Type 0
+WhenFew port v fact = (items : List ℕ) (views : List View) → length items ≤ 1 → Dealt items views → get_elem? views port ≡ some v → fact

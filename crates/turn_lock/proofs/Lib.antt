@@ -1,0 +1,5 @@
+mod Views
+mod Keeps
+mod SplitJoin
+mod SeatLists
+pub mod Laws

@@ -1,0 +1,8 @@
+use Rattle.std.proofs.Common.{◌≡◌, ◌+◌, [], length}
+use Rattle.turn_lock.specs.Seats.{newcomer}
+use Rattle.turn_lock.proofs.SeatLists.{AreNext}
+use Rattle.turn_lock.proofs.turn.Turn.with_seats.Given as goal
+
+abbrev pub invariant-loop : goal.invariant-loop
+invariant-loop g l =
+    (l.first.table_id ≡ l.fn.first.table_id) × (l.first.me ≡ (newcomer l.fn.first.me.0 0 l.counter, [])) × (length l.seats.items + 1 ≡ l.counter) × AreNext l.fn.self.table.shared.table_id l.fn.first.me.0 l.seats.items
