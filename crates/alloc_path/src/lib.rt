@@ -1,0 +1,7 @@
+// A task's own heap: its chunks, and the objects that it places in them.
+#![tactic(auto)]
+
+mod heap;
+mod own;
+
+pub use heap::{LeafHeap, New};
