@@ -1,6 +1,6 @@
 -- What a heap keeps, where one of its chunks is written or another is added.
 use Rattle.std.proofs.Common.{◌≡◌, ℕ, zero, suc, ◌+◌, ◌-◌, ◌*◌, ◌/◌, ◌<◌, ◌≤◌, Bool, true, false, List, [], ◌∷◌, ◌++◌, length, get_or, set, refl, sym, ap, ◌∙◌, arith, ⊎_elim, inl, inr, ◌⊎◌, eqb, one-add, length-set, length-append, Option, Some, None, subst}
-use Rattle.std.specs.Prelude.{◌≢◌, cond, nat_lt, nat_le, min}
+use Rattle.std.specs.Prelude.{◌≢◌, cond, nat_lt, nat_le, min, Result, Ok, Err, IsOk, OnOk}
 use Rattle.std.proofs.lemmas.Bool.{cases_Bool, cases_eq, cases_lt, eqb-true, eq-eqb, ne_eqb, lt-ltb, le-ltb, le-leb, lt-leb, leb-true, leb-false}
 use Rattle.std.proofs.lemmas.List.{get_or_read, get_or_append_left, get_or-append_right}
 use Rattle.object_layout.specs.declared.word.Addr.{Addr}
@@ -130,3 +130,198 @@ module _ (ks : List Content) (a : Addr) (i : ℕ) (k : Content) (o : IsObject (c
         words = rw words h.words;
         table = λ n. h.table n ∙ sym (place_in-set ks i (with_cell k a.offset d) k (ap (λ (x : Content). x.number) read) n);
       }
+
+-- an object's words count
+pub held_object : (m : Mark) (n : ℕ) → IsObject m → held_size m n ≡ n
+held_object (Born b) n o = refl
+held_object (Moved to) n o = refl
+held_object Hole n o = absurd o
+
+-- ---- an object is placed
+
+module _ (h : Heap) (w i : ℕ) (fits : place_for h w ≡ Some i) where
+  small_cases : (at : Option ℕ) → small_place h.chunks at w ≡ Some i → (at ≡ Some i) × (w ≤ room_at h.chunks (Some i))
+  small_cases at e =
+      ⊎_elim
+      (λ (l : w ≤ room_at h.chunks at). let s = rw (le-leb w (room_at h.chunks at) l) at e in (s, rw s at l))
+      (λ (l : room_at h.chunks at < w). let s = rw (lt-leb w (room_at h.chunks at) l) at e in cc)
+      (order (room_at h.chunks at))
+    where
+      order : (n : ℕ) → (w ≤ n) ⊎ (n < w)
+      order n = ⊎_elim (λ (l : n < w). inr l) (λ (l : w ≤ n). inl l) (cases_lt n w)
+
+  large_cases : (at : Option ℕ) → large_place h.chunks at w ≡ Some i → (at ≡ Some i) × ((chunk_at h.chunks i).size ≡ 1024 * units w)
+  large_cases None e = cc
+  large_cases (Some j) e =
+      ⊎_elim
+      (λ (s : eqb (chunk_at h.chunks j).size (1024 * units w) ≡ true).
+      let same : j ≡ i = let f = rw s at e in cc in
+      (ap Some same, rw (← same) (eqb-true _ _ s)))
+      (λ (s : eqb (chunk_at h.chunks j).size (1024 * units w) ≡ false). let f = rw s at e in cc)
+      (cases_Bool (eqb (chunk_at h.chunks j).size (1024 * units w)))
+
+  pub fits_small : w ≤ 1024 → (h.current ≡ Some i) × (w ≤ room_at h.chunks (Some i))
+  fits_small l = small_cases h.current (rw (le-leb w 1024 l) at fits)
+
+  pub fits_large : 1024 < w → (h.reserved ≡ Some i) × ((chunk_at h.chunks i).size ≡ 1024 * units w)
+  fits_large l = large_cases h.reserved (rw (lt-leb w 1024 l) at fits)
+
+-- the chunk into which an object goes is in the list, and has room for it
+module _ (h : Heap) (count : ℕ) (place : ℕ → Option ℕ) (keeps : IsKept h.chunks h.current h.reserved count place) where
+  current_in : (i : ℕ) → h.current ≡ Some i → (i < length h.chunks) × ((chunk_at h.chunks i).size ≡ 1024)
+  current_in i e = rw e at keeps.current
+
+  reserved_in : (i : ℕ) → h.reserved ≡ Some i → (i < length h.chunks) × ((1024 < (chunk_at h.chunks i).size) × ((chunk_at h.chunks i).cells ≡ []))
+  reserved_in i e = rw e at keeps.reserved
+
+  module _ (w i : ℕ) (fits : place_for h w ≡ Some i) (some : 0 < w) where
+    pub fits_in : i < length h.chunks
+    fits_in =
+        ⊎_elim
+        (λ (l : 1024 < w). (reserved_in i (fits_large h w i fits l).0).0)
+        (λ (l : w ≤ 1024). (current_in i (fits_small h w i fits l).0).0)
+        (cases_lt 1024 w)
+
+    pub fits_room : words_in (chunk_at h.chunks i).cells + w ≤ (chunk_at h.chunks i).size
+    fits_room =
+        ⊎_elim
+        (λ (l : 1024 < w).
+        let f = fits_large h w i fits l in
+        let none : words_in (chunk_at h.chunks i).cells ≡ 0 = ap words_in (reserved_in i f.0).1.1 in
+        let size : (chunk_at h.chunks i).size ≡ 1024 * ((w + 1023) / 1024) = f.1 in
+        omega arith)
+        (λ (l : w ≤ 1024). let r : w ≤ (chunk_at h.chunks i).size - words_in (chunk_at h.chunks i).cells = (fits_small h w i fits l).1 in omega arith)
+        (cases_lt 1024 w)
+
+  -- what is kept, once the object is placed
+  module _ (i : ℕ) (k : Content) (read : k ≡ get_or h.chunks i k) (c : Cell) (held : held_size c.mark (size_of c) ≡ size_of c) (fits : place_for h (size_of c) ≡ Some i) where
+    pub placed_kept : (r : Option ℕ) → (size_of c ≤ 1024 → r ≡ h.reserved) → (1024 < size_of c → r ≡ None) →
+        (n : ℕ) → n ≡ counted (count + size_of c) →
+        IsKept (set h.chunks i (record k { cells = k.cells ++ c ∷ [] })) h.current r n place
+    placed_kept r small large n e =
+        let in' = fits_in (size_of c) i fits (omega arith) in
+        let r' = get_or_read h.chunks i k in' read no_chunk in
+        let new : Content = record k { cells = k.cells ++ c ∷ [] } in
+        let push = held_in-push k.cells c in
+        let sum = held_words-set h.chunks i (record k { cells = k.cells ++ c ∷ [] }) k in' in
+        let same : held_in (get_or h.chunks i k).cells ≡ held_in k.cells = ap (λ (x : Content). held_in x.cells) (sym read) in
+        let words : held_words (set h.chunks i (record k { cells = k.cells ++ c ∷ [] })) ≡ held_words h.chunks + size_of c = omega arith in
+        let was = keeps.words in
+        record {
+          current = IsCurrent-set h.chunks i (record k { cells = k.cells ++ c ∷ [] }) (ap (λ (x : Content). x.size) r') h.current keeps.current;
+          reserved =
+              ⊎_elim
+              (λ (l : 1024 < size_of c). rw (large l) tt)
+              (λ (l : size_of c ≤ 1024).
+              rw (small l)
+              (IsReserved-set_other h.chunks i (record k { cells = k.cells ++ c ∷ [] }) (ap (λ (x : Content). x.size) r') h.reserved
+              (λ (b : h.reserved ≡ Some i).
+              let s = (current_in i (fits_small h (size_of c) i fits l).0).1 in
+              let t = (reserved_in i b).1.0 in
+              omega arith)
+              keeps.reserved))
+              (cases_lt 1024 (size_of c));
+          words = e ∙ rw (words, was) (saturates (held_words h.chunks) (size_of c));
+          table = λ q. keeps.table q ∙ sym (place_in-set h.chunks i (record k { cells = k.cells ++ c ∷ [] }) k (ap (λ (x : Content). x.number) read) q);
+        }
+      where
+        saturates : (a b : ℕ) → counted (counted a + b) ≡ counted (a + b)
+        saturates a b = omega arith
+
+-- ---- a chunk is added
+
+pub place_of-push_there : (ks : List Content) (k : Content) (q : ℕ) → place_of ks q < length ks → place_of (ks ++ k ∷ []) q ≡ place_of ks q
+place_of-push_there [] k q l = absurd (omega arith)
+place_of-push_there (x ∷ xs) k q l =
+    ⊎_elim
+    (λ (e : eqb x.number q ≡ true). rw e)
+    (λ (e : eqb x.number q ≡ false). let m = rw e at l in rw (e, place_of-push_there xs k q (omega arith)))
+    (cases_Bool (eqb x.number q))
+
+pub place_of-push_new : (ks : List Content) (k : Content) (q : ℕ) → length ks ≤ place_of ks q → place_of (ks ++ k ∷ []) q ≡ length ks + (cond (eqb k.number q) 0 1)
+place_of-push_new [] k q l = cases_of (eqb k.number q)
+  where
+    cases_of : (b : Bool) → cond b 0 (1 + 0) ≡ 0 + cond b 0 1
+    cases_of true = refl
+    cases_of false = refl
+place_of-push_new (x ∷ xs) k q l =
+    ⊎_elim
+    (λ (e : eqb x.number q ≡ true). let m = rw e at l in absurd (omega arith))
+    (λ (e : eqb x.number q ≡ false). let m = rw e at l in rw (e, place_of-push_new xs k q (omega arith)) (omega arith))
+    (cases_Bool (eqb x.number q))
+
+none_there : (ks : List Content) (q : ℕ) → place_in ks q ≡ None → length ks ≤ place_of ks q
+none_there ks q e =
+    ⊎_elim
+    (λ (l : place_of ks q < length ks). let f = rw (lt-ltb (place_of ks q) (length ks) l) at e in cc)
+    (λ (l : length ks ≤ place_of ks q). l)
+    (cases_lt (place_of ks q) (length ks))
+
+pub place_in-push : (ks : List Content) (k : Content) → place_in ks k.number ≡ None → (q : ℕ) →
+    place_in (ks ++ k ∷ []) q ≡ cond (eqb k.number q) (Some (length ks)) (place_in ks q)
+place_in-push ks k fresh q =
+    let len : length (ks ++ k ∷ []) ≡ length ks + 1 = simp length-append (omega arith) in
+    ⊎_elim
+    (λ (there : place_of ks q < length ks).
+    let ne : k.number ≡ q → ⊥ = λ e. let n = none_there ks k.number fresh in let m = rw e at n in omega arith in
+    rw (ne_eqb k.number q ne, len, place_of-push_there ks k q there, lt-ltb (place_of ks q) (length ks + 1) (omega arith), lt-ltb (place_of ks q) (length ks) there))
+    (λ (gone : length ks ≤ place_of ks q).
+    ⊎_elim
+    (λ (e : eqb k.number q ≡ true).
+    let sum : place_of (ks ++ k ∷ []) q ≡ length ks + 0 = rw e at (place_of-push_new ks k q gone) in
+    let new : place_of (ks ++ k ∷ []) q ≡ length ks = omega arith in
+    rw (e, len, new, lt-ltb (length ks) (length ks + 1) (omega arith)))
+    (λ (e : eqb k.number q ≡ false).
+    let new : place_of (ks ++ k ∷ []) q ≡ length ks + 1 = rw e at (place_of-push_new ks k q gone) in
+    rw (e, len, new, le-ltb (length ks + 1) (length ks + 1) (omega arith), le-ltb (place_of ks q) (length ks) gone))
+    (cases_Bool (eqb k.number q)))
+    (cases_lt (place_of ks q) (length ks))
+
+module _ (ks : List Content) (k : Content) (empty : k.cells ≡ []) where
+  at_push : (i : ℕ) → i < length ks → chunk_at (ks ++ k ∷ []) i ≡ chunk_at ks i
+  at_push i l = get_or_append_left ks (k ∷ []) no_chunk i l
+
+  at_last : chunk_at (ks ++ k ∷ []) (length ks) ≡ k
+  at_last =
+      let e : length ks - length ks ≡ 0 = omega arith in
+      get_or-append_right ks (k ∷ []) (length ks) (length ks) no_chunk refl (omega arith) ∙ rw e refl
+
+  IsCurrent-push : (o : Option ℕ) → IsCurrent ks o → IsCurrent (ks ++ k ∷ []) o
+  IsCurrent-push None h = h
+  IsCurrent-push (Some i) h = (simp length-append (omega arith), rw (at_push i h.0) h.1)
+
+  IsReserved-push : (o : Option ℕ) → IsReserved ks o → IsReserved (ks ++ k ∷ []) o
+  IsReserved-push None h = h
+  IsReserved-push (Some i) h = (simp length-append (omega arith), rw (at_push i h.0) h.1)
+
+  pushed_words : (n : ℕ) → n ≡ counted (held_words ks) → n ≡ counted (held_words (ks ++ k ∷ []))
+  pushed_words n e =
+      let none : held_in k.cells ≡ 0 = ap held_in empty in
+      let sum : held_words (ks ++ k ∷ []) ≡ held_words ks = held_words-append ks (k ∷ []) ∙ omega arith in
+      rw sum e
+
+  module _ (filled kept : Option ℕ) (count : ℕ) (place new : ℕ → Option ℕ) (keeps : IsKept ks filled kept count place) (fresh : IsFresh ks k.number)
+      (writes : (q : ℕ) → new q ≡ cond (eqb k.number q) (Some (length ks)) (place q)) where
+    table_push : (q : ℕ) → new q ≡ place_in (ks ++ k ∷ []) q
+    table_push q = writes q ∙ ap (λ (o : Option ℕ). cond (eqb k.number q) (Some (length ks)) o) (keeps.table q) ∙ sym (place_in-push ks k fresh q)
+
+    pub small_added : k.size ≡ 1024 → IsKept (ks ++ k ∷ []) (Some (length ks)) kept count new
+    small_added s = record {
+      current = (simp length-append (omega arith), rw at_last s);
+      reserved = IsReserved-push kept keeps.reserved;
+      words = pushed_words count keeps.words;
+      table = table_push;
+    }
+
+    pub large_added : 1024 < k.size → IsKept (ks ++ k ∷ []) filled (Some (length ks)) count new
+    large_added s = record {
+      current = IsCurrent-push filled keeps.current;
+      reserved = (simp length-append (omega arith), rw at_last (s, empty));
+      words = pushed_words count keeps.words;
+      table = table_push;
+    }
+
+-- a call that succeeds does what it does on success
+pub on_ok : {T E P : Type 0} (r : Result T E) → IsOk r → OnOk r P → P
+on_ok (Ok x) s p = p
+on_ok (Err e) s p = cc

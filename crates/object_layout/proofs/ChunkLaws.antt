@@ -4,7 +4,7 @@ use Rattle.std.proofs.Common.{◌≡◌, ℕ, zero, suc, ◌+◌, ◌-◌, ◌<�
 use Rattle.std.specs.Prelude.{◌≢◌, Option, Some, None, nat_lt, slice_set}
 use Rattle.std.proofs.lemmas.Bool.{cases_Bool, cases_eq, cases_lt, eqb-true, eq-eqb, ne_eqb, lt-ltb}
 use Rattle.object_layout.specs.declared.word.Addr.{Addr}
-use Rattle.object_layout.specs.Cell.{Cell, Mark, Born, Moved, Hole, IsObject, as_object, no_cell, with_ref, size_of}
+use Rattle.object_layout.specs.Cell.{Cell, Mark, Born, Moved, Hole, IsBorn, IsObject, as_object, no_cell, with_ref, size_of}
 use Rattle.object_layout.specs.Content.{Content}
 use Rattle.object_layout.specs.Place.{cell_at, put_cell, words_in}
 use Rattle.object_layout.proofs.PlaceLemmas as place
@@ -55,6 +55,24 @@ chunk_of_object ks a o =
     (λ (l : place_of ks a.chunk < length ks). l)
     (λ (l : length ks ≤ place_of ks a.chunk). absurd (rw (cell_of-none ks a l) at o))
     (cases_lt (place_of ks a.chunk) (length ks))
+
+-- what bears its birth name is an object
+born_marked : (m : Mark) → IsBorn m → IsObject m
+born_marked (Born b) h = tt
+born_marked (Moved to) h = absurd h
+born_marked Hole h = absurd h
+
+pub born_object : (ks : List Content) (a : Addr) → IsBorn (cell_of ks a).mark → IsObject (cell_of ks a).mark
+born_object ks a h = born_marked (cell_of ks a).mark h
+
+-- an object is the cell that begins there
+marked_is : (m : Mark) (c : Cell) → m ≡ c.mark → IsObject c.mark → as_object c ≡ c
+marked_is (Born b) c e o = rw (← e) refl
+marked_is (Moved to) c e o = rw (← e) refl
+marked_is Hole c e o = absurd (rw (← e) at o)
+
+pub object_is : (ks : List Content) (a : Addr) → IsObject (cell_of ks a).mark → object_of ks a ≡ cell_of ks a
+object_is ks a o = marked_is (cell_of ks a).mark (cell_of ks a) refl o
 
 -- no object lies at an address, or one does
 marked_cases : (m : Mark) (c : Cell) → m ≡ c.mark → IsObject c.mark ⊎ (as_object c ≡ no_cell)
