@@ -1,8 +1,8 @@
 -- What a heap keeps, where one of its chunks is written or another is added.
-use Rattle.std.proofs.Common.{◌≡◌, ℕ, zero, suc, ◌+◌, ◌-◌, ◌*◌, ◌/◌, ◌<◌, ◌≤◌, Bool, true, false, List, [], ◌∷◌, ◌++◌, length, get_or, set, refl, sym, ap, ◌∙◌, arith, ⊎_elim, inl, inr, ◌⊎◌, eqb, one-add, length-set, length-append, Option, Some, None, subst}
-use Rattle.std.specs.Prelude.{◌≢◌, cond, nat_lt, nat_le, min, Result, Ok, Err, IsOk, OnOk}
+use Rattle.std.proofs.Common.{◌≡◌, ℕ, zero, suc, ◌+◌, ◌-◌, ◌*◌, ◌/◌, ◌<◌, ◌≤◌, Bool, true, false, List, [], ◌∷◌, ◌++◌, length, get_or, set, refl, sym, ap, ◌∙◌, arith, ⊎_elim, inl, inr, ◌⊎◌, eqb, one-add, length-set, length-append, append_assoc, Option, Some, None, take}
+use Rattle.std.specs.Prelude.{◌≢◌, cond, nat_lt, nat_le, min, Result, Ok, Err, IfOk, IsOk, OnOk, is_some, option_map}
 use Rattle.std.proofs.lemmas.Bool.{cases_Bool, cases_eq, cases_lt, eqb-true, eq-eqb, ne_eqb, lt-ltb, le-ltb, le-leb, lt-leb, leb-true, leb-false}
-use Rattle.std.proofs.lemmas.List.{get_or_read, get_or_append_left, get_or-append_right}
+use Rattle.std.proofs.lemmas.List.{get_or_read, get_or_append_left, get_or-append_right, take_more}
 use Rattle.object_layout.specs.declared.word.Addr.{Addr}
 use Rattle.object_layout.specs.declared.word.Header.{Header}
 use Rattle.object_layout.specs.declared.word.Birth.{Birth}
@@ -10,7 +10,7 @@ use Rattle.object_layout.specs.Cell.{Born, Cell, Hole, IsObject, Mark, Moved, no
 use Rattle.object_layout.specs.Content.{Content}
 use Rattle.object_layout.specs.Place.{cell_at, put_cell, words_in}
 use Rattle.object_layout.specs.Chunks.{cell_of, chunk_at, held_in, held_size, held_words, no_chunk, object_of, place_in, place_of, push_object, put_object, with_cell}
-use Rattle.alloc_path.specs.Heap.{added, counted, Heap, IsCurrent, IsFresh, IsKept, IsReserved, large_place, place_for, placed_at, room_at, room_of, small_place, units}
+use Rattle.alloc_path.specs.Heap.{added, counted, Heap, IsCurrent, IsFresh, IsKept, IsReserved, large_place, AreApart, place_for, placed_at, room_at, room_of, small_place, units}
 use Rattle.object_layout.proofs.ChunkLaws as chunks
 
 -- ---- the words of objects
@@ -113,10 +113,10 @@ module _ (ks : List Content) (a : Addr) (i : ℕ) (k : Content) (o : IsObject (c
       let l = chunks.chunk_of_object ks a o in
       chunks.put_object-found ks a d k l ∙ ap (λ (n : ℕ). set ks n (with_cell (get_or ks n k) a.offset d)) (sym found) ∙ ap (λ (x : Content). set ks i (with_cell x a.offset d)) (sym read)
 
-  pub own_kept : (filled kept : Option ℕ) (count : ℕ) (place : ℕ → Option ℕ) → IsKept ks filled kept count place →
+  pub own_kept : (filled kept : Option ℕ) (count : ℕ) (place : ℕ → Option ℕ) (entries : ℕ) → IsKept ks filled kept count place entries →
       (d : Cell) → held_size d.mark (size_of d) ≡ held_size (cell_at k.cells a.offset).mark (size_of (cell_at k.cells a.offset)) →
-      IsKept (set ks i (with_cell k a.offset d)) filled kept count place
-  own_kept filled kept count place h d s =
+      IsKept (set ks i (with_cell k a.offset d)) filled kept count place entries
+  own_kept filled kept count place entries h d s =
       let r = own_read no_chunk in
       let held = held_in-put k.cells a.offset d s in
       let sum = held_words-set ks i (with_cell k a.offset d) k own_in in
@@ -129,6 +129,7 @@ module _ (ks : List Content) (a : Addr) (i : ℕ) (k : Content) (o : IsObject (c
             (λ e. empty_put k.cells a.offset d (ap (λ (x : Content). x.cells) r ∙ e)) kept h.reserved;
         words = rw words h.words;
         table = λ n. h.table n ∙ sym (place_in-set ks i (with_cell k a.offset d) k (ap (λ (x : Content). x.number) read) n);
+        each = rw length-set h.each;
       }
 
 -- an object's words count
@@ -167,7 +168,7 @@ module _ (h : Heap) (w i : ℕ) (fits : place_for h w ≡ Some i) where
   fits_large l = large_cases h.reserved (rw (lt-leb w 1024 l) at fits)
 
 -- the chunk into which an object goes is in the list, and has room for it
-module _ (h : Heap) (count : ℕ) (place : ℕ → Option ℕ) (keeps : IsKept h.chunks h.current h.reserved count place) where
+module _ (h : Heap) (count : ℕ) (place : ℕ → Option ℕ) (entries : ℕ) (keeps : IsKept h.chunks h.current h.reserved count place entries) where
   current_in : (i : ℕ) → h.current ≡ Some i → (i < length h.chunks) × ((chunk_at h.chunks i).size ≡ 1024)
   current_in i e = rw e at keeps.current
 
@@ -197,7 +198,7 @@ module _ (h : Heap) (count : ℕ) (place : ℕ → Option ℕ) (keeps : IsKept h
   module _ (i : ℕ) (k : Content) (read : k ≡ get_or h.chunks i k) (c : Cell) (held : held_size c.mark (size_of c) ≡ size_of c) (fits : place_for h (size_of c) ≡ Some i) where
     pub placed_kept : (r : Option ℕ) → (size_of c ≤ 1024 → r ≡ h.reserved) → (1024 < size_of c → r ≡ None) →
         (n : ℕ) → n ≡ counted (count + size_of c) →
-        IsKept (set h.chunks i (record k { cells = k.cells ++ c ∷ [] })) h.current r n place
+        IsKept (set h.chunks i (record k { cells = k.cells ++ c ∷ [] })) h.current r n place entries
     placed_kept r small large n e =
         let in' = fits_in (size_of c) i fits (omega arith) in
         let r' = get_or_read h.chunks i k in' read no_chunk in
@@ -223,6 +224,7 @@ module _ (h : Heap) (count : ℕ) (place : ℕ → Option ℕ) (keeps : IsKept h
               (cases_lt 1024 (size_of c));
           words = e ∙ rw (words, was) (saturates (held_words h.chunks) (size_of c));
           table = λ q. keeps.table q ∙ sym (place_in-set h.chunks i (record k { cells = k.cells ++ c ∷ [] }) k (ap (λ (x : Content). x.number) read) q);
+          each = rw length-set keeps.each;
         }
       where
         saturates : (a b : ℕ) → counted (counted a + b) ≡ counted (a + b)
@@ -300,28 +302,118 @@ module _ (ks : List Content) (k : Content) (empty : k.cells ≡ []) where
       let sum : held_words (ks ++ k ∷ []) ≡ held_words ks = held_words-append ks (k ∷ []) ∙ omega arith in
       rw sum e
 
-  module _ (filled kept : Option ℕ) (count : ℕ) (place new : ℕ → Option ℕ) (keeps : IsKept ks filled kept count place) (fresh : IsFresh ks k.number)
+  module _ (filled kept : Option ℕ) (count : ℕ) (place new : ℕ → Option ℕ) (entries : ℕ) (keeps : IsKept ks filled kept count place entries) (fresh : IsFresh ks k.number)
       (writes : (q : ℕ) → new q ≡ cond (eqb k.number q) (Some (length ks)) (place q)) where
     table_push : (q : ℕ) → new q ≡ place_in (ks ++ k ∷ []) q
     table_push q = writes q ∙ ap (λ (o : Option ℕ). cond (eqb k.number q) (Some (length ks)) o) (keeps.table q) ∙ sym (place_in-push ks k fresh q)
 
-    pub small_added : k.size ≡ 1024 → IsKept (ks ++ k ∷ []) (Some (length ks)) kept count new
+    pub small_added : k.size ≡ 1024 → IsKept (ks ++ k ∷ []) (Some (length ks)) kept count new (entries + 1)
     small_added s = record {
       current = (simp length-append (omega arith), rw at_last s);
       reserved = IsReserved-push kept keeps.reserved;
       words = pushed_words count keeps.words;
       table = table_push;
+      each = let e = keeps.each in simp length-append (omega arith);
     }
 
-    pub large_added : 1024 < k.size → IsKept (ks ++ k ∷ []) filled (Some (length ks)) count new
+    pub large_added : 1024 < k.size → IsKept (ks ++ k ∷ []) filled (Some (length ks)) count new (entries + 1)
     large_added s = record {
       current = IsCurrent-push filled keeps.current;
       reserved = (simp length-append (omega arith), rw at_last (s, empty));
       words = pushed_words count keeps.words;
       table = table_push;
+      each = let e = keeps.each in simp length-append (omega arith);
     }
 
 -- a call that succeeds does what it does on success
 pub on_ok : {T E P : Type 0} (r : Result T E) → IsOk r → OnOk r P → P
 on_ok (Ok x) s p = p
 on_ok (Err e) s p = cc
+
+-- a new key adds an entry
+pub new_entry : {X E : Type 0} (r : Result (Option X) E) (was : Option X) (m n : ℕ) → IsOk r → IfOk r (λ o. o ≡ was) → IfOk r (λ o. n ≡ m + cond (is_some o) 0 1) → was ≡ None → n ≡ m + 1
+new_entry (Ok o) was m n s e l none = let f = e ∙ none in rw f at l
+new_entry (Err x) was m n s e l none = cc
+
+-- ---- chunks that are apart
+
+none_from : (ks : List Content) (n : ℕ) → length ks ≤ place_of ks n → IsFresh ks n
+none_from ks n l = rw (le-ltb (place_of ks n) (length ks) l)
+
+fresh_cons : (k : Content) (ks : List Content) (n : ℕ) → (k.number ≡ n → ⊥) → IsFresh ks n → IsFresh (k ∷ ks) n
+fresh_cons k ks n ne h =
+    let l = none_there ks n h in
+    let p : place_of (k ∷ ks) n ≡ 1 + place_of ks n = rw (ne_eqb k.number n ne) refl in
+    none_from (k ∷ ks) n (omega arith)
+
+fresh_head : (k : Content) (ks : List Content) (n : ℕ) → IsFresh (k ∷ ks) n → k.number ≡ n → ⊥
+fresh_head k ks n h e =
+    let l = none_there (k ∷ ks) n h in
+    let p : place_of (k ∷ ks) n ≡ 0 = rw (eq-eqb k.number n e) refl in
+    omega arith
+
+fresh_tail : (k : Content) (ks : List Content) (n : ℕ) → IsFresh (k ∷ ks) n → IsFresh ks n
+fresh_tail k ks n h =
+    let l = none_there (k ∷ ks) n h in
+    let p : place_of (k ∷ ks) n ≡ 1 + place_of ks n = rw (ne_eqb k.number n (fresh_head k ks n h)) refl in
+    none_from ks n (omega arith)
+
+fresh_at : (ks : List Content) (n : ℕ) → IsFresh ks n → (i : ℕ) (d : Content) → i < length ks → (get_or ks i d).number ≡ n → ⊥
+fresh_at [] n h i d l e = omega arith
+fresh_at (k ∷ ks) n h zero d l e = fresh_head k ks n h e
+fresh_at (k ∷ ks) n h (suc i) d l e = fresh_at ks n (fresh_tail k ks n h) i d (omega arith) e
+
+-- no chunk before one has its number
+pub apart_before : (ks : List Content) → AreApart ks → (i : ℕ) (d : Content) → i < length ks → IsFresh (take i ks) (get_or ks i d).number
+apart_before [] h i d l = absurd (omega arith)
+apart_before (k ∷ ks) h zero d l = refl
+apart_before (k ∷ ks) h (suc i) d l =
+    fresh_cons k (take i ks) (get_or ks i d).number (λ e. fresh_at ks k.number h.0 i d (omega arith) (sym e)) (apart_before ks h.1 i d (omega arith))
+
+-- ---- chunks one after another
+
+pub counted_more : (a b : ℕ) → counted (counted a + b) ≡ counted (a + b)
+counted_more a b = omega arith
+
+pub held_more : (ks : List Content) (i : ℕ) (k : Content) → i < length ks → k ≡ get_or ks i k → held_words (take (i + 1) ks) ≡ held_words (take i ks) + held_in k.cells
+held_more ks i k l read =
+    let more = take_more ks i k l in
+    rw (more, ← read, held_words-append (take i ks) (k ∷ [])) (omega arith)
+
+module _ (xs ks : List Content) where
+  at_behind : (i : ℕ) → chunk_at (xs ++ ks) (i + length xs) ≡ chunk_at ks i
+  at_behind i =
+      let e : i + length xs - length xs ≡ i = omega arith in
+      get_or-append_right xs ks (length xs) (i + length xs) no_chunk refl (omega arith) ∙ rw e refl
+
+  IsCurrent-behind : (b : ℕ) → b ≡ length xs → (o : Option ℕ) → IsCurrent ks o → IsCurrent (xs ++ ks) (option_map (λ i. i + b) o)
+  IsCurrent-behind b e None h = h
+  IsCurrent-behind b e (Some i) h = rw e (simp length-append (let l : i < length ks = h.0 in omega arith), rw (at_behind i) h.1)
+
+  IsReserved-behind : (b : ℕ) → b ≡ length xs → (o : Option ℕ) → IsReserved ks o → IsReserved (xs ++ ks) (option_map (λ i. i + b) o)
+  IsReserved-behind b e None h = h
+  IsReserved-behind b e (Some i) h = rw e (simp length-append (let l : i < length ks = h.0 in omega arith), rw (at_behind i) h.1)
+
+module _ (ls rs ks : List Content) (filled kept : Option ℕ) (a b n : ℕ) (place : ℕ → Option ℕ) (entries : ℕ) (keeps : IsKept ks filled kept n place entries)
+    (left : a ≡ counted (held_words ls)) (right : b ≡ counted (held_words rs)) where
+  together : ls ++ (rs ++ ks) ≡ (ls ++ rs) ++ ks
+  together = sym (append_assoc ls rs ks)
+
+  lengths : length ls + length rs ≡ length (ls ++ rs)
+  lengths = simp length-append refl
+
+  sum_of_three : (x y z : ℕ) → counted (counted z + counted (counted x + counted y)) ≡ counted (x + (y + z))
+  sum_of_three x y z = omega arith
+
+  pub merged_kept : (new : ℕ → Option ℕ) (m count : ℕ) → ((q : ℕ) → new q ≡ place_in (ls ++ (rs ++ ks)) q) → m ≡ length (ls ++ (rs ++ ks)) → count ≡ counted (n + counted (a + b)) →
+      IsKept (ls ++ (rs ++ ks)) (option_map (λ i. i + (length ls + length rs)) filled) (option_map (λ i. i + (length ls + length rs)) kept) count new m
+  merged_kept new m count table each words = record {
+    current = rw together (IsCurrent-behind (ls ++ rs) ks (length ls + length rs) lengths filled keeps.current);
+    reserved = rw together (IsReserved-behind (ls ++ rs) ks (length ls + length rs) lengths kept keeps.reserved);
+    words =
+        let held : held_words (ls ++ (rs ++ ks)) ≡ held_words ls + (held_words rs + held_words ks) = rw (held_words-append ls (rs ++ ks), held_words-append rs ks) refl in
+        let w = keeps.words in
+        rw held (words ∙ rw (w, left, right) (sum_of_three (held_words ls) (held_words rs) (held_words ks)));
+    table = table;
+    each = each;
+  }

@@ -1,5 +1,5 @@
 -- A task's own heap, as callers see it.
-use Rattle.std.specs.Prelude.{◌≡◌, ℕ, ◌+◌, ◌-◌, ◌*◌, ◌/◌, ◌^◌, ◌<◌, List, [], ◌∷◌, ◌++◌, ◌==◌, if◌then◌else◌, Option, Some, None, length, min, nat_le}
+use Rattle.std.specs.Prelude.{◌≡◌, ℕ, ◌+◌, ◌-◌, ◌*◌, ◌/◌, ◌^◌, ◌<◌, List, [], ◌∷◌, ◌++◌, ◌==◌, if◌then◌else◌, Option, Some, None, length, min, nat_le, option_map}
 use Rattle.object_layout.specs.declared.word.Addr.{Addr}
 use Rattle.object_layout.specs.Cell.{Cell, size_of}
 use Rattle.object_layout.specs.Content.{Content}
@@ -61,12 +61,30 @@ placed h (Some i) c = placed_at h i c
 -- the heap with an empty chunk more: it is filled from then on, or reserved where it is a large one
 abbrev pub added : Heap → Content → Heap
 added h k = if k.size == 1024
-  then record h { chunks = h.chunks ++ k ∷ []; current = Some (length h.chunks) }
-  else record h { chunks = h.chunks ++ k ∷ []; reserved = Some (length h.chunks) }
+    then record h { chunks = h.chunks ++ k ∷ []; current = Some (length h.chunks) }
+    else record h { chunks = h.chunks ++ k ∷ []; reserved = Some (length h.chunks) }
 
 -- no chunk of the heap has this number
 abbrev pub IsFresh : List Content → ℕ → Type 0
 IsFresh ks number = place_in ks number ≡ None
+
+-- no two of these chunks have one number
+abbrev pub AreApart : List Content → Type 0
+AreApart [] = Unit {0}
+AreApart (k ∷ ks) = IsFresh ks k.number × AreApart ks
+
+-- the heap with other chunks in place of all of its own
+abbrev pub exchanged : Heap → List Content → Option ℕ → Option ℕ → Heap
+exchanged h ks filled kept = record h { chunks = ks; current = filled; reserved = kept }
+
+-- the heap with the chunks of two others before its own; it goes on filling its own chunk
+abbrev pub merged : Heap → Heap → Heap → Heap
+merged h left right = record h {
+  chunks = left.chunks ++ (right.chunks ++ h.chunks);
+  current = option_map (λ i. i + (length left.chunks + length right.chunks)) h.current;
+  reserved = option_map (λ i. i + (length left.chunks + length right.chunks)) h.reserved;
+  since = counted (h.since + (left.since + right.since));
+}
 
 -- the same heap, with places for other numbers of chunks
 abbrev pub with_places : Heap → ℕ → ℕ → Heap
@@ -84,9 +102,10 @@ abbrev pub IsReserved : List Content → Option ℕ → Type 0
 IsReserved ks None = Unit {0}
 IsReserved ks (Some i) = (i < length ks) × ((1024 < (chunk_at ks i).size) × ((chunk_at ks i).cells ≡ []))
 
--- the table has each chunk's place, and the count of words is that of the objects
-pub record IsKept (chunks : List Content) (filled kept : Option ℕ) (count : ℕ) (place : ℕ → Option ℕ) : Type 0 where
+-- the table has each chunk's place and nothing else, and the count of words is that of the objects
+pub record IsKept (chunks : List Content) (filled kept : Option ℕ) (count : ℕ) (place : ℕ → Option ℕ) (entries : ℕ) : Type 0 where
   pub current : IsCurrent chunks filled
   pub reserved : IsReserved chunks kept
   pub words : count ≡ counted (held_words chunks)
   pub table : (number : ℕ) → place number ≡ place_in chunks number
+  pub each : entries ≡ length chunks

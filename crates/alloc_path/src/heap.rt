@@ -36,13 +36,13 @@ pub struct LeafHeap {
 impl Model for LeafHeap {
     ghost use Rattle.alloc_path.specs.Heap.{Heap, IsKept};
     ghost use Rattle.std.specs.Prelude.{◌-◌, nat_eq, vec_capacity, vec_len};
-    ghost use Rattle.std.specs.HashMap.{get, spare};
+    ghost use Rattle.std.specs.HashMap.{get, hash_map_len, spare};
 
     ghost Value = { Heap };
 
     ghost view = { λ h. record { chunks = h.chunks.items; current = h.current; reserved = h.reserved; since = h.since; slots = vec_capacity h.chunks - vec_len h.chunks; spare = spare h.table } };
 
-    ghost invariant = { λ h. IsKept h.chunks.items h.current h.reserved h.words (get nat_eq h.table) };
+    ghost invariant = { λ h. IsKept h.chunks.items h.current h.reserved h.words (get nat_eq h.table) (hash_map_len h.table) };
 }
 
 impl LeafHeap {
@@ -196,7 +196,11 @@ impl LeafHeap {
         ensures { result ≡ place_for self.now words }
     {
         if words <= SMALL {
-            return if words <= self.room() { self.current } else { None };
+            return if words <= self.room() {
+                self.current
+            } else {
+                None
+            };
         }
         match self.reserved {
             None => None,

@@ -28,7 +28,7 @@ invariant_of-self c =
     let found = rw (← c.self.view_is) at c.place_of-i.ensures in
     rw c.freeze.ensures
     (heap.own_kept c.self.inside.chunks.items c.args.object c.place_of-i.result c.index_mut-chunk.result.now o found c.index_mut-chunk.ensures.value
-    _ _ _ _ c.self.invariant (frozen (cell_at c.index_mut-chunk.result.now.cells c.args.object.offset)) refl)
+    _ _ _ _ _ c.self.invariant (frozen (cell_at c.index_mut-chunk.result.now.cells c.args.object.offset)) refl)
 
 pub returns : goal.returns
 returns c =

@@ -28,7 +28,7 @@ invariant_of-self c =
     let found = rw (← c.self.view_is) at c.place_of-i.ensures in
     rw c.set_birth.ensures
     (heap.own_kept c.self.inside.chunks.items c.args.object c.place_of-i.result c.index_mut-chunk.result.now o found c.index_mut-chunk.ensures.value
-    _ _ _ _ c.self.invariant (with_mark (cell_at c.index_mut-chunk.result.now.cells c.args.object.offset) (Born c.args.birth)) (sym (heap.held_object (cell_at c.index_mut-chunk.result.now.cells c.args.object.offset).mark (size_of (cell_at c.index_mut-chunk.result.now.cells c.args.object.offset)) (rw (heap.own_cell c.self.inside.chunks.items c.args.object c.place_of-i.result c.index_mut-chunk.result.now o found c.index_mut-chunk.ensures.value) at o))))
+    _ _ _ _ _ c.self.invariant (with_mark (cell_at c.index_mut-chunk.result.now.cells c.args.object.offset) (Born c.args.birth)) (sym (heap.held_object (cell_at c.index_mut-chunk.result.now.cells c.args.object.offset).mark (size_of (cell_at c.index_mut-chunk.result.now.cells c.args.object.offset)) (rw (heap.own_cell c.self.inside.chunks.items c.args.object c.place_of-i.result c.index_mut-chunk.result.now o found c.index_mut-chunk.ensures.value) at o))))
 
 pub returns : goal.returns
 returns c =

@@ -33,7 +33,7 @@ invariant_of-self c =
     let back = to_z-of_z w64 c.args.value c.ranges.value in
     rw (c.set_int.ensures, back)
     (heap.own_kept c.self.inside.chunks.items c.args.object c.place_of-i.result c.index_mut-chunk.result.now o found c.index_mut-chunk.ensures.value
-    _ _ _ _ c.self.invariant (with_int (cell_at c.index_mut-chunk.result.now.cells c.args.object.offset) c.args.field c.args.value) (ap (held_size (cell_at c.index_mut-chunk.result.now.cells c.args.object.offset).mark) (place.size_of-with_int (cell_at c.index_mut-chunk.result.now.cells c.args.object.offset) c.args.field c.args.value)))
+    _ _ _ _ _ c.self.invariant (with_int (cell_at c.index_mut-chunk.result.now.cells c.args.object.offset) c.args.field c.args.value) (ap (held_size (cell_at c.index_mut-chunk.result.now.cells c.args.object.offset).mark) (place.size_of-with_int (cell_at c.index_mut-chunk.result.now.cells c.args.object.offset) c.args.field c.args.value)))
 
 pub returns : goal.returns
 returns c =

@@ -30,7 +30,7 @@ invariant_of-self c =
     let found = rw (← c.self.view_is) at c.place_of-i.ensures in
     rw c.set_ref.ensures
     (heap.own_kept c.self.inside.chunks.items c.args.object c.place_of-i.result c.index_mut-chunk.result.now o found c.index_mut-chunk.ensures.value
-    _ _ _ _ c.self.invariant (with_ref (cell_at c.index_mut-chunk.result.now.cells c.args.object.offset) c.args.field c.args.value) (ap (held_size (cell_at c.index_mut-chunk.result.now.cells c.args.object.offset).mark) (place.size_of-with_ref (cell_at c.index_mut-chunk.result.now.cells c.args.object.offset) c.args.field c.args.value)))
+    _ _ _ _ _ c.self.invariant (with_ref (cell_at c.index_mut-chunk.result.now.cells c.args.object.offset) c.args.field c.args.value) (ap (held_size (cell_at c.index_mut-chunk.result.now.cells c.args.object.offset).mark) (place.size_of-with_ref (cell_at c.index_mut-chunk.result.now.cells c.args.object.offset) c.args.field c.args.value)))
 
 pub returns : goal.returns
 returns c =

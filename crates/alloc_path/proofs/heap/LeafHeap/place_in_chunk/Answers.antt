@@ -12,16 +12,16 @@ invariant_of-self c =
     let fits = rw (← c.self.view_is) at c.requires.fits in
     let size = size_of-new c.args.new.header c.args.new.birth in
     elim c.if-words-gt-SMALL.branch [
-      then-words-gt-SMALL w ↦
+      | then-words-gt-SMALL w ↦
           let more = w.if-words-gt-SMALL.true in
           let sum = rw w.self-inside-is at c.saturating_add-self-inside-2.ensures in
           rw (w.self-inside-is, c.write_new.ensures)
-              (heap.placed_kept (the_view c.self.inside) _ _ c.self.invariant c.args.i c.index_mut-chunk.result.now c.index_mut-chunk.ensures.value (new_cell c.args.new.header c.args.new.birth) refl fits
-              _ (λ l. absurd (omega arith)) (λ l. refl) _ (rw size (sum ∙ omega arith)))
-    | else-words-gt-SMALL w ↦
+          (heap.placed_kept (the_view c.self.inside) _ _ _ c.self.invariant c.args.i c.index_mut-chunk.result.now c.index_mut-chunk.ensures.value (new_cell c.args.new.header c.args.new.birth) refl fits
+          _ (λ l. absurd (omega arith)) (λ l. refl) _ (rw size (sum ∙ omega arith)))
+      | else-words-gt-SMALL w ↦
           let less = w.if-words-gt-SMALL.false in
           let sum = rw w.self-inside-is at c.saturating_add-self-inside-2.ensures in
           rw (w.self-inside-is, c.write_new.ensures)
-              (heap.placed_kept (the_view c.self.inside) _ _ c.self.invariant c.args.i c.index_mut-chunk.result.now c.index_mut-chunk.ensures.value (new_cell c.args.new.header c.args.new.birth) refl fits
-              _ (λ l. refl) (λ l. absurd (omega arith)) _ (rw size (sum ∙ omega arith)))
+          (heap.placed_kept (the_view c.self.inside) _ _ _ c.self.invariant c.args.i c.index_mut-chunk.result.now c.index_mut-chunk.ensures.value (new_cell c.args.new.header c.args.new.birth) refl fits
+          _ (λ l. refl) (λ l. absurd (omega arith)) _ (rw size (sum ∙ omega arith)))
     ]
