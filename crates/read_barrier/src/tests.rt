@@ -1,0 +1,1 @@
+// Reads along a path and off it.
