@@ -2,7 +2,6 @@
 #![tactic(auto)]
 
 mod barrier;
-
 #[cfg(test)]
 mod tests;
 

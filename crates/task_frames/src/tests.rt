@@ -24,7 +24,10 @@ fn to_the_limit(rt: HostRuntime) -> Result<(), Fail> {
 #[test]
 fn registers_of_each(rt: HostRuntime) -> Result<(), Fail> {
     let mut frames = started(&rt);
-    let at = Some(Addr { chunk: 3, offset: 9 });
+    let at = Some(Addr {
+        chunk: 3,
+        offset: 9,
+    });
     frames.set_int(15, -7);
     frames.set_reference(0, at);
     frames.set_next(2);
