@@ -1,0 +1,419 @@
+-- What a heap keeps, where one of its chunks is written or another is added.
+use Rattle.std.proofs.Common.{◌≡◌, ℕ, zero, suc, ◌+◌, ◌-◌, ◌*◌, ◌/◌, ◌<◌, ◌≤◌, Bool, true, false, List, [], ◌∷◌, ◌++◌, length, get_or, set, refl, sym, ap, ◌∙◌, arith, ⊎_elim, inl, inr, ◌⊎◌, eqb, one-add, length-set, length-append, append_assoc, Option, Some, None, take}
+use Rattle.std.specs.Prelude.{◌≢◌, cond, nat_lt, nat_le, min, Result, Ok, Err, IfOk, IsOk, OnOk, is_some, option_map}
+use Rattle.std.proofs.lemmas.Bool.{cases_Bool, cases_eq, cases_lt, eqb-true, eq-eqb, ne_eqb, lt-ltb, le-ltb, le-leb, lt-leb, leb-true, leb-false}
+use Rattle.std.proofs.lemmas.List.{get_or_read, get_or_append_left, get_or-append_right, take_more}
+use Rattle.object_layout.specs.declared.word.Addr.{Addr}
+use Rattle.object_layout.specs.declared.word.Header.{Header}
+use Rattle.object_layout.specs.declared.word.Birth.{Birth}
+use Rattle.object_layout.specs.Cell.{Born, Cell, Hole, IsObject, Mark, Moved, no_cell, size_of}
+use Rattle.object_layout.specs.Content.{Content}
+use Rattle.object_layout.specs.Place.{cell_at, put_cell, words_in}
+use Rattle.object_layout.specs.Chunks.{cell_of, chunk_at, held_in, held_size, held_words, no_chunk, object_of, place_in, place_of, push_object, put_object, with_cell}
+use Rattle.alloc_path.specs.Heap.{added, counted, Heap, IsCurrent, IsFresh, IsKept, IsReserved, large_place, AreApart, place_for, placed_at, room_at, room_of, small_place, units}
+use Rattle.object_layout.proofs.ChunkLaws as chunks
+
+-- ---- the words of objects
+
+pub held_in-put : (cs : List Cell) (at : ℕ) (d : Cell) → held_size d.mark (size_of d) ≡ held_size (cell_at cs at).mark (size_of (cell_at cs at)) → held_in (put_cell cs at d) ≡ held_in cs
+held_in-put [] at d s = refl
+held_in-put (c ∷ cs) zero d s = rw s
+held_in-put (c ∷ cs) (suc n) d s =
+    ⊎_elim
+    (λ (above : suc n < size_of c). rw (lt-leb (size_of c) (suc n) above))
+    (λ (within : size_of c ≤ suc n).
+    let t = le-leb (size_of c) (suc n) within in
+    rw (t, held_in-put cs (suc n - size_of c) d (rw t at s)))
+    (cases_lt (suc n) (size_of c))
+
+pub held_in-push : (cs : List Cell) (d : Cell) → held_in (cs ++ d ∷ []) ≡ held_in cs + held_size d.mark (size_of d)
+held_in-push [] d = omega arith
+held_in-push (c ∷ cs) d = let ih = held_in-push cs d in omega arith
+
+pub held_words-set : (ks : List Content) (i : ℕ) (k : Content) (d : Content) → i < length ks →
+    held_words (set ks i k) + held_in (get_or ks i d).cells ≡ held_words ks + held_in k.cells
+held_words-set [] i k d l = absurd (omega arith)
+held_words-set (x ∷ xs) zero k d l = omega arith
+held_words-set (x ∷ xs) (suc i) k d l = let ih = held_words-set xs i k d (omega arith) in omega arith
+
+pub held_words-append : (ks ls : List Content) → held_words (ks ++ ls) ≡ held_words ks + held_words ls
+held_words-append [] ls = omega arith
+held_words-append (k ∷ ks) ls = let ih = held_words-append ks ls in omega arith
+
+-- ---- where chunks stand
+
+pub place_of-set : (ks : List Content) (i : ℕ) (k : Content) (d : Content) → k.number ≡ (get_or ks i d).number → (n : ℕ) → place_of (set ks i k) n ≡ place_of ks n
+place_of-set [] i k d e n = refl
+place_of-set (x ∷ xs) zero k d e n = rw e
+place_of-set (x ∷ xs) (suc i) k d e n = rw (place_of-set xs i k d e n)
+
+pub place_in-set : (ks : List Content) (i : ℕ) (k : Content) (d : Content) → k.number ≡ (get_or ks i d).number → (n : ℕ) → place_in (set ks i k) n ≡ place_in ks n
+place_in-set ks i k d e n = rw (place_of-set ks i k d e n, length-set)
+
+-- a part of the chunks that the new one shares with the old
+pub part-set : {X : Type 0} (f : Content → X) (ks : List Content) (i j : ℕ) (k d : Content) → f k ≡ f (get_or ks i d) → f (get_or (set ks i k) j d) ≡ f (get_or ks j d)
+part-set f [] i j k d e = refl
+part-set f (x ∷ xs) zero zero k d e = e
+part-set f (x ∷ xs) zero (suc j) k d e = refl
+part-set f (x ∷ xs) (suc i) zero k d e = refl
+part-set f (x ∷ xs) (suc i) (suc j) k d e = part-set f xs i j k d e
+
+empty-set : (ks : List Content) (i j : ℕ) (k d : Content) → ((get_or ks i d).cells ≡ [] → k.cells ≡ []) → (get_or ks j d).cells ≡ [] → (get_or (set ks i k) j d).cells ≡ []
+empty-set [] i j k d e h = h
+empty-set (x ∷ xs) zero zero k d e h = e h
+empty-set (x ∷ xs) zero (suc j) k d e h = h
+empty-set (x ∷ xs) (suc i) zero k d e h = h
+empty-set (x ∷ xs) (suc i) (suc j) k d e h = empty-set xs i j k d e h
+
+module _ (ks : List Content) (i : ℕ) (k : Content) (size : k.size ≡ (chunk_at ks i).size) where
+  pub IsCurrent-set : (o : Option ℕ) → IsCurrent ks o → IsCurrent (set ks i k) o
+  IsCurrent-set None h = h
+  IsCurrent-set (Some j) h = (rw length-set h.0, part-set (λ (c : Content). c.size) ks i j k no_chunk size ∙ h.1)
+
+  pub IsReserved-set : ((chunk_at ks i).cells ≡ [] → k.cells ≡ []) → (o : Option ℕ) → IsReserved ks o → IsReserved (set ks i k) o
+  IsReserved-set e None h = h
+  IsReserved-set e (Some j) h =
+      let s = part-set (λ (c : Content). c.size) ks i j k no_chunk size in
+      (rw length-set h.0, (rw s h.1.0, empty-set ks i j k no_chunk e h.1.1))
+
+  -- another chunk than the reserved one
+  pub IsReserved-set_other : (o : Option ℕ) → (o ≡ Some i → ⊥) → IsReserved ks o → IsReserved (set ks i k) o
+  IsReserved-set_other None ne h = h
+  IsReserved-set_other (Some j) ne h =
+      let s = part-set (λ (c : Content). c.size) ks i j k no_chunk size in
+      (rw length-set h.0, (rw s h.1.0, apart ks i j (λ e. ne (ap Some e)) h.1.1))
+    where
+      apart : (xs : List Content) (a b : ℕ) → (b ≡ a → ⊥) → (get_or xs b no_chunk).cells ≡ [] → (get_or (set xs a k) b no_chunk).cells ≡ []
+      apart [] a b n g = g
+      apart (x ∷ xs) zero zero n g = absurd (n refl)
+      apart (x ∷ xs) zero (suc b) n g = g
+      apart (x ∷ xs) (suc a) zero n g = g
+      apart (x ∷ xs) (suc a) (suc b) n g = apart xs a b (λ e. n (ap suc e)) g
+
+-- ---- a cell of the heap's own is written
+
+empty_put : (cs : List Cell) (at : ℕ) (d : Cell) → cs ≡ [] → put_cell cs at d ≡ []
+empty_put [] at d e = refl
+empty_put (c ∷ cs) at d e = cc
+
+module _ (ks : List Content) (a : Addr) (i : ℕ) (k : Content) (o : IsObject (cell_of ks a).mark) (found : i ≡ place_of ks a.chunk) (read : k ≡ get_or ks i k) where
+  pub own_in : i < length ks
+  own_in = let l = chunks.chunk_of_object ks a o in omega arith
+
+  pub own_read : (d : Content) → k ≡ get_or ks i d
+  own_read d = get_or_read ks i k own_in read d
+
+  pub own_cell : cell_of ks a ≡ cell_at k.cells a.offset
+  own_cell =
+      let l = chunks.chunk_of_object ks a o in
+      chunks.cell_of-found ks a k l ∙ ap (λ (n : ℕ). cell_at (get_or ks n k).cells a.offset) (sym found) ∙ ap (λ (x : Content). cell_at x.cells a.offset) (sym read)
+
+  pub own_put : (d : Cell) → put_object ks a d ≡ set ks i (with_cell k a.offset d)
+  own_put d =
+      let l = chunks.chunk_of_object ks a o in
+      chunks.put_object-found ks a d k l ∙ ap (λ (n : ℕ). set ks n (with_cell (get_or ks n k) a.offset d)) (sym found) ∙ ap (λ (x : Content). set ks i (with_cell x a.offset d)) (sym read)
+
+  pub own_kept : (filled kept : Option ℕ) (count : ℕ) (place : ℕ → Option ℕ) (entries : ℕ) → IsKept ks filled kept count place entries →
+      (d : Cell) → held_size d.mark (size_of d) ≡ held_size (cell_at k.cells a.offset).mark (size_of (cell_at k.cells a.offset)) →
+      IsKept (set ks i (with_cell k a.offset d)) filled kept count place entries
+  own_kept filled kept count place entries h d s =
+      let r = own_read no_chunk in
+      let held = held_in-put k.cells a.offset d s in
+      let sum = held_words-set ks i (with_cell k a.offset d) k own_in in
+      let same : held_in (get_or ks i k).cells ≡ held_in k.cells = ap (λ (x : Content). held_in x.cells) (sym read) in
+      let words : held_words (set ks i (with_cell k a.offset d)) ≡ held_words ks = omega arith in
+      record {
+        current = IsCurrent-set ks i (with_cell k a.offset d) (ap (λ (x : Content). x.size) r) filled h.current;
+        reserved =
+            IsReserved-set ks i (with_cell k a.offset d) (ap (λ (x : Content). x.size) r)
+            (λ e. empty_put k.cells a.offset d (ap (λ (x : Content). x.cells) r ∙ e)) kept h.reserved;
+        words = rw words h.words;
+        table = λ n. h.table n ∙ sym (place_in-set ks i (with_cell k a.offset d) k (ap (λ (x : Content). x.number) read) n);
+        each = rw length-set h.each;
+      }
+
+-- an object's words count
+pub held_object : (m : Mark) (n : ℕ) → IsObject m → held_size m n ≡ n
+held_object (Born b) n o = refl
+held_object (Moved to) n o = refl
+held_object Hole n o = absurd o
+
+-- ---- an object is placed
+
+module _ (h : Heap) (w i : ℕ) (fits : place_for h w ≡ Some i) where
+  small_cases : (at : Option ℕ) → small_place h.chunks at w ≡ Some i → (at ≡ Some i) × (w ≤ room_at h.chunks (Some i))
+  small_cases at e =
+      ⊎_elim
+      (λ (l : w ≤ room_at h.chunks at). let s = rw (le-leb w (room_at h.chunks at) l) at e in (s, rw s at l))
+      (λ (l : room_at h.chunks at < w). let s = rw (lt-leb w (room_at h.chunks at) l) at e in cc)
+      (order (room_at h.chunks at))
+    where
+      order : (n : ℕ) → (w ≤ n) ⊎ (n < w)
+      order n = ⊎_elim (λ (l : n < w). inr l) (λ (l : w ≤ n). inl l) (cases_lt n w)
+
+  large_cases : (at : Option ℕ) → large_place h.chunks at w ≡ Some i → (at ≡ Some i) × ((chunk_at h.chunks i).size ≡ 1024 * units w)
+  large_cases None e = cc
+  large_cases (Some j) e =
+      ⊎_elim
+      (λ (s : eqb (chunk_at h.chunks j).size (1024 * units w) ≡ true).
+      let same : j ≡ i = let f = rw s at e in cc in
+      (ap Some same, rw (← same) (eqb-true _ _ s)))
+      (λ (s : eqb (chunk_at h.chunks j).size (1024 * units w) ≡ false). let f = rw s at e in cc)
+      (cases_Bool (eqb (chunk_at h.chunks j).size (1024 * units w)))
+
+  pub fits_small : w ≤ 1024 → (h.current ≡ Some i) × (w ≤ room_at h.chunks (Some i))
+  fits_small l = small_cases h.current (rw (le-leb w 1024 l) at fits)
+
+  pub fits_large : 1024 < w → (h.reserved ≡ Some i) × ((chunk_at h.chunks i).size ≡ 1024 * units w)
+  fits_large l = large_cases h.reserved (rw (lt-leb w 1024 l) at fits)
+
+-- the chunk into which an object goes is in the list, and has room for it
+module _ (h : Heap) (count : ℕ) (place : ℕ → Option ℕ) (entries : ℕ) (keeps : IsKept h.chunks h.current h.reserved count place entries) where
+  current_in : (i : ℕ) → h.current ≡ Some i → (i < length h.chunks) × ((chunk_at h.chunks i).size ≡ 1024)
+  current_in i e = rw e at keeps.current
+
+  reserved_in : (i : ℕ) → h.reserved ≡ Some i → (i < length h.chunks) × ((1024 < (chunk_at h.chunks i).size) × ((chunk_at h.chunks i).cells ≡ []))
+  reserved_in i e = rw e at keeps.reserved
+
+  module _ (w i : ℕ) (fits : place_for h w ≡ Some i) (some : 0 < w) where
+    pub fits_in : i < length h.chunks
+    fits_in =
+        ⊎_elim
+        (λ (l : 1024 < w). (reserved_in i (fits_large h w i fits l).0).0)
+        (λ (l : w ≤ 1024). (current_in i (fits_small h w i fits l).0).0)
+        (cases_lt 1024 w)
+
+    pub fits_room : words_in (chunk_at h.chunks i).cells + w ≤ (chunk_at h.chunks i).size
+    fits_room =
+        ⊎_elim
+        (λ (l : 1024 < w).
+        let f = fits_large h w i fits l in
+        let none : words_in (chunk_at h.chunks i).cells ≡ 0 = ap words_in (reserved_in i f.0).1.1 in
+        let size : (chunk_at h.chunks i).size ≡ 1024 * ((w + 1023) / 1024) = f.1 in
+        omega arith)
+        (λ (l : w ≤ 1024). let r : w ≤ (chunk_at h.chunks i).size - words_in (chunk_at h.chunks i).cells = (fits_small h w i fits l).1 in omega arith)
+        (cases_lt 1024 w)
+
+  -- what is kept, once the object is placed
+  module _ (i : ℕ) (k : Content) (read : k ≡ get_or h.chunks i k) (c : Cell) (held : held_size c.mark (size_of c) ≡ size_of c) (fits : place_for h (size_of c) ≡ Some i) where
+    pub placed_kept : (r : Option ℕ) → (size_of c ≤ 1024 → r ≡ h.reserved) → (1024 < size_of c → r ≡ None) →
+        (n : ℕ) → n ≡ counted (count + size_of c) →
+        IsKept (set h.chunks i (record k { cells = k.cells ++ c ∷ [] })) h.current r n place entries
+    placed_kept r small large n e =
+        let in' = fits_in (size_of c) i fits (omega arith) in
+        let r' = get_or_read h.chunks i k in' read no_chunk in
+        let new : Content = record k { cells = k.cells ++ c ∷ [] } in
+        let push = held_in-push k.cells c in
+        let sum = held_words-set h.chunks i (record k { cells = k.cells ++ c ∷ [] }) k in' in
+        let same : held_in (get_or h.chunks i k).cells ≡ held_in k.cells = ap (λ (x : Content). held_in x.cells) (sym read) in
+        let words : held_words (set h.chunks i (record k { cells = k.cells ++ c ∷ [] })) ≡ held_words h.chunks + size_of c = omega arith in
+        let was = keeps.words in
+        record {
+          current = IsCurrent-set h.chunks i (record k { cells = k.cells ++ c ∷ [] }) (ap (λ (x : Content). x.size) r') h.current keeps.current;
+          reserved =
+              ⊎_elim
+              (λ (l : 1024 < size_of c). rw (large l) tt)
+              (λ (l : size_of c ≤ 1024).
+              rw (small l)
+              (IsReserved-set_other h.chunks i (record k { cells = k.cells ++ c ∷ [] }) (ap (λ (x : Content). x.size) r') h.reserved
+              (λ (b : h.reserved ≡ Some i).
+              let s = (current_in i (fits_small h (size_of c) i fits l).0).1 in
+              let t = (reserved_in i b).1.0 in
+              omega arith)
+              keeps.reserved))
+              (cases_lt 1024 (size_of c));
+          words = e ∙ rw (words, was) (saturates (held_words h.chunks) (size_of c));
+          table = λ q. keeps.table q ∙ sym (place_in-set h.chunks i (record k { cells = k.cells ++ c ∷ [] }) k (ap (λ (x : Content). x.number) read) q);
+          each = rw length-set keeps.each;
+        }
+      where
+        saturates : (a b : ℕ) → counted (counted a + b) ≡ counted (a + b)
+        saturates a b = omega arith
+
+-- ---- a chunk is added
+
+pub place_of-push_there : (ks : List Content) (k : Content) (q : ℕ) → place_of ks q < length ks → place_of (ks ++ k ∷ []) q ≡ place_of ks q
+place_of-push_there [] k q l = absurd (omega arith)
+place_of-push_there (x ∷ xs) k q l =
+    ⊎_elim
+    (λ (e : eqb x.number q ≡ true). rw e)
+    (λ (e : eqb x.number q ≡ false). let m = rw e at l in rw (e, place_of-push_there xs k q (omega arith)))
+    (cases_Bool (eqb x.number q))
+
+pub place_of-push_new : (ks : List Content) (k : Content) (q : ℕ) → length ks ≤ place_of ks q → place_of (ks ++ k ∷ []) q ≡ length ks + (cond (eqb k.number q) 0 1)
+place_of-push_new [] k q l = cases_of (eqb k.number q)
+  where
+    cases_of : (b : Bool) → cond b 0 (1 + 0) ≡ 0 + cond b 0 1
+    cases_of true = refl
+    cases_of false = refl
+place_of-push_new (x ∷ xs) k q l =
+    ⊎_elim
+    (λ (e : eqb x.number q ≡ true). let m = rw e at l in absurd (omega arith))
+    (λ (e : eqb x.number q ≡ false). let m = rw e at l in rw (e, place_of-push_new xs k q (omega arith)) (omega arith))
+    (cases_Bool (eqb x.number q))
+
+none_there : (ks : List Content) (q : ℕ) → place_in ks q ≡ None → length ks ≤ place_of ks q
+none_there ks q e =
+    ⊎_elim
+    (λ (l : place_of ks q < length ks). let f = rw (lt-ltb (place_of ks q) (length ks) l) at e in cc)
+    (λ (l : length ks ≤ place_of ks q). l)
+    (cases_lt (place_of ks q) (length ks))
+
+pub place_in-push : (ks : List Content) (k : Content) → place_in ks k.number ≡ None → (q : ℕ) →
+    place_in (ks ++ k ∷ []) q ≡ cond (eqb k.number q) (Some (length ks)) (place_in ks q)
+place_in-push ks k fresh q =
+    let len : length (ks ++ k ∷ []) ≡ length ks + 1 = simp length-append (omega arith) in
+    ⊎_elim
+    (λ (there : place_of ks q < length ks).
+    let ne : k.number ≡ q → ⊥ = λ e. let n = none_there ks k.number fresh in let m = rw e at n in omega arith in
+    rw (ne_eqb k.number q ne, len, place_of-push_there ks k q there, lt-ltb (place_of ks q) (length ks + 1) (omega arith), lt-ltb (place_of ks q) (length ks) there))
+    (λ (gone : length ks ≤ place_of ks q).
+    ⊎_elim
+    (λ (e : eqb k.number q ≡ true).
+    let sum : place_of (ks ++ k ∷ []) q ≡ length ks + 0 = rw e at (place_of-push_new ks k q gone) in
+    let new : place_of (ks ++ k ∷ []) q ≡ length ks = omega arith in
+    rw (e, len, new, lt-ltb (length ks) (length ks + 1) (omega arith)))
+    (λ (e : eqb k.number q ≡ false).
+    let new : place_of (ks ++ k ∷ []) q ≡ length ks + 1 = rw e at (place_of-push_new ks k q gone) in
+    rw (e, len, new, le-ltb (length ks + 1) (length ks + 1) (omega arith), le-ltb (place_of ks q) (length ks) gone))
+    (cases_Bool (eqb k.number q)))
+    (cases_lt (place_of ks q) (length ks))
+
+module _ (ks : List Content) (k : Content) (empty : k.cells ≡ []) where
+  at_push : (i : ℕ) → i < length ks → chunk_at (ks ++ k ∷ []) i ≡ chunk_at ks i
+  at_push i l = get_or_append_left ks (k ∷ []) no_chunk i l
+
+  at_last : chunk_at (ks ++ k ∷ []) (length ks) ≡ k
+  at_last =
+      let e : length ks - length ks ≡ 0 = omega arith in
+      get_or-append_right ks (k ∷ []) (length ks) (length ks) no_chunk refl (omega arith) ∙ rw e refl
+
+  IsCurrent-push : (o : Option ℕ) → IsCurrent ks o → IsCurrent (ks ++ k ∷ []) o
+  IsCurrent-push None h = h
+  IsCurrent-push (Some i) h = (simp length-append (omega arith), rw (at_push i h.0) h.1)
+
+  IsReserved-push : (o : Option ℕ) → IsReserved ks o → IsReserved (ks ++ k ∷ []) o
+  IsReserved-push None h = h
+  IsReserved-push (Some i) h = (simp length-append (omega arith), rw (at_push i h.0) h.1)
+
+  pushed_words : (n : ℕ) → n ≡ counted (held_words ks) → n ≡ counted (held_words (ks ++ k ∷ []))
+  pushed_words n e =
+      let none : held_in k.cells ≡ 0 = ap held_in empty in
+      let sum : held_words (ks ++ k ∷ []) ≡ held_words ks = held_words-append ks (k ∷ []) ∙ omega arith in
+      rw sum e
+
+  module _ (filled kept : Option ℕ) (count : ℕ) (place new : ℕ → Option ℕ) (entries : ℕ) (keeps : IsKept ks filled kept count place entries) (fresh : IsFresh ks k.number)
+      (writes : (q : ℕ) → new q ≡ cond (eqb k.number q) (Some (length ks)) (place q)) where
+    table_push : (q : ℕ) → new q ≡ place_in (ks ++ k ∷ []) q
+    table_push q = writes q ∙ ap (λ (o : Option ℕ). cond (eqb k.number q) (Some (length ks)) o) (keeps.table q) ∙ sym (place_in-push ks k fresh q)
+
+    pub small_added : k.size ≡ 1024 → IsKept (ks ++ k ∷ []) (Some (length ks)) kept count new (entries + 1)
+    small_added s = record {
+      current = (simp length-append (omega arith), rw at_last s);
+      reserved = IsReserved-push kept keeps.reserved;
+      words = pushed_words count keeps.words;
+      table = table_push;
+      each = let e = keeps.each in simp length-append (omega arith);
+    }
+
+    pub large_added : 1024 < k.size → IsKept (ks ++ k ∷ []) filled (Some (length ks)) count new (entries + 1)
+    large_added s = record {
+      current = IsCurrent-push filled keeps.current;
+      reserved = (simp length-append (omega arith), rw at_last (s, empty));
+      words = pushed_words count keeps.words;
+      table = table_push;
+      each = let e = keeps.each in simp length-append (omega arith);
+    }
+
+-- a call that succeeds does what it does on success
+pub on_ok : {T E P : Type 0} (r : Result T E) → IsOk r → OnOk r P → P
+on_ok (Ok x) s p = p
+on_ok (Err e) s p = cc
+
+-- a new key adds an entry
+pub new_entry : {X E : Type 0} (r : Result (Option X) E) (was : Option X) (m n : ℕ) → IsOk r → IfOk r (λ o. o ≡ was) → IfOk r (λ o. n ≡ m + cond (is_some o) 0 1) → was ≡ None → n ≡ m + 1
+new_entry (Ok o) was m n s e l none = let f = e ∙ none in rw f at l
+new_entry (Err x) was m n s e l none = cc
+
+-- ---- chunks that are apart
+
+none_from : (ks : List Content) (n : ℕ) → length ks ≤ place_of ks n → IsFresh ks n
+none_from ks n l = rw (le-ltb (place_of ks n) (length ks) l)
+
+fresh_cons : (k : Content) (ks : List Content) (n : ℕ) → (k.number ≡ n → ⊥) → IsFresh ks n → IsFresh (k ∷ ks) n
+fresh_cons k ks n ne h =
+    let l = none_there ks n h in
+    let p : place_of (k ∷ ks) n ≡ 1 + place_of ks n = rw (ne_eqb k.number n ne) refl in
+    none_from (k ∷ ks) n (omega arith)
+
+fresh_head : (k : Content) (ks : List Content) (n : ℕ) → IsFresh (k ∷ ks) n → k.number ≡ n → ⊥
+fresh_head k ks n h e =
+    let l = none_there (k ∷ ks) n h in
+    let p : place_of (k ∷ ks) n ≡ 0 = rw (eq-eqb k.number n e) refl in
+    omega arith
+
+fresh_tail : (k : Content) (ks : List Content) (n : ℕ) → IsFresh (k ∷ ks) n → IsFresh ks n
+fresh_tail k ks n h =
+    let l = none_there (k ∷ ks) n h in
+    let p : place_of (k ∷ ks) n ≡ 1 + place_of ks n = rw (ne_eqb k.number n (fresh_head k ks n h)) refl in
+    none_from ks n (omega arith)
+
+fresh_at : (ks : List Content) (n : ℕ) → IsFresh ks n → (i : ℕ) (d : Content) → i < length ks → (get_or ks i d).number ≡ n → ⊥
+fresh_at [] n h i d l e = omega arith
+fresh_at (k ∷ ks) n h zero d l e = fresh_head k ks n h e
+fresh_at (k ∷ ks) n h (suc i) d l e = fresh_at ks n (fresh_tail k ks n h) i d (omega arith) e
+
+-- no chunk before one has its number
+pub apart_before : (ks : List Content) → AreApart ks → (i : ℕ) (d : Content) → i < length ks → IsFresh (take i ks) (get_or ks i d).number
+apart_before [] h i d l = absurd (omega arith)
+apart_before (k ∷ ks) h zero d l = refl
+apart_before (k ∷ ks) h (suc i) d l =
+    fresh_cons k (take i ks) (get_or ks i d).number (λ e. fresh_at ks k.number h.0 i d (omega arith) (sym e)) (apart_before ks h.1 i d (omega arith))
+
+-- ---- chunks one after another
+
+pub counted_more : (a b : ℕ) → counted (counted a + b) ≡ counted (a + b)
+counted_more a b = omega arith
+
+pub held_more : (ks : List Content) (i : ℕ) (k : Content) → i < length ks → k ≡ get_or ks i k → held_words (take (i + 1) ks) ≡ held_words (take i ks) + held_in k.cells
+held_more ks i k l read =
+    let more = take_more ks i k l in
+    rw (more, ← read, held_words-append (take i ks) (k ∷ [])) (omega arith)
+
+module _ (xs ks : List Content) where
+  at_behind : (i : ℕ) → chunk_at (xs ++ ks) (i + length xs) ≡ chunk_at ks i
+  at_behind i =
+      let e : i + length xs - length xs ≡ i = omega arith in
+      get_or-append_right xs ks (length xs) (i + length xs) no_chunk refl (omega arith) ∙ rw e refl
+
+  IsCurrent-behind : (b : ℕ) → b ≡ length xs → (o : Option ℕ) → IsCurrent ks o → IsCurrent (xs ++ ks) (option_map (λ i. i + b) o)
+  IsCurrent-behind b e None h = h
+  IsCurrent-behind b e (Some i) h = rw e (simp length-append (let l : i < length ks = h.0 in omega arith), rw (at_behind i) h.1)
+
+  IsReserved-behind : (b : ℕ) → b ≡ length xs → (o : Option ℕ) → IsReserved ks o → IsReserved (xs ++ ks) (option_map (λ i. i + b) o)
+  IsReserved-behind b e None h = h
+  IsReserved-behind b e (Some i) h = rw e (simp length-append (let l : i < length ks = h.0 in omega arith), rw (at_behind i) h.1)
+
+module _ (ls rs ks : List Content) (filled kept : Option ℕ) (a b n : ℕ) (place : ℕ → Option ℕ) (entries : ℕ) (keeps : IsKept ks filled kept n place entries)
+    (left : a ≡ counted (held_words ls)) (right : b ≡ counted (held_words rs)) where
+  together : ls ++ (rs ++ ks) ≡ (ls ++ rs) ++ ks
+  together = sym (append_assoc ls rs ks)
+
+  lengths : length ls + length rs ≡ length (ls ++ rs)
+  lengths = simp length-append refl
+
+  sum_of_three : (x y z : ℕ) → counted (counted z + counted (counted x + counted y)) ≡ counted (x + (y + z))
+  sum_of_three x y z = omega arith
+
+  pub merged_kept : (new : ℕ → Option ℕ) (m count : ℕ) → ((q : ℕ) → new q ≡ place_in (ls ++ (rs ++ ks)) q) → m ≡ length (ls ++ (rs ++ ks)) → count ≡ counted (n + counted (a + b)) →
+      IsKept (ls ++ (rs ++ ks)) (option_map (λ i. i + (length ls + length rs)) filled) (option_map (λ i. i + (length ls + length rs)) kept) count new m
+  merged_kept new m count table each words = record {
+    current = rw together (IsCurrent-behind (ls ++ rs) ks (length ls + length rs) lengths filled keeps.current);
+    reserved = rw together (IsReserved-behind (ls ++ rs) ks (length ls + length rs) lengths kept keeps.reserved);
+    words =
+        let held : held_words (ls ++ (rs ++ ks)) ≡ held_words ls + (held_words rs + held_words ks) = rw (held_words-append ls (rs ++ ks), held_words-append rs ks) refl in
+        let w = keeps.words in
+        rw held (words ∙ rw (w, left, right) (sum_of_three (held_words ls) (held_words rs) (held_words ks)));
+    table = table;
+    each = each;
+  }

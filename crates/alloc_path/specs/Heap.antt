@@ -1,0 +1,111 @@
+-- A task's own heap, as callers see it.
+use Rattle.std.specs.Prelude.{◌≡◌, ℕ, ◌+◌, ◌-◌, ◌*◌, ◌/◌, ◌^◌, ◌<◌, List, [], ◌∷◌, ◌++◌, ◌==◌, if◌then◌else◌, Option, Some, None, length, min, nat_le, option_map}
+use Rattle.object_layout.specs.declared.word.Addr.{Addr}
+use Rattle.object_layout.specs.Cell.{Cell, size_of}
+use Rattle.object_layout.specs.Content.{Content}
+use Rattle.object_layout.specs.Place.{words_in}
+use Rattle.object_layout.specs.Chunks.{chunk_at, held_words, next_address, place_in, push_object}
+
+-- its chunks in the order in which they came; at which place the small chunk stands that is being
+-- filled, and at which the chunk that is reserved for a large object; the words that were placed
+-- since the count began; and for how many chunks more its list and its table have places
+pub record Heap : Type 0 where
+  pub chunks : List Content
+  pub current : Option ℕ
+  pub reserved : Option ℕ
+  pub since : ℕ
+  pub slots : ℕ
+  pub spare : ℕ
+
+-- a number of words, as far as 64 bits count
+abbrev pub counted : ℕ → ℕ
+counted n = min n (2 ^ 64 - 1)
+
+-- words in units of 1,024, rounded up
+abbrev pub units : ℕ → ℕ
+units w = (w + 1023) / 1024
+
+-- the words left in the chunk at a place
+abbrev pub room_at : List Content → Option ℕ → ℕ
+room_at ks None = 0
+room_at ks (Some i) = (chunk_at ks i).size - words_in (chunk_at ks i).cells
+
+abbrev pub room_of : Heap → ℕ
+room_of h = room_at h.chunks h.current
+
+-- a small object goes into the chunk being filled, where the room is at least its words
+abbrev pub small_place : List Content → Option ℕ → ℕ → Option ℕ
+small_place ks at w = if nat_le w (room_at ks at) then at else None
+
+-- a large object goes into the reserved chunk, where that has just its units
+abbrev pub large_place : List Content → Option ℕ → ℕ → Option ℕ
+large_place ks None w = None
+large_place ks (Some i) w = if (chunk_at ks i).size == 1024 * units w then Some i else None
+
+-- the place of the chunk into which an object of so many words goes; None where there is none
+abbrev pub place_for : Heap → ℕ → Option ℕ
+place_for h w = if nat_le w 1024 then small_place h.chunks h.current w else large_place h.chunks h.reserved w
+
+-- the heap with an object more in the chunk at this place
+abbrev pub placed_at : Heap → ℕ → Cell → Heap
+placed_at h i c = record h {
+  chunks = push_object h.chunks i c;
+  reserved = if nat_le (size_of c) 1024 then h.reserved else None;
+  since = counted (h.since + size_of c);
+}
+
+abbrev pub placed : Heap → Option ℕ → Cell → Heap
+placed h None c = h
+placed h (Some i) c = placed_at h i c
+
+-- the heap with an empty chunk more: it is filled from then on, or reserved where it is a large one
+abbrev pub added : Heap → Content → Heap
+added h k = if k.size == 1024
+    then record h { chunks = h.chunks ++ k ∷ []; current = Some (length h.chunks) }
+    else record h { chunks = h.chunks ++ k ∷ []; reserved = Some (length h.chunks) }
+
+-- no chunk of the heap has this number
+abbrev pub IsFresh : List Content → ℕ → Type 0
+IsFresh ks number = place_in ks number ≡ None
+
+-- no two of these chunks have one number
+abbrev pub AreApart : List Content → Type 0
+AreApart [] = Unit {0}
+AreApart (k ∷ ks) = IsFresh ks k.number × AreApart ks
+
+-- the heap with other chunks in place of all of its own
+abbrev pub exchanged : Heap → List Content → Option ℕ → Option ℕ → Heap
+exchanged h ks filled kept = record h { chunks = ks; current = filled; reserved = kept }
+
+-- the heap with the chunks of two others before its own; it goes on filling its own chunk
+abbrev pub merged : Heap → Heap → Heap → Heap
+merged h left right = record h {
+  chunks = left.chunks ++ (right.chunks ++ h.chunks);
+  current = option_map (λ i. i + (length left.chunks + length right.chunks)) h.current;
+  reserved = option_map (λ i. i + (length left.chunks + length right.chunks)) h.reserved;
+  since = counted (h.since + (left.since + right.since));
+}
+
+-- the same heap, with places for other numbers of chunks
+abbrev pub with_places : Heap → ℕ → ℕ → Heap
+with_places h slots spare = record h { slots = slots; spare = spare }
+
+-- ---- what a heap keeps
+
+-- the chunk being filled is a small one
+abbrev pub IsCurrent : List Content → Option ℕ → Type 0
+IsCurrent ks None = Unit {0}
+IsCurrent ks (Some i) = (i < length ks) × ((chunk_at ks i).size ≡ 1024)
+
+-- the reserved chunk is a large one, and empty
+abbrev pub IsReserved : List Content → Option ℕ → Type 0
+IsReserved ks None = Unit {0}
+IsReserved ks (Some i) = (i < length ks) × ((1024 < (chunk_at ks i).size) × ((chunk_at ks i).cells ≡ []))
+
+-- the table has each chunk's place and nothing else, and the count of words is that of the objects
+pub record IsKept (chunks : List Content) (filled kept : Option ℕ) (count : ℕ) (place : ℕ → Option ℕ) (entries : ℕ) : Type 0 where
+  pub current : IsCurrent chunks filled
+  pub reserved : IsReserved chunks kept
+  pub words : count ≡ counted (held_words chunks)
+  pub table : (number : ℕ) → place number ≡ place_in chunks number
+  pub each : entries ≡ length chunks

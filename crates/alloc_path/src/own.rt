@@ -1,0 +1,165 @@
+// Reads and writes of the heap's own objects, by their addresses.
+
+ghost use Rattle.std.specs.Prelude.{◌≡◌, ◌+◌, ◌^◌, ◌<◌, ◌≤◌, ◌++◌, ◌∷◌, [], length, slice_get, is_some, Some, None};
+ghost use Rattle.object_layout.specs.Cell.{Born, Moved, frozen, header_of, moved_to, size_of, with_int, with_mark, IsBorn, IsObject, IsPlace};
+ghost use Rattle.object_layout.specs.Place.{cell_at, words_in};
+ghost use Rattle.object_layout.specs.Chunks.{cell_of, object_of, place_in, place_of, put_object};
+ghost use Rattle.alloc_path.specs.FieldLaws.{with_ref_of};
+
+use super::heap::LeafHeap;
+use object_layout::{
+    Addr, Birth, Chunk, Header, Words, birth_at, copy_behind, forward, forwarded_at, freeze,
+    header_at, int_at, ref_at, set_birth, set_int, set_ref,
+};
+
+impl LeafHeap {
+    // The place of the chunk of a number.
+    fn place_of(&self, number: u32) -> usize
+        requires { place_of self.now.chunks number < length self.now.chunks }
+        ensures { result ≡ place_of self.now.chunks number }
+    {
+        self.table[&number]
+    }
+
+    // The chunk in which an object of this heap lies.
+    fn chunk_of(&self, object: Addr) -> &Chunk
+        requires { place_of self.now.chunks object.chunk < length self.now.chunks }
+        ensures { cell_at result.now.cells object.offset ≡ cell_of self.now.chunks object }
+    {
+        &self.chunks[self.place_of(object.chunk)]
+    }
+
+    /// Whether the address lies in a chunk of this heap.
+    pub fn owns(&self, object: Addr) -> bool
+        ensures { result ≡ is_some (place_in self.now.chunks object.chunk) }
+    {
+        self.table.contains_key(&object.chunk)
+    }
+
+    /// The kind of an object.
+    pub fn own_header(&self, object: Addr) -> Header
+        requires { IsObject (cell_of self.now.chunks object).mark }
+        ensures kind { result ≡ header_of (object_of self.now.chunks object) }
+        ensures refs { result.nrefs < 2 ^ 20 }
+        ensures ints { result.nints < 2 ^ 20 }
+    {
+        header_at(self.chunk_of(object), object.offset)
+    }
+
+    /// The birth name of an object that bears it.
+    pub fn own_birth(&self, object: Addr) -> Birth
+        requires { IsBorn (cell_of self.now.chunks object).mark }
+        ensures { (cell_of self.now.chunks object).mark ≡ Born result }
+    {
+        birth_at(self.chunk_of(object), object.offset)
+    }
+
+    /// A reference of an object: None for nil.
+    pub fn own_ref(&self, object: Addr, field: u32) -> Option<Addr>
+        requires { field < length (object_of self.now.chunks object).refs }
+        ensures value { slice_get (object_of self.now.chunks object).refs field ≡ Some result }
+        ensures place { IsPlace result }
+    {
+        ref_at(self.chunk_of(object), object.offset, field)
+    }
+
+    /// A number of an object.
+    pub fn own_int(&self, object: Addr, field: u32) -> i64
+        requires { field < length (object_of self.now.chunks object).ints }
+        ensures { slice_get (object_of self.now.chunks object).ints field ≡ Some result }
+    {
+        int_at(self.chunk_of(object), object.offset, field)
+    }
+
+    /// The address that an object was moved to; None where it was not moved.
+    pub fn own_forwarded(&self, object: Addr) -> Option<Addr>
+        requires { IsObject (cell_of self.now.chunks object).mark }
+        ensures value { result ≡ moved_to (cell_of self.now.chunks object).mark }
+        ensures place { IsPlace result }
+    {
+        forwarded_at(self.chunk_of(object), object.offset)
+    }
+
+    /// Writes a copy of an object behind those of a chunk that isn't of this heap, and says where.
+    pub fn own_copy(&self, object: Addr, to: &mut Chunk) -> u32
+        requires object { IsObject (cell_of self.now.chunks object).mark }
+        requires room { words_in to.old.cells + size_of (object_of self.now.chunks object) ≤ to.old.size }
+        ensures place { result ≡ words_in to.old.cells }
+        ensures copied { to.new ≡ record to.old { cells = to.old.cells ++ object_of self.now.chunks object ∷ [] } }
+    {
+        copy_behind(self.chunk_of(object), object.offset, to)
+    }
+
+    /// Writes a reference of an object.
+    pub fn own_set_ref(&mut self, object: Addr, field: u32, value: Option<Addr>)
+        requires field { field < length (object_of self.old.chunks object).refs }
+        requires place { IsPlace value }
+        ensures { self.new ≡ with_ref_of self.old object field value }
+    {
+        let i = self.place_of(object.chunk);
+        let chunk = &mut self.chunks[i];
+        set_ref(chunk, object.offset, field, value);
+    }
+
+    /// Writes a number of an object.
+    pub fn own_set_int(&mut self, object: Addr, field: u32, value: i64)
+        requires { field < length (object_of self.old.chunks object).ints }
+        ensures { self.new ≡ record self.old { chunks = put_object self.old.chunks object (with_int (cell_of self.old.chunks object) field value) } }
+    {
+        let i = self.place_of(object.chunk);
+        let chunk = &mut self.chunks[i];
+        set_int(chunk, object.offset, field, value);
+    }
+
+    /// Makes an object immutable, and changes nothing else of it.
+    pub fn freeze(&mut self, object: Addr)
+        requires { IsObject (cell_of self.old.chunks object).mark }
+        ensures { self.new ≡ record self.old { chunks = put_object self.old.chunks object (frozen (cell_of self.old.chunks object)) } }
+    {
+        let i = self.place_of(object.chunk);
+        let chunk = &mut self.chunks[i];
+        freeze(chunk, object.offset);
+    }
+
+    /// Leaves the address that an object was moved to, in place of its birth name.
+    pub fn own_forward(&mut self, object: Addr, to: Addr)
+        requires object { IsObject (cell_of self.old.chunks object).mark }
+        requires place { IsPlace (Some to) }
+        ensures { self.new ≡ record self.old { chunks = put_object self.old.chunks object (with_mark (cell_of self.old.chunks object) (Moved to)) } }
+    {
+        let i = self.place_of(object.chunk);
+        let chunk = &mut self.chunks[i];
+        forward(chunk, object.offset, to);
+    }
+
+    /// Names an object, which bears this birth name from then on.
+    pub fn own_set_birth(&mut self, object: Addr, birth: Birth)
+        requires { IsObject (cell_of self.old.chunks object).mark }
+        ensures { self.new ≡ record self.old { chunks = put_object self.old.chunks object (with_mark (cell_of self.old.chunks object) (Born birth)) } }
+    {
+        let i = self.place_of(object.chunk);
+        let chunk = &mut self.chunks[i];
+        set_birth(chunk, object.offset, birth);
+    }
+}
+
+impl Words for LeafHeap {
+    ghost use Rattle.object_layout.specs.Chunks.{object_of};
+    ghost use Rattle.alloc_path.specs.FieldLaws.{refs_of_other, refs_of_same, with_ref_of};
+
+    ghost refs_at = { λ h a. (object_of h.chunks a).refs };
+
+    ghost with_ref_at = { with_ref_of };
+
+    fn ref_field(&self, object: Addr, field: u32) -> Option<Addr> {
+        self.own_ref(object, field)
+    }
+
+    fn set_ref_field(&mut self, object: Addr, field: u32, value: Option<Addr>) {
+        self.own_set_ref(object, field, value);
+    }
+
+    ghost refs_at_same = { refs_of_same };
+
+    ghost refs_at_other = { refs_of_other };
+}

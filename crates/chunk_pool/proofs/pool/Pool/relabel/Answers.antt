@@ -1,0 +1,24 @@
+use Rattle.std.proofs.Common.{◌≡◌, Option, Some, None, get_or, refl, sym}
+use Rattle.chunk_pool.specs.declared.pool.Held.{Held}
+use Rattle.chunk_pool.proofs.UnitLemmas.{relabels, relabels_within, set_there, set_elsewhere}
+use Rattle.chunk_pool.proofs.pool.Pool.relabel.Goals as goal
+
+pub invariant_of-self : goal.invariant_of-self
+invariant_of-self c =
+    let p = c.self.inside in
+    let xs = p.slots.slots in
+    let n = c.args.number in
+    let h = c.in-Some.held.now in
+    let g : Held = record h { owner = c.args.owner } in
+    let was : get_or xs n None ≡ Some h = sym c.in-Some.ensures.value in
+    relabels_within p.limit p.used xs _ c.self.invariant n (set_elsewhere xs n (Some g)) h g was (set_there xs n h (Some g) was) refl
+
+pub returns : goal.returns
+returns c =
+    let p = c.self.inside in
+    let xs = p.slots.slots in
+    let n = c.args.number in
+    let h = c.in-Some.held.now in
+    let g : Held = record h { owner = c.args.owner } in
+    let was : get_or xs n None ≡ Some h = sym c.in-Some.ensures.value in
+    rw (← c.self.view_is) (relabels p.limit p.used xs _ c.self.invariant n (set_elsewhere xs n (Some g)) h c.args.owner was (set_there xs n h (Some g) was))

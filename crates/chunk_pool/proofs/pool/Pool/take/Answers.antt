@@ -1,0 +1,34 @@
+use Rattle.std.proofs.Common.{◌≡◌, ◌≢◌, ◌+◌, ◌≤◌, ℕ, List, Option, Some, None, get_or, sym, ap, ◌∙◌, arith}
+use Rattle.object_layout.specs.Content.{Content}
+use Rattle.slab.specs.Slab.{Slab}
+use Rattle.chunk_pool.specs.declared.pool.Held.{Held}
+use Rattle.chunk_pool.proofs.UnitLemmas.{takes, takes_within}
+use Rattle.chunk_pool.proofs.pool.Pool.take.Goals as goal
+
+pub invariant_of-self-2 : goal.invariant_of-self-2
+invariant_of-self-2 c =
+    let p = c.self.inside in
+    let h : Held = record { owner = c.args.owner; units = c.args.units } in
+    let u = c.insert_reserved.ensures.updates in
+    let same : c.reserve.new.self.slots ≡ p.slots.slots = ap (λ (s : Slab Held). s.slots) c.reserve.ensures.rest_kept in
+    let free = rw same at c.insert_reserved.ensures.was_vacant in
+    let others : (k : ℕ) → k ≢ c.insert_reserved.result → get_or c.insert_reserved.new.self.slots k None ≡ get_or p.slots.slots k None =
+    λ k ne. u.others k ne ∙ ap (λ (xs : List (Option Held)). get_or xs k None) same in
+    let within : p.used ≤ p.limit = c.self.invariant.within in
+    takes_within p.limit p.used p.slots.slots c.insert_reserved.new.self.slots c.self.invariant c.insert_reserved.result others h free u.changed (omega arith)
+
+pub returns-clause-taken : goal.returns-clause-taken
+returns-clause-taken c =
+    let p = c.self.inside in
+    let h : Held = record { owner = c.args.owner; units = c.args.units } in
+    let u = c.insert_reserved.ensures.updates in
+    let same : c.reserve.new.self.slots ≡ p.slots.slots = ap (λ (s : Slab Held). s.slots) c.reserve.ensures.rest_kept in
+    let free = rw same at c.insert_reserved.ensures.was_vacant in
+    let others : (k : ℕ) → k ≢ c.insert_reserved.result → get_or c.insert_reserved.new.self.slots k None ≡ get_or p.slots.slots k None =
+    λ k ne. u.others k ne ∙ ap (λ (xs : List (Option Held)). get_or xs k None) same in
+    let all = takes p.limit p.used p.slots.slots c.insert_reserved.new.self.slots c.self.invariant c.insert_reserved.result others h free u.changed in
+    let number : c.insert_reserved.result ≡ c.in-Ok-new.chunk.number =
+    let a : c.in-Ok-new.chunk.number ≡ c.in-Ok.number = ap (λ (x : Content). x.number) c.in-Ok-new.ensures in
+    let b : c.in-Ok.number ≡ c.vacant_key.result = c.in-Ok.ensures.1 in
+    c.insert_reserved.ensures.key ∙ (sym c.vacant_key.ensures.value ∙ (sym b ∙ sym a)) in
+    rw (← c.self.view_is, ← number) all

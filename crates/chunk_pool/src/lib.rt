@@ -1,0 +1,8 @@
+// The numbers of chunks: which are in use, who owns each, and how many units they take together.
+#![tactic(auto)]
+
+mod pool;
+#[cfg(test)]
+mod tests;
+
+pub use pool::{Held, NotTaken, Pool};

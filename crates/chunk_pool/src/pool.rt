@@ -1,0 +1,127 @@
+// The pool of chunks: a limit in units, and an owner for each number in use.
+
+ghost use Rattle.std.specs.Prelude.{◌≡◌, ◌+◌, ◌*◌, ◌^◌, ◌<◌, ◌≤◌, ◌↔◌, [], OnErr, IfOk, Err, Some, IsSome};
+ghost use Rattle.chunk_pool.specs.Chunks.{Chunks, held_at, owner_of, units_in_use, Takes, Gives, Relabels};
+
+use object_layout::Chunk;
+use slab::Slab;
+use std::alloc::{AllocError, Global};
+use std::marker::Model;
+
+/// What the pool keeps of a chunk in use: the task that owns it, and its units of 1,024 words.
+#[derive(Clone, Copy, Debug, PartialEq, Eq)]
+pub struct Held {
+    pub owner: u32,
+    pub units: u32,
+}
+
+/// Why no chunk was taken.
+#[derive(Clone, Copy, Debug, PartialEq, Eq)]
+pub enum NotTaken {
+    /// The units in use and those asked for are more than the limit.
+    Full,
+    /// There was no memory for the chunk.
+    NoMemory,
+}
+
+/// The chunks in use, up to a limit in units of 1,024 words.
+#[derive(Drop)]
+pub struct Pool {
+    limit: u32,
+    used: u32,
+    slots: Slab<Held>,
+    alloc: Global,
+}
+
+impl Model for Pool {
+    ghost use Rattle.chunk_pool.specs.Chunks.{Chunks, IsWithin};
+
+    ghost Value = { Chunks };
+
+    ghost view = { λ p. record { limit = p.limit; slots = p.slots.slots } };
+
+    ghost invariant = { λ p. IsWithin p.limit p.used p.slots.slots };
+}
+
+impl Pool {
+    /// No chunk in use. The limit counts units of 1,024 words.
+    pub fn new(alloc: Global, limit: u32) -> Pool
+        requires { limit < 2 ^ 22 }
+        ensures { result ≡ record { limit = limit; slots = [] } }
+    {
+        Pool {
+            limit,
+            used: 0,
+            slots: Slab::new(alloc),
+            alloc,
+        }
+    }
+
+    /// An empty chunk of so many units, with a number that was not in use, for this owner.
+    ///
+    /// Whether the limit allows it is checked before memory is asked for.
+    pub fn take(&mut self, owner: u32, units: u32) -> Result<Chunk, NotTaken>
+        requires { units < 2 ^ 22 }
+        ensures full { (result ≡ Err NotTaken.Full) ↔ (self.old.limit < units_in_use self.old + units) }
+        ensures taken { IfOk result (λ chunk. Takes self.old self.new chunk.number (record { owner = owner; units = units })) }
+        ensures chunk { IfOk result (λ chunk. chunk ≡ record { number = chunk.number; size = 1024 * units; cells = [] }) }
+        ensures err { OnErr result (self.new ≡ self.old) }
+    {
+        if units > self.limit - self.used {
+            return Err(NotTaken::Full);
+        }
+        if self.slots.reserve(1).is_err() {
+            return Err(NotTaken::NoMemory);
+        }
+        // A table that has no number of 32 bits left is as good as no memory.
+        let Ok(number) = u32::try_from(self.slots.vacant_key()) else {
+            return Err(NotTaken::NoMemory);
+        };
+        let Ok(chunk) = Chunk::new(self.alloc, number, units) else {
+            return Err(NotTaken::NoMemory);
+        };
+        self.slots.insert_reserved(Held { owner, units });
+        self.used += units;
+        Ok(chunk)
+    }
+
+    /// Takes a chunk back. Its number is no longer in use.
+    pub fn give(&mut self, chunk: Chunk)
+        requires { IsSome (held_at self.old chunk.number) }
+        ensures { Gives self.old self.new chunk.number }
+    {
+        let number = chunk.number() as usize;
+        let held = self.slots.remove(number);
+        self.used -= held.units;
+    }
+
+    /// The task that owns the chunk of a number.
+    pub fn owner(&self, number: u32) -> u32
+        requires { IsSome (held_at self.now number) }
+        ensures { owner_of self.now number ≡ Some result }
+    {
+        match self.slots.get(number as usize) {
+            Some(held) => held.owner,
+            None => unreachable!(),
+        }
+    }
+
+    /// Gives the chunk of a number another owner.
+    pub fn relabel(&mut self, number: u32, owner: u32)
+        requires { IsSome (held_at self.old number) }
+        ensures { Relabels self.old self.new number owner }
+    {
+        match self.slots.get_mut(number as usize) {
+            Some(held) => held.owner = owner,
+            None => unreachable!(),
+        }
+    }
+
+    /// How many units the chunks in use have together.
+    pub fn in_use(&self) -> u32
+        ensures units { result ≡ units_in_use self.now }
+        ensures within { result ≤ self.now.limit }
+    {
+        self.used
+    }
+}

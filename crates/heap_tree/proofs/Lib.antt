@@ -1,0 +1,4 @@
+pub mod ListLemmas
+pub mod WalkLemmas
+pub mod GrowLemmas
+pub mod TreeLemmas

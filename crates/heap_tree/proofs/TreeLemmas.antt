@@ -1,0 +1,284 @@
+-- What callers see of the tree, from the links that it keeps.
+use Rattle.std.proofs.Common.{◌≡◌, ◌≢◌, ◌==◌, ◌↔◌, ℕ, zero, suc, ◌+◌, ◌-◌, ◌<◌, ◌≤◌, ◌^◌, Bool, true, false, IsTrue, Option, Some, None, List, [], ◌∷◌, ◌++◌, ◌⊎◌, inl, inr, length, map, set, slice_get, slice_set, option_map, IfSome, refl, sym, ap, subst, ◌∙◌, arith, append_assoc, eqb-true, eq-eqb, length-append}
+use Rattle.std.proofs.lemmas.List.{length-set, length-map}
+use Rattle.std.proofs.lemmas.List.{map-set, map-append}
+use Rattle.std.proofs.lemmas.Option.{slice_get-map, slice_get-get_or, slice_get_within, same_Some}
+use Rattle.std.proofs.lemmas.Bool.{false≢true}
+use Rattle.heap_tree.specs.declared.state.State.{State}
+use Rattle.heap_tree.specs.declared.state.State.TheVariants.{Ready, Waiting}
+use Rattle.heap_tree.specs.declared.links.Entry.{Entry}
+use Rattle.heap_tree.specs.Walk.{through, ancestor, IsUpFrom, depth_in, path_in}
+use Rattle.heap_tree.specs.Node.{Node, parent_in, parent_of, state_of, depth_of, is_on_path, set_at, with_state, child_of, forked, IsTree}
+use Rattle.heap_tree.specs.Links.{node_of, parent_kept, depth_kept, jump_kept, parent_at, depth_at, jump_at, next_jump, AreLinked, IsLinked}
+use Rattle.heap_tree.proofs.ListLemmas.{got_front, got_last, got_past, same_view}
+use Rattle.heap_tree.proofs.WalkLemmas.{ancestor-add, depth_in_is, walk_depth, walk_from_path, path_from_walk}
+use Rattle.heap_tree.proofs.GrowLemmas.{linked_one_more}
+
+parent_in_map : (o : Option Entry) → parent_in (option_map node_of o) ≡ parent_kept o
+parent_in_map None = refl
+parent_in_map (Some e) = refl
+
+pub parent_seen : (es : List Entry) (t : ℕ) → parent_of (map node_of es) t ≡ parent_at es t
+parent_seen es t = ap parent_in (slice_get-map node_of es t) ∙ parent_in_map (slice_get es t)
+
+-- callers see the parents that are kept
+pub parents_seen : (es : List Entry) → ◌≡◌ {A = ℕ → Option ℕ} (parent_of (map node_of es)) (parent_at es)
+parents_seen es = λ i t. parent_seen es t i
+
+pub depth_seen : (es : List Entry) (t : ℕ) → IsLinked es → t < length es → depth_of (map node_of es) t ≡ depth_at es t
+depth_seen es t linked made =
+    ap (λ (par : ℕ → Option ℕ). depth_in par t) (parents_seen es)
+    ∙ depth_in_is (length es) (parent_at es) (depth_at es) (jump_at es) linked.links t made
+
+pub tree_seen : (es : List Entry) → IsLinked es → IsTree (map node_of es)
+tree_seen es linked =
+    let len : length (map node_of es) ≡ length es = length-map es node_of in
+    record {
+      rooted = rw len linked.links.rooted;
+      root = λ t made none. linked.links.root t (rw len at made) (sym (parent_seen es t) ∙ none);
+      low = λ t p e. linked.links.low t p (sym (parent_seen es t) ∙ e);
+    }
+
+pub up_seen : (es : List Entry) (t d r : ℕ) → IsLinked es → t < length es → ancestor (parent_at es) (depth_at es t - d) t ≡ Some r → ancestor (parent_of (map node_of es)) (depth_of (map node_of es) t - d) t ≡ Some r
+up_seen es t d r linked made up = rw (depth_seen es t linked made, parents_seen es) up
+
+-- ---- the test of a path
+
+same_bool : (x y : Bool) → (x ≡ true → y ≡ true) → (y ≡ true → x ≡ true) → x ≡ y
+same_bool true y to from = sym (to refl)
+same_bool false true to from = absurd (false≢true (from refl))
+same_bool false false to from = refl
+
+module _ (es : List Entry) (linked : IsLinked es) where
+  path_walks : (a t : ℕ) → IsUpFrom (parent_at es) t a → path_in (parent_at es) a t ≡ true
+  path_walks = path_from_walk (length es) (parent_at es) (depth_at es) (jump_at es) linked.links
+
+  walks_path : (a t : ℕ) → path_in (parent_at es) a t ≡ true → IsUpFrom (parent_at es) t a
+  walks_path = walk_from_path (length es) (parent_at es) (depth_at es) (jump_at es) linked.links
+
+  walks_deep : (k t a : ℕ) → ancestor (parent_at es) k t ≡ Some a → (depth_at es t ≡ depth_at es a + k) × (a ≤ t)
+  walks_deep = walk_depth (length es) (parent_at es) (depth_at es) (jump_at es) linked.links
+
+  kept_here : (t a r : ℕ) → ancestor (parent_at es) (depth_at es t - depth_at es a) t ≡ Some r → (r == a) ≡ path_in (parent_at es) a t
+  kept_here t a r up =
+      same_bool (r == a) (path_in (parent_at es) a t)
+      (λ same. path_walks a t (depth_at es t - depth_at es a, up ∙ ap Some (eqb-true r a same)))
+      (λ on.
+      let w = walks_path a t on in
+      let d : depth_at es t ≡ depth_at es a + w.0 = (walks_deep w.0 t a w.1).0 in
+      let k : depth_at es t - depth_at es a ≡ w.0 = omega arith in
+      eq-eqb r a (same_Some r a (sym up ∙ (ap (λ (m : ℕ). ancestor (parent_at es) m t) k ∙ w.1))))
+
+  kept_deeper : (t a : ℕ) → depth_at es t < depth_at es a → path_in (parent_at es) a t ≡ false
+  kept_deeper t a lt =
+      same_bool (path_in (parent_at es) a t) false
+      (λ on.
+      let w = walks_path a t on in
+      let d : depth_at es t ≡ depth_at es a + w.0 = (walks_deep w.0 t a w.1).0 in
+      absurd (omega arith))
+      (λ no. absurd (false≢true no))
+
+  -- the owner is on the path exactly where the task at its depth on the path is the owner
+  pub on_path_here : (t a r : ℕ) → ancestor (parent_at es) (depth_at es t - depth_at es a) t ≡ Some r → (r == a) ≡ is_on_path (map node_of es) a t
+  on_path_here t a r up = rw (parents_seen es) (kept_here t a r up)
+
+  pub on_path_deeper : (t a : ℕ) → depth_at es t < depth_at es a → is_on_path (map node_of es) a t ≡ false
+  on_path_deeper t a lt = rw (parents_seen es) (kept_deeper t a lt)
+
+  -- the test of a path says what walks say
+  pub on_path_walks : (t a : ℕ) → (IsTrue (is_on_path (map node_of es) a t) → IsUpFrom (parent_of (map node_of es)) t a) × (IsUpFrom (parent_of (map node_of es)) t a → IsTrue (is_on_path (map node_of es) a t))
+  on_path_walks t a = rw (parents_seen es) (walks_path a t, path_walks a t)
+
+-- ---- another state
+
+module _ (es : List Entry) (t : ℕ) (e : Entry) (state : State) (is : slice_get es t ≡ Some e) where
+  abbrev changed : List Entry
+  changed = set es t (record e { state = state })
+
+  pub state_linked : IsLinked es → IsLinked changed
+  state_linked linked =
+      let len : length changed ≡ length es = length-set es t (record e { state = state }) in
+      let p : ◌≡◌ {A = ℕ → Option ℕ} (parent_at changed) (parent_at es) = λ i u. same_view parent_kept es t e (record e { state = state }) is refl u i in
+      let d : ◌≡◌ {A = ℕ → ℕ} (depth_at changed) (depth_at es) = λ i u. same_view depth_kept es t e (record e { state = state }) is refl u i in
+      let j : ◌≡◌ {A = ℕ → ℕ} (jump_at changed) (jump_at es) = λ i u. same_view jump_kept es t e (record e { state = state }) is refl u i in
+      record {
+        few = rw len linked.few;
+        links = subst (λ (w : ℕ × (ℕ → Option ℕ) × (ℕ → ℕ) × (ℕ → ℕ)). AreLinked w.0 w.1 w.2 w.3) (λ i. (sym len i, sym p i, sym d i, sym j i)) linked.links;
+      }
+
+  pub state_seen : map node_of changed ≡ with_state (map node_of es) t state
+  state_seen =
+      let got : slice_get (map node_of es) t ≡ Some (node_of e) = slice_get-map node_of es t ∙ ap (option_map node_of) is in
+      map-set node_of es t (record e { state = state }) ∙ sym (ap (set_at (map node_of es) t state) got)
+
+-- ---- one child more
+
+module _ (es : List Entry) (t : ℕ) (c : Entry) (made : t < length es) (its_par : c.parent ≡ Some t) (its_dep : c.depth ≡ depth_at es t + 1) (its_jmp : c.jump ≡ next_jump (depth_at es) (jump_at es) t) where
+  abbrev grown : List Entry
+  grown = es ++ c ∷ []
+
+  grown_past : (u : ℕ) → length es < u → parent_at grown u ≡ None
+  grown_past u lt =
+      let len : length grown ≡ length es + 1 = length-append es (c ∷ []) in
+      ap parent_kept (got_past grown u (omega arith))
+
+  pub child_linked : AreLinked (length es) (parent_at es) (depth_at es) (jump_at es) → AreLinked (length grown) (parent_at grown) (depth_at grown) (jump_at grown)
+  child_linked links =
+      let len : suc (length es) ≡ length grown = let e : length grown ≡ length es + 1 = length-append es (c ∷ []) in omega arith in
+      subst (λ (m : ℕ). AreLinked m (parent_at grown) (depth_at grown) (jump_at grown)) len
+      (linked_one_more (length es) (parent_at es) (parent_at grown) (depth_at es) (depth_at grown) (jump_at es) (jump_at grown) links
+      (λ u lt. ap parent_kept (got_front es (c ∷ []) u lt))
+      (λ u lt. ap depth_kept (got_front es (c ∷ []) u lt))
+      (λ u lt. ap jump_kept (got_front es (c ∷ []) u lt))
+      grown_past t made
+      (ap parent_kept (got_last es c) ∙ its_par)
+      (ap depth_kept (got_last es c) ∙ its_dep)
+      (ap jump_kept (got_last es c) ∙ its_jmp))
+
+  grown_depth : (u : ℕ) → u < length es → depth_at grown u ≡ depth_at es u
+  grown_depth u lt = ap depth_kept (got_front es (c ∷ []) u lt)
+
+  grown_jump : (u : ℕ) → u < length es → jump_at grown u ≡ jump_at es u
+  grown_jump u lt = ap jump_kept (got_front es (c ∷ []) u lt)
+
+  -- a sibling's far link leads where the child's does
+  pub same_jump : AreLinked (length es) (parent_at es) (depth_at es) (jump_at es) → next_jump (depth_at grown) (jump_at grown) t ≡ next_jump (depth_at es) (jump_at es) t
+  same_jump links =
+      let l : jump_at es t ≤ t = links.jump_low t made in
+      let m : jump_at es (jump_at es t) ≤ jump_at es t = links.jump_low (jump_at es t) (omega arith) in
+      let jt : jump_at grown t ≡ jump_at es t = grown_jump t made in
+      let jj : jump_at grown (jump_at es t) ≡ jump_at es (jump_at es t) = grown_jump (jump_at es t) (omega arith) in
+      let d0 : depth_at grown t ≡ depth_at es t = grown_depth t made in
+      let d1 : depth_at grown (jump_at es t) ≡ depth_at es (jump_at es t) = grown_depth (jump_at es t) (omega arith) in
+      let d2 : depth_at grown (jump_at es (jump_at es t)) ≡ depth_at es (jump_at es (jump_at es t)) = grown_depth (jump_at es (jump_at es t)) (omega arith) in
+      rw (jt, jj, d0, d1, d2)
+
+-- ---- a fork
+
+module _ (es : List Entry) (t : ℕ) (c : Entry) (linked : IsLinked es) (made : t < length es) (few : length es < 2 ^ 31) (its_par : c.parent ≡ Some t) (its_dep : c.depth ≡ depth_at es t + 1) (its_jmp : c.jump ≡ next_jump (depth_at es) (jump_at es) t) where
+  pub two_linked : IsLinked ((es ++ c ∷ []) ++ c ∷ [])
+  two_linked =
+      let grown = es ++ c ∷ [] in
+      let len : length grown ≡ length es + 1 = length-append es (c ∷ []) in
+      let len2 : length (grown ++ c ∷ []) ≡ length grown + 1 = length-append grown (c ∷ []) in
+      record {
+        few = omega arith;
+        links = child_linked (es ++ c ∷ []) t c (omega arith) its_par
+            (its_dep ∙ ap (λ (m : ℕ). m + 1) (sym (grown_depth es t c made its_par its_dep its_jmp t made)))
+            (its_jmp ∙ sym (same_jump es t c made its_par its_dep its_jmp linked.links))
+            (child_linked es t c made its_par its_dep its_jmp linked.links);
+      }
+
+module _ (es : List Entry) (t : ℕ) (e c : Entry) (is : slice_get es t ≡ Some e) where
+  abbrev waits : List Entry
+  waits = set es t (record e { state = Waiting })
+
+  pub fork_linked : IsLinked es → length es < 2 ^ 31 → c.parent ≡ Some t → c.depth ≡ depth_at es t + 1 → c.jump ≡ next_jump (depth_at es) (jump_at es) t → IsLinked (waits ++ c ∷ (c ∷ []))
+  fork_linked linked few its_par its_dep its_jmp =
+      let len : length waits ≡ length es = length-set es t (record e { state = Waiting }) in
+      let d : ◌≡◌ {A = ℕ → ℕ} (depth_at waits) (depth_at es) = λ i u. same_view depth_kept es t e (record e { state = Waiting }) is refl u i in
+      let j : ◌≡◌ {A = ℕ → ℕ} (jump_at waits) (jump_at es) = λ i u. same_view jump_kept es t e (record e { state = Waiting }) is refl u i in
+      let within : t < length es = slice_get_within es t e is in
+      let two = two_linked waits t c (state_linked es t e Waiting is linked) (omega arith) (omega arith) its_par
+      (its_dep ∙ ap (λ (f : ℕ → ℕ). f t + 1) (sym d))
+      (its_jmp ∙ (λ i. next_jump (sym d i) (sym j i) t)) in
+      subst IsLinked (append_assoc waits (c ∷ []) (c ∷ [])) two
+
+  pub fork_seen : c.parent ≡ Some t → c.state ≡ Ready → map node_of (waits ++ c ∷ (c ∷ [])) ≡ forked (map node_of es) t
+  fork_seen its_par its_state =
+      let child : node_of c ≡ child_of t = λ i. record { parent = its_par i; state = its_state i } in
+      map-append node_of waits (c ∷ (c ∷ []))
+      ∙ (ap (λ (xs : List Node). xs ++ node_of c ∷ (node_of c ∷ [])) (state_seen es t e Waiting is)
+      ∙ ap (λ (x : Node). with_state (map node_of es) t Waiting ++ x ∷ (x ∷ [])) child)
+
+-- ---- the same, of a value that is the view of the entries
+
+module _ (v : List Node) (es : List Entry) (view_is : map node_of es ≡ v) (linked : IsLinked es) where
+  -- a task was made where there is an entry of it
+  pub made_entry : (t : ℕ) → t < length v → t < length es
+  made_entry t made =
+      let len : length (map node_of es) ≡ length es = length-map es node_of in
+      let same : length (map node_of es) ≡ length v = ap length view_is in
+      omega arith
+
+  pub depth_answer : (t : ℕ) (e : Entry) → t < length v → slice_get es t ≡ Some e → e.depth ≡ depth_of v t
+  depth_answer t e made got =
+      sym (ap (λ (w : List Node). depth_of w t) (sym view_is) ∙ (depth_seen es t linked (made_entry t made) ∙ ap depth_kept got))
+
+  pub path_within : (t d : ℕ) → t < length v → d ≤ depth_of v t → d ≤ depth_at es t
+  path_within t d made le =
+      let same : depth_of v t ≡ depth_at es t = ap (λ (w : List Node). depth_of w t) (sym view_is) ∙ depth_seen es t linked (made_entry t made) in
+      omega arith
+
+  pub path_up : (t d r : ℕ) → t < length v → ancestor (parent_at es) (depth_at es t - d) t ≡ Some r → ancestor (parent_of v) (depth_of v t - d) t ≡ Some r
+  path_up t d r made up =
+      subst (λ (w : List Node). ancestor (parent_of w) (depth_of w t - d) t ≡ Some r) view_is (up_seen es t d r linked (made_entry t made) up)
+
+  pub path_there : (r d : ℕ) → r < length es → depth_at es r ≡ d → depth_of v r ≡ d
+  path_there r d made there = ap (λ (w : List Node). depth_of w r) (sym view_is) ∙ (depth_seen es r linked made ∙ there)
+
+  pub path_made : (r : ℕ) → r < length es → r < length v
+  path_made r made =
+      let len : length (map node_of es) ≡ length es = length-map es node_of in
+      let same : length (map node_of es) ≡ length v = ap length view_is in
+      omega arith
+
+  pub on_path_answer : (t a r d : ℕ) (x : Entry) → slice_get es a ≡ Some x → x.depth ≡ d → ancestor (parent_at es) (depth_at es t - d) t ≡ Some r → (r == a) ≡ is_on_path v a t
+  on_path_answer t a r d x got is up =
+      let same : d ≡ depth_at es a = sym (ap depth_kept got ∙ is) in
+      on_path_here es linked t a r (subst (λ (m : ℕ). ancestor (parent_at es) (depth_at es t - m) t ≡ Some r) same up)
+      ∙ ap (λ (w : List Node). is_on_path w a t) view_is
+
+  pub off_path_answer : (t a : ℕ) (x y : Entry) → slice_get es a ≡ Some x → slice_get es t ≡ Some y → y.depth < x.depth → is_on_path v a t ≡ false
+  off_path_answer t a x y got_a got_t lt =
+      let da : depth_at es a ≡ x.depth = ap depth_kept got_a in
+      let dt : depth_at es t ≡ y.depth = ap depth_kept got_t in
+      ap (λ (w : List Node). is_on_path w a t) (sym view_is) ∙ on_path_deeper es linked t a (omega arith)
+
+  pub walk_answer : (t a : ℕ) (b : Bool) → b ≡ is_on_path v a t → (IsTrue b → IsUpFrom (parent_of v) t a) × (IsUpFrom (parent_of v) t a → IsTrue b)
+  walk_answer t a b is =
+      let both = subst (λ (w : List Node). (IsTrue (is_on_path w a t) → IsUpFrom (parent_of w) t a) × (IsUpFrom (parent_of w) t a → IsTrue (is_on_path w a t))) view_is (on_path_walks es linked t a) in
+      rw is both
+
+  pub fork_shallow : (t : ℕ) (e : Entry) → t < length v → slice_get es t ≡ Some e → depth_of v t < 1000 → e.depth < 1000
+  fork_shallow t e made got lt =
+      let same : e.depth ≡ depth_of v t = depth_answer t e made got in
+      omega arith
+
+got_some : (es : List Entry) (t : ℕ) → t < length es → (e : Entry) × (slice_get es t ≡ Some e)
+got_some [] t lt = absurd (omega arith)
+got_some (x ∷ es) zero lt = (x, refl)
+got_some (x ∷ es) (suc t) lt = got_some es t (omega arith)
+
+-- a task that has a state was made
+pub made_from_state : (v : List Node) (t : ℕ) (s : State) → state_of v t ≡ Some s → t < length v
+made_from_state [] t s h = absurd cc
+made_from_state (x ∷ v) zero s h = omega arith
+made_from_state (x ∷ v) (suc t) s h =
+    let r : t < length v = made_from_state v t s h in
+    omega arith
+
+-- what another state leaves of the entries, and of what callers see
+pub state_answer : (v : List Node) (es new : List Entry) (t : ℕ) (state : State) → map node_of es ≡ v → IsLinked es → t < length v
+    → IfSome (slice_get es t) (λ e. new ≡ slice_set es t (record e { state = state })) → IsLinked new × (map node_of new ≡ with_state v t state)
+state_answer v es new t state view_is linked made put =
+    let got = got_some es t (made_entry v es view_is linked t made) in
+    let is : new ≡ slice_set es t (record got.0 { state = state }) = let P : Option Entry → Type 0 = λ o. IfSome o (λ e. new ≡ slice_set es t (record e { state = state })) in subst P got.1 put in (
+      subst IsLinked (sym is) (state_linked es t got.0 state got.1 linked),
+      ap (map node_of) is ∙ (state_seen es t got.0 state got.1 ∙ ap (λ (w : List Node). with_state w t state) view_is),
+    )
+
+-- and a fork
+pub fork_answer : (v : List Node) (es new : List Entry) (t : ℕ) (c : Entry) → map node_of es ≡ v → IsLinked es → t < length v → length v < 2 ^ 31
+    → c.parent ≡ Some t → c.depth ≡ depth_of v t + 1 → c.jump ≡ next_jump (depth_at es) (jump_at es) t → c.state ≡ Ready
+    → IfSome (slice_get es t) (λ e. new ≡ slice_set es t (record e { state = Waiting }) ++ c ∷ (c ∷ [])) → IsLinked new × (map node_of new ≡ forked v t)
+fork_answer v es new t c view_is linked made few its_par its_dep its_jmp its_state put =
+    let within = made_entry v es view_is linked t made in
+    let got = got_some es t within in
+    let is : new ≡ slice_set es t (record got.0 { state = Waiting }) ++ c ∷ (c ∷ []) = let P : Option Entry → Type 0 = λ o. IfSome o (λ e. new ≡ slice_set es t (record e { state = Waiting }) ++ c ∷ (c ∷ [])) in subst P got.1 put in
+    let len : length (map node_of es) ≡ length es = length-map es node_of in
+    let same : length (map node_of es) ≡ length v = ap length view_is in
+    let deep : depth_at es t ≡ depth_of v t = ap depth_kept got.1 ∙ depth_answer v es view_is linked t got.0 made got.1 in (
+      subst IsLinked (sym is) (fork_linked es t got.0 c got.1 linked (omega arith) its_par (its_dep ∙ ap (λ (m : ℕ). m + 1) (sym deep)) its_jmp),
+      ap (map node_of) is ∙ (fork_seen es t got.0 c got.1 its_par its_state ∙ ap (λ (w : List Node). forked w t) view_is),
+    )

@@ -1,0 +1,11 @@
+// The tree of tasks, one heap to each: states, parents, depths, and paths to the root.
+#![tactic(auto)]
+
+mod links;
+mod state;
+#[cfg(test)]
+mod tests;
+mod tree;
+
+pub use state::State;
+pub use tree::Tree;

@@ -1,0 +1,90 @@
+// What the tree keeps of each task, and the climb along its links.
+
+ghost use Rattle.std.specs.Prelude.{◌≡◌, ◌-◌, ◌<◌, ◌≤◌, length, vec_len, vec_capacity, slice_get, slice_set, IfSome, Some};
+ghost use Rattle.heap_tree.specs.Walk.{ancestor};
+ghost use Rattle.heap_tree.specs.Links.{parent_at, depth_at, jump_at, IsLinked, next_jump};
+
+use crate::state::State;
+
+/// A task in the tree: beside the link to its parent it keeps one to an ancestor farther up.
+///
+/// How far that one leads is given by the depth alone. The lengths are such that a climb to any depth takes
+/// a number of links that grows with the logarithm of the depth where it starts.
+#[derive(Clone, Copy)]
+pub struct Entry {
+    pub parent: Option<u32>,
+    pub depth: u32,
+    pub jump: u32,
+    pub state: State,
+}
+
+/// The entry of a task.
+pub fn entry_at(entries: &[Entry], t: u32) -> Entry
+    requires { t < length entries.now }
+    ensures { slice_get entries.now t ≡ Some result }
+{
+    entries[t as usize]
+}
+
+/// Gives a task another state.
+pub fn change_state(entries: &mut Vec<Entry>, t: u32, state: State)
+    requires { t < vec_len entries.old }
+    ensures put { IfSome (slice_get entries.old.items t) (λ e. entries.new.items ≡ slice_set entries.old.items t (record e { state = state })) }
+    ensures room { vec_capacity entries.new ≡ vec_capacity entries.old }
+{
+    entries[t as usize].state = state;
+}
+
+/// The task that the far link of a child of `t` leads to: past the two next far links where these are
+/// equally long, else to `t`.
+pub fn jump_below(entries: &[Entry], t: u32) -> u32
+    requires linked { IsLinked entries.now }
+    requires made { t < length entries.now }
+    ensures { result ≡ next_jump (depth_at entries.now) (jump_at entries.now) t }
+{
+    let here = entry_at(entries, t);
+    let far = entry_at(entries, here.jump);
+    let farther = entry_at(entries, far.jump);
+    if here.depth - far.depth == far.depth - farther.depth {
+        far.jump
+    } else {
+        t
+    }
+}
+
+// One link up: the far one where it doesn't lead past the depth, else the one to the parent.
+fn step_up(entries: &[Entry], at: u32, depth: u32) -> u32
+    requires linked { IsLinked entries.now }
+    requires made { at < length entries.now }
+    requires deeper { depth < depth_at entries.now at }
+    ensures made { result < length entries.now }
+    ensures not_past { depth ≤ depth_at entries.now result }
+    ensures higher { depth_at entries.now result < depth_at entries.now at }
+    ensures up { ancestor (parent_at entries.now) (depth_at entries.now at - depth_at entries.now result) at ≡ Some result }
+{
+    let here = entry_at(entries, at);
+    let far = entry_at(entries, here.jump);
+    if far.depth >= depth {
+        return here.jump;
+    }
+    match here.parent {
+        Some(parent) => parent,
+        None => unreachable!(),
+    }
+}
+
+/// The task at a depth on the path from `t` to the root.
+pub fn climb(entries: &[Entry], t: u32, depth: u32) -> u32
+    requires linked { IsLinked entries.now }
+    requires made { t < length entries.now }
+    requires within { depth ≤ depth_at entries.now t }
+    ensures made { result < length entries.now }
+    ensures there { depth_at entries.now result ≡ depth }
+    ensures up { ancestor (parent_at entries.now) (depth_at entries.now t - depth) t ≡ Some result }
+{
+    let mut at = t;
+    while entry_at(entries, at).depth > depth {
+        at = step_up(entries, at, depth);
+    }
+    at
+}

@@ -1,0 +1,141 @@
+// The tree: its tasks by number, forks, and paths.
+
+ghost use Rattle.std.specs.Prelude.{◌≡◌, ◌+◌, ◌-◌, ◌^◌, ◌<◌, ◌≤◌, ◌↔◌, ◌∷◌, [], ◌++◌, length, vec_len, vec_capacity, slice_get, slice_set, IfSome, IfOk, OnOk, OnErr, IsTrue, Some, None, true};
+ghost use Rattle.heap_tree.specs.Walk.{ancestor, IsUpFrom};
+ghost use Rattle.heap_tree.specs.Node.{root_node, parent_of, state_of, depth_of, is_on_path, with_state, forked, IsTree};
+
+use crate::links::{Entry, change_state, climb, entry_at, jump_below};
+use crate::state::State;
+use std::alloc::{AllocError, Global};
+use std::marker::Model;
+
+/// The tasks made so far, each with its parent and its state. The root is task 0.
+#[derive(Drop)]
+pub struct Tree {
+    entries: Vec<Entry>,
+}
+
+impl Model for Tree {
+    ghost use Rattle.std.specs.Prelude.{List, map};
+    ghost use Rattle.heap_tree.specs.Node.{Node};
+    ghost use Rattle.heap_tree.specs.Links.{node_of, IsLinked};
+
+    ghost Value = { List Node };
+
+    ghost view = { λ t. map node_of t.entries.items };
+
+    ghost invariant = { λ t. IsLinked t.entries.items };
+}
+
+// Lets a task wait, and puts two children behind the others.
+fn put_children(entries: &mut Vec<Entry>, t: u32, child: Entry)
+    requires made { t < vec_len entries.old }
+    requires room { vec_len entries.old + 2 ≤ vec_capacity entries.old }
+    ensures { IfSome (slice_get entries.old.items t) (λ e. entries.new.items ≡ slice_set entries.old.items t (record e { state = State.Waiting }) ++ child ∷ (child ∷ [])) }
+{
+    change_state(entries, t, State::Waiting);
+    entries.push_reserved(child);
+    entries.push_reserved(child);
+}
+
+impl Tree {
+    /// The root alone, ready.
+    pub fn new(alloc: Global) -> Result<Tree, AllocError>
+        ensures { IfOk result (λ tree. tree ≡ root_node ∷ []) }
+    {
+        let root = Entry {
+            parent: None,
+            depth: 0,
+            jump: 0,
+            state: State::Ready,
+        };
+        let mut entries = Vec::new(alloc);
+        entries.push(root)?;
+        Ok(Tree { entries })
+    }
+
+    /// How many tasks were made. Their numbers are those below it.
+    pub fn made(&self) -> u32
+        ensures count { result ≡ length self.now }
+        ensures tree { IsTree self.now }
+    {
+        self.entries.len() as u32
+    }
+
+    /// Makes two children of a task, the left one first, with the next two numbers. They are ready, and the
+    /// task waits.
+    pub fn fork(&mut self, t: u32) -> Result<(u32, u32), AllocError>
+        requires out { state_of self.old t ≡ Some State.Out }
+        requires shallow { depth_of self.old t < 1000 }
+        requires few { length self.old < 2 ^ 31 }
+        ensures numbers { IfOk result (λ pair. (pair.0 ≡ length self.old) × (pair.1 ≡ length self.old + 1)) }
+        ensures ok { OnOk result (self.new ≡ forked self.old t) }
+        ensures err { OnErr result (self.new ≡ self.old) }
+    {
+        self.entries.reserve(2)?;
+        let left = self.entries.len() as u32;
+        let child = Entry {
+            parent: Some(t),
+            depth: entry_at(&self.entries, t).depth + 1,
+            jump: jump_below(&self.entries, t),
+            state: State::Ready,
+        };
+        put_children(&mut self.entries, t, child);
+        Ok((left, left + 1))
+    }
+
+    /// Gives a task another state.
+    pub fn set_state(&mut self, t: u32, state: State)
+        requires { t < length self.old }
+        ensures { self.new ≡ with_state self.old t state }
+    {
+        change_state(&mut self.entries, t, state);
+    }
+
+    /// The state of a task; None where no task of this number was made.
+    pub fn state(&self, t: u32) -> Option<State>
+        ensures { result ≡ state_of self.now t }
+    {
+        let entry = self.entries.get(t as usize)?;
+        Some(entry.state)
+    }
+
+    /// The parent of a task; None for the root, and where no task of this number was made.
+    pub fn parent(&self, t: u32) -> Option<u32>
+        ensures { result ≡ parent_of self.now t }
+    {
+        let entry = self.entries.get(t as usize)?;
+        entry.parent
+    }
+
+    /// How many links lead from a task to the root.
+    pub fn depth(&self, t: u32) -> u32
+        requires { t < length self.now }
+        ensures { result ≡ depth_of self.now t }
+    {
+        entry_at(&self.entries, t).depth
+    }
+
+    /// The task at a depth on the path from `t` to the root.
+    pub fn path(&self, t: u32, at_depth: u32) -> u32
+        requires made { t < length self.now }
+        requires within { at_depth ≤ depth_of self.now t }
+        ensures up { ancestor (parent_of self.now) (depth_of self.now t - at_depth) t ≡ Some result }
+        ensures there { depth_of self.now result ≡ at_depth }
+        ensures made { result < length self.now }
+    {
+        climb(&self.entries, t, at_depth)
+    }
+
+    /// Whether `owner` is `reader` or stands above it.
+    pub fn on_path(&self, reader: u32, owner: u32) -> bool
+        requires reader { reader < length self.now }
+        requires owner { owner < length self.now }
+        ensures value { result ≡ is_on_path self.now owner reader }
+        ensures walk { IsTrue result ↔ IsUpFrom (parent_of self.now) reader owner }
+    {
+        let depth = entry_at(&self.entries, owner).depth;
+        depth <= entry_at(&self.entries, reader).depth
+            && climb(&self.entries, reader, depth) == owner
+    }
+}

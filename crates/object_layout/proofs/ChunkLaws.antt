@@ -1,0 +1,157 @@
+-- Laws of objects by their addresses: where a chunk is found, and what is at an address after a put
+-- or a push.
+use Rattle.std.proofs.Common.{◌≡◌, ℕ, zero, suc, ◌+◌, ◌-◌, ◌<◌, ◌≤◌, true, false, List, [], ◌∷◌, ◌++◌, length, get_or, set, refl, sym, ap, ◌∙◌, arith, ⊎_elim, inl, inr, ◌⊎◌, eqb, one-add, length-set}
+use Rattle.std.specs.Prelude.{◌≢◌, Option, Some, None, nat_lt, slice_set}
+use Rattle.std.proofs.lemmas.Bool.{cases_Bool, cases_eq, cases_lt, eqb-true, eq-eqb, ne_eqb, lt-ltb}
+use Rattle.object_layout.specs.declared.word.Addr.{Addr}
+use Rattle.object_layout.specs.Cell.{Cell, Mark, Born, Moved, Hole, IsBorn, IsObject, as_object, no_cell, with_ref, size_of}
+use Rattle.object_layout.specs.Content.{Content}
+use Rattle.object_layout.specs.Place.{cell_at, put_cell, words_in}
+use Rattle.object_layout.proofs.PlaceLemmas as place
+use Rattle.object_layout.specs.Chunks.{cell_of, chunk_at, held_in, held_size, held_words, no_chunk, object_of, place_in, place_of, push_object, put_object, with_cell}
+
+-- ---- where a chunk is found
+
+pub place_of-le : (ks : List Content) (n : ℕ) → place_of ks n ≤ length ks
+place_of-le [] n = omega arith
+place_of-le (k ∷ ks) n =
+    let ih = place_of-le ks n in
+    ⊎_elim
+    (λ (e : eqb k.number n ≡ true). rw e (omega arith))
+    (λ (e : eqb k.number n ≡ false). rw e (omega arith))
+    (cases_Bool (eqb k.number n))
+
+-- the cell at an address lies in the chunk that is found
+pub cell_of-found : (ks : List Content) (a : Addr) (d : Content) → place_of ks a.chunk < length ks →
+    cell_of ks a ≡ cell_at (get_or ks (place_of ks a.chunk) d).cells a.offset
+cell_of-found [] a d l = absurd (omega arith)
+cell_of-found (k ∷ ks) a d l =
+    ⊎_elim
+    (λ (e : eqb k.number a.chunk ≡ true). rw e)
+    (λ (e : eqb k.number a.chunk ≡ false). let m = rw e at l in rw (e, one-add) (cell_of-found ks a d (omega arith)))
+    (cases_Bool (eqb k.number a.chunk))
+
+pub cell_of-none : (ks : List Content) (a : Addr) → length ks ≤ place_of ks a.chunk → cell_of ks a ≡ no_cell
+cell_of-none [] a l = refl
+cell_of-none (k ∷ ks) a l =
+    ⊎_elim
+    (λ (e : eqb k.number a.chunk ≡ true). let m = rw e at l in absurd (omega arith))
+    (λ (e : eqb k.number a.chunk ≡ false). let m = rw e at l in rw e (cell_of-none ks a (omega arith)))
+    (cases_Bool (eqb k.number a.chunk))
+
+pub put_object-found : (ks : List Content) (a : Addr) (c : Cell) (d : Content) → place_of ks a.chunk < length ks →
+    put_object ks a c ≡ set ks (place_of ks a.chunk) (with_cell (get_or ks (place_of ks a.chunk) d) a.offset c)
+put_object-found [] a c d l = refl
+put_object-found (k ∷ ks) a c d l =
+    ⊎_elim
+    (λ (e : eqb k.number a.chunk ≡ true). rw e)
+    (λ (e : eqb k.number a.chunk ≡ false). let m = rw e at l in rw (e, one-add) (ap (λ (xs : List Content). k ∷ xs) (put_object-found ks a c d (omega arith))))
+    (cases_Bool (eqb k.number a.chunk))
+
+-- an object lies in a chunk of the list
+pub chunk_of_object : (ks : List Content) (a : Addr) → IsObject (cell_of ks a).mark → place_of ks a.chunk < length ks
+chunk_of_object ks a o =
+    ⊎_elim
+    (λ (l : place_of ks a.chunk < length ks). l)
+    (λ (l : length ks ≤ place_of ks a.chunk). absurd (rw (cell_of-none ks a l) at o))
+    (cases_lt (place_of ks a.chunk) (length ks))
+
+-- what bears its birth name is an object
+born_marked : (m : Mark) → IsBorn m → IsObject m
+born_marked (Born b) h = tt
+born_marked (Moved to) h = absurd h
+born_marked Hole h = absurd h
+
+pub born_object : (ks : List Content) (a : Addr) → IsBorn (cell_of ks a).mark → IsObject (cell_of ks a).mark
+born_object ks a h = born_marked (cell_of ks a).mark h
+
+-- an object is the cell that begins there
+marked_is : (m : Mark) (c : Cell) → m ≡ c.mark → IsObject c.mark → as_object c ≡ c
+marked_is (Born b) c e o = rw (← e) refl
+marked_is (Moved to) c e o = rw (← e) refl
+marked_is Hole c e o = absurd (rw (← e) at o)
+
+pub object_is : (ks : List Content) (a : Addr) → IsObject (cell_of ks a).mark → object_of ks a ≡ cell_of ks a
+object_is ks a o = marked_is (cell_of ks a).mark (cell_of ks a) refl o
+
+-- no object lies at an address, or one does
+marked_cases : (m : Mark) (c : Cell) → m ≡ c.mark → IsObject c.mark ⊎ (as_object c ≡ no_cell)
+marked_cases (Born b) c e = inl (rw (← e) tt)
+marked_cases (Moved to) c e = inl (rw (← e) tt)
+marked_cases Hole c e = inr (rw (← e) refl)
+
+pub object_or_none : (ks : List Content) (a : Addr) → IsObject (cell_of ks a).mark ⊎ (object_of ks a ≡ no_cell)
+object_or_none ks a = marked_cases (cell_of ks a).mark (cell_of ks a) refl
+
+-- what has a field is an object
+pub object_with_ref : (ks : List Content) (a : Addr) (k : ℕ) → k < length (object_of ks a).refs → IsObject (cell_of ks a).mark
+object_with_ref ks a k l =
+    ⊎_elim (λ (o : IsObject (cell_of ks a).mark). o)
+    (λ (o : object_of ks a ≡ no_cell). let m = rw o at l in absurd (omega arith))
+    (object_or_none ks a)
+
+pub object_with_int : (ks : List Content) (a : Addr) (k : ℕ) → k < length (object_of ks a).ints → IsObject (cell_of ks a).mark
+object_with_int ks a k l =
+    ⊎_elim (λ (o : IsObject (cell_of ks a).mark). o)
+    (λ (o : object_of ks a ≡ no_cell). let m = rw o at l in absurd (omega arith))
+    (object_or_none ks a)
+
+-- ---- what is at an address after a put
+
+-- addresses with the same parts are the same
+same_addr : (x y : Addr) → x.chunk ≡ y.chunk → x.offset ≡ y.offset → x ≡ y
+same_addr x y e f =
+    let one : x ≡ record { chunk = y.chunk; offset = x.offset } = ap (λ (n : ℕ). let r : Addr = record { chunk = n; offset = x.offset } in r) e in
+    let two : record { chunk = y.chunk; offset = x.offset } ≡ y = ap (λ (n : ℕ). let r : Addr = record { chunk = y.chunk; offset = n } in r) f in
+    one ∙ two
+
+-- other addresses stay, where the cell put there is as large as the old one
+pub cell_of-put_other : (ks : List Content) (a b : Addr) (c : Cell) → size_of c ≡ size_of (cell_of ks a) → b ≢ a →
+    cell_of (put_object ks a c) b ≡ cell_of ks b
+cell_of-put_other [] a b c s ne = refl
+cell_of-put_other (k ∷ ks) a b c s ne =
+    ⊎_elim
+    (λ (e : eqb k.number a.chunk ≡ true).
+    rw e (⊎_elim
+    (λ (f : eqb k.number b.chunk ≡ true).
+    rw f (place.cell_at-put_other k.cells a.offset b.offset c (rw e at s)
+    (λ o. ne (same_addr b a (sym (eqb-true k.number b.chunk f) ∙ eqb-true k.number a.chunk e) o))))
+    (λ (f : eqb k.number b.chunk ≡ false). rw f)
+    (cases_Bool (eqb k.number b.chunk))))
+    (λ (e : eqb k.number a.chunk ≡ false).
+    rw e (⊎_elim
+    (λ (f : eqb k.number b.chunk ≡ true). rw f)
+    (λ (f : eqb k.number b.chunk ≡ false). rw f (cell_of-put_other ks a b c (rw e at s) ne))
+    (cases_Bool (eqb k.number b.chunk))))
+    (cases_Bool (eqb k.number a.chunk))
+
+-- what is put where an object lies is read
+pub cell_of-put_same : (ks : List Content) (a : Addr) (c : Cell) → IsObject (cell_of ks a).mark → cell_of (put_object ks a c) a ≡ c
+cell_of-put_same [] a c o = absurd o
+cell_of-put_same (k ∷ ks) a c o =
+    ⊎_elim
+    (λ (e : eqb k.number a.chunk ≡ true). let p = rw e at o in rw (e, e) (place.cell_at-put_same k.cells a.offset c (place.cell_of_object k.cells a.offset p)))
+    (λ (e : eqb k.number a.chunk ≡ false). let p = rw e at o in rw (e, e) (cell_of-put_same ks a c p))
+    (cases_Bool (eqb k.number a.chunk))
+
+pub object_of-put_other : (ks : List Content) (a b : Addr) (c : Cell) → size_of c ≡ size_of (cell_of ks a) → b ≢ a →
+    object_of (put_object ks a c) b ≡ object_of ks b
+object_of-put_other ks a b c s ne = ap as_object (cell_of-put_other ks a b c s ne)
+
+pub object_of-put_same : (ks : List Content) (a : Addr) (c : Cell) → IsObject (cell_of ks a).mark → object_of (put_object ks a c) a ≡ as_object c
+object_of-put_same ks a c o = ap as_object (cell_of-put_same ks a c o)
+
+-- one reference written
+pub refs-put_same : (ks : List Content) (a : Addr) (k : ℕ) (r : Option Addr) →
+    (object_of (put_object ks a (with_ref (cell_of ks a) k r)) a).refs ≡ slice_set (object_of ks a).refs k r
+refs-put_same [] a k r = refl
+refs-put_same (x ∷ xs) a k r =
+    ⊎_elim
+    (λ (e : eqb x.number a.chunk ≡ true). rw (e, e) (place.refs-put_same x.cells a.offset k r))
+    (λ (e : eqb x.number a.chunk ≡ false). rw (e, e) (refs-put_same xs a k r))
+    (cases_Bool (eqb x.number a.chunk))
+
+pub refs-put_other : (ks : List Content) (a b : Addr) (k : ℕ) (r : Option Addr) → b ≢ a →
+    (object_of (put_object ks a (with_ref (cell_of ks a) k r)) b).refs ≡ (object_of ks b).refs
+refs-put_other ks a b k r ne =
+    ap (λ (c : Cell). c.refs) (object_of-put_other ks a b (with_ref (cell_of ks a) k r) (place.size_of-with_ref (cell_of ks a) k r) ne)

@@ -1,0 +1,36 @@
+use Rattle.std.proofs.lemmas.List.{length-set, get_or_read}
+use Rattle.object_layout.proofs.WriteLemmas as write
+use Rattle.std.specs.Prelude.{bit_or}
+use Rattle.std.proofs.Common.{◌≡◌, ◌+◌, ◌<◌, length, set, arith, ◌∙◌}
+use Rattle.object_layout.specs.Cell.{with_mark, Moved}
+use Rattle.object_layout.specs.Place.{cell_at, put_cell}
+use Rattle.object_layout.specs.Content.{HoldsCells}
+use Rattle.object_layout.proofs.HoldLemmas as hold
+use Rattle.object_layout.proofs.PlaceLemmas as place
+use Rattle.object_layout.proofs.ReadLemmas as read
+use Rattle.object_layout.proofs.chunk.forward.Goals as goal
+
+new_holds : (c : goal.After-chunk-2-1) →
+    HoldsCells (set (set c.chunk.inside.words.items c.args.at (bit_or c.index_mut.result.now 2199023255552)) (c.args.at + 1) c.ref_to_word.result) c.chunk.inside.used
+    (put_cell c.args.chunk.now.cells c.args.at (with_mark (cell_at c.args.chunk.now.cells c.args.at) (Moved c.args.to)))
+new_holds c =
+    let o = hold.object_in c.chunk.inside.number c.chunk.inside.words.items c.chunk.inside.used c.args.chunk.now c.chunk.view_is c.chunk.invariant c.args.at (place.cell_of_object c.args.chunk.now.cells c.args.at c.requires.object) in
+    let start : c.args.at + 0 ≡ c.args.at = omega arith in
+    let at : c.args.at < length c.chunk.inside.words.items = omega arith in
+    let header = rw start at (hold.held_word c.chunk.inside.words.items c.chunk.inside.used c.args.chunk.now.cells o.holds c.args.at (place.cell_of_object c.args.chunk.now.cells c.args.at c.requires.object) 0 0 (omega arith)) in
+    let was = get_or_read c.chunk.inside.words.items c.args.at c.index_mut.result.now at c.index_mut.ensures.value 0 ∙ header ∙ read.header_is (cell_at c.args.chunk.now.cells c.args.at) in
+    let bits = write.gone_written (cell_at c.args.chunk.now.cells c.args.at) o.cell c.index_mut.result.now was in
+    let ok = write.IsCell-with_mark (cell_at c.args.chunk.now.cells c.args.at) (Moved c.args.to) o.cell c.ref_to_word.ensures.fits in
+    rw (c.ref_to_word.ensures.word, bits) (hold.held_set_two c.chunk.inside.words.items c.chunk.inside.used c.args.chunk.now.cells o.holds c.args.at (place.cell_of_object c.args.chunk.now.cells c.args.at c.requires.object) _ _ (with_mark (cell_at c.args.chunk.now.cells c.args.at) (Moved c.args.to)) ok (write.words_of_cell-with_mark (cell_at c.args.chunk.now.cells c.args.at) (Moved c.args.to)))
+
+pub index_mut-requires : goal.index_mut-requires
+index_mut-requires c = let o = hold.object_in c.chunk.inside.number c.chunk.inside.words.items c.chunk.inside.used c.args.chunk.now c.chunk.view_is c.chunk.invariant c.args.at (place.cell_of_object c.args.chunk.now.cells c.args.at c.requires.object) in omega arith
+
+pub index_mut-requires-2 : goal.index_mut-requires-2
+index_mut-requires-2 c = let o = hold.object_in c.chunk.inside.number c.chunk.inside.words.items c.chunk.inside.used c.args.chunk.now c.chunk.view_is c.chunk.invariant c.args.at (place.cell_of_object c.args.chunk.now.cells c.args.at c.requires.object) in omega arith
+
+pub invariant_of-chunk : goal.invariant_of-chunk
+invariant_of-chunk c = hold.held_again _ _ _ (new_holds c)
+
+pub returns : goal.returns
+returns c = hold.seen_again c.chunk.inside.number c.chunk.inside.words.items c.chunk.inside.used c.args.chunk.now c.chunk.view_is _ _ _ (new_holds c) (simp length-set)

@@ -1,0 +1,20 @@
+use Rattle.std.proofs.Common.{◌≡◌, ◌∙◌, sym, true, false}
+use Rattle.std.specs.Prelude.{not}
+use Rattle.object_layout.specs.Layout.{is_gone}
+use Rattle.object_layout.specs.Place.{cell_at}
+use Rattle.object_layout.proofs.ReadLemmas as read
+use Rattle.object_layout.proofs.chunk.is_object_at.Goals as goal
+
+pub returns-then-not-is_gone_word : goal.returns-then-not-is_gone_word
+returns-then-not-is_gone_word c =
+    let gone : is_gone (cell_at c.args.chunk.now.cells c.args.at).mark ≡ false =
+    sym (read.gone_read _ c.word_at.ensures.cell _ c.word_at.ensures.word) ∙ sym c.is_gone_word.ensures ∙ c.if-not-is_gone_word.true in
+    let yes : not c.is_gone_word.result ≡ true = rw c.if-not-is_gone_word.true in
+    read.kept_object (cell_at c.args.chunk.now.cells c.args.at).mark _ gone yes
+
+pub returns-else-not-is_gone_word : goal.returns-else-not-is_gone_word
+returns-else-not-is_gone_word c =
+    let gone : is_gone (cell_at c.args.chunk.now.cells c.args.at).mark ≡ true =
+    sym (read.gone_read _ c.word_at.ensures.cell _ c.word_at.ensures.word) ∙ sym c.is_gone_word.ensures ∙ c.if-not-is_gone_word.false in
+    read.gone_object (cell_at c.args.chunk.now.cells c.args.at).mark c.word_at-else-not-is_gone_word.result gone
+    (c.word_at-else-not-is_gone_word.ensures.word ∙ read.mark_is (cell_at c.args.chunk.now.cells c.args.at))

@@ -1,0 +1,64 @@
+-- Objects of a list of chunks, by their addresses.
+use Rattle.std.specs.Prelude.{ℕ, ◌+◌, List, [], ◌∷◌, ◌++◌, ◌<◌, ◌==◌, if◌then◌else◌, Option, Some, None, length, nat_lt, slice_index_or, slice_set}
+use Rattle.object_layout.specs.declared.word.Addr.{Addr}
+use Rattle.object_layout.specs.Cell.{Born, Cell, Hole, Mark, Moved, as_object, no_cell, size_of}
+use Rattle.object_layout.specs.Content.{Content}
+use Rattle.object_layout.specs.Place.{cell_at, put_cell, words_in}
+
+-- no chunk: what stands past the end of a list
+abbrev pub no_chunk : Content
+no_chunk = record { number = 0; size = 0; cells = [] }
+
+-- the chunk at a place of the list
+abbrev pub chunk_at : List Content → ℕ → Content
+chunk_at ks i = slice_index_or ks i no_chunk
+
+-- at which place the chunk of this number stands; the list's length where none has it
+abbrev pub place_of : List Content → ℕ → ℕ
+place_of [] number = 0
+place_of (k ∷ ks) number = if k.number == number then 0 else 1 + place_of ks number
+
+-- the same; None where none has it
+abbrev pub place_in : List Content → ℕ → Option ℕ
+place_in ks number = if nat_lt (place_of ks number) (length ks) then Some (place_of ks number) else None
+
+-- what begins at an address: an object or a hole; no object where none does
+abbrev pub cell_of : List Content → Addr → Cell
+cell_of [] a = no_cell
+cell_of (k ∷ ks) a = if k.number == a.chunk then cell_at k.cells a.offset else cell_of ks a
+
+-- the object at an address; no object in a hole too
+abbrev pub object_of : List Content → Addr → Cell
+object_of ks a = as_object (cell_of ks a)
+
+-- the chunk with another cell at an offset
+abbrev pub with_cell : Content → ℕ → Cell → Content
+with_cell k at d = record k { cells = put_cell k.cells at d }
+
+-- the chunks with another cell at an address
+abbrev pub put_object : List Content → Addr → Cell → List Content
+put_object [] a d = []
+put_object (k ∷ ks) a d = if k.number == a.chunk then with_cell k a.offset d ∷ ks else k ∷ put_object ks a d
+
+-- the chunks with one object more behind those of the chunk at a place
+abbrev pub push_object : List Content → ℕ → Cell → List Content
+push_object ks i c = slice_set ks i (record (chunk_at ks i) { cells = (chunk_at ks i).cells ++ c ∷ [] })
+
+-- where that object lies
+abbrev pub next_address : Content → Addr
+next_address k = record { chunk = k.number; offset = words_in k.cells }
+
+-- the words of an object; none of a hole
+abbrev pub held_size : Mark → ℕ → ℕ
+held_size (Born b) n = n
+held_size (Moved to) n = n
+held_size Hole n = 0
+
+-- the words of all objects of a chunk, and of a list of chunks
+abbrev pub held_in : List Cell → ℕ
+held_in [] = 0
+held_in (c ∷ cs) = held_size c.mark (size_of c) + held_in cs
+
+abbrev pub held_words : List Content → ℕ
+held_words [] = 0
+held_words (k ∷ ks) = held_in k.cells + held_words ks

@@ -1,0 +1,366 @@
+// A chunk, and its objects one after another.
+
+ghost use Rattle.std.specs.Prelude.{◌≡◌, ◌+◌, ◌-◌, ◌*◌, ◌^◌, ◌<◌, ◌≤◌, ◌↔◌, [], ◌∷◌, ◌++◌, length, take, drop, replicate, slice_get, slice_index, IfOk, IsTrue, Some};
+ghost use Rattle.object_layout.specs.Cell.{header_of, size_of, new_cell, IsPlace, IsBorn, IsObject, moved_to, with_ref, with_int, with_mark, frozen, Born, Moved, Hole, IsCell};
+ghost use Rattle.object_layout.specs.Layout.{words_of_cell};
+ghost use Rattle.object_layout.specs.Place.{words_in, IsCellAt, IsObjectAt, cell_at, object_at, put_cell, cells_from};
+
+use crate::word::{
+    Addr, Birth, GONE, Header, MUTABLE, birth_from_word, birth_to_word, header_from_word,
+    header_to_word, is_gone_word, ref_from_word, ref_to_word,
+};
+use std::alloc::{AllocError, Global};
+use std::marker::Model;
+
+/// A numbered chunk of words. Objects lie in it one after another, from its first word on; where
+/// one was swept, a hole of its words is left.
+///
+/// A chunk of one unit has 1,024 words. A large object has a chunk of its own, of as many units as
+/// it needs, and lies at offset 0 there.
+#[derive(Drop)]
+pub struct Chunk {
+    number: u32,
+    words: Vec<u64>,
+    used: u32,
+}
+
+impl Model for Chunk {
+    ghost use Rattle.std.specs.Prelude.{length};
+    ghost use Rattle.object_layout.specs.Content.{Content, HoldsCells, cells_in};
+
+    ghost Value = { Content };
+
+    ghost view = { λ c. record { number = c.number; size = length c.words.items; cells = cells_in c.words.items c.used } };
+
+    ghost invariant = { λ c. HoldsCells c.words.items c.used (cells_in c.words.items c.used) };
+}
+
+impl Chunk {
+    /// An empty chunk of so many units of 1,024 words.
+    pub fn new(alloc: Global, number: u32, units: u32) -> Result<Chunk, AllocError>
+        requires { units < 2 ^ 22 }
+        ensures { IfOk result (λ c. c ≡ record { number = number; size = 1024 * units; cells = [] }) }
+    {
+        let words = vec![in alloc; 0; 1024 * units as usize]?;
+        Ok(Chunk {
+            number,
+            words,
+            used: 0,
+        })
+    }
+
+    /// Its number, by which addresses name it.
+    pub fn number(&self) -> u32
+        ensures { result ≡ self.now.number }
+    {
+        self.number
+    }
+
+    /// How many words it has in all.
+    pub fn size(&self) -> u32
+        ensures { result ≡ self.now.size }
+    {
+        self.words.len() as u32
+    }
+
+    /// How many words its objects and holes take: where the next object begins.
+    pub fn used(&self) -> u32
+        ensures words { result ≡ words_in self.now.cells }
+        ensures within { result ≤ self.now.size }
+        ensures begins { 0 < result → IsCellAt self.now.cells 0 }
+        ensures ends { cells_from self.now.cells result ≡ [] }
+    {
+        self.used
+    }
+
+    /// Forgets its objects and holes.
+    pub fn clear(&mut self)
+        ensures { self.new ≡ record self.old { cells = [] } }
+    {
+        self.used = 0;
+    }
+}
+
+// Lays two words and so many zeros from a place on.
+fn lay(words: &mut [u64], at: usize, first: u64, second: u64, zeros: usize)
+    requires { at + (2 + zeros) ≤ length words.old }
+    ensures { take (at + (2 + zeros)) words.new ≡ take at words.old ++ first ∷ (second ∷ replicate zeros 0) }
+{
+    words[at] = first;
+    words[at + 1] = second;
+    for i in at + 2..at + (2 + zeros) {
+        words[i] = 0;
+    }
+}
+
+/// Writes an object behind the others, with its references nil and its numbers 0.
+pub fn write_new(chunk: &mut Chunk, at: u32, header: Header, birth: Birth)
+    requires behind { at ≡ words_in chunk.old.cells }
+    requires refs { header.nrefs < 2 ^ 20 }
+    requires ints { header.nints < 2 ^ 20 }
+    requires room { at + (2 + (header.nrefs + header.nints)) ≤ chunk.old.size }
+    ensures { chunk.new ≡ record chunk.old { cells = chunk.old.cells ++ new_cell header birth ∷ [] } }
+{
+    let fields = header.nrefs + header.nints;
+    lay(
+        &mut chunk.words,
+        at as usize,
+        header_to_word(header),
+        birth_to_word(birth),
+        fields as usize,
+    );
+    chunk.used = at + (2 + fields);
+}
+
+// The k-th word of an object or a hole.
+fn word_at(chunk: &Chunk, at: u32, k: usize) -> u64
+    requires cell { IsCellAt chunk.now.cells at }
+    requires within { k < size_of (cell_at chunk.now.cells at) }
+    ensures word { result ≡ slice_index (words_of_cell (cell_at chunk.now.cells at)) k }
+    ensures cell { IsCell (cell_at chunk.now.cells at) }
+    ensures ends { at + size_of (cell_at chunk.now.cells at) ≤ words_in chunk.now.cells }
+    ensures small { words_in chunk.now.cells < 2 ^ 32 }
+{
+    chunk.words[at as usize + k]
+}
+
+// Copies so many words of one list to a place of another.
+fn copy_words(from: &[u64], at: usize, to: &mut [u64], behind: usize, count: usize)
+    requires from { at + count ≤ length from.now }
+    requires to { behind + count ≤ length to.old }
+    ensures { take (behind + count) to.new ≡ take behind to.old ++ take count (drop at from.now) }
+{
+    to[behind..behind + count].copy_from_slice(&from[at..at + count]);
+}
+
+/// Writes a copy of an object of another chunk behind the others, and says where.
+pub fn copy_behind(from: &Chunk, at: u32, to: &mut Chunk) -> u32
+    requires object { IsObjectAt from.now.cells at }
+    requires room { words_in to.old.cells + size_of (object_at from.now.cells at) ≤ to.old.size }
+    ensures place { result ≡ words_in to.old.cells }
+    ensures copied { to.new ≡ record to.old { cells = to.old.cells ++ object_at from.now.cells at ∷ [] } }
+{
+    let count = next_at(from, at) - at;
+    let behind = to.used;
+    copy_words(
+        &from.words,
+        at as usize,
+        &mut to.words,
+        behind as usize,
+        count as usize,
+    );
+    to.used = behind + count;
+    behind
+}
+
+/// Where the next object or hole begins, or the used words end.
+pub fn next_at(chunk: &Chunk, at: u32) -> u32
+    requires { IsCellAt chunk.now.cells at }
+    ensures next { result ≡ at + size_of (cell_at chunk.now.cells at) }
+    ensures within { result ≤ words_in chunk.now.cells }
+    ensures begins { result < words_in chunk.now.cells → IsCellAt chunk.now.cells result }
+    ensures rest { cells_from chunk.now.cells at ≡ cell_at chunk.now.cells at ∷ cells_from chunk.now.cells result }
+{
+    let header = header_from_word(word_at(chunk, at, 0));
+    at + (2 + (header.nrefs + header.nints))
+}
+
+/// Whether what begins there is an object, and no hole.
+pub fn is_object_at(chunk: &Chunk, at: u32) -> bool
+    requires { IsCellAt chunk.now.cells at }
+    ensures { IsTrue result ↔ IsObjectAt chunk.now.cells at }
+{
+    !is_gone_word(word_at(chunk, at, 0)) || word_at(chunk, at, 1) != 0
+}
+
+/// Whether what begins there is an object that bears its birth name: neither a hole nor moved.
+pub fn is_born_at(chunk: &Chunk, at: u32) -> bool
+    requires { IsCellAt chunk.now.cells at }
+    ensures { IsTrue result ↔ IsBorn (cell_at chunk.now.cells at).mark }
+{
+    !is_gone_word(word_at(chunk, at, 0))
+}
+
+/// The kind of the object.
+pub fn header_at(chunk: &Chunk, at: u32) -> Header
+    requires { IsObjectAt chunk.now.cells at }
+    ensures kind { result ≡ header_of (object_at chunk.now.cells at) }
+    ensures refs { result.nrefs < 2 ^ 20 }
+    ensures ints { result.nints < 2 ^ 20 }
+{
+    header_from_word(word_at(chunk, at, 0))
+}
+
+/// The birth name of an object that bears it: one that was not moved.
+pub fn birth_at(chunk: &Chunk, at: u32) -> Birth
+    requires { IsBorn (cell_at chunk.now.cells at).mark }
+    ensures { (cell_at chunk.now.cells at).mark ≡ Born result }
+{
+    birth_from_word(word_at(chunk, at, 1))
+}
+
+/// Names an object, which bears this birth name from then on.
+pub fn set_birth(chunk: &mut Chunk, at: u32, birth: Birth)
+    requires { IsObjectAt chunk.old.cells at }
+    ensures { chunk.new ≡ record chunk.old { cells = put_cell chunk.old.cells at (with_mark (cell_at chunk.old.cells at) (Born birth)) } }
+{
+    let header = header_at(chunk, at);
+    chunk.words[at as usize] = header_to_word(header);
+    chunk.words[at as usize + 1] = birth_to_word(birth);
+}
+
+/// A reference of the object: None for nil.
+pub fn ref_at(chunk: &Chunk, at: u32, field: u32) -> Option<Addr>
+    requires { field < length (object_at chunk.now.cells at).refs }
+    ensures value { slice_get (object_at chunk.now.cells at).refs field ≡ Some result }
+    ensures place { IsPlace result }
+{
+    ref_from_word(word_at(chunk, at, 2 + field as usize))
+}
+
+/// Writes a reference of the object.
+pub fn set_ref(chunk: &mut Chunk, at: u32, field: u32, value: Option<Addr>)
+    requires field { field < length (object_at chunk.old.cells at).refs }
+    requires place { IsPlace value }
+    ensures { chunk.new ≡ record chunk.old { cells = put_cell chunk.old.cells at (with_ref (cell_at chunk.old.cells at) field value) } }
+{
+    chunk.words[at as usize + (2 + field as usize)] = ref_to_word(value);
+}
+
+/// A number of the object.
+pub fn int_at(chunk: &Chunk, at: u32, field: u32) -> i64
+    requires { field < length (object_at chunk.now.cells at).ints }
+    ensures { slice_get (object_at chunk.now.cells at).ints field ≡ Some result }
+{
+    let nrefs = header_at(chunk, at).nrefs;
+    word_at(chunk, at, 2 + (nrefs as usize + field as usize)).cast_signed()
+}
+
+/// Writes a number of the object.
+pub fn set_int(chunk: &mut Chunk, at: u32, field: u32, value: i64)
+    requires { field < length (object_at chunk.old.cells at).ints }
+    ensures { chunk.new ≡ record chunk.old { cells = put_cell chunk.old.cells at (with_int (cell_at chunk.old.cells at) field value) } }
+{
+    let nrefs = header_at(chunk, at).nrefs;
+    chunk.words[at as usize + (2 + (nrefs as usize + field as usize))] = value.cast_unsigned();
+}
+
+/// Makes the object immutable, and changes nothing else of it.
+pub fn freeze(chunk: &mut Chunk, at: u32)
+    requires { IsObjectAt chunk.old.cells at }
+    ensures { chunk.new ≡ record chunk.old { cells = put_cell chunk.old.cells at (frozen (cell_at chunk.old.cells at)) } }
+{
+    chunk.words[at as usize] &= !MUTABLE;
+}
+
+/// Leaves the address that the object was moved to, in place of its birth name.
+pub fn forward(chunk: &mut Chunk, at: u32, to: Addr)
+    requires object { IsObjectAt chunk.old.cells at }
+    requires place { IsPlace (Some to) }
+    ensures { chunk.new ≡ record chunk.old { cells = put_cell chunk.old.cells at (with_mark (cell_at chunk.old.cells at) (Moved to)) } }
+{
+    chunk.words[at as usize] |= GONE;
+    chunk.words[at as usize + 1] = ref_to_word(Some(to));
+}
+
+/// The address that the object was moved to; None where it was not moved.
+pub fn forwarded_at(chunk: &Chunk, at: u32) -> Option<Addr>
+    requires { IsObjectAt chunk.now.cells at }
+    ensures value { result ≡ moved_to (cell_at chunk.now.cells at).mark }
+    ensures place { IsPlace result }
+{
+    if is_gone_word(word_at(chunk, at, 0)) {
+        ref_from_word(word_at(chunk, at, 1))
+    } else {
+        None
+    }
+}
+
+/// Drops the object, which leaves a hole of its words.
+pub fn drop_at(chunk: &mut Chunk, at: u32)
+    requires { IsObjectAt chunk.old.cells at }
+    ensures { chunk.new ≡ record chunk.old { cells = put_cell chunk.old.cells at (with_mark (cell_at chunk.old.cells at) Hole) } }
+{
+    chunk.words[at as usize] |= GONE;
+    chunk.words[at as usize + 1] = 0;
+}
+
+#[cfg(test)]
+mod tests {
+    use super::*;
+    use std::test::Fail;
+
+    const TO: Addr = Addr {
+        chunk: 2,
+        offset: 0,
+    };
+
+    // A chunk may cross to another thread.
+    fn sent<T: Send>(value: T) -> T
+        ensures { result ≡ value }
+    {
+        value
+    }
+
+    fn word(chunk: &Chunk, at: usize) -> Option<u64> {
+        chunk.words.as_slice().get(at).copied()
+    }
+
+    // A mutable object of one reference and two numbers, the sixth of task 3, as it is made and
+    // forwarded to word 2049.
+    #[test]
+    fn words_of_an_object(rt: HostRuntime) -> Result<(), Fail> {
+        let mut chunk = Chunk::new(rt.alloc(), 7, 1)?;
+        let header = Header {
+            nrefs: 1,
+            nints: 2,
+            mutable: true,
+        };
+        write_new(&mut chunk, 0, header, Birth { task: 3, count: 5 });
+        assert_eq!(rt; word(&chunk, 0), Some(1099513724929));
+        assert_eq!(rt; word(&chunk, 1), Some(12884901893));
+        assert_eq!(rt; forwarded_at(&chunk, 0), None);
+        forward(&mut chunk, 0, TO);
+        assert_eq!(rt; word(&chunk, 0), Some(3298536980481));
+        assert_eq!(rt; word(&chunk, 1), Some(2049));
+        assert_eq!(rt; forwarded_at(&chunk, 0), Some(TO));
+        assert_eq!(rt; header_at(&chunk, 0), header);
+        set_birth(&mut chunk, 0, Birth { task: 3, count: 5 });
+        assert_eq!(rt; word(&chunk, 0), Some(1099513724929));
+        freeze(&mut chunk, 0);
+        assert_eq!(rt; word(&chunk, 0), Some(2097153));
+        Ok(())
+    }
+
+    #[test]
+    fn fields_and_holes(rt: HostRuntime) -> Result<(), Fail> {
+        let mut chunk = Chunk::new(rt.alloc(), 7, 1)?;
+        let header = Header {
+            nrefs: 1,
+            nints: 2,
+            mutable: true,
+        };
+        write_new(&mut chunk, 0, header, Birth { task: 3, count: 5 });
+        write_new(&mut chunk, 5, header, Birth { task: 3, count: 6 });
+        set_ref(&mut chunk, 5, 0, Some(TO));
+        set_int(&mut chunk, 5, 1, -1);
+        drop_at(&mut chunk, 0);
+        assert_eq!(rt; is_object_at(&chunk, 0), false);
+        let at = next_at(&chunk, 0);
+        assert_eq!(rt; at, 5);
+        assert_eq!(rt; is_born_at(&chunk, 5), true);
+        let mut copies = sent(Chunk::new(rt.alloc(), 8, 1)?);
+        assert_eq!(rt; copy_behind(&chunk, 5, &mut copies), 0);
+        assert_eq!(rt; ref_at(&copies, 0, 0), Some(TO));
+        assert_eq!(rt; int_at(&copies, 0, 0), 0);
+        assert_eq!(rt; int_at(&copies, 0, 1), -1);
+        assert_eq!(rt; birth_at(&copies, 0), Birth { task: 3, count: 6 });
+        assert_eq!(rt;
+            (copies.number(), copies.size(), copies.used()),
+            (8, 1024, 5)
+        );
+        copies.clear();
+        assert_eq!(rt; copies.used(), 0);
+        Ok(())
+    }
+}

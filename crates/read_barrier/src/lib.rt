@@ -1,0 +1,8 @@
+// The test at a read: whether an object is of the reader or of a task above it.
+#![tactic(auto)]
+
+mod barrier;
+#[cfg(test)]
+mod tests;
+
+pub use barrier::{Stop, check};

@@ -1,0 +1,15 @@
+use Rattle.std.proofs.Common.{ℕ, ◌-◌, ◌<◌, ◌≤◌, get_or, length}
+use Rattle.object_layout.specs.declared.word.Addr.{Addr}
+use Rattle.remembered_set.specs.Moved.{number_of}
+use Rattle.remembered_set.proofs.moved.new_of.Given as goal
+
+abbrev pub invariant-loop-low : goal.invariant-loop-low
+invariant-loop-low l = record {
+  ordered : l.low ≤ l.high;
+  within : l.high ≤ length l.moved;
+  below : (i : ℕ) (d : Addr × Addr) → i < l.low → number_of (get_or l.moved i d).0 < l.wanted;
+  above : (i : ℕ) (d : Addr × Addr) → l.high ≤ i → i < length l.moved → l.wanted < number_of (get_or l.moved i d).0;
+}
+
+abbrev pub decreases-loop-low : goal.decreases-loop-low
+decreases-loop-low l = l.high - l.low

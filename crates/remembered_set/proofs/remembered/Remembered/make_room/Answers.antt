@@ -1,0 +1,5 @@
+use Rattle.std.proofs.Common.{◌∙◌}
+use Rattle.remembered_set.proofs.remembered.Remembered.make_room.Goals as goal
+
+pub invariant_of-self-2 : goal.invariant_of-self-2
+invariant_of-self-2 c = λ s. c.reserve-2.ensures.keys.2 s ∙ rw c.reserve.ensures.items (c.self.invariant s)

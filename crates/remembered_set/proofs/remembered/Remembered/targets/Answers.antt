@@ -1,0 +1,26 @@
+use Rattle.std.proofs.Common.{◌≡◌, ◌∙◌, None, append_assoc, get_or}
+use Rattle.std.specs.Prelude.{nat_eq}
+use Rattle.std.specs.HashSet.{contains}
+use Rattle.std.proofs.lemmas.List.{drop_more}
+use Rattle.remembered_set.specs.declared.remembered.Source.{Source}
+use Rattle.remembered_set.specs.Sources.{has_chunk}
+use Rattle.remembered_set.proofs.MovedLemmas.{read_at}
+use Rattle.remembered_set.proofs.SourceLemmas as lemma
+use Rattle.remembered_set.proofs.remembered.Remembered.targets.Goals as goal
+
+abbrev none : Source
+none = record { object = record { chunk = 0; offset = 0 }; field = 0 }
+
+pub loop-source-preserved : goal.loop-source-preserved
+loop-source-preserved g c =
+    let more = drop_more c.deref-source-items.result.now c.loop-source.source-index none c.loop-source-test.true in
+    let fields = rw more at c.loop-source.invariant.fields in
+    let rest = rw more at c.loop-source.invariant.rest in
+    let held =
+    read_at (g.W.Words.refs_at c.args.words.now (get_or c.deref-source-items.result.now c.loop-source.source-index none).object)
+    (get_or c.deref-source-items.result.now c.loop-source.source-index none).field c.ref_field-held.result None c.ref_field-held.ensures.value in
+    let same = lemma.into_same (contains nat_eq c.number_chunks.new.numbers) (has_chunk c.args.heap.now) c.number_chunks.ensures c.ref_field-held.result in
+    record {
+      fields = fields.1;
+      rest = rest ∙ rw (held, c.in_ok-push_target.ensures, same, append_assoc);
+    }

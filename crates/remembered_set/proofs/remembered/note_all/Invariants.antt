@@ -1,0 +1,16 @@
+use Rattle.std.proofs.Common.{◌≡◌, ◌-◌, ◌≤◌, drop, fold, length}
+use Rattle.std.specs.Prelude.{filter, nat_eq, not, vec_capacity, vec_len}
+use Rattle.std.specs.HashSet.{contains, spare}
+use Rattle.remembered_set.specs.declared.remembered.Source.{Source}
+use Rattle.remembered_set.specs.Sources.{has_source, noted, same_source}
+use Rattle.remembered_set.proofs.remembered.note_all.Given as goal
+
+abbrev pub invariant-loop-source : goal.invariant-loop-source
+invariant-loop-source l = record {
+  slots : length l.from - l.source-index ≤ vec_capacity l.sources - vec_len l.sources;
+  spare : length l.from - l.source-index ≤ spare l.known;
+  same : (s : Source) → contains same_source l.known s ≡ has_source l.sources.items s;
+  rest :
+      fold noted l.fn.sources.items (filter (λ (s : Source). not (contains nat_eq l.numbers s.object.chunk)) l.from)
+      ≡ fold noted l.sources.items (filter (λ (s : Source). not (contains nat_eq l.numbers s.object.chunk)) (drop l.source-index l.from));
+}

@@ -1,0 +1,13 @@
+use Rattle.std.proofs.Common.{◌≡◌, ◌∙◌, None, sym}
+use Rattle.remembered_set.proofs.MovedLemmas as lemma
+use Rattle.remembered_set.proofs.remembered.redirect.Goals as goal
+
+pub set_ref_field-requires-clause-place : goal.set_ref_field-requires-clause-place
+set_ref_field-requires-clause-place g c =
+    lemma.place_of_new c.args.moved.now c.in-Some.old c.in-Some-new_of.new c.requires.places (sym c.new_of.ensures ∙ c.in-Some-new_of.is)
+
+pub returns : goal.returns
+returns g c =
+    let held = lemma.read_at _ c.args.source.field _ None c.ref_field.ensures.value ∙ c.in-Some.is in
+    let new = sym c.new_of.ensures ∙ c.in-Some-new_of.is in
+    rw (held, new) c.set_ref_field.ensures

@@ -1,0 +1,41 @@
+-- The down-pointers that a heap remembers.
+use Rattle.std.specs.Prelude.{◌≡◌, ℕ, ◌<◌, Bool, List, [], ◌∷◌, ◌++◌, ◌==◌, ◌&&◌, if◌then◌else◌, Option, Some, None, fold, filter, length, not, slice_index_or}
+use Rattle.std.specs.List.{AllByRecursion, list_any}
+use Rattle.object_layout.specs.declared.word.Addr.{Addr}
+use Rattle.object_layout.specs.Content.{Content}
+use Rattle.remembered_set.specs.declared.remembered.Source.{Source}
+
+-- the sources in the order in which they were noted; for how many more its list and its table have
+-- places; and how many chunk numbers a lift can tell apart
+pub record Notes : Type 0 where
+  pub sources : List Source
+  pub slots : ℕ
+  pub spare : ℕ
+  pub numbers : ℕ
+
+-- one field of one object
+abbrev pub same_source : Source → Source → Bool
+same_source a b = a.object.chunk == b.object.chunk && a.object.offset == b.object.offset && a.field == b.field
+
+abbrev pub has_source : List Source → Source → Bool
+has_source xs s = list_any (same_source s) xs
+
+-- the sources with one noted: each stands once
+abbrev pub noted : List Source → Source → List Source
+noted xs s = if has_source xs s then xs else xs ++ s ∷ []
+
+-- whether one of these chunks has this number
+abbrev pub has_chunk : List Content → ℕ → Bool
+has_chunk ks number = list_any (λ k. k.number == number) ks
+
+-- of these sources those whose object doesn't lie in one of these chunks
+abbrev pub outside : List Content → List Source → List Source
+outside ks xs = filter (λ s. not (has_chunk ks s.object.chunk)) xs
+
+-- the sources with those of another set noted, but for those whose object lies in these chunks
+abbrev pub lifted : List Source → List Source → List Content → List Source
+lifted xs ys ks = fold noted xs (outside ks ys)
+
+-- the same set, with places for other numbers
+abbrev pub with_places : List Source → Notes → Notes
+with_places xs n = record n { sources = xs }

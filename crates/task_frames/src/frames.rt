@@ -1,0 +1,195 @@
+// A stack of frames, never empty and never more than 1,000 deep.
+
+ghost use Rattle.std.specs.Prelude.{◌≡◌, ◌+◌, ◌<◌, ◌≤◌, ◌↔◌, [], length, OnOk, OnErr, Err, Some, slice_get};
+ghost use Rattle.task_frames.specs.Stack.{Stack, depth_of, frames_of, reference_at, pushed, IsPopped, with_next, with_int, with_reference, with_reference_at};
+
+use object_layout::Addr;
+use std::alloc::{AllocError, Global};
+use std::marker::Model;
+
+// The most frames that a task may have below its top frame.
+const MOST_BELOW: usize = 999;
+
+/// A call that has not returned: its function, its next instruction, and its registers.
+#[derive(Clone, Copy)]
+pub struct Frame {
+    pub function: u32,
+    pub next: u32,
+    pub ints: [i64; 16],
+    pub refs: [Option<Addr>; 16],
+}
+
+/// Why no frame was pushed.
+#[derive(Clone, Copy, Debug, PartialEq, Eq)]
+pub enum NotPushed {
+    /// There are 1,000 frames.
+    Deep,
+    /// There was no memory for the frame.
+    NoMemory,
+}
+
+/// The frames of a task, of which the top one runs. The others wait for a return.
+#[derive(Drop)]
+pub struct Frames {
+    below: Vec<Frame>,
+    top: Frame,
+}
+
+impl Model for Frames {
+    ghost use Rattle.std.specs.Prelude.{length, ◌<◌};
+    ghost use Rattle.task_frames.specs.Stack.{Stack};
+
+    ghost Value = { Stack };
+
+    ghost view = { λ f. record { below = f.below.items; top = f.top } };
+
+    ghost invariant = { λ f. length f.below.items < 1000 };
+}
+
+// One of sixteen number registers.
+fn int_at(ints: &[i64; 16], i: u32) -> i64
+    requires { i < 16 }
+    ensures { slice_get ints.now i ≡ Some result }
+{
+    ints[i as usize]
+}
+
+// One of sixteen reference registers.
+fn ref_at(refs: &[Option<Addr>; 16], i: u32) -> Option<Addr>
+    requires { i < 16 }
+    ensures { slice_get refs.now i ≡ Some result }
+{
+    refs[i as usize]
+}
+
+impl Frames {
+    /// One frame, before the first instruction of a function, with these registers.
+    pub fn start(alloc: Global, fun: u32, ints: &[i64; 16], refs: &[Option<Addr>; 16]) -> Frames
+        ensures { result ≡ record { below = []; top = record { function = fun; next = 0; ints = ints.now; refs = refs.now } } }
+    {
+        Frames {
+            below: Vec::new(alloc),
+            top: Frame {
+                function: fun,
+                next: 0,
+                ints: *ints,
+                refs: *refs,
+            },
+        }
+    }
+
+    /// A frame for a call of a function: all registers of the top frame are copied into it.
+    ///
+    /// Whether there are 1,000 frames is checked before memory is asked for.
+    pub fn push(&mut self, fun: u32) -> Result<(), NotPushed>
+        ensures deep { (result ≡ Err NotPushed.Deep) ↔ (depth_of self.old ≡ 1000) }
+        ensures ok { OnOk result (self.new ≡ pushed self.old fun) }
+        ensures err { OnErr result (self.new ≡ self.old) }
+    {
+        if self.below.len() >= MOST_BELOW {
+            return Err(NotPushed::Deep);
+        }
+        if self.below.push(self.top).is_err() {
+            return Err(NotPushed::NoMemory);
+        }
+        self.top.function = fun;
+        self.top.next = 0;
+        Ok(())
+    }
+
+    /// Gives the top frame up, so that the one below it is on top.
+    pub fn pop(&mut self)
+        requires { 1 < depth_of self.old }
+        ensures { IsPopped self.old self.new }
+    {
+        if let Some(frame) = self.below.pop() {
+            self.top = frame;
+        }
+    }
+
+    /// How many frames there are: from 1 to 1,000.
+    pub fn depth(&self) -> u32
+        ensures count { result ≡ depth_of self.now }
+        ensures most { result ≤ 1000 }
+    {
+        self.below.len() as u32 + 1
+    }
+
+    /// The function that the top frame runs.
+    pub fn fun(&self) -> u32
+        ensures { result ≡ self.now.top.function }
+    {
+        self.top.function
+    }
+
+    /// The place in that function of the top frame's next instruction.
+    pub fn next(&self) -> u32
+        ensures { result ≡ self.now.top.next }
+    {
+        self.top.next
+    }
+
+    /// Goes on at another instruction of the same function.
+    pub fn set_next(&mut self, next: u32)
+        ensures { self.new ≡ with_next self.old next }
+    {
+        self.top.next = next;
+    }
+
+    /// A number register of the top frame.
+    pub fn int(&self, i: u32) -> i64
+        requires { i < 16 }
+        ensures { slice_get self.now.top.ints i ≡ Some result }
+    {
+        int_at(&self.top.ints, i)
+    }
+
+    /// Writes a number register of the top frame.
+    pub fn set_int(&mut self, i: u32, value: i64)
+        requires { i < 16 }
+        ensures { self.new ≡ with_int self.old i value }
+    {
+        self.top.ints[i as usize] = value;
+    }
+
+    /// A reference register of the top frame.
+    pub fn reference(&self, i: u32) -> Option<Addr>
+        requires { i < 16 }
+        ensures { slice_get self.now.top.refs i ≡ Some result }
+    {
+        ref_at(&self.top.refs, i)
+    }
+
+    /// Writes a reference register of the top frame.
+    pub fn set_reference(&mut self, i: u32, value: Option<Addr>)
+        requires { i < 16 }
+        ensures { self.new ≡ with_reference self.old i value }
+    {
+        self.top.refs[i as usize] = value;
+    }
+
+    /// A reference register of any frame. Frames are counted from 0, the oldest.
+    pub fn reference_in(&self, frame: u32, i: u32) -> Option<Addr>
+        requires frame { frame < depth_of self.now }
+        requires register { i < 16 }
+        ensures { reference_at self.now frame i ≡ Some result }
+    {
+        match self.below.get(frame as usize) {
+            Some(waiting) => ref_at(&waiting.refs, i),
+            None => ref_at(&self.top.refs, i),
+        }
+    }
+
+    /// Writes a reference register of any frame. Frames are counted from 0, the oldest.
+    pub fn set_reference_in(&mut self, frame: u32, i: u32, value: Option<Addr>)
+        requires frame { frame < depth_of self.old }
+        requires register { i < 16 }
+        ensures { self.new ≡ with_reference_at self.old frame i value }
+    {
+        if (frame as usize) < self.below.len() {
+            self.below[frame as usize].refs[i as usize] = value;
+        } else {
+            self.top.refs[i as usize] = value;
+        }
+    }
+}
