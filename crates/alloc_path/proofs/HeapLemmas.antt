@@ -1,16 +1,14 @@
 -- What a heap keeps, where one of its chunks is written or another is added.
-use Rattle.std.proofs.Common.{◌≡◌, ℕ, zero, suc, ◌+◌, ◌-◌, ◌*◌, ◌/◌, ◌<◌, ◌≤◌, Bool, true, false, List, [], ◌∷◌, ◌++◌, length, get_or, set, refl, sym, ap, ◌∙◌, arith, ⊎_elim, inl, inr, ◌⊎◌, eqb, one-add, length-set, length-append, append_assoc, Option, Some, None, take}
-use Rattle.std.specs.Prelude.{◌≢◌, cond, nat_lt, nat_le, min, Result, Ok, Err, IfOk, IsOk, OnOk, is_some, option_map}
-use Rattle.std.proofs.lemmas.Bool.{cases_Bool, cases_eq, cases_lt, eqb-true, eq-eqb, ne_eqb, lt-ltb, le-ltb, le-leb, lt-leb, leb-true, leb-false}
+use Rattle.std.proofs.Common.{◌≡◌, ℕ, zero, suc, ◌+◌, ◌-◌, ◌*◌, ◌/◌, ◌<◌, ◌≤◌, Bool, true, false, List, [], ◌∷◌, ◌++◌, length, get_or, set, refl, sym, ap, ◌∙◌, arith, ⊎_elim, inl, inr, ◌⊎◌, eqb, length-set, length-append, append_assoc, Option, Some, None, take}
+use Rattle.std.specs.Prelude.{cond, Result, Ok, Err, IfOk, IsOk, OnOk, is_some, option_map}
+use Rattle.std.proofs.lemmas.Bool.{cases_Bool, cases_lt, eqb-true, eq-eqb, ne_eqb, lt-ltb, le-ltb, le-leb, lt-leb}
 use Rattle.std.proofs.lemmas.List.{get_or_read, get_or_append_left, get_or-append_right, take_more}
 use Rattle.object_layout.specs.declared.word.Addr.{Addr}
-use Rattle.object_layout.specs.declared.word.Header.{Header}
-use Rattle.object_layout.specs.declared.word.Birth.{Birth}
-use Rattle.object_layout.specs.Cell.{Born, Cell, Hole, IsObject, Mark, Moved, no_cell, size_of}
+use Rattle.object_layout.specs.Cell.{Born, Cell, Hole, IsObject, Mark, Moved, size_of}
 use Rattle.object_layout.specs.Content.{Content}
 use Rattle.object_layout.specs.Place.{cell_at, put_cell, words_in}
-use Rattle.object_layout.specs.Chunks.{cell_of, chunk_at, held_in, held_size, held_words, no_chunk, object_of, place_in, place_of, push_object, put_object, with_cell}
-use Rattle.alloc_path.specs.Heap.{added, counted, Heap, IsCurrent, IsFresh, IsKept, IsReserved, large_place, AreApart, place_for, placed_at, room_at, room_of, small_place, units}
+use Rattle.object_layout.specs.Chunks.{cell_of, chunk_at, held_in, held_size, held_words, no_chunk, place_in, place_of, put_object, with_cell}
+use Rattle.alloc_path.specs.Heap.{counted, Heap, IsCurrent, IsFresh, IsKept, IsReserved, large_place, AreApart, place_for, room_at, small_place, units}
 use Rattle.object_layout.proofs.ChunkLaws as chunks
 
 -- ---- the words of objects

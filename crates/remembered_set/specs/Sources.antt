@@ -35,7 +35,3 @@ outside ks xs = filter (λ s. not (has_chunk ks s.object.chunk)) xs
 -- the sources with those of another set noted, but for those whose object lies in these chunks
 abbrev pub lifted : List Source → List Source → List Content → List Source
 lifted xs ys ks = fold noted xs (outside ks ys)
-
--- the same set, with places for other numbers
-abbrev pub with_places : List Source → Notes → Notes
-with_places xs n = record n { sources = xs }
