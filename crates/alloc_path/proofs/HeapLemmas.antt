@@ -250,7 +250,7 @@ place_of-push_new (x ∷ xs) k q l =
     (λ (e : eqb x.number q ≡ false). let m = rw e at l in rw (e, place_of-push_new xs k q (omega arith)) (omega arith))
     (cases_Bool (eqb x.number q))
 
-none_there : (ks : List Content) (q : ℕ) → place_in ks q ≡ None → length ks ≤ place_of ks q
+pub none_there : (ks : List Content) (q : ℕ) → place_in ks q ≡ None → length ks ≤ place_of ks q
 none_there ks q e =
     ⊎_elim
     (λ (l : place_of ks q < length ks). let f = rw (lt-ltb (place_of ks q) (length ks) l) at e in cc)
@@ -338,25 +338,25 @@ new_entry (Err x) was m n s e l none = cc
 none_from : (ks : List Content) (n : ℕ) → length ks ≤ place_of ks n → IsFresh ks n
 none_from ks n l = rw (le-ltb (place_of ks n) (length ks) l)
 
-fresh_cons : (k : Content) (ks : List Content) (n : ℕ) → (k.number ≡ n → ⊥) → IsFresh ks n → IsFresh (k ∷ ks) n
+pub fresh_cons : (k : Content) (ks : List Content) (n : ℕ) → (k.number ≡ n → ⊥) → IsFresh ks n → IsFresh (k ∷ ks) n
 fresh_cons k ks n ne h =
     let l = none_there ks n h in
     let p : place_of (k ∷ ks) n ≡ 1 + place_of ks n = rw (ne_eqb k.number n ne) refl in
     none_from (k ∷ ks) n (omega arith)
 
-fresh_head : (k : Content) (ks : List Content) (n : ℕ) → IsFresh (k ∷ ks) n → k.number ≡ n → ⊥
+pub fresh_head : (k : Content) (ks : List Content) (n : ℕ) → IsFresh (k ∷ ks) n → k.number ≡ n → ⊥
 fresh_head k ks n h e =
     let l = none_there (k ∷ ks) n h in
     let p : place_of (k ∷ ks) n ≡ 0 = rw (eq-eqb k.number n e) refl in
     omega arith
 
-fresh_tail : (k : Content) (ks : List Content) (n : ℕ) → IsFresh (k ∷ ks) n → IsFresh ks n
+pub fresh_tail : (k : Content) (ks : List Content) (n : ℕ) → IsFresh (k ∷ ks) n → IsFresh ks n
 fresh_tail k ks n h =
     let l = none_there (k ∷ ks) n h in
     let p : place_of (k ∷ ks) n ≡ 1 + place_of ks n = rw (ne_eqb k.number n (fresh_head k ks n h)) refl in
     none_from ks n (omega arith)
 
-fresh_at : (ks : List Content) (n : ℕ) → IsFresh ks n → (i : ℕ) (d : Content) → i < length ks → (get_or ks i d).number ≡ n → ⊥
+pub fresh_at : (ks : List Content) (n : ℕ) → IsFresh ks n → (i : ℕ) (d : Content) → i < length ks → (get_or ks i d).number ≡ n → ⊥
 fresh_at [] n h i d l e = omega arith
 fresh_at (k ∷ ks) n h zero d l e = fresh_head k ks n h e
 fresh_at (k ∷ ks) n h (suc i) d l e = fresh_at ks n (fresh_tail k ks n h) i d (omega arith) e
