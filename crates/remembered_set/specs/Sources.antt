@@ -1,7 +1,6 @@
 -- The down-pointers that a heap remembers.
-use Rattle.std.specs.Prelude.{◌≡◌, ℕ, ◌<◌, Bool, List, [], ◌∷◌, ◌++◌, ◌==◌, ◌&&◌, if◌then◌else◌, Option, Some, None, fold, filter, length, not, slice_index_or}
-use Rattle.std.specs.List.{AllByRecursion, list_any}
-use Rattle.object_layout.specs.declared.word.Addr.{Addr}
+use Rattle.std.specs.Prelude.{ℕ, Bool, List, [], ◌∷◌, ◌++◌, ◌==◌, ◌&&◌, if◌then◌else◌, fold, filter, not}
+use Rattle.std.specs.List.{list_any}
 use Rattle.object_layout.specs.Content.{Content}
 use Rattle.remembered_set.specs.declared.remembered.Source.{Source}
 

@@ -1,4 +1,4 @@
-use Rattle.std.proofs.Common.{◌≡◌, ◌∙◌, None, append_assoc, get_or}
+use Rattle.std.proofs.Common.{◌∙◌, None, append_assoc, get_or}
 use Rattle.std.specs.Prelude.{nat_eq}
 use Rattle.std.specs.HashSet.{contains}
 use Rattle.std.proofs.lemmas.List.{drop_more}
