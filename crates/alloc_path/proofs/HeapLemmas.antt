@@ -1,16 +1,14 @@
 -- What a heap keeps, where one of its chunks is written or another is added.
-use Rattle.std.proofs.Common.{◌≡◌, ℕ, zero, suc, ◌+◌, ◌-◌, ◌*◌, ◌/◌, ◌<◌, ◌≤◌, Bool, true, false, List, [], ◌∷◌, ◌++◌, length, get_or, set, refl, sym, ap, ◌∙◌, arith, ⊎_elim, inl, inr, ◌⊎◌, eqb, one-add, length-set, length-append, append_assoc, Option, Some, None, take}
-use Rattle.std.specs.Prelude.{◌≢◌, cond, nat_lt, nat_le, min, Result, Ok, Err, IfOk, IsOk, OnOk, is_some, option_map}
-use Rattle.std.proofs.lemmas.Bool.{cases_Bool, cases_eq, cases_lt, eqb-true, eq-eqb, ne_eqb, lt-ltb, le-ltb, le-leb, lt-leb, leb-true, leb-false}
+use Rattle.std.proofs.Common.{◌≡◌, ℕ, zero, suc, ◌+◌, ◌-◌, ◌*◌, ◌/◌, ◌<◌, ◌≤◌, Bool, true, false, List, [], ◌∷◌, ◌++◌, length, get_or, set, refl, sym, ap, ◌∙◌, arith, ⊎_elim, inl, inr, ◌⊎◌, eqb, length-set, length-append, append_assoc, Option, Some, None, take}
+use Rattle.std.specs.Prelude.{cond, Result, Ok, Err, IfOk, IsOk, OnOk, is_some, option_map}
+use Rattle.std.proofs.lemmas.Bool.{cases_Bool, cases_lt, eqb-true, eq-eqb, ne_eqb, lt-ltb, le-ltb, le-leb, lt-leb}
 use Rattle.std.proofs.lemmas.List.{get_or_read, get_or_append_left, get_or-append_right, take_more}
 use Rattle.object_layout.specs.declared.word.Addr.{Addr}
-use Rattle.object_layout.specs.declared.word.Header.{Header}
-use Rattle.object_layout.specs.declared.word.Birth.{Birth}
-use Rattle.object_layout.specs.Cell.{Born, Cell, Hole, IsObject, Mark, Moved, no_cell, size_of}
+use Rattle.object_layout.specs.Cell.{Born, Cell, Hole, IsObject, Mark, Moved, size_of}
 use Rattle.object_layout.specs.Content.{Content}
 use Rattle.object_layout.specs.Place.{cell_at, put_cell, words_in}
-use Rattle.object_layout.specs.Chunks.{cell_of, chunk_at, held_in, held_size, held_words, no_chunk, object_of, place_in, place_of, push_object, put_object, with_cell}
-use Rattle.alloc_path.specs.Heap.{added, counted, Heap, IsCurrent, IsFresh, IsKept, IsReserved, large_place, AreApart, place_for, placed_at, room_at, room_of, small_place, units}
+use Rattle.object_layout.specs.Chunks.{cell_of, chunk_at, held_in, held_size, held_words, no_chunk, place_in, place_of, put_object, with_cell}
+use Rattle.alloc_path.specs.Heap.{counted, Heap, IsCurrent, IsFresh, IsKept, IsReserved, large_place, AreApart, place_for, room_at, small_place, units}
 use Rattle.object_layout.proofs.ChunkLaws as chunks
 
 -- ---- the words of objects
@@ -252,7 +250,7 @@ place_of-push_new (x ∷ xs) k q l =
     (λ (e : eqb x.number q ≡ false). let m = rw e at l in rw (e, place_of-push_new xs k q (omega arith)) (omega arith))
     (cases_Bool (eqb x.number q))
 
-none_there : (ks : List Content) (q : ℕ) → place_in ks q ≡ None → length ks ≤ place_of ks q
+pub none_there : (ks : List Content) (q : ℕ) → place_in ks q ≡ None → length ks ≤ place_of ks q
 none_there ks q e =
     ⊎_elim
     (λ (l : place_of ks q < length ks). let f = rw (lt-ltb (place_of ks q) (length ks) l) at e in cc)
@@ -340,25 +338,25 @@ new_entry (Err x) was m n s e l none = cc
 none_from : (ks : List Content) (n : ℕ) → length ks ≤ place_of ks n → IsFresh ks n
 none_from ks n l = rw (le-ltb (place_of ks n) (length ks) l)
 
-fresh_cons : (k : Content) (ks : List Content) (n : ℕ) → (k.number ≡ n → ⊥) → IsFresh ks n → IsFresh (k ∷ ks) n
+pub fresh_cons : (k : Content) (ks : List Content) (n : ℕ) → (k.number ≡ n → ⊥) → IsFresh ks n → IsFresh (k ∷ ks) n
 fresh_cons k ks n ne h =
     let l = none_there ks n h in
     let p : place_of (k ∷ ks) n ≡ 1 + place_of ks n = rw (ne_eqb k.number n ne) refl in
     none_from (k ∷ ks) n (omega arith)
 
-fresh_head : (k : Content) (ks : List Content) (n : ℕ) → IsFresh (k ∷ ks) n → k.number ≡ n → ⊥
+pub fresh_head : (k : Content) (ks : List Content) (n : ℕ) → IsFresh (k ∷ ks) n → k.number ≡ n → ⊥
 fresh_head k ks n h e =
     let l = none_there (k ∷ ks) n h in
     let p : place_of (k ∷ ks) n ≡ 0 = rw (eq-eqb k.number n e) refl in
     omega arith
 
-fresh_tail : (k : Content) (ks : List Content) (n : ℕ) → IsFresh (k ∷ ks) n → IsFresh ks n
+pub fresh_tail : (k : Content) (ks : List Content) (n : ℕ) → IsFresh (k ∷ ks) n → IsFresh ks n
 fresh_tail k ks n h =
     let l = none_there (k ∷ ks) n h in
     let p : place_of (k ∷ ks) n ≡ 1 + place_of ks n = rw (ne_eqb k.number n (fresh_head k ks n h)) refl in
     none_from ks n (omega arith)
 
-fresh_at : (ks : List Content) (n : ℕ) → IsFresh ks n → (i : ℕ) (d : Content) → i < length ks → (get_or ks i d).number ≡ n → ⊥
+pub fresh_at : (ks : List Content) (n : ℕ) → IsFresh ks n → (i : ℕ) (d : Content) → i < length ks → (get_or ks i d).number ≡ n → ⊥
 fresh_at [] n h i d l e = omega arith
 fresh_at (k ∷ ks) n h zero d l e = fresh_head k ks n h e
 fresh_at (k ∷ ks) n h (suc i) d l e = fresh_at ks n (fresh_tail k ks n h) i d (omega arith) e

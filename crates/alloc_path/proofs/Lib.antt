@@ -1,1 +1,2 @@
 pub mod HeapLemmas
+pub mod PlacedLaws

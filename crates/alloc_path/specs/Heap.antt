@@ -1,10 +1,9 @@
 -- A task's own heap, as callers see it.
 use Rattle.std.specs.Prelude.{◌≡◌, ℕ, ◌+◌, ◌-◌, ◌*◌, ◌/◌, ◌^◌, ◌<◌, List, [], ◌∷◌, ◌++◌, ◌==◌, if◌then◌else◌, Option, Some, None, length, min, nat_le, option_map}
-use Rattle.object_layout.specs.declared.word.Addr.{Addr}
 use Rattle.object_layout.specs.Cell.{Cell, size_of}
 use Rattle.object_layout.specs.Content.{Content}
 use Rattle.object_layout.specs.Place.{words_in}
-use Rattle.object_layout.specs.Chunks.{chunk_at, held_words, next_address, place_in, push_object}
+use Rattle.object_layout.specs.Chunks.{chunk_at, held_words, place_in, push_object}
 
 -- its chunks in the order in which they came; at which place the small chunk stands that is being
 -- filled, and at which the chunk that is reserved for a large object; the words that were placed

@@ -1,14 +1,14 @@
 -- Laws of objects by their addresses: where a chunk is found, and what is at an address after a put
 -- or a push.
-use Rattle.std.proofs.Common.{◌≡◌, ℕ, zero, suc, ◌+◌, ◌-◌, ◌<◌, ◌≤◌, true, false, List, [], ◌∷◌, ◌++◌, length, get_or, set, refl, sym, ap, ◌∙◌, arith, ⊎_elim, inl, inr, ◌⊎◌, eqb, one-add, length-set}
-use Rattle.std.specs.Prelude.{◌≢◌, Option, Some, None, nat_lt, slice_set}
-use Rattle.std.proofs.lemmas.Bool.{cases_Bool, cases_eq, cases_lt, eqb-true, eq-eqb, ne_eqb, lt-ltb}
+use Rattle.std.proofs.Common.{◌≡◌, ℕ, ◌<◌, ◌≤◌, true, false, List, [], ◌∷◌, length, get_or, set, refl, sym, ap, ◌∙◌, arith, ⊎_elim, inl, inr, ◌⊎◌, eqb, one-add}
+use Rattle.std.specs.Prelude.{◌≢◌, Option, slice_set}
+use Rattle.std.proofs.lemmas.Bool.{cases_Bool, cases_lt, eqb-true}
 use Rattle.object_layout.specs.declared.word.Addr.{Addr}
 use Rattle.object_layout.specs.Cell.{Cell, Mark, Born, Moved, Hole, IsBorn, IsObject, as_object, no_cell, with_ref, size_of}
 use Rattle.object_layout.specs.Content.{Content}
-use Rattle.object_layout.specs.Place.{cell_at, put_cell, words_in}
+use Rattle.object_layout.specs.Place.{cell_at}
 use Rattle.object_layout.proofs.PlaceLemmas as place
-use Rattle.object_layout.specs.Chunks.{cell_of, chunk_at, held_in, held_size, held_words, no_chunk, object_of, place_in, place_of, push_object, put_object, with_cell}
+use Rattle.object_layout.specs.Chunks.{cell_of, object_of, place_of, put_object, with_cell}
 
 -- ---- where a chunk is found
 

@@ -1,5 +1,5 @@
 -- Objects of a list of chunks, by their addresses.
-use Rattle.std.specs.Prelude.{ℕ, ◌+◌, List, [], ◌∷◌, ◌++◌, ◌<◌, ◌==◌, if◌then◌else◌, Option, Some, None, length, nat_lt, slice_index_or, slice_set}
+use Rattle.std.specs.Prelude.{ℕ, ◌+◌, List, [], ◌∷◌, ◌++◌, ◌==◌, if◌then◌else◌, Option, Some, None, length, nat_lt, slice_index_or, slice_set}
 use Rattle.object_layout.specs.declared.word.Addr.{Addr}
 use Rattle.object_layout.specs.Cell.{Born, Cell, Hole, Mark, Moved, as_object, no_cell, size_of}
 use Rattle.object_layout.specs.Content.{Content}

@@ -1,12 +1,10 @@
 -- Fields that are read and written through whoever holds heaps.
-use Rattle.std.proofs.Common.{◌≡◌, ℕ, ◌<◌, Bool, List, [], ◌∷◌, ◌++◌, length, refl, sym, ap, ◌∙◌, ⊎_elim, inl, inr, ◌⊎◌, Option, Some, None, length-set}
-use Rattle.std.specs.Prelude.{◌≢◌, cond, slice_set}
+use Rattle.std.proofs.Common.{◌≡◌, ℕ, Bool, List, [], ◌∷◌, length, refl, ap, ◌∙◌, ⊎_elim, inl, inr, ◌⊎◌, Option, Some, None, length-set}
+use Rattle.std.specs.Prelude.{◌≢◌, slice_set}
 use Rattle.std.proofs.lemmas.Bool.{cases_eq}
 use Rattle.object_layout.specs.declared.word.Addr.{Addr}
-use Rattle.object_layout.specs.Content.{Content}
 use Rattle.remembered_set.specs.declared.remembered.Source.{Source}
-use Rattle.remembered_set.specs.Sources.{has_chunk}
-use Rattle.remembered_set.specs.Moved.{into, into_by, new_reference, redirected, written, AreFields}
+use Rattle.remembered_set.specs.Moved.{into_by, redirected, written, AreFields}
 
 addr_cases : (a b : Addr) → (b ≡ a) ⊎ (b ≢ a)
 addr_cases a b =

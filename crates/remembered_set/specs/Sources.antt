@@ -1,7 +1,6 @@
 -- The down-pointers that a heap remembers.
-use Rattle.std.specs.Prelude.{◌≡◌, ℕ, ◌<◌, Bool, List, [], ◌∷◌, ◌++◌, ◌==◌, ◌&&◌, if◌then◌else◌, Option, Some, None, fold, filter, length, not, slice_index_or}
-use Rattle.std.specs.List.{AllByRecursion, list_any}
-use Rattle.object_layout.specs.declared.word.Addr.{Addr}
+use Rattle.std.specs.Prelude.{ℕ, Bool, List, [], ◌∷◌, ◌++◌, ◌==◌, ◌&&◌, if◌then◌else◌, fold, filter, not}
+use Rattle.std.specs.List.{list_any}
 use Rattle.object_layout.specs.Content.{Content}
 use Rattle.remembered_set.specs.declared.remembered.Source.{Source}
 
@@ -35,7 +34,3 @@ outside ks xs = filter (λ s. not (has_chunk ks s.object.chunk)) xs
 -- the sources with those of another set noted, but for those whose object lies in these chunks
 abbrev pub lifted : List Source → List Source → List Content → List Source
 lifted xs ys ks = fold noted xs (outside ks ys)
-
--- the same set, with places for other numbers
-abbrev pub with_places : List Source → Notes → Notes
-with_places xs n = record n { sources = xs }

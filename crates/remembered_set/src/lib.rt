@@ -5,3 +5,6 @@ mod moved;
 mod remembered;
 
 pub use remembered::{Remembered, Source};
+
+#[cfg(test)]
+mod tests;

@@ -3,7 +3,7 @@
 ghost use Rattle.std.specs.Prelude.{◌≡◌, ℕ, ◌+◌, ◌-◌, ◌<◌, ◌≤◌, [], ◌++◌, filter, fold, IfOk, OnErr, OnOk, length, nat_eq, not, vec_capacity, vec_len};
 ghost use Rattle.std.specs.HashSet.{contains, hash_set_len, spare};
 ghost use Rattle.remembered_set.specs.declared.remembered.Source.{Source};
-ghost use Rattle.remembered_set.specs.Sources.{has_chunk, has_source, lifted, noted, same_source, with_places};
+ghost use Rattle.remembered_set.specs.Sources.{has_chunk, has_source, lifted, noted, same_source};
 ghost use Rattle.remembered_set.specs.Moved.{into_by, redirected, targets_of, AreFields, AreInOrder, ArePlaces};
 
 use crate::moved::new_of;
@@ -44,7 +44,7 @@ impl Model for Remembered {
 impl Remembered {
     /// A set without sources.
     pub fn new(alloc: Global) -> Remembered
-        ensures { result ≡ with_places [] result }
+        ensures { result.sources ≡ [] }
     {
         Remembered {
             sources: Vec::new(alloc),
@@ -62,7 +62,7 @@ impl Remembered {
 
     /// Makes places for so many sources more, and for a lift to a heap of so many chunks.
     pub fn make_room(&mut self, sources: u32, chunks: u32) -> Result<(), AllocError>
-        ensures kept { self.new ≡ with_places self.old.sources self.new }
+        ensures kept { self.new.sources ≡ self.old.sources }
         ensures slots { OnOk result (sources ≤ self.new.slots) }
         ensures spare { OnOk result (sources ≤ self.new.spare) }
         ensures numbers { OnOk result (chunks ≤ self.new.numbers) }
@@ -74,8 +74,8 @@ impl Remembered {
 
     /// Notes a source, unless it is known.
     pub fn note(&mut self, object: Addr, field: u32) -> Result<(), AllocError>
-        ensures ok { OnOk result (self.new ≡ with_places (noted self.old.sources (record { object = object; field = field })) self.new) }
-        ensures err { OnErr result (self.new ≡ with_places self.old.sources self.new) }
+        ensures ok { OnOk result (self.new.sources ≡ noted self.old.sources (record { object = object; field = field })) }
+        ensures err { OnErr result (self.new.sources ≡ self.old.sources) }
     {
         self.make_room(1, 0)?;
         self.note_spare(Source { object, field });
@@ -86,7 +86,7 @@ impl Remembered {
     fn note_spare(&mut self, source: Source)
         requires slots { 0 < self.old.slots }
         requires spare { 0 < self.old.spare }
-        ensures noted { self.new ≡ with_places (noted self.old.sources source) self.new }
+        ensures { self.new.sources ≡ noted self.old.sources source }
     {
         note_in(&mut self.sources, &mut self.known, source);
     }
@@ -132,7 +132,10 @@ impl Remembered {
         requires slots { length from.sources ≤ self.old.slots }
         requires spare { length from.sources ≤ self.old.spare }
         requires numbers { length parent.now ≤ self.old.numbers }
-        ensures { self.new ≡ with_places (lifted self.old.sources from.sources parent.now) self.new }
+        ensures lifted { self.new.sources ≡ lifted self.old.sources from.sources parent.now }
+        ensures slots { self.old.slots ≤ self.new.slots + length from.sources }
+        ensures spare { self.old.spare ≤ self.new.spare + length from.sources }
+        ensures numbers { self.old.numbers ≤ self.new.numbers }
     {
         number_chunks(&mut self.numbers, parent);
         note_all(
@@ -187,6 +190,8 @@ fn note_all(
     requires same { (s : Source) → contains same_source known.old s ≡ has_source sources.old.items s }
     ensures noted { sources.new.items ≡ fold noted sources.old.items (filter (λ s. not (contains nat_eq numbers.now s.object.chunk)) from.now) }
     ensures same { (s : Source) → contains same_source known.new s ≡ has_source sources.new.items s }
+    ensures slots { vec_capacity sources.old - vec_len sources.old ≤ vec_capacity sources.new - vec_len sources.new + length from.now }
+    ensures spare { spare known.old ≤ spare known.new + length from.now }
 {
     for source in from {
         if !numbers.contains(&source.object.chunk) {
@@ -198,11 +203,15 @@ fn note_all(
 // Makes a set the numbers of these chunks.
 fn number_chunks(numbers: &mut HashSet<u32>, chunks: &[Chunk])
     requires { length chunks.now ≤ hash_set_len numbers.old + spare numbers.old }
-    ensures { (number : ℕ) → contains nat_eq numbers.new number ≡ has_chunk chunks.now number }
+    ensures known { (number : ℕ) → contains nat_eq numbers.new number ≡ has_chunk chunks.now number }
+    ensures room { hash_set_len numbers.old + spare numbers.old ≤ hash_set_len numbers.new + spare numbers.new }
 {
     numbers.clear();
     for chunk in chunks {
-        let _ = numbers.insert(chunk.number());
+        let number = chunk.number();
+        if !numbers.contains(&number) {
+            let _ = numbers.insert(number);
+        }
     }
 }
 

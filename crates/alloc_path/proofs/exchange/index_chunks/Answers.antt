@@ -1,8 +1,7 @@
-use Rattle.std.proofs.Common.{◌≡◌, ◌+◌, ◌-◌, ◌<◌, ◌≤◌, ◌∙◌, ℕ, arith, ap, length, sym, take, cond, Option, Some, eqb}
+use Rattle.std.proofs.Common.{◌≡◌, ◌<◌, ◌∙◌, ℕ, arith, ap, length, sym, take, cond, Option, Some, eqb}
 use Rattle.std.proofs.lemmas.List.{length-take-le, take_more}
-use Rattle.std.specs.HashMap.{hash_map_len, spare}
+use Rattle.std.specs.HashMap.{spare}
 use Rattle.object_layout.specs.Chunks.{place_in}
-use Rattle.object_layout.specs.Content.{Content}
 use Rattle.alloc_path.proofs.HeapLemmas as heap
 use Rattle.alloc_path.proofs.exchange.index_chunks.Goals as goal
 

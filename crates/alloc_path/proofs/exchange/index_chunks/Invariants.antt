@@ -1,4 +1,4 @@
-use Rattle.std.proofs.Common.{◌≡◌, ℕ, ◌+◌, ◌-◌, ◌≤◌, length, take}
+use Rattle.std.proofs.Common.{◌≡◌, ℕ, ◌+◌, ◌≤◌, take}
 use Rattle.std.specs.Prelude.{nat_eq}
 use Rattle.std.specs.HashMap.{get, hash_map_len, spare}
 use Rattle.object_layout.specs.Chunks.{place_in}

@@ -1,4 +1,4 @@
-use Rattle.std.proofs.Common.{◌≡◌, arith, ◌∙◌}
+use Rattle.std.proofs.Common.{◌∙◌}
 use Rattle.object_layout.specs.Chunks.{held_in, held_words}
 use Rattle.std.proofs.Common.{take}
 use Rattle.alloc_path.proofs.HeapLemmas as heap

@@ -1,4 +1,4 @@
-use Rattle.std.proofs.Common.{◌≡◌, ◌+◌, ◌-◌, ◌/◌, ◌<◌, ◌≤◌, ⊎_elim, ℕ, arith, length, sym}
+use Rattle.std.proofs.Common.{◌+◌, ◌-◌, ◌/◌, ◌<◌, ◌≤◌, ⊎_elim, arith, length, sym}
 use Rattle.std.proofs.lemmas.Bool.{cases_lt}
 use Rattle.object_layout.specs.declared.word.Addr.{Addr}
 use Rattle.remembered_set.proofs.MovedLemmas as lemma

@@ -1,4 +1,4 @@
-use Rattle.std.proofs.Common.{◌≡◌, ◌-◌, ◌≤◌, drop, fold, length}
+use Rattle.std.proofs.Common.{◌≡◌, ◌+◌, ◌-◌, ◌≤◌, drop, fold}
 use Rattle.std.specs.Prelude.{filter, nat_eq, not, vec_capacity, vec_len}
 use Rattle.std.specs.HashSet.{contains, spare}
 use Rattle.remembered_set.specs.declared.remembered.Source.{Source}
@@ -7,8 +7,8 @@ use Rattle.remembered_set.proofs.remembered.note_all.Given as goal
 
 abbrev pub invariant-loop-source : goal.invariant-loop-source
 invariant-loop-source l = record {
-  slots : length l.from - l.source-index ≤ vec_capacity l.sources - vec_len l.sources;
-  spare : length l.from - l.source-index ≤ spare l.known;
+  slots : vec_capacity l.fn.sources - vec_len l.fn.sources ≤ vec_capacity l.sources - vec_len l.sources + l.source-index;
+  spare : spare l.fn.known ≤ spare l.known + l.source-index;
   same : (s : Source) → contains same_source l.known s ≡ has_source l.sources.items s;
   rest :
       fold noted l.fn.sources.items (filter (λ (s : Source). not (contains nat_eq l.numbers s.object.chunk)) l.from)

@@ -1,11 +1,12 @@
-use Rattle.std.proofs.Common.{◌≡◌, ℕ, ◌-◌, ◌≤◌, length, take}
+use Rattle.std.proofs.Common.{◌≡◌, ℕ, ◌+◌, ◌≤◌, take}
 use Rattle.std.specs.Prelude.{nat_eq}
-use Rattle.std.specs.HashSet.{contains, spare}
+use Rattle.std.specs.HashSet.{contains, hash_set_len, spare}
 use Rattle.remembered_set.specs.Sources.{has_chunk}
 use Rattle.remembered_set.proofs.remembered.number_chunks.Given as goal
 
 abbrev pub invariant-loop-chunk : goal.invariant-loop-chunk
 invariant-loop-chunk l = record {
-  room : length l.chunks - l.chunk-index ≤ spare l.numbers;
+  few : hash_set_len l.numbers ≤ l.chunk-index;
+  room : hash_set_len l.fn.numbers + spare l.fn.numbers ≤ hash_set_len l.numbers + spare l.numbers;
   known : (number : ℕ) → contains nat_eq l.numbers number ≡ has_chunk (take l.chunk-index l.chunks) number;
 }

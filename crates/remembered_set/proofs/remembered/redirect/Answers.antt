@@ -1,4 +1,4 @@
-use Rattle.std.proofs.Common.{◌≡◌, ◌∙◌, None, sym}
+use Rattle.std.proofs.Common.{◌∙◌, None, sym}
 use Rattle.remembered_set.proofs.MovedLemmas as lemma
 use Rattle.remembered_set.proofs.remembered.redirect.Goals as goal
 

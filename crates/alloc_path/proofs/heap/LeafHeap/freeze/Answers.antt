@@ -1,8 +1,7 @@
-use Rattle.std.proofs.Common.{◌≡◌, ◌<◌, ◌∙◌, ap, arith, length, refl, sym}
+use Rattle.std.proofs.Common.{arith, refl}
 use Rattle.object_layout.specs.Cell.{frozen}
 use Rattle.object_layout.specs.Place.{cell_at}
 use Rattle.object_layout.proofs.ChunkLaws as chunks
-use Rattle.object_layout.proofs.PlaceLemmas as place
 use Rattle.alloc_path.proofs.HeapLemmas as heap
 use Rattle.alloc_path.proofs.heap.LeafHeap.freeze.Goals as goal
 

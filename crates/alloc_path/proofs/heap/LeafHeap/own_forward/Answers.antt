@@ -1,8 +1,7 @@
-use Rattle.std.proofs.Common.{◌≡◌, ◌<◌, ◌∙◌, ap, arith, length, refl, sym}
+use Rattle.std.proofs.Common.{arith, sym}
 use Rattle.object_layout.specs.Cell.{Moved, size_of, with_mark}
 use Rattle.object_layout.specs.Place.{cell_at}
 use Rattle.object_layout.proofs.ChunkLaws as chunks
-use Rattle.object_layout.proofs.PlaceLemmas as place
 use Rattle.alloc_path.proofs.HeapLemmas as heap
 use Rattle.alloc_path.proofs.heap.LeafHeap.own_forward.Goals as goal
 

@@ -1,4 +1,4 @@
-use Rattle.std.proofs.Common.{◌≡◌, ◌<◌, ◌∙◌, ap, arith, length, refl, sym}
+use Rattle.std.proofs.Common.{ap, arith}
 use Rattle.object_layout.specs.Cell.{with_ref}
 use Rattle.object_layout.specs.Chunks.{held_size}
 use Rattle.object_layout.specs.Place.{cell_at}

@@ -1,7 +1,6 @@
-use Rattle.std.proofs.Common.{◌≡◌, ◌+◌, ◌<◌, ◌≤◌, ◌∙◌, arith, length, refl, sym}
-use Rattle.object_layout.specs.Cell.{new_cell, size_of}
+use Rattle.std.proofs.Common.{◌∙◌, arith, refl}
+use Rattle.object_layout.specs.Cell.{new_cell}
 use Rattle.object_layout.proofs.HoldLemmas.{size_of-new}
-use Rattle.alloc_path.specs.Heap.{counted}
 use Rattle.alloc_path.specs.contracts.heap.LeafHeap.{the_view}
 use Rattle.alloc_path.proofs.HeapLemmas as heap
 use Rattle.alloc_path.proofs.heap.LeafHeap.place_in_chunk.Goals as goal

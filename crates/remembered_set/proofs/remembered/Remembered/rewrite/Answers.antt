@@ -1,6 +1,5 @@
 use Rattle.std.proofs.Common.{◌+◌, drop}
 use Rattle.std.proofs.lemmas.List.{drop_more}
-use Rattle.object_layout.specs.declared.word.Addr.{Addr}
 use Rattle.remembered_set.specs.declared.remembered.Source.{Source}
 use Rattle.remembered_set.proofs.SourceLemmas as lemma
 use Rattle.remembered_set.proofs.remembered.Remembered.rewrite.Goals as goal

@@ -1,4 +1,4 @@
-use Rattle.std.proofs.Common.{◌≡◌, ◌∙◌, None, append_assoc, get_or}
+use Rattle.std.proofs.Common.{◌∙◌, None, append_assoc, get_or}
 use Rattle.std.specs.Prelude.{nat_eq}
 use Rattle.std.specs.HashSet.{contains}
 use Rattle.std.proofs.lemmas.List.{drop_more}
@@ -19,7 +19,7 @@ loop-source-preserved g c =
     let held =
     read_at (g.W.Words.refs_at c.args.words.now (get_or c.deref-source-items.result.now c.loop-source.source-index none).object)
     (get_or c.deref-source-items.result.now c.loop-source.source-index none).field c.ref_field-held.result None c.ref_field-held.ensures.value in
-    let same = lemma.into_same (contains nat_eq c.number_chunks.new.numbers) (has_chunk c.args.heap.now) c.number_chunks.ensures c.ref_field-held.result in
+    let same = lemma.into_same (contains nat_eq c.number_chunks.new.numbers) (has_chunk c.args.heap.now) c.number_chunks.ensures.known c.ref_field-held.result in
     record {
       fields = fields.1;
       rest = rest ∙ rw (held, c.in_ok-push_target.ensures, same, append_assoc);
