@@ -1,8 +1,8 @@
 -- Units in use after a change at one number.
-use Rattle.std.proofs.Common.{◌≡◌, ◌≢◌, IsSome, IfSome, subst, ℕ, zero, suc, ◌+◌, ◌-◌, ◌<◌, ◌≤◌, Option, Some, None, List, [], ◌∷◌, get_or, set, length, refl, sym, ap, ◌∙◌, arith}
+use Rattle.std.proofs.Common.{◌≡◌, ◌≢◌, IfSome, subst, ℕ, zero, suc, ◌+◌, ◌-◌, ◌<◌, ◌≤◌, Option, Some, None, List, [], ◌∷◌, get_or, set, length, refl, sym, ap, ◌∙◌, arith}
 use Rattle.std.proofs.lemmas.List.{get_or-set_same, get_or-set_other}
 use Rattle.chunk_pool.specs.declared.pool.Held.{Held}
-use Rattle.chunk_pool.specs.Chunks.{Chunks, held_at, units_held, units_in, units_in_use, Takes, Gives, Relabels, KeepsOthers, IsWithin}
+use Rattle.chunk_pool.specs.Chunks.{Chunks, units_held, units_in, Takes, Gives, Relabels, KeepsOthers, IsWithin}
 
 abbrev first : List (Option Held) → Option Held
 first [] = None

@@ -1,17 +1,17 @@
 -- What callers see of the tree, from the links that it keeps.
-use Rattle.std.proofs.Common.{◌≡◌, ◌≢◌, ◌==◌, ◌↔◌, ℕ, zero, suc, ◌+◌, ◌-◌, ◌<◌, ◌≤◌, ◌^◌, Bool, true, false, IsTrue, Option, Some, None, List, [], ◌∷◌, ◌++◌, ◌⊎◌, inl, inr, length, map, set, slice_get, slice_set, option_map, IfSome, refl, sym, ap, subst, ◌∙◌, arith, append_assoc, eqb-true, eq-eqb, length-append}
+use Rattle.std.proofs.Common.{◌≡◌, ◌==◌, ℕ, zero, suc, ◌+◌, ◌-◌, ◌<◌, ◌≤◌, ◌^◌, Bool, true, false, IsTrue, Option, Some, None, List, [], ◌∷◌, ◌++◌, length, map, set, slice_get, slice_set, option_map, IfSome, refl, sym, ap, subst, ◌∙◌, arith, append_assoc, eqb-true, eq-eqb, length-append}
 use Rattle.std.proofs.lemmas.List.{length-set, length-map}
 use Rattle.std.proofs.lemmas.List.{map-set, map-append}
-use Rattle.std.proofs.lemmas.Option.{slice_get-map, slice_get-get_or, slice_get_within, same_Some}
+use Rattle.std.proofs.lemmas.Option.{slice_get-map, slice_get_within, same_Some}
 use Rattle.std.proofs.lemmas.Bool.{false≢true}
 use Rattle.heap_tree.specs.declared.state.State.{State}
 use Rattle.heap_tree.specs.declared.state.State.TheVariants.{Ready, Waiting}
 use Rattle.heap_tree.specs.declared.links.Entry.{Entry}
-use Rattle.heap_tree.specs.Walk.{through, ancestor, IsUpFrom, depth_in, path_in}
+use Rattle.heap_tree.specs.Walk.{ancestor, IsUpFrom, depth_in, path_in}
 use Rattle.heap_tree.specs.Node.{Node, parent_in, parent_of, state_of, depth_of, is_on_path, set_at, with_state, child_of, forked, IsTree}
 use Rattle.heap_tree.specs.Links.{node_of, parent_kept, depth_kept, jump_kept, parent_at, depth_at, jump_at, next_jump, AreLinked, IsLinked}
 use Rattle.heap_tree.proofs.ListLemmas.{got_front, got_last, got_past, same_view}
-use Rattle.heap_tree.proofs.WalkLemmas.{ancestor-add, depth_in_is, walk_depth, walk_from_path, path_from_walk}
+use Rattle.heap_tree.proofs.WalkLemmas.{depth_in_is, walk_depth, walk_from_path, path_from_walk}
 use Rattle.heap_tree.proofs.GrowLemmas.{linked_one_more}
 
 parent_in_map : (o : Option Entry) → parent_in (option_map node_of o) ≡ parent_kept o

@@ -1,5 +1,5 @@
 -- What the tree keeps beside what callers see: depths, and the far links.
-use Rattle.std.specs.Prelude.{◌≡◌, ◌+◌, ◌-◌, ◌<◌, ◌≤◌, ◌^◌, ◌==◌, ℕ, suc, Option, Some, None, List, length, slice_get, if◌then◌else◌}
+use Rattle.std.specs.Prelude.{◌≡◌, ◌+◌, ◌-◌, ◌<◌, ◌≤◌, ◌^◌, ◌==◌, ℕ, Option, Some, None, List, length, slice_get, if◌then◌else◌}
 use Rattle.heap_tree.specs.declared.links.Entry.{Entry}
 use Rattle.heap_tree.specs.Walk.{ancestor}
 use Rattle.heap_tree.specs.Node.{Node}

@@ -2,7 +2,7 @@
 use Rattle.std.specs.Prelude.{◌≡◌, ◌<◌, ℕ, Bool, Option, Some, None, List, [], ◌∷◌, ◌++◌, length, slice_get, slice_set, option_map}
 use Rattle.heap_tree.specs.declared.state.State.{State}
 use Rattle.heap_tree.specs.declared.state.State.TheVariants.{Ready, Waiting}
-use Rattle.heap_tree.specs.Walk.{through, depth_in, path_in}
+use Rattle.heap_tree.specs.Walk.{depth_in, path_in}
 
 -- a task: who forked it, and where it stands
 pub record Node : Type 0 where

@@ -1,5 +1,3 @@
-use Rattle.std.proofs.Common.{◌≡◌, ◌≢◌, ℕ, Option, Some, None, get_or, sym, ap, subst, ◌∙◌}
-use Rattle.chunk_pool.specs.Chunks.{Chunks, Gives}
 use Rattle.chunk_pool.proofs.UnitLemmas.{given_fits, gives, gives_within}
 use Rattle.chunk_pool.proofs.pool.Pool.give.Goals as goal
 

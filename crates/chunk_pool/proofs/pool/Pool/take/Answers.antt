@@ -1,4 +1,4 @@
-use Rattle.std.proofs.Common.{◌≡◌, ◌≢◌, ◌+◌, ◌≤◌, ℕ, List, Option, Some, None, get_or, sym, ap, ◌∙◌, arith}
+use Rattle.std.proofs.Common.{◌≡◌, ◌≢◌, ◌≤◌, ℕ, List, Option, None, get_or, sym, ap, ◌∙◌, arith}
 use Rattle.object_layout.specs.Content.{Content}
 use Rattle.slab.specs.Slab.{Slab}
 use Rattle.chunk_pool.specs.declared.pool.Held.{Held}

@@ -1,4 +1,4 @@
-use Rattle.std.proofs.Common.{◌≡◌, Some, slice_get, subst}
+use Rattle.std.proofs.Common.{◌≡◌, Some, slice_get}
 use Rattle.heap_tree.proofs.TreeLemmas.{depth_answer}
 use Rattle.heap_tree.proofs.tree.Tree.depth.Goals as goal
 

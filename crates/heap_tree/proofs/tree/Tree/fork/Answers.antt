@@ -1,8 +1,6 @@
-use Rattle.std.proofs.Common.{◌≡◌, ℕ, vec_len, ◌+◌, ◌<◌, ◌≤◌, ◌^◌, List, length, Some, slice_get, refl, ap, ◌∙◌, arith}
+use Rattle.std.proofs.Common.{◌≡◌, ℕ, vec_len, ◌+◌, ◌<◌, length, Some, refl, ap, ◌∙◌, arith}
 use Rattle.heap_tree.specs.declared.links.Entry.{Entry}
 use Rattle.heap_tree.specs.declared.state.State.TheVariants.{Ready, Out}
-use Rattle.heap_tree.specs.Links.{depth_at, jump_at, next_jump, IsLinked}
-use Rattle.heap_tree.specs.Node.{depth_of}
 use Rattle.heap_tree.proofs.TreeLemmas.{made_from_state, made_entry, fork_shallow, depth_answer, fork_answer}
 use Rattle.heap_tree.proofs.tree.Tree.fork.Goals as goal
 

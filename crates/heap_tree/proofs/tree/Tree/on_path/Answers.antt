@@ -1,7 +1,5 @@
-use Rattle.std.proofs.Common.{◌≡◌, ◌==◌, ◌<◌, Bool, false, Some, slice_get, refl, sym, ◌∙◌, arith}
+use Rattle.std.proofs.Common.{refl, sym, ◌∙◌}
 use Rattle.std.proofs.lemmas.Bool.{lt-leb}
-use Rattle.heap_tree.specs.Node.{is_on_path}
-use Rattle.heap_tree.specs.Links.{depth_at, parent_at}
 use Rattle.heap_tree.proofs.TreeLemmas.{on_path_answer, off_path_answer, walk_answer}
 use Rattle.heap_tree.proofs.tree.Tree.on_path.Goals as goal
 

@@ -1,5 +1,3 @@
-use Rattle.std.proofs.Common.{◌≡◌, ◌<◌, ◌≤◌, length}
-use Rattle.heap_tree.specs.Links.{depth_at, parent_at}
 use Rattle.heap_tree.proofs.TreeLemmas.{path_within, path_up, path_there}
 use Rattle.heap_tree.proofs.tree.Tree.path.Goals as goal
 

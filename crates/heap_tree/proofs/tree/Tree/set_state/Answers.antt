@@ -1,4 +1,4 @@
-use Rattle.heap_tree.proofs.TreeLemmas.{state_answer, made_entry}
+use Rattle.heap_tree.proofs.TreeLemmas.{state_answer}
 use Rattle.heap_tree.proofs.tree.Tree.set_state.Goals as goal
 
 pub invariant_of-self : goal.invariant_of-self
