@@ -7,3 +7,4 @@ pub mod Shared
 pub mod Drive
 pub mod Answer
 pub mod Input
+pub mod Laws

@@ -6,6 +6,7 @@ mod course;
 mod driver;
 mod entry;
 mod input;
+mod laws;
 mod reader;
 mod shared;
 mod spoken;
@@ -16,6 +17,7 @@ mod words;
 
 pub use answer::{Answer, Ran, Status};
 pub use entry::{Entry, Kind};
+pub use laws::no_fault_gives_all;
 pub use shared::Shared;
 pub use top_call::command;
 
