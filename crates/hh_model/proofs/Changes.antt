@@ -1,5 +1,5 @@
 -- What an instruction changes in the store: nothing, or one new object, or one object that a register names.
-use Rattle.std.proofs.Common.{◌≡◌, ℕ, ℤ, pos, ◌==◌, Bool, true, false, cond, Option, Some, None, List, [], ◌∷◌, ◌++◌, length, slice_get, slice_set, ◌⊎◌, inl, inr, refl, eqb-true}
+use Rattle.std.proofs.Common.{◌≡◌, ℕ, ℤ, pos, ◌==◌, Bool, true, false, cond, Option, Some, None, List, [], ◌∷◌, ◌++◌, length, slice_get, slice_set, ◌⊎◌, inl, inr, refl, sym, subst, eqb-true}
 use Rattle.listed.proofs.Members.{In}
 use Rattle.hh_lang.specs.declared.instr.Instr.{Instr}
 use Rattle.hh_lang.specs.declared.instr.Instr.TheVariants.{Set, Mov, Movr, Nil as NilOf, Calc, Same, Jmp, Jz, Newm, Pack, Getr, Geti, Putr, Puti, Cntr, Cnti, Freeze, Cas, Call, Par, Ret, Out}
@@ -10,8 +10,9 @@ use Rattle.hh_model.specs.declared.data.Trap.{Trap}
 use Rattle.hh_model.specs.declared.data.Trap.TheVariants.{Nil, Range, Frozen, Div as DivTrap, Size}
 use Rattle.hh_model.specs.Effect.{Effect, Goes, Prints, Calls, Forks, Returns, Traps, Stops, Setting, effect, object_at, put_object, row_of, or_trap, with_object, made, read_effect, int_in, ref_in, onward, same_name, calculated, counts_in, place_in, flat, with_int}
 use Rattle.hh_model.specs.Precedence.{precedes}
+use Rattle.hh_model.specs.Names.{refs_of, refs_at}
 use Rattle.hh_model.specs.Store.{IsWriteTo}
-use Rattle.hh_model.proofs.Carried.{at_in, in_take, none_in}
+use Rattle.hh_model.proofs.Carried.{at_in, in_take, none_in, named_from_in}
 
 -- a new object of the task, at its strand; a mutable one refers to nothing, an immutable one to what registers hold
 pub record Allocates (s : Setting) (f : Frame) (store store' : List (List Object)) : Type 0 where
@@ -45,14 +46,23 @@ pub record Writes (s : Setting) (f : Frame) (instr : Instr) (store store' : List
 abbrev pub Change : Setting → Frame → Instr → List (List Object) → List (List Object) → Type 0
 Change s f instr store store' = (store' ≡ store) ⊎ (Allocates s f store store' ⊎ Writes s f instr store store')
 
+-- a read of a field that names an object which doesn't precede the reader
+pub record StopsAt (s : Setting) (f : Frame) (instr : Instr) (store : List (List Object)) (n : Name) : Type 0 where
+  pub source : Name
+  pub held : In f.refs (Some source)
+  pub field : In (refs_at store source) n
+  pub object : Object
+  pub is : object_at store n ≡ Some object
+  pub apart : precedes s.edges object.strand s.strand ≡ false
+
 abbrev pub Changes : Setting → Frame → Instr → List (List Object) → Effect → Type 0
 Changes s f instr store (Goes f' store') = Change s f instr store store'
 Changes s f instr store (Prints k) = Unit {0}
 Changes s f instr store (Calls g) = Unit {0}
-Changes s f instr store (Forks g h) = Unit {0}
+Changes s f instr store (Forks g h) = instr ≡ Par g h
 Changes s f instr store Returns = Unit {0}
 Changes s f instr store (Traps t) = Unit {0}
-Changes s f instr store (Stops n) = Unit {0}
+Changes s f instr store (Stops n) = StopsAt s f instr store n
 
 module _ (s : Setting) (f : Frame) (instr : Instr) (store : List (List Object)) where
   abbrev D : Effect → Type 0
@@ -73,9 +83,17 @@ module _ (s : Setting) (f : Frame) (instr : Instr) (store : List (List Object)) 
   either_changes true x y k l = k refl
   either_changes false x y k l = l refl
 
-  read_changes : (d : ℕ) (r : Option Name) → D (read_effect s f store d r)
-  read_changes d None = inl refl
-  read_changes d (Some n) = trap_changes Nil (object_at store n) _ (λ x e. either_changes (precedes s.edges x.strand s.strand) _ _ (λ h. inl refl) (λ h. tt))
+  read_changes : (d : ℕ) (m : Name) (x : Object) (r : Option Name) → In f.refs (Some m) → object_at store m ≡ Some x → ((n : Name) → r ≡ Some n → In x.refs (Some n)) → D (read_effect s f store d r)
+  read_changes d m x None reg is from = inl refl
+  read_changes d m x (Some n) reg is from =
+      trap_changes Nil (object_at store n) _ (λ o e. either_changes (precedes s.edges o.strand s.strand) _ _ (λ h. inl refl) (λ h. record {
+        source = m;
+        held = reg;
+        field = subst (λ w. In (refs_of w) n) (sym is) (named_from_in x.refs n (from n refl));
+        object = o;
+        is = e;
+        apart = h;
+      }))
 
   made_changes : (d : ℕ) (o : Object) → o.strand ≡ s.strand → ((r : Name) → In o.refs (Some r) → (o.mutable ≡ false) × In f.refs (Some r)) → D (made s f store d o)
   made_changes d o same fields = inr (inl (record { new = o; strand = same; fields = fields; is = refl }))
@@ -134,7 +152,7 @@ effect_changes s f store (Newm d a b) =
 effect_changes s f store (Pack d r i) = made_changes s f (Pack d r i) store d _ refl (λ n h. (refl, in_take r f.refs (Some n) h))
 effect_changes s f store (Getr d o k) =
     object_changes s f (Getr d o k) store o _ (λ n x reg is. trap_changes s f (Getr d o k) store Range (place_in (length x.refs) (int_in f k)) _ (λ at e.
-    read_changes s f (Getr d o k) store d (flat (slice_get x.refs at))))
+    read_changes s f (Getr d o k) store d n x (flat (slice_get x.refs at)) (at_in f.refs o n reg) is (λ r e'. at_in x.refs at r e')))
 effect_changes s f store (Geti d o k) =
     object_changes s f (Geti d o k) store o _ (λ n x reg is. trap_changes s f (Geti d o k) store Range (place_in (length x.ints) (int_in f k)) _ (λ at e. inl refl))
 effect_changes s f store (Putr o k v) =
@@ -155,6 +173,6 @@ effect_changes s f store (Cas d o k c v) =
     (λ h. either_changes s f (Cas d o k c v) store (same_name (flat (slice_get x.refs at)) (ref_in f c)) _ _
     (λ h'. set_ref s f (Cas d o k c v) store o v at n x reg is reg h (onward (with_int f d (pos 1)))) (λ h'. inl refl)) (λ h. tt)))
 effect_changes s f store (Call g) = tt
-effect_changes s f store (Par g h) = tt
+effect_changes s f store (Par g h) = refl
 effect_changes s f store Ret = tt
 effect_changes s f store (Out a) = tt

@@ -121,8 +121,8 @@ module _ (p : ProgramText) (m : State) (t : ℕ) (K : Kept m) (P P' : Name → T
 
   pub closed_step : Closed (step p m t).tasks (step p m t).store P'
   closed_step =
-      step_cases p m t K (λ m'. Closed m'.tasks m'.store P') same (λ x e is run. same)
-      (λ x y store outs is run ep es ej names fields' alters grows. record {
+      step_cases p m t K (λ m'. Closed m'.tasks m'.store P') same (λ x e is run why. same)
+      (λ x y store outs is run ep ed es ej names fields' alters grows. record {
         of_task = written x y is (λ r h. drawn x r is run (names r h));
         of_object = λ n r pn h. put x n r is pn (fields' n r h);
       })
@@ -130,7 +130,7 @@ module _ (p : ProgramText) (m : State) (t : ℕ) (K : Kept m) (P P' : Name → T
         of_task = written x _ is (λ r h. held_up x r is (result r (elim (in_from_named (ref_in x.top 0 ∷ []) r h) [ inl e ↦ e | inr none ↦ absurd none ])));
         of_object = fields;
       })
-      (λ x g h is run top. record {
+      (λ x g h is run next top. record {
         of_task = forked x g h is run top;
         of_object = λ n r pn i. fields n r pn (refs_grown m.store n r i);
       })

@@ -74,10 +74,10 @@ module _ (p : ProgramText) (m : State) (t : ℕ) (K : Kept m) (k : ℕ) (I : Cou
     | inr old ↦ later.joins u z old
   ]
 
-  counted_step : Counted (suc k) (step p m t).tasks (step p m t).store
+  pub counted_step : Counted (suc k) (step p m t).tasks (step p m t).store
   counted_step =
-      step_cases p m t K (λ m'. Counted (suc k) m'.tasks m'.store) later (λ x e is run. later)
-      (λ x y store outs is run ep es ej names fields alters grows. record {
+      step_cases p m t K (λ m'. Counted (suc k) m'.tasks m'.store) later (λ x e is run why. later)
+      (λ x y store outs is run ep ed es ej names fields alters grows. record {
         made = let h : length m.tasks ≤ 2 * k + 1 = I.made in omega (arith, length-set m.tasks t y);
         rows = (changed x store alters).0 ∙ sym (length-set m.tasks t y);
         objects = (changed x store alters).1;
@@ -89,7 +89,7 @@ module _ (p : ProgramText) (m : State) (t : ℕ) (K : Kept m) (k : ℕ) (I : Cou
         objects = more;
         joins = joins_set (ended_task x (result_of x.top)) (let h : x.joins ≤ k = I.joins t x is in omega arith);
       })
-      (λ x g h is run top. record {
+      (λ x g h is run next top. record {
         made =
             let b : length m.tasks ≤ 2 * k + 1 = I.made in
             omega (arith, grown_length m.tasks t x (record x { status = Waiting; top = onward x.top }) (child t (x.depth + 1) g x.top) (child t (x.depth + 1) h x.top) is);
@@ -140,10 +140,10 @@ run_push p m (u ∷ ts) t = run_push p (step p m u) ts t
 -- the limit of fields stays
 pub step_limit : (p : ProgramText) (m : State) (t : ℕ) → Kept m → (step p m t).field_limit ≡ m.field_limit
 step_limit p m t K =
-    step_cases p m t K (λ m'. m'.field_limit ≡ m.field_limit) refl (λ x e is run. refl) (λ x y store outs is run ep es ej names fields alters grows. refl)
-    (λ x parent e is run pp which result. refl) (λ x g h is run top. refl) (λ parent l xp xl xr rl rr ip il ir pl left dl dr wl wr nl nr side. refl)
+    step_cases p m t K (λ m'. m'.field_limit ≡ m.field_limit) refl (λ x e is run why. refl) (λ x y store outs is run ep ed es ej names fields alters grows. refl)
+    (λ x parent e is run pp which result. refl) (λ x g h is run next top. refl) (λ parent l xp xl xr rl rr ip il ir pl left dl dr wl wr nl nr side. refl)
 
-start_counted : (p : ProgramText) (limit : ℕ) → Counted 0 (start p limit).tasks (start p limit).store
+pub start_counted : (p : ProgramText) (limit : ℕ) → Counted 0 (start p limit).tasks (start p limit).store
 start_counted p limit = record { made = omega arith; rows = refl; objects = none; joins = first }
   where
     none : (t : ℕ) → length (row_of (slice_get ([] ∷ []) t)) ≤ 0

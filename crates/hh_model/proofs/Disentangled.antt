@@ -89,6 +89,21 @@ module _ (par : ℕ → Option ℕ) (low : AreLow par) (jd jd' : ℕ → Bool) (
     ]
   ]
 
+  at_up : (a b x y : ℕ) → o' a ≡ x → o' b ≡ y → path_in par x y ≡ true → path_in par (o' a) (o' b) ≡ true
+  at_up a b x y ea eb h = ap (λ w. path_in par w (o' b)) ea ∙ (ap (λ w. path_in par x w) eb ∙ h)
+
+  pub up_joins : (a b : ℕ) → path_in par (o a) (o b) ≡ true → path_in par (o' a) (o' b) ≡ true
+  up_joins a b h = elim (moves a) [
+    | inl m ↦ elim (moves b) [
+      | inl k ↦ at_up a b p p m.0 k.0 (path_itself par low p)
+      | inr k ↦ at_up a b p (o b) m.0 k.0 (lifted (o a) (o b) m.1 h)
+    ]
+    | inr m ↦ elim (moves b) [
+      | inl k ↦ at_up a b (o a) p m.0 k.0 (above (o a) (o b) m.1 k.1 h)
+      | inr k ↦ at_up a b (o a) (o b) m.0 k.0 h
+    ]
+  ]
+
 -- owners after a fork
 module _ (par par' : ℕ → Option ℕ) (low : AreLow par) (low' : AreLow par') (n : ℕ) (agree : (u : ℕ) → u < n → par' u ≡ par u) (jd : ℕ → Bool) where
   pub own_forks : (u a : ℕ) → u < n → a < n → path_in par (owner_in par jd a) u ≡ true → path_in par' (owner_in par' jd a) u ≡ true
@@ -97,7 +112,7 @@ module _ (par par' : ℕ → Option ℕ) (low : AreLow par) (low' : AreLow par')
   pub own_child : (t c a : ℕ) → t < n → a < n → par' c ≡ Some t → path_in par (owner_in par jd a) t ≡ true → path_in par' (owner_in par' jd a) c ≡ true
   own_child t c a lt la pc h = path_child par' low' (owner_in par' jd a) c t pc ∙ or_right (owner_in par' jd a == c) (path_in par' (owner_in par' jd a) t) (own_forks t a lt la h)
 
-  path_forks : (a b : ℕ) → a < n → b < n → path_in par (owner_in par jd a) (owner_in par jd b) ≡ true → path_in par' (owner_in par' jd a) (owner_in par' jd b) ≡ true
+  pub path_forks : (a b : ℕ) → a < n → b < n → path_in par (owner_in par jd a) (owner_in par jd b) ≡ true → path_in par' (owner_in par' jd a) (owner_in par' jd b) ≡ true
   path_forks a b la lb h =
       let le : owner_in par jd b ≤ b = owner_le par low jd b b in
       ap (λ x. path_in par' (owner_in par' jd a) x) (owner_same par par' low n agree jd b b lb) ∙ own_forks (owner_in par jd b) a (omega arith) la h
@@ -197,6 +212,14 @@ module _ (p : ProgramText) (m : State) (t : ℕ) (K : Kept m) (I : Disentangled 
         let b : r.task < n = f.1 in
         (omega arith, omega arith, refers_forks par (parents all) low low' n agree jd k.task r.task a b f.2)
 
+    joined_same : joined all ≡ jd
+    joined_same = fun_ext (grown_view m.tasks t x y cl cr is is_joined (sym (running_tells x.status run).0) refl refl)
+
+    pub up_forked : (a b : ℕ) → a < n → b < n → path_in par (owner_in par jd a) (owner_in par jd b) ≡ true → path_in (parents all) (owner_in (parents all) (joined all) a) (owner_in (parents all) (joined all) b) ≡ true
+    up_forked a b la lb h =
+        let Up : (ℕ → Bool) → Type 0 = λ f. path_in (parents all) (owner_in (parents all) f a) (owner_in (parents all) f b) ≡ true in
+        subst Up (sym joined_same) (path_forks par (parents all) low low' n agree jd a b la lb h)
+
     fork_case : Disentangled all (m.store ++ [] ∷ [] ∷ [])
     fork_case =
         apart_by all (m.store ++ [] ∷ [] ∷ []) (n + 2) (parents all) jd (grown_length m.tasks t x y cl cr is) refl
@@ -271,6 +294,15 @@ module _ (p : ProgramText) (m : State) (t : ℕ) (K : Kept m) (I : Disentangled 
           ]
         ]
 
+    parents_same : parents after ≡ par
+    parents_same = fun_ext (three_view m.tasks l parent xl xr xp (joined_task xl) (joined_task xr) (resumed xp rl rr) il ir ip under parent_of refl refl refl)
+
+    pub up_joined : (a b : ℕ) → path_in par (owner_in par jd a) (owner_in par jd b) ≡ true → path_in (parents after) (owner_in (parents after) (joined after) a) (owner_in (parents after) (joined after) b) ≡ true
+    up_joined a b h =
+        let Up : (ℕ → Option ℕ) → Type 0 = λ f. path_in f (owner_in f (joined after) a) (owner_in f (joined after) b) ≡ true in
+        subst Up (sym parents_same)
+        (up_joins par low jd (joined after) l (l + 1) parent up_l up_r (ap is_joined il ∙ dl) (ap is_joined ir ∙ dr) live_p over_l over_r rest a b h)
+
     join_case : Disentangled after m.store
     join_case =
         apart_by after m.store n par (joined after)
@@ -280,16 +312,16 @@ module _ (p : ProgramText) (m : State) (t : ℕ) (K : Kept m) (I : Disentangled 
 
   pub disentangled_step : Disentangled (step p m t).tasks (step p m t).store
   disentangled_step =
-      step_cases p m t K (λ m'. Disentangled m'.tasks m'.store) I (λ x e is run. I)
-      (λ x y store outs is run ep es ej names fields alters grows.
+      step_cases p m t K (λ m'. Disentangled m'.tasks m'.store) I (λ x e is run why. I)
+      (λ x y store outs is run ep ed es ej names fields alters grows.
       replaced x y store is ep (ap is_over es) (λ r h. drawn x r is run (names r h)) (λ k r h. put x k r is run (fields k r h)))
       (λ x parent e is run pp which result.
       replaced x (ended_task x (result_of x.top)) m.store is refl (sym (running_tells x.status run).0)
       (λ r h. I.of_task t x r is (result r (elim (in_from_named (ref_in x.top 0 ∷ []) r h) [ inl e ↦ e | inr none ↦ absurd none ]))) I.of_object)
-      (λ x g h is run top. fork_case x g h is run top)
+      (λ x g h is run next top. fork_case x g h is run top)
       (λ parent l xp xl xr rl rr ip il ir pl left dl dr wl wr nl nr side. join_case parent l xp xl xr rl rr ip il ir pl left dl dr wl wr nl nr)
 
-no_refs : (k c : ℕ) (r : Name) → In (refs_of (slice_get (row_of (slice_get ([] ∷ []) k)) c)) r → ⊥
+pub no_refs : (k c : ℕ) (r : Name) → In (refs_of (slice_get (row_of (slice_get ([] ∷ []) k)) c)) r → ⊥
 no_refs zero c r h = h
 no_refs (suc k) c r h = h
 

@@ -73,7 +73,7 @@ stored tasks edges store store' m t x em is stands K = record {
 }
 
 -- two empty rows have no objects
-empty_rows : (rows : List (List Object)) (k c : ℕ) (o : Object) → slice_get (row_of (slice_get (rows ++ [] ∷ [] ∷ []) k)) c ≡ Some o → slice_get (row_of (slice_get rows k)) c ≡ Some o
+pub empty_rows : (rows : List (List Object)) (k c : ℕ) (o : Object) → slice_get (row_of (slice_get (rows ++ [] ∷ [] ∷ []) k)) c ≡ Some o → slice_get (row_of (slice_get rows k)) c ≡ Some o
 empty_rows [] zero c o e = absurd cc
 empty_rows [] (suc zero) c o e = absurd cc
 empty_rows [] (suc (suc k)) c o e = absurd cc

@@ -15,3 +15,8 @@ pub mod Closed
 pub mod Disentangled
 pub mod Counts
 pub mod Taken
+pub mod Objects
+pub mod Stored
+pub mod Numbers
+pub mod FreeReads
+pub mod Frozen

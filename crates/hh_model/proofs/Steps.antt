@@ -2,6 +2,7 @@
 use Rattle.std.proofs.Common.{◌≡◌, ℕ, ℤ, ◌+◌, ◌-◌, ◌%◌, ◌<◌, Bool, true, false, cond, Option, Some, None, List, [], ◌∷◌, ◌++◌, length, slice_get, slice_set, nat_lt, ◌⊎◌, inl, inr, refl, ap, sym, subst, ◌∙◌, arith, eq-eqb, is_some}
 use Rattle.std.proofs.lemmas.Bool.{cond-true, cond-false, false≢true, eqb-false}
 use Rattle.listed.proofs.Members.{In, in_append_left, in_append_right, in_append_cases}
+use Rattle.hh_lang.specs.declared.instr.Instr.TheVariants.{Par}
 use Rattle.hh_lang.specs.declared.program.Line.{Line}
 use Rattle.hh_lang.specs.Form.{ProgramText}
 use Rattle.hh_model.specs.declared.data.Name.{Name}
@@ -12,13 +13,14 @@ use Rattle.hh_model.specs.declared.data.Status.TheVariants.{Running, Waiting, En
 use Rattle.hh_model.specs.declared.data.Task.{Task}
 use Rattle.hh_model.specs.declared.data.End.{End}
 use Rattle.hh_model.specs.declared.data.End.TheVariants.{Done, Trapped, Entangled}
+use Rattle.hh_model.specs.declared.data.Trap.{Trap}
 use Rattle.hh_model.specs.declared.data.Trap.TheVariants.{Depth}
 use Rattle.hh_model.specs.declared.data.State.{State}
 use Rattle.hh_model.specs.Effect.{Effect, Goes, Prints, Calls, Forks, Returns, Traps, Stops, effect, object_at, onward, ref_in}
 use Rattle.hh_model.specs.Precedence.{precedes}
 use Rattle.hh_model.specs.Names.{named, refs_at, registers, held_by, task_names, words_asked}
 use Rattle.hh_model.specs.Step.{runs, waits, is_over, result_in, is_running, parent_of, parents, owner_of, strand, strand_of, edge, sibling, is_left, setting, follow, child, child_ended_by, last_return, returned_to, goes_on, join_of, kept_by, or_same, last_of, front_of, back_in, result_of, ended_by, depth_limit, stepped, step, can_step, fetched, entry_frame, asked_line, ended_task, frame_limit}
-use Rattle.hh_model.proofs.Changes.{Change, Changes, effect_changes}
+use Rattle.hh_model.proofs.Changes.{Change, Changes, StopsAt, effect_changes}
 use Rattle.hh_model.proofs.Carried.{in_from_named, named_from_in, in_set_cases, at_in, next_name, Carries, effect_carries}
 use Rattle.hh_model.proofs.Runs.{running_tells, ended_tells}
 use Rattle.hh_model.proofs.Kept.{Kept}
@@ -88,6 +90,12 @@ module _ (p : ProgramText) (m : State) (t : ℕ) (x : Task) where
   abbrev pub Alters : List (List Object) → Type 0
   Alters store = (store ≡ m.store) ⊎ ((line : Line) × (fetched p x.top ≡ Some line) × Change (setting m t x) x.top line.instr m.store store)
 
+  -- why the machine ends with nothing else changed: a trap, or a stopped read
+  abbrev pub Halts : End → Type 0
+  Halts e =
+      ((kind : Trap) × (line : ℕ) × (e ≡ Trapped kind t line))
+      ⊎ ((n : Name) × (line : Line) × (fetched p x.top ≡ Some line) × (e ≡ Entangled t (owner_of m.tasks n.task)) × StopsAt (setting m t x) x.top line.instr m.store n)
+
   -- the outputs are as before, or have one more
   abbrev pub Grows : List ℤ → Type 0
   Grows outs = (outs ≡ m.outputs) ⊎ ((k : ℤ) × (outs ≡ m.outputs ++ k ∷ []))
@@ -97,9 +105,9 @@ module _ (p : ProgramText) (m : State) (t : ℕ) (x : Task) where
 
 module _ (p : ProgramText) (m : State) (t : ℕ) (K : Kept m) (C : State → Type 0)
     (idle : C m)
-    (halt : (x : Task) (e : End) → slice_get m.tasks t ≡ Some x → is_running (Some x) ≡ true → C (ended_by m e))
+    (halt : (x : Task) (e : End) → slice_get m.tasks t ≡ Some x → is_running (Some x) ≡ true → Halts p m t x e → C (ended_by m e))
     (stay : (x y : Task) (store : List (List Object)) (outs : List ℤ) → slice_get m.tasks t ≡ Some x → is_running (Some x) ≡ true
-    → y.parent ≡ x.parent → y.status ≡ x.status → y.joins ≡ x.joins
+    → y.parent ≡ x.parent → y.depth ≡ x.depth → y.status ≡ x.status → y.joins ≡ x.joins
     → ((r : Name) → In (task_names y) r → Drawn p m t x r) → ((n r : Name) → In (refs_at store n) r → Put p m t x n r) → Alters p m t x store → Grows p m t x outs
     → C (record m { tasks = slice_set m.tasks t y; store = store; outputs = outs }))
     (ends : (x : Task) (parent : Option ℕ) (e : Option End) → slice_get m.tasks t ≡ Some x → is_running (Some x) ≡ true → x.parent ≡ parent
@@ -107,6 +115,7 @@ module _ (p : ProgramText) (m : State) (t : ℕ) (K : Kept m) (C : State → Typ
     → ((r : Name) → ref_in x.top 0 ≡ Some r → In (task_names x) r)
     → C (record m { tasks = slice_set m.tasks t (ended_task x (result_of x.top)); end = e }))
     (forks : (x : Task) (g h : ℕ) → slice_get m.tasks t ≡ Some x → is_running (Some x) ≡ true
+    → ((line : Line) × (fetched p x.top ≡ Some line) × (line.instr ≡ Par g h))
     → ((r : Name) → In x.top.refs (Some r) → In (task_names x) r)
     → C (record m {
       tasks = slice_set m.tasks t (record x { status = Waiting; top = onward x.top }) ++ child t (x.depth + 1) g x.top ∷ child t (x.depth + 1) h x.top ∷ [];
@@ -149,13 +158,13 @@ module _ (p : ProgramText) (m : State) (t : ℕ) (K : Kept m) (C : State → Typ
     -- a task that goes on with these frames
     on : (f : Frame) (fs : List Frame) (outs : List ℤ) → Grows p m t x outs → ((r : Name) → In f.refs (Some r) ⊎ In (registers fs) r → In (task_names x) r) → C (record m { tasks = slice_set m.tasks t (record x { top = f; below = fs }); outputs = outs })
     on f fs outs grows from =
-        stay x (record x { top = f; below = fs }) m.store outs is run refl refl refl
+        stay x (record x { top = f; below = fs }) m.store outs is run refl refl refl refl
         (λ r h. inl (from r (register_cases f fs r (run_names (record x { top = f; below = fs }) r running h)))) same_store (inl refl) grows
 
     goes : (line : Line) (f : Frame) (store : List (List Object)) → fetched p x.top ≡ Some line → Changes (setting m t x) x.top line.instr m.store (Goes f store)
         → Carries (setting m t x) x.top m.store (words_asked m.field_limit x.top line.instr) (Goes f store) → C (record m { tasks = slice_set m.tasks t (record x { top = f }); store = store })
     goes line f store is_line change carries =
-        stay x (record x { top = f }) store m.outputs is run refl refl refl
+        stay x (record x { top = f }) store m.outputs is run refl refl refl refl
         (λ r h. elim (register_cases f x.below r (run_names (record x { top = f }) r running h)) [
           | inl i ↦ elim (carries.0 r i) [
             | inl old ↦ inl (top_names r old)
@@ -235,11 +244,11 @@ module _ (p : ProgramText) (m : State) (t : ℕ) (K : Kept m) (C : State → Typ
         (on (entry_frame g x.top) (x.below ++ onward x.top ∷ []) m.outputs (inl refl) (λ r h. elim h [
           | inl i ↦ top_names r i
           | inr i ↦ elim (registers_more x.below (onward x.top) r i) [ inl j ↦ below_names r j | inr j ↦ top_names r j ]
-        ])) (halt x (Trapped Depth t line.number) is run)
-    follow_case line (Forks g h) il keeps carries = either (nat_lt x.depth depth_limit) _ (ended_by m (Trapped Depth t line.number)) (forks x g h is run top_names) (halt x (Trapped Depth t line.number) is run)
+        ])) (halt x (Trapped Depth t line.number) is run (inl (Depth, line.number, refl)))
+    follow_case line (Forks g h) il keeps carries = either (nat_lt x.depth depth_limit) _ (ended_by m (Trapped Depth t line.number)) (forks x g h is run (line, il, keeps) top_names) (halt x (Trapped Depth t line.number) is run (inl (Depth, line.number, refl)))
     follow_case line Returns il keeps carries = returned_case (last_of x.below) refl
-    follow_case line (Traps kind) il keeps carries = halt x (Trapped kind t line.number) is run
-    follow_case line (Stops n) il keeps carries = halt x (Entangled t (owner_of m.tasks n.task)) is run
+    follow_case line (Traps kind) il keeps carries = halt x (Trapped kind t line.number) is run (inl (kind, line.number, refl))
+    follow_case line (Stops n) il keeps carries = halt x (Entangled t (owner_of m.tasks n.task)) is run (inr (n, line, il, refl, keeps))
 
     stepped_case : (o : Option Line) → fetched p x.top ≡ o → C (stepped p m t x o)
     stepped_case None e = idle

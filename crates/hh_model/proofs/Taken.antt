@@ -1,5 +1,5 @@
 -- What is known where a task can take a step.
-use Rattle.std.proofs.Common.{◌≡◌, ℕ, ◌+◌, ◌<◌, ◌^◌, Bool, true, cond, Option, Some, None, length, slice_get, refl, ap, ◌∙◌, arith, get_or}
+use Rattle.std.proofs.Common.{◌≡◌, ℕ, ◌+◌, ◌<◌, ◌^◌, Bool, true, false, cond, Option, Some, None, length, slice_get, refl, ap, ◌∙◌, arith, get_or}
 use Rattle.std.proofs.lemmas.Bool.{false≢true}
 use Rattle.std.proofs.lemmas.List.Elements.{All-get_or}
 use Rattle.std.proofs.lemmas.Option.{slice_get_within, get_or_from_slice_get}
@@ -50,3 +50,6 @@ step_taken p m t x line can is at = taken_by p m t x (Some line) can is at
 
 pub step_none : (p : ProgramText) (m : State) (t : ℕ) (x : Task) → can_step m t ≡ true → slice_get m.tasks t ≡ Some x → fetched p x.top ≡ None → step p m t ≡ m
 step_none p m t x can is at = taken_by p m t x None can is at
+
+pub step_idle : (p : ProgramText) (m : State) (t : ℕ) → can_step m t ≡ false → step p m t ≡ m
+step_idle p m t can = ap (λ b. cond b (or_same m (slice_get m.tasks t) (λ y. stepped p m t y (fetched p y.top))) m) can

@@ -6,3 +6,4 @@ pub mod PathLaw
 pub mod Action
 pub mod Machine
 pub mod Store
+pub mod ReadLaws
