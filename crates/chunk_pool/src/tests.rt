@@ -1,4 +1,4 @@
-// A pool filled to its limit and emptied, and numbers used again.
+// A pool filled to its limit, a chunk that changes its owner and is given back, and its number used again.
 use crate::{NotTaken, Pool};
 use object_layout::Chunk;
 use std::test::Fail;
@@ -34,6 +34,26 @@ fn filled_to_the_limit(rt: HostRuntime) -> Result<(), Fail> {
     assert_eq!(rt; pool.in_use(), 3);
     assert!(rt; small.number() != large.number());
     assert!(rt; is_full(&mut pool, 7, 1));
+    Ok(())
+}
+
+#[test]
+fn relabelled_and_given_back(rt: HostRuntime) -> Result<(), Fail> {
+    let mut pool = Pool::new(rt.alloc(), 3);
+    let Ok(chunk) = pool.take(7, 2) else {
+        return Err("not taken")?;
+    };
+    let number = chunk.number();
+    assert_eq!(rt; pool.owner(number), 7);
+    pool.relabel(number, 9);
+    assert_eq!(rt; pool.owner(number), 9);
+    assert_eq!(rt; pool.in_use(), 2);
+    pool.give(chunk);
+    assert_eq!(rt; pool.in_use(), 0);
+    let again = taken(&mut pool, 5, 3)?;
+    assert_eq!(rt; again.number(), number);
+    assert_eq!(rt; again.size(), 3072);
+    assert_eq!(rt; pool.in_use(), 3);
     Ok(())
 }
 
