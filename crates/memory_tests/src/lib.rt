@@ -1,0 +1,5 @@
+// Tests that cross the crates of memory; it has no code of its own.
+#![tactic(auto)]
+
+#[cfg(test)]
+mod tests;
