@@ -4,10 +4,9 @@
 use command_core::{Ran, Status, command};
 use outside_io::{EmptyGate, FileSource, OutSink};
 use std::alloc::AllocError;
-use std::env;
-use std::io;
 use std::process::ExitCode;
 use std::rt::Env;
+use std::{env, io};
 
 // The words behind the program's name.
 fn words_of_call<R: Env + AllocGlobal>(rt: &R) -> io::Result<Vec<String>> {
@@ -24,7 +23,14 @@ fn main(rt: HostRuntime) -> ExitCode {
         Ok(words) => {
             let mut source = FileSource::new(rt.reader());
             let mut sink = OutSink::new(io::writer(&rt));
-            let ran = command(&rt, rt.alloc(), words.as_slice(), &mut source, &mut sink, &EmptyGate);
+            let ran = command(
+                &rt,
+                rt.alloc(),
+                words.as_slice(),
+                &mut source,
+                &mut sink,
+                &EmptyGate,
+            );
             ran.status
         }
     };
