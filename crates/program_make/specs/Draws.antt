@@ -1,5 +1,5 @@
 -- The generator of numbers, and the three numbers that each function of a made program draws from it.
-use Rattle.std.specs.Prelude.{ℕ, zero, suc, ◌+◌, ◌*◌, ◌%◌, ◌/◌, ◌^◌}
+use Rattle.std.specs.Prelude.{ℕ, zero, suc, ◌+◌, ◌*◌, ◌%◌, ◌/◌}
 
 -- the value of the generator after a draw from the value x
 abbrev pub next_value : ℕ → ℕ

@@ -1,5 +1,5 @@
 -- The text of a made program: its functions by their numbers, then main.
-use Rattle.std.specs.Prelude.{ℕ, zero, suc, ◌+◌, ◌*◌, ◌%◌, Bool, true, false, if◌then◌else◌, List, [], ◌∷◌, ◌++◌, codes, nat_lt, nat_eq}
+use Rattle.std.specs.Prelude.{ℕ, zero, suc, ◌+◌, ◌*◌, ◌%◌, if◌then◌else◌, List, [], ◌++◌, codes, nat_lt, nat_eq}
 use Rattle.std.specs.Fmt.{decimal}
 use Rattle.program_make.specs.Draws.{value_after, amount, garbage, rounds}
 
