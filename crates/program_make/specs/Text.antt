@@ -10,7 +10,7 @@ numbered words n = words ++ decimal n ++ codes "\n"
 -- the first lines of a function: a cell of its own, and its amount
 abbrev pub first_lines : ℕ → ℕ → List ℕ
 first_lines number added =
-  numbered (codes "fn f") number
+    numbered (codes "fn f") number
     ++ codes "movr r3 r0\nset i2 2\nset i3 0\nnewm r0 i2 i3\nmovr r2 r0\n"
     ++ numbered (codes "set i5 ") added
 
@@ -21,13 +21,13 @@ par_line left right = codes "par f" ++ decimal left ++ codes " f" ++ decimal rig
 -- the lines of a function with children: both run side by side, and their sums are added
 abbrev pub children_lines : ℕ → ℕ → List ℕ
 children_lines left right =
-  par_line left right
+    par_line left right
     ++ codes "set i4 0\ngetr r4 r2 i4\ngeti i6 r4 i4\nadd i5 i5 i6\nset i4 1\ngetr r4 r2 i4\nset i4 0\ngeti i6 r4 i4\nadd i5 i5 i6\n"
 
 -- the last lines of a function: objects made in a loop, the last of them and the sum given to the parent's cell
 abbrev pub last_lines : ℕ → ℕ → ℕ → List ℕ
 last_lines size times side =
-  codes "set i2 0\n"
+    codes "set i2 0\n"
     ++ numbered (codes "set i3 ") size
     ++ numbered (codes "set i7 ") times
     ++ codes "set i8 1\nlab a\nnewm r5 i2 i3\nputi r5 i2 i7\nsub i7 i7 i8\njz i7 b\njmp a\nlab b\n"

@@ -6,4 +6,3 @@ mod text;
 mod whole;
 
 pub use whole::make;
-

@@ -6,7 +6,12 @@ ghost use Rattle.program_make.specs.Text.{numbered, first_lines, par_line, child
 use std::alloc::{AllocError, Global};
 
 // Adds a line that ends with a number.
-fn add_numbered(alloc: Global, bytes: &mut Vec<u8>, words: &[u8], number: u32) -> Result<(), AllocError>
+fn add_numbered(
+    alloc: Global,
+    bytes: &mut Vec<u8>,
+    words: &[u8],
+    number: u32,
+) -> Result<(), AllocError>
     ensures { OnOk result (bytes.new.items ≡ bytes.old.items ++ numbered words.now number) }
 {
     bytes.extend_from_slice(words)?;
@@ -15,7 +20,12 @@ fn add_numbered(alloc: Global, bytes: &mut Vec<u8>, words: &[u8], number: u32) -
 }
 
 /// The lines up to the function's amount.
-pub(crate) fn add_first_lines(alloc: Global, bytes: &mut Vec<u8>, number: u32, amount: u32) -> Result<(), AllocError>
+pub(crate) fn add_first_lines(
+    alloc: Global,
+    bytes: &mut Vec<u8>,
+    number: u32,
+    amount: u32,
+) -> Result<(), AllocError>
     ensures { OnOk result (bytes.new.items ≡ bytes.old.items ++ first_lines number amount) }
 {
     add_numbered(alloc, bytes, b"fn f", number)?;
@@ -30,7 +40,12 @@ fn add_par_line(alloc: Global, bytes: &mut Vec<u8>, left: u32, right: u32) -> Re
     bytes.extend_from_slice(line.as_bytes())
 }
 
-fn add_children_lines(alloc: Global, bytes: &mut Vec<u8>, left: u32, right: u32) -> Result<(), AllocError>
+fn add_children_lines(
+    alloc: Global,
+    bytes: &mut Vec<u8>,
+    left: u32,
+    right: u32,
+) -> Result<(), AllocError>
     ensures { OnOk result (bytes.new.items ≡ bytes.old.items ++ children_lines left right) }
 {
     add_par_line(alloc, bytes, left, right)?;
@@ -40,7 +55,12 @@ fn add_children_lines(alloc: Global, bytes: &mut Vec<u8>, left: u32, right: u32)
 }
 
 /// The lines on the children, where the function has them.
-pub(crate) fn add_children(alloc: Global, bytes: &mut Vec<u8>, size: u32, number: u32) -> Result<(), AllocError>
+pub(crate) fn add_children(
+    alloc: Global,
+    bytes: &mut Vec<u8>,
+    size: u32,
+    number: u32,
+) -> Result<(), AllocError>
     requires { number < 1000 }
     ensures { OnOk result (bytes.new.items ≡ bytes.old.items ++ children_of size number) }
 {
@@ -65,13 +85,21 @@ pub(crate) fn side_of(number: u32) -> u32
 }
 
 /// The lines from the loop to the function's end.
-pub(crate) fn add_last_lines(alloc: Global, bytes: &mut Vec<u8>, size: u32, times: u32, side: u32) -> Result<(), AllocError>
+pub(crate) fn add_last_lines(
+    alloc: Global,
+    bytes: &mut Vec<u8>,
+    size: u32,
+    times: u32,
+    side: u32,
+) -> Result<(), AllocError>
     ensures { OnOk result (bytes.new.items ≡ bytes.old.items ++ last_lines size times side) }
 {
     bytes.extend_from_slice(b"set i2 0\n")?;
     add_numbered(alloc, bytes, b"set i3 ", size)?;
     add_numbered(alloc, bytes, b"set i7 ", times)?;
-    bytes.extend_from_slice(b"set i8 1\nlab a\nnewm r5 i2 i3\nputi r5 i2 i7\nsub i7 i7 i8\njz i7 b\njmp a\nlab b\n")?;
+    bytes.extend_from_slice(
+        b"set i8 1\nlab a\nnewm r5 i2 i3\nputi r5 i2 i7\nsub i7 i7 i8\njz i7 b\njmp a\nlab b\n",
+    )?;
     add_numbered(alloc, bytes, b"set i4 ", side)?;
     bytes.extend_from_slice(
         b"putr r3 i4 r5\nset i3 1\nnewm r6 i2 i3\nputi r6 i2 i5\nputr r3 i4 r6\ngetr r7 r3 i4\ngeti i0 r7 i2\nnil r0\nret\nend\n",

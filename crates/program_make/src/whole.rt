@@ -9,7 +9,13 @@ use crate::text::{add_children, add_first_lines, add_last_lines, side_of};
 use std::alloc::{AllocError, Global};
 
 // Draws the three numbers of a function, and adds its text.
-fn add_function(alloc: Global, bytes: &mut Vec<u8>, value: &mut u32, size: u32, number: u32) -> Result<(), AllocError>
+fn add_function(
+    alloc: Global,
+    bytes: &mut Vec<u8>,
+    value: &mut u32,
+    size: u32,
+    number: u32,
+) -> Result<(), AllocError>
     requires { number < 1000 }
     ensures moved { value.new ≡ after_three value.old }
     ensures added { OnOk result (bytes.new.items ≡ bytes.old.items ++ function_text size number value.old) }
@@ -43,6 +49,8 @@ pub fn make(alloc: Global, seed: u32, size: u32) -> Result<Vec<u8>, AllocError>
     ensures { IfOk result (λ bytes. bytes.items ≡ made_text seed size) }
 {
     let mut bytes = functions(alloc, seed, size)?;
-    bytes.extend_from_slice(b"fn main\nset i2 2\nset i3 0\nnewm r0 i2 i3\nmovr r9 r0\ncall f0\nset i4 0\ngetr r4 r9 i4\ngeti i6 r4 i4\nout i6\nret\nend\n")?;
+    bytes.extend_from_slice(
+        b"fn main\nset i2 2\nset i3 0\nnewm r0 i2 i3\nmovr r9 r0\ncall f0\nset i4 0\ngetr r4 r9 i4\ngeti i6 r4 i4\nout i6\nret\nend\n",
+    )?;
     Ok(bytes)
 }
