@@ -6,3 +6,6 @@ mod text;
 mod whole;
 
 pub use whole::make;
+
+#[cfg(test)]
+mod tests;
