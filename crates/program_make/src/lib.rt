@@ -1,0 +1,11 @@
+// Programs made from a seed: a text of any size from a generator of numbers.
+#![tactic(auto)]
+
+mod draws;
+mod text;
+mod whole;
+
+pub use whole::make;
+
+#[cfg(test)]
+mod tests;
