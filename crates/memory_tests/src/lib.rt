@@ -2,4 +2,6 @@
 #![tactic(auto)]
 
 #[cfg(test)]
+mod heaps;
+#[cfg(test)]
 mod tests;
