@@ -1,0 +1,9 @@
+// Lines and words of texts: lines are cut at line feeds; words are runs of other bytes than space, tab and carriage return,
+// up to a word that begins with `#`.
+#![tactic(auto)]
+
+mod lines;
+mod words;
+
+pub use lines::next_line;
+pub use words::next_word;

@@ -1,0 +1,91 @@
+// The words of a line.
+
+ghost use Rattle.std.specs.Prelude.{◌≡◌, ◌≤◌, ◌<◌, [], ◌∷◌, length, take, drop, MatchOption, IfSome, ◌+◌};
+ghost use Rattle.std.specs.List.{position_or_len};
+ghost use Rattle.text_lines.specs.Lines.{is_blank, runs_of, words_of};
+
+fn is_blank_byte(byte: u8) -> bool
+    ensures { result ≡ is_blank byte }
+{
+    byte == b' ' || byte == b'\t' || byte == b'\r'
+}
+
+// Where the first run of other bytes than blanks ends.
+fn run_end(line: &[u8]) -> usize
+    ensures end { result ≡ position_or_len is_blank line.now }
+    ensures within { result ≤ length line.now }
+{
+    for (i, byte) in line.iter().enumerate() {
+        if is_blank_byte(*byte) {
+            return i;
+        }
+    }
+    line.len()
+}
+
+// What comes behind the byte at a place, or nothing where there is none.
+fn behind(line: &[u8], end: usize) -> &[u8]
+    requires { end ≤ length line.now }
+    ensures { result.now ≡ drop (end + 1) line.now }
+{
+    if end < line.len() {
+        &line[end + 1..]
+    } else {
+        &line[end..]
+    }
+}
+
+// The first run and what comes behind the blank after it, or None where there are only blanks.
+fn next_run(line: &[u8]) -> Option<(&[u8], &[u8])>
+    ensures runs { MatchOption result (runs_of line.now ≡ []) (λ r. runs_of line.now ≡ r.0.now ∷ runs_of r.1.now) }
+    ensures shorter { IfSome result (λ r. length r.0.now + length r.1.now ≤ length line.now) }
+    ensures word { IfSome result (λ r. 0 < length r.0.now) }
+{
+    let mut rest = line;
+    loop {
+        let end = run_end(rest);
+        if end > 0 {
+            return Some((&rest[..end], behind(rest, end)));
+        }
+        if rest.is_empty() {
+            return None;
+        }
+        rest = &rest[1..];
+    }
+}
+
+/// The first word of a line and the rest of the line, or None where it has no word before its comment.
+pub fn next_word(line: &[u8]) -> Option<(&[u8], &[u8])>
+    ensures words { MatchOption result (words_of line.now ≡ []) (λ r. words_of line.now ≡ r.0.now ∷ words_of r.1.now) }
+    ensures shorter { IfSome result (λ r. length r.0.now + length r.1.now ≤ length line.now) }
+    ensures word { IfSome result (λ r. 0 < length r.0.now) }
+{
+    let (word, rest) = next_run(line)?;
+    if word.first() == Some(&b'#') {
+        return None;
+    }
+    Some((word, rest))
+}
+
+#[cfg(test)]
+mod tests {
+    use super::*;
+
+    #[test]
+    fn words_stand_between_blanks(rt: HostRuntime) {
+        assert_eq!(rt;
+            next_word(b" \tset\r i0 #1"),
+            Some((b"set".as_slice(), b" i0 #1".as_slice()))
+        );
+        assert_eq!(rt;
+            next_word(b" i0 #1"),
+            Some((b"i0".as_slice(), b"#1".as_slice()))
+        );
+        assert_eq!(rt; next_word(b"#1"), None);
+        assert_eq!(rt;
+            next_word(b"a#1 b"),
+            Some((b"a#1".as_slice(), b"b".as_slice()))
+        );
+        assert_eq!(rt; next_word(b" \r\t"), None);
+    }
+}
