@@ -1,0 +1,38 @@
+-- The limits of a run, in their ranges.
+use Rattle.std.specs.Prelude.{ℕ, ◌≤◌}
+use Rattle.run_trace.specs.declared.settings.Version.{Version}
+use Rattle.run_trace.specs.declared.settings.Version.TheVariants.{One, Two}
+
+pub record Limits : Type 0 where
+  pub version : Version
+  -- how many workers there are
+  pub workers : ℕ
+  -- the steps after which the run is to end
+  pub fuel : ℕ
+  -- the most chunks in use
+  pub chunks : ℕ
+  -- the words allocated since its last collection at which a leaf heap is due for one
+  pub leaf : ℕ
+  -- the words from which on a waiting heap may be marked
+  pub inner : ℕ
+
+pub record AreLimits (l : Limits) : Type 0 where
+  pub workers : (1 ≤ l.workers) × (l.workers ≤ 64)
+  pub fuel : (1 ≤ l.fuel) × (l.fuel ≤ 1000000000)
+  pub chunks : (2 ≤ l.chunks) × (l.chunks ≤ 65536)
+  pub leaf : (16 ≤ l.leaf) × (l.leaf ≤ 1000000)
+  pub inner : (16 ≤ l.inner) × (l.inner ≤ 1000000)
+
+-- the limits where none are given
+abbrev pub usual_limits : Limits
+usual_limits = record { version = Two; workers = 1; fuel = 1000000; chunks = 4096; leaf = 4096; inner = 8192 }
+
+-- the most fields of an object: one chunk holds it in the first version, and in the second an object may be large
+abbrev pub field_limit : Version → ℕ
+field_limit One = 1022
+field_limit Two = 1000000
+
+-- the number that a trace text bears
+abbrev pub version_number : Version → ℕ
+version_number One = 1
+version_number Two = 2

@@ -1,0 +1,89 @@
+// The entries of a run's journal.
+
+ghost use Rattle.std.specs.Prelude.{◌≡◌, ◌<◌};
+ghost use Rattle.run_trace.specs.Entry.{IsKind};
+
+use std::marker::Model;
+
+/// What an entry says. Tasks are named by their numbers.
+#[derive(Clone, Copy, PartialEq, Eq, Debug)]
+pub enum Kind {
+    /// The worker takes the task, which is ready.
+    Took(u32),
+    /// The task took so many steps, 1 to 257; all but the last are private.
+    Ran(u32, u32),
+    /// The task's next step needs more words than it has room for: it gets a chunk more, or the run ends for want of chunks.
+    Chunk(u32),
+    /// The task's leaf collection begins.
+    Begin(u32),
+    /// It ends: new chunks kept, chunks given back, words held.
+    End(u32, u32, u32, u32),
+    /// A leaf collection that is due is put off for want of chunks.
+    PutOff(u32),
+    /// The marking of the waiting task's heap begins.
+    Mark(u32),
+    /// At most so many objects more are marked, 1 to 1024.
+    More(u32, u32),
+    /// What wasn't marked is dropped: chunks given back.
+    Sweep(u32, u32),
+    /// The run ends, since its fuel is spent.
+    Fuel,
+}
+
+/// One atomic step of a run, and the worker that made it: 0 to 63.
+#[derive(Clone, Copy, PartialEq, Eq, Debug)]
+pub struct Entry {
+    worker: u32,
+    kind: Kind,
+}
+
+impl Model for Entry {
+    ghost use Rattle.run_trace.specs.Entry.{Event, IsEvent};
+
+    ghost Value = { Event };
+
+    ghost view = { λ e. record { worker = e.worker; kind = e.kind } };
+
+    ghost invariant = { λ e. IsEvent (record { worker = e.worker; kind = e.kind }) };
+
+    ghost inverse = { λ v. record { worker = v.worker; kind = v.kind } };
+}
+
+impl Entry {
+    pub fn new(worker: u32, kind: Kind) -> Entry
+        requires worker { worker < 64 }
+        requires kind { IsKind kind }
+        ensures { result ≡ record { worker = worker; kind = kind } }
+    {
+        Entry { worker, kind }
+    }
+
+    /// The number of the worker.
+    pub fn worker(self) -> u32
+        ensures value { result ≡ self.worker }
+        ensures below { result < 64 }
+    {
+        self.worker
+    }
+
+    /// What the entry says, its numbers in range.
+    pub fn kind(self) -> Kind
+        ensures value { result ≡ self.kind }
+        ensures range { IsKind result }
+    {
+        self.kind
+    }
+}
+
+#[cfg(test)]
+mod tests {
+    use super::*;
+
+    #[test]
+    fn entries_tell_what_they_were_made_of(rt: HostRuntime) {
+        let entry = Entry::new(63, Kind::Ran(4294967295, 257));
+        assert_eq!(rt; entry.worker(), 63);
+        assert_eq!(rt; entry.kind(), Kind::Ran(4294967295, 257));
+        assert_eq!(rt; entry == Entry::new(62, Kind::Ran(4294967295, 257)), false);
+    }
+}

@@ -1,0 +1,179 @@
+// The limits of a run.
+
+ghost use Rattle.std.specs.Prelude.{◌≡◌};
+ghost use Rattle.run_trace.specs.Settings.{AreLimits, usual_limits, field_limit, version_number};
+
+use std::marker::Model;
+
+/// The version of a run's trace: under the first one an object has at most 1,022 fields, and `freeze`, `cas` and parallel
+/// loops aren't there.
+#[derive(Clone, Copy, PartialEq, Eq, Debug)]
+pub enum Version {
+    One,
+    Two,
+}
+
+impl Version {
+    /// The most fields that an object may have.
+    pub fn field_limit(self) -> u32
+        ensures { result ≡ field_limit self }
+    {
+        match self {
+            Version::One => 1022,
+            Version::Two => 1_000_000,
+        }
+    }
+
+    /// The number that the first line of a trace bears.
+    pub fn number(self) -> u32
+        ensures { result ≡ version_number self }
+    {
+        match self {
+            Version::One => 1,
+            Version::Two => 2,
+        }
+    }
+}
+
+/// The limits of a run: 1 to 64 workers; fuel in steps, 1 to 1,000,000,000; the most chunks in use, 2 to 65,536; the words
+/// that make a leaf heap due for a collection and those that let a waiting heap be marked, both 16 to 1,000,000.
+#[derive(Clone, Copy, PartialEq, Eq, Debug)]
+pub struct Settings {
+    version: Version,
+    workers: u32,
+    fuel: u64,
+    chunks: u32,
+    leaf: u32,
+    inner: u32,
+}
+
+impl Model for Settings {
+    ghost use Rattle.run_trace.specs.Settings.{Limits, AreLimits};
+
+    ghost Value = { Limits };
+
+    ghost view = { λ s. record { version = s.version; workers = s.workers; fuel = s.fuel; chunks = s.chunks; leaf = s.leaf; inner = s.inner } };
+
+    ghost invariant = { λ s. AreLimits (record { version = s.version; workers = s.workers; fuel = s.fuel; chunks = s.chunks; leaf = s.leaf; inner = s.inner }) };
+
+    ghost inverse = { λ l. record { version = l.version; workers = l.workers; fuel = l.fuel; chunks = l.chunks; leaf = l.leaf; inner = l.inner } };
+}
+
+impl Settings {
+    pub fn new(
+        version: Version,
+        workers: u32,
+        fuel: u64,
+        chunks: u32,
+        leaf: u32,
+        inner: u32,
+    ) -> Settings
+        requires { AreLimits (record { version = version; workers = workers; fuel = fuel; chunks = chunks; leaf = leaf; inner = inner }) }
+        ensures { result ≡ record { version = version; workers = workers; fuel = fuel; chunks = chunks; leaf = leaf; inner = inner } }
+    {
+        Settings {
+            version,
+            workers,
+            fuel,
+            chunks,
+            leaf,
+            inner,
+        }
+    }
+
+    /// The limits where none are given.
+    pub fn usual() -> Settings
+        ensures { result ≡ usual_limits }
+    {
+        Settings {
+            version: Version::Two,
+            workers: 1,
+            fuel: 1_000_000,
+            chunks: 4096,
+            leaf: 4096,
+            inner: 8192,
+        }
+    }
+
+    /// The same limits under another version of the trace.
+    pub fn with_version(self, version: Version) -> Settings
+        ensures { result ≡ record self { version = version } }
+    {
+        Settings { version, ..self }
+    }
+
+    pub fn version(self) -> Version
+        ensures { result ≡ self.version }
+    {
+        self.version
+    }
+
+    /// How many workers there are.
+    pub fn workers(self) -> u32
+        ensures value { result ≡ self.workers }
+        ensures range { AreLimits self }
+    {
+        self.workers
+    }
+
+    /// The steps after which the run is to end.
+    pub fn fuel(self) -> u64
+        ensures value { result ≡ self.fuel }
+        ensures range { AreLimits self }
+    {
+        self.fuel
+    }
+
+    /// The most chunks in use.
+    pub fn chunks(self) -> u32
+        ensures value { result ≡ self.chunks }
+        ensures range { AreLimits self }
+    {
+        self.chunks
+    }
+
+    /// The words allocated since its last collection at which a leaf heap is due for one.
+    pub fn leaf(self) -> u32
+        ensures value { result ≡ self.leaf }
+        ensures range { AreLimits self }
+    {
+        self.leaf
+    }
+
+    /// The words from which on a waiting heap may be marked.
+    pub fn inner(self) -> u32
+        ensures value { result ≡ self.inner }
+        ensures range { AreLimits self }
+    {
+        self.inner
+    }
+}
+
+#[cfg(test)]
+mod tests {
+    use super::*;
+
+    #[test]
+    fn limits_tell_what_they_were_made_of(rt: HostRuntime) {
+        let least = Settings::new(Version::One, 1, 1, 2, 16, 16);
+        assert_eq!(rt; (least.workers(), least.fuel(), least.chunks()), (1, 1, 2));
+        assert_eq!(rt;
+            (least.leaf(), least.inner(), least.version()),
+            (16, 16, Version::One)
+        );
+        assert_eq!(rt;
+            (least.version().field_limit(), least.version().number()),
+            (1022, 1)
+        );
+        let usual = Settings::usual();
+        assert_eq!(rt;
+            usual,
+            Settings::new(Version::Two, 1, 1000000, 4096, 4096, 8192)
+        );
+        assert_eq!(rt; usual.with_version(Version::One) == usual, false);
+        assert_eq!(rt;
+            (usual.version().field_limit(), usual.version().number()),
+            (1000000, 2)
+        );
+    }
+}
