@@ -148,7 +148,9 @@ fn add_kind(alloc: Global, text: &mut Vec<u8>, kind: Kind) -> Result<(), AllocEr
         Kind::Ran(task, steps) => format!(in alloc; "ran {task} {steps}")?,
         Kind::Chunk(task) => format!(in alloc; "chunk {task}")?,
         Kind::Begin(task) => format!(in alloc; "begin {task}")?,
-        Kind::End(task, taken, given, left) => format!(in alloc; "end {task} {taken} {given} {left}")?,
+        Kind::End(task, taken, given, left) => format!(in alloc;
+            "end {task} {taken} {given} {left}"
+        )?,
         Kind::PutOff(task) => format!(in alloc; "putoff {task}")?,
         Kind::Mark(task) => format!(in alloc; "mark {task}")?,
         Kind::More(task, count) => format!(in alloc; "some {task} {count}")?,
