@@ -6,4 +6,4 @@ mod data;
 mod laws;
 
 pub use data::{Heap, Ledger, Owed, Previous, Refused, RefusedAt, Report, RunEnd, WorkerPace};
-pub use laws::{machine_is_run, reached_is_walks};
+pub use laws::{machine_is_run, nothing_reachable_is_freed, reached_is_walks};
