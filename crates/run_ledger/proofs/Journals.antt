@@ -35,11 +35,11 @@ use Rattle.run_ledger.proofs.Sound.{InHeaps, Keeps, Spares, collecting, snapshot
 use Rattle.run_ledger.proofs.Steps.{task_steps_sound}
 
 -- a refusal that is none
-none_where : (b : Bool) (c : Refused) (rest : Option Refused) → is_none (where_it b c rest) ≡ true → (b ≡ false) × (is_none rest ≡ true)
+pub none_where : (b : Bool) (c : Refused) (rest : Option Refused) → is_none (where_it b c rest) ≡ true → (b ≡ false) × (is_none rest ≡ true)
 none_where true c rest h = absurd (false≢true h)
 none_where false c rest h = (refl, h)
 
-none_unless : (b : Bool) (c : Refused) (rest : Option Refused) → is_none (unless b c rest) ≡ true → (b ≡ true) × (is_none rest ≡ true)
+pub none_unless : (b : Bool) (c : Refused) (rest : Option Refused) → is_none (unless b c rest) ≡ true → (b ≡ true) × (is_none rest ≡ true)
 none_unless true c rest h = (refl, h)
 none_unless false c rest h = absurd (false≢true h)
 

@@ -5,3 +5,5 @@ pub mod Held
 pub mod Sound
 pub mod Steps
 pub mod Journals
+pub mod Cuts
+pub mod Bounds
