@@ -3,6 +3,7 @@ pub mod Reached
 pub mod Machine
 pub mod Held
 pub mod Sound
+pub mod Moves
 pub mod Steps
 pub mod Journals
 pub mod Cuts

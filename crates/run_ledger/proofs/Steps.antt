@@ -28,6 +28,7 @@ use Rattle.run_ledger.specs.declared.data.Ledger.{Ledger}
 use Rattle.run_ledger.specs.Heaps.{held_in, frames_of, within, placed, with_heap, with_heap_at, fresh, let_go, merged, emptied, or_fresh, forked_heap}
 use Rattle.run_ledger.specs.Steps.{join_heaps, at_join, allocated_by, allocated_in, moved_on, moved_to, settled, stepped_to, task_step, task_steps}
 use Rattle.run_ledger.proofs.Held.{placed_cases, placed_old, placed_new, placed_begun, merged_cases, merged_left, merged_right, merged_own}
+use Rattle.run_ledger.proofs.Moves.{Moves}
 use Rattle.run_ledger.proofs.Sound.{names_of, InHeaps, Keeps, Owners, Spares, collecting, snapshot_at, survivors_at, Sound, SoundLedger, closed_same, frozen, renewed}
 
 pub heap_there : (tasks : List Task) (heaps : List Heap) (t : ℕ) → length heaps ≡ length tasks → t < length tasks → (h : Heap) × (slice_get heaps t ≡ Some h)
@@ -160,9 +161,9 @@ module _ (p : ProgramText) (l : Ledger) (S : SoundLedger l) (t : ℕ) (x : Task)
       let ne : u ≡ t → ⊥ = λ e. both_ways (collecting (slice_get b.heaps t)) (A.still ∙ idle) (ap (λ w. collecting (slice_get b.heaps w)) (sym e) ∙ c) in
       (ne, ap collecting (sym (A.others u ne)) ∙ c)
 
-  -- all is kept, and the task collects nothing
+  -- all is kept, the task collects nothing, and the heaps have changed so
   abbrev pub Good : Ledger → Type 0
-  Good k = SoundLedger k × (collecting (slice_get k.heaps t) ≡ false)
+  Good k = SoundLedger k × (collecting (slice_get k.heaps t) ≡ false) × Moves t b.heaps k.heaps
 
   -- what a state after the step owes
   abbrev Owes : State → Type 0
@@ -192,13 +193,13 @@ module _ (p : ProgramText) (l : Ledger) (S : SoundLedger l) (t : ℕ) (x : Task)
 
   -- the machine has ended
   halts : (m' : State) (e : End) → m'.end ≡ Some e → Sound m'.tasks m'.edges m'.store b.heaps → Good (stepped_to b t m')
-  halts m' e at s = subst Good (sym (ap (settled (record b { machine = m'; steps = b.steps + 1 }) t) at)) (s, A.still ∙ idle)
+  halts m' e at s = subst Good (sym (ap (settled (record b { machine = m'; steps = b.steps + 1 }) t) at)) (s, A.still ∙ idle, inl refl)
 
   -- the step left the task running
   runs_on : (m' : State) (y : Task) → m'.end ≡ None → slice_get m'.tasks t ≡ Some y → y.status ≡ Running → Sound m'.tasks m'.edges m'.store b.heaps → Good (stepped_to b t m')
   runs_on m' y on at st s =
       let k : Ledger = record b { machine = m'; steps = b.steps + 1 } in
-      subst Good (sym (ap (settled k t) on ∙ (ap (moved_to k t) at ∙ ap (moved_on k t y.parent) st))) (s, A.still ∙ idle)
+      subst Good (sym (ap (settled k t) on ∙ (ap (moved_to k t) at ∙ ap (moved_on k t y.parent) st))) (s, A.still ∙ idle, inl refl)
 
   same_sound : (m' : State) → m'.tasks ≡ tasks → KeptIn m'.tasks m'.edges m'.store → Disentangled m'.tasks m'.store → Closed m'.tasks m'.store (Keeps b.heaps)
       → ((u : ℕ) (ns : List Name) → (u ≡ t → ⊥) → Spares tasks l.machine.store l.heaps u ns → Spares m'.tasks m'.store b.heaps u ns)
@@ -229,6 +230,7 @@ module _ (p : ProgramText) (l : Ledger) (S : SoundLedger l) (t : ℕ) (x : Task)
       subst Good (sym (ap (settled a t) on ∙ (ap (moved_to a t) at ∙ (ap (moved_on a t y.parent) es ∙ ap (with_heap_at a t let_go) h.1)))) (
         renewed m'.tasks m'.edges m'.store b.heaps s t h.0 (let_go h.0) h.1 (λ n i. i) (λ n i. i) refl refl refl,
         ap collecting (got_same b.heaps t h.0 (let_go h.0) h.1) ∙ (ap collecting (sym h.1) ∙ (A.still ∙ idle)),
+        inr (inl (record { heap = h.0; at = h.1; is = refl })),
       )
 
   -- the task forks
@@ -390,7 +392,11 @@ module _ (p : ProgramText) (l : Ledger) (S : SoundLedger l) (t : ℕ) (x : Task)
     fork_case : Owes mf
     fork_case K D C sp =
         subst Good (sym (ap (settled a t) going ∙ (ap (moved_to a t) (grown_at tasks t x y cl cr is) ∙ ap (with_heap_at (record a { heaps = heaps2 }) t (forked_heap (within a t))) at2)))
-        (fork_sound K D C sp, ap collecting at3 ∙ (ap collecting (sym hb.1) ∙ (A.still ∙ idle)))
+        (
+          fork_sound K D C sp,
+          ap collecting at3 ∙ (ap collecting (sym hb.1) ∙ (A.still ∙ idle)),
+          inr (inr (inl (record { heap = hb.0; names = within a t; at = hb.1; is = refl }))),
+        )
 
   -- both children of a task have ended
   module _ (parent c : ℕ) (xp xl xr : Task) (rl rr : ℤ × Option Name) (ip : slice_get tasks parent ≡ Some xp) (il : slice_get tasks c ≡ Some xl) (ir : slice_get tasks (c + 1) ≡ Some xr)
@@ -660,7 +666,11 @@ module _ (p : ProgramText) (l : Ledger) (S : SoundLedger l) (t : ℕ) (x : Task)
     ]
 
     join_case : Owes mj
-    join_case K D C sp = subst Good (sym (finish_join ∙ heaps_join)) (join_sound K D C sp, stops (collecting (slice_get j4 t)) refl)
+    join_case K D C sp = subst Good (sym (finish_join ∙ heaps_join)) (
+      join_sound K D C sp,
+      stops (collecting (slice_get j4 t)) refl,
+      inr (inr (inr (record { parent = parent; child = c; own = hp; left = hl; right = hr; under = under; at_parent = e_p; at_left = e_l; at_right = e_r; is = refl }))),
+    )
       where
         stops : (v : Bool) → collecting (slice_get j4 t) ≡ v → collecting (slice_get j4 t) ≡ false
         stops false e = e
@@ -724,7 +734,8 @@ task_step_sound p l t S = by (can_step l.machine t) refl
         let x = task (slice_get l.machine.tasks t) refl can.1 in
         let s : SoundLedger l = S.0 in
         let h = heap_there l.machine.tasks l.heaps t s.lengths (got_within l.machine.tasks t x.0 x.1) in
-        step_sound p l s t x.0 x.1 x.2 S.1 can.0 (allocated_in p l t) (allots l t h.0 h.1 (asked p l.machine t))
+        let g = step_sound p l s t x.0 x.1 x.2 S.1 can.0 (allocated_in p l t) (allots l t h.0 h.1 (asked p l.machine t)) in
+        (g.0, g.1)
 
 pub task_steps_sound : (p : ProgramText) (k : ℕ) (l : Ledger) (t : ℕ) → SoundAt t l → SoundAt t (task_steps p l t k)
 task_steps_sound p zero l t S = S
