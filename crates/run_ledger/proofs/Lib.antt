@@ -8,3 +8,4 @@ pub mod Steps
 pub mod Journals
 pub mod Cuts
 pub mod Bounds
+pub mod Grown
