@@ -9,3 +9,4 @@ pub mod Journals
 pub mod Cuts
 pub mod Bounds
 pub mod Grown
+pub mod Weights
