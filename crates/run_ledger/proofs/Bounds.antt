@@ -1,0 +1,151 @@
+-- How many steps a legal journal takes, and what is so before each allocation.
+use Rattle.std.proofs.Common.{◌≡◌, ℕ, zero, suc, ◌+◌, ◌<◌, ◌≤◌, ◌&&◌, ◌||◌, min, Bool, true, false, cond, Option, Some, None, List, [], ◌∷◌, ◌++◌, slice_get, nat_le, nat_lt, refl, ap, sym, subst, ◌∙◌, arith, is_none, inl, inr, ◌⊎◌}
+use Rattle.std.proofs.lemmas.Bool.{false≢true, and_parts, leb-true, leb-false}
+use Rattle.run_trace.specs.declared.entry.Kind.{Kind}
+use Rattle.run_trace.specs.declared.entry.Kind.TheVariants.{Took, Ran, Chunk, Begin, End as EndOf, PutOff, Mark, More, Sweep, Fuel}
+use Rattle.run_trace.specs.Entry.{Event}
+use Rattle.run_trace.specs.Settings.{Limits}
+use Rattle.hh_lang.specs.Form.{ProgramText}
+use Rattle.hh_model.specs.declared.data.Status.{Status}
+use Rattle.hh_model.specs.declared.data.Status.TheVariants.{Running, Waiting, Ended, Joined}
+use Rattle.hh_model.specs.declared.data.Task.{Task}
+use Rattle.hh_model.specs.declared.data.End.{End}
+use Rattle.hh_model.specs.Step.{is_left, can_step, step, asked}
+use Rattle.run_ledger.specs.declared.data.Heap.{Heap}
+use Rattle.run_ledger.specs.declared.data.Ledger.{Ledger}
+use Rattle.run_ledger.specs.Heaps.{with_heap, with_heap_at, heap_at, heap_of, within, fresh, let_go, emptied, forked_heap, in_use, lacks_room}
+use Rattle.run_ledger.specs.Steps.{join_heaps, moved_on, moved_to, settled, stepped_to, allocated_by, allocated_in, task_step, task_steps, on_asked, is_due, is_in_need, is_private, most_steps, standing}
+use Rattle.run_ledger.specs.Entries.{after_kind, after, chunk_units, refusal, long_at}
+use Rattle.run_ledger.specs.Journals.{after_all, opening, ledger_of, is_legal_from}
+use Rattle.run_ledger.specs.Laws.{StepsAreBounded, AllocatesInBounds, AllocationsAreInBounds}
+use Rattle.run_ledger.proofs.Journals.{entry_tells, out_tells, none_unless}
+use Rattle.run_ledger.proofs.Cuts.{cut_legal}
+
+-- STEPS
+
+heap_at_steps : (l : Ledger) (t : ℕ) (f : Heap → Heap) (o : Option Heap) → (with_heap_at l t f o).steps ≡ l.steps
+heap_at_steps l t f None = refl
+heap_at_steps l t f (Some h) = refl
+
+heap_steps : (l : Ledger) (t : ℕ) (f : Heap → Heap) → (with_heap l t f).steps ≡ l.steps
+heap_steps l t f = heap_at_steps l t f (heap_at l t)
+
+join_steps : (l : Ledger) (p c : ℕ) → (join_heaps l p c).steps ≡ l.steps
+join_steps l p c = heap_steps _ (c + 1) emptied ∙ (heap_steps _ c emptied ∙ heap_steps l p _)
+
+moved_on_steps : (l : Ledger) (t : ℕ) (parent : Option ℕ) (s : Status) → (moved_on l t parent s).steps ≡ l.steps
+moved_on_steps l t parent Running = refl
+moved_on_steps l t parent Waiting = heap_steps (record l { heaps = l.heaps ++ fresh ∷ fresh ∷ [] }) t (forked_heap (within l t))
+moved_on_steps l t parent (Ended k n) = heap_steps l t let_go
+moved_on_steps l t None Joined = refl
+moved_on_steps l t (Some p) Joined = join_steps l p (cond (is_left t) t _)
+
+moved_to_steps : (l : Ledger) (t : ℕ) (o : Option Task) → (moved_to l t o).steps ≡ l.steps
+moved_to_steps l t None = refl
+moved_to_steps l t (Some x) = moved_on_steps l t x.parent x.status
+
+settled_steps : (l : Ledger) (t : ℕ) (o : Option End) → (settled l t o).steps ≡ l.steps
+settled_steps l t (Some e) = refl
+settled_steps l t None = moved_to_steps l t (slice_get l.machine.tasks t)
+
+allocated_steps : (l : Ledger) (t : ℕ) (o : Option ℕ) → (allocated_by l t o).steps ≡ l.steps
+allocated_steps l t None = refl
+allocated_steps l t (Some w) = heap_steps l t _
+
+task_step_steps : (p : ProgramText) (l : Ledger) (t : ℕ) → (task_step p l t).steps ≡ l.steps + 1
+task_step_steps p l t = by (can_step l.machine t)
+  where
+    by : (v : Bool) → (cond v (stepped_to (allocated_in p l t) t (step p l.machine t)) (record l { steps = l.steps + 1 })).steps ≡ l.steps + 1
+    by true = settled_steps (record (allocated_in p l t) { machine = step p l.machine t; steps = (allocated_in p l t).steps + 1 }) t (step p l.machine t).end ∙ ap (λ n. n + 1) (allocated_steps l t (asked p l.machine t))
+    by false = refl
+
+pub task_steps_steps : (p : ProgramText) (k : ℕ) (l : Ledger) (t : ℕ) → (task_steps p l t k).steps ≡ l.steps + k
+task_steps_steps p zero l t = omega arith
+task_steps_steps p (suc k) l t = let more = task_steps_steps p k (task_step p l t) t in let one = task_step_steps p l t in omega arith
+
+-- an entry without steps
+chunk_steps : (l : Ledger) (t : ℕ) (full : Bool) (end : Ledger) (f : Heap → Heap) → end.steps ≡ l.steps → (cond full end (with_heap l t f)).steps ≡ l.steps
+chunk_steps l t true end f e = e
+chunk_steps l t false end f e = heap_steps l t f
+
+long_bound : (k m : ℕ) → is_none (long_at k m) ≡ true → k ≤ m
+long_bound k m h = leb-true k m (none_unless (nat_le k m) _ _ h).0
+
+-- an entry has at most so many steps, which are due or in need at none of them
+pub ran_tells : (p : ProgramText) (s : Limits) (l : Ledger) (w t k : ℕ) → is_none (refusal p s l (record { worker = w; kind = Ran t k })) ≡ true → (k ≤ 257) × (k ≤ standing s p l t k) × (l.steps < s.fuel)
+ran_tells p s l w t k h =
+    let a = entry_tells p s l (record { worker = w; kind = Ran t k }) h in
+    let b = out_tells l w t _ a.2 in
+    let c : k ≤ min most_steps (standing s p l t k) = long_bound k (min most_steps (standing s p l t k)) b.2 in
+    let d : l.steps < s.fuel = leb-false s.fuel l.steps (left_false (nat_le s.fuel l.steps) a.1) in
+    (omega arith, omega arith, d)
+  where
+    left_false : (v : Bool) → (v && true) ≡ false → v ≡ false
+    left_false true e = e
+    left_false false e = refl
+
+module _ (p : ProgramText) (s : Limits) where
+  abbrev InBounds : Ledger → Type 0
+  InBounds l = l.steps ≤ s.fuel + 256
+
+  kind_bound : (l : Ledger) (w : ℕ) (kind : Kind) → is_none (refusal p s l (record { worker = w; kind = kind })) ≡ true → InBounds l → InBounds (after_kind p s l w kind)
+  kind_bound l w (Took t) h b = subst (λ n. n ≤ s.fuel + 256) (sym (heap_steps l t _)) b
+  kind_bound l w (Ran t k) h b =
+      let r = ran_tells p s l w t k h in
+      let a : k ≤ 257 = r.0 in
+      let c : l.steps < s.fuel = r.2 in
+      let e = task_steps_steps p k l t in
+      omega arith
+  kind_bound l w (Chunk t) h b = subst (λ n. n ≤ s.fuel + 256) (sym (chunk_steps l t (nat_lt s.chunks (in_use l + chunk_units (asked p l.machine t))) _ _ refl)) b
+  kind_bound l w (Begin t) h b = subst (λ n. n ≤ s.fuel + 256) (sym (heap_steps l t _)) b
+  kind_bound l w (EndOf t a g n) h b = subst (λ k. k ≤ s.fuel + 256) (sym (heap_steps l t _)) b
+  kind_bound l w (PutOff t) h b = subst (λ n. n ≤ s.fuel + 256) (sym (heap_steps l t _)) b
+  kind_bound l w (Mark t) h b = subst (λ n. n ≤ s.fuel + 256) (sym (heap_steps l t _)) b
+  kind_bound l w (More t k) h b = subst (λ n. n ≤ s.fuel + 256) (sym (heap_steps l t _)) b
+  kind_bound l w (Sweep t g) h b = subst (λ n. n ≤ s.fuel + 256) (sym (heap_steps l t _)) b
+  kind_bound l w Fuel h b = b
+
+  bound_from : (journal : List Event) (l : Ledger) → is_legal_from p s l journal ≡ true → InBounds l → InBounds (after_all p s l journal)
+  bound_from [] l h b = b
+  bound_from (e ∷ es) l h b =
+      let both = and_parts (is_none (refusal p s l e)) (is_legal_from p s (after p s l e) es) h in
+      bound_from es (after p s l e) both.1 (kind_bound l e.worker e.kind both.0 b)
+
+pub steps_are_bounded : StepsAreBounded
+steps_are_bounded p s journal legal = bound_from p s journal (opening p s) legal (omega arith)
+
+-- ALLOCATIONS
+
+asked_bounds : (s : Limits) (h : Heap) (o : Option ℕ) (w : ℕ) → o ≡ Some w → (on_asked o (λ v. nat_le s.leaf h.since) || on_asked o (lacks_room h)) ≡ false → (h.since < s.leaf) × (lacks_room h w ≡ false)
+asked_bounds s h o w e f = by (nat_le s.leaf h.since) (lacks_room h w) refl (subst (λ (v : Option ℕ). (on_asked v (λ u. nat_le s.leaf h.since) || on_asked v (lacks_room h)) ≡ false) e f)
+  where
+    by : (a b : Bool) → nat_le s.leaf h.since ≡ a → (a || b) ≡ false → (h.since < s.leaf) × (b ≡ false)
+    by true b is g = absurd (false≢true (sym g))
+    by false b is g = (leb-false s.leaf h.since is, g)
+
+module _ (p : ProgramText) (s : Limits) (t : ℕ) where
+  stands_by : (l : Ledger) (k : ℕ) (a b : Bool) (rest : ℕ) → suc k ≤ cond a 0 (cond b (suc rest) 1) → (a ≡ false) × ((b ≡ true) × (k ≤ rest)) ⊎ (a ≡ false) × (k ≡ 0)
+  stands_by l k true b rest h = absurd (omega arith)
+  stands_by l k false true rest h = inl (refl, (refl, omega arith))
+  stands_by l k false false rest h = inr (refl, omega arith)
+
+  in_bounds : (k : ℕ) (l : Ledger) → k ≤ standing s p l t k → AllocatesInBounds p s l t k
+  in_bounds zero l h j w lt e = absurd (omega arith)
+  in_bounds (suc k) l h j w lt e =
+      elim (stands_by l k (is_due s p l t || is_in_need p l t) (is_private p l.machine t) (standing s p (task_step p l t) t k) h) [
+        | inl f ↦ first j f.0 (λ i less q. in_bounds k (task_step p l t) f.1.1 i w less q) lt e
+        | inr f ↦ first j f.0 (λ i less q. absurd (let z : k ≡ 0 = f.1 in omega arith)) lt e
+      ]
+    where
+      first : (i : ℕ) → (is_due s p l t || is_in_need p l t) ≡ false
+          → ((i' : ℕ) → i' < k → asked p (task_steps p (task_step p l t) t i').machine t ≡ Some w → ((heap_of (task_steps p (task_step p l t) t i') t).since < s.leaf) × (lacks_room (heap_of (task_steps p (task_step p l t) t i') t) w ≡ false))
+          → i < suc k → asked p (task_steps p l t i).machine t ≡ Some w → ((heap_of (task_steps p l t i) t).since < s.leaf) × (lacks_room (heap_of (task_steps p l t i) t) w ≡ false)
+      first zero f more less q = asked_bounds s (heap_of l t) (asked p l.machine t) w q f
+      first (suc i) f more less q = more i (omega arith) q
+
+pub allocations_are_in_bounds : AllocationsAreInBounds
+allocations_are_in_bounds p s before rest w t k legal =
+    let e : Event = record { worker = w; kind = Ran t k } in
+    let c = cut_legal p s before (e ∷ rest) (opening p s) legal in
+    let r = ran_tells p s (ledger_of p s before) w t k (and_parts (is_none (refusal p s (ledger_of p s before) e)) (is_legal_from p s (after p s (ledger_of p s before) e) rest) c.1).0 in
+    in_bounds p s t k (ledger_of p s before) r.1

@@ -1,0 +1,12 @@
+pub mod Members
+pub mod Reached
+pub mod Machine
+pub mod Held
+pub mod Sound
+pub mod Moves
+pub mod Steps
+pub mod Journals
+pub mod Cuts
+pub mod Bounds
+pub mod Grown
+pub mod Weights

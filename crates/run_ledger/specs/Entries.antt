@@ -1,0 +1,146 @@
+-- Entries: which are refused and why, and what the others change.
+use Rattle.std.specs.Prelude.{ℕ, ◌+◌, ◌==◌, ◌&&◌, not, Bool, true, false, Option, Some, None, List, [], ◌∷◌, ◌++◌, slice_get, if◌then◌else◌, nat_lt, nat_le, min, is_some, is_none}
+use Rattle.run_trace.specs.declared.entry.Kind.{Kind}
+use Rattle.run_trace.specs.declared.entry.Kind.TheVariants.{Took, Ran, Chunk, Begin, End, PutOff, Mark, More, Sweep, Fuel}
+use Rattle.run_trace.specs.Entry.{Event}
+use Rattle.run_trace.specs.Settings.{Limits}
+use Rattle.hh_lang.specs.Form.{ProgramText}
+use Rattle.hh_model.specs.Step.{asked, is_running, is_waiting}
+use Rattle.run_ledger.specs.declared.data.Heap.{Heap}
+use Rattle.run_ledger.specs.declared.data.Ledger.{Ledger}
+use Rattle.run_ledger.specs.declared.data.RunEnd.TheVariants.{Fuel as FuelEnd, Pool}
+use Rattle.run_ledger.specs.declared.data.Refused.{Refused}
+use Rattle.run_ledger.specs.declared.data.Refused.TheVariants.{Over, Spent, NoWorker, NotReady, Holding, NotOut, Collecting, NotCollecting, NotWaiting, Swept, Marking, NotMarking, Long, Due, NotNeeded, NotDue, PoolShort, PoolEnough, Marked, Left, Count, NotSpent}
+use Rattle.run_ledger.specs.Heaps.{chunk_words, units, is_small, heap_of, with_heap, words_in, in_use, within, take_of, collected, end_numbers, marked_in, left_in, swept_heap, sweep_number}
+use Rattle.run_ledger.specs.Steps.{task_steps, on_asked, is_due, is_in_need, most_steps, standing}
+
+-- WHO HOLDS WHAT
+
+abbrev pub is_held_by : Option ℕ → ℕ → Bool
+is_held_by None w = false
+is_held_by (Some v) w = v == w
+
+-- the task runs and nobody holds it
+abbrev pub is_ready : Ledger → ℕ → Bool
+is_ready l t = is_running (slice_get l.machine.tasks t) && is_none (heap_of l t).worker
+
+-- the task runs and the worker holds it
+abbrev pub is_out : Ledger → ℕ → ℕ → Bool
+is_out l w t = is_running (slice_get l.machine.tasks t) && is_held_by (heap_of l t).worker w
+
+-- the first task, from the task t on, that the worker holds
+abbrev pub held_from : ℕ → ℕ → List Heap → Option ℕ
+held_from w t [] = None
+held_from w t (h ∷ hs) = if is_held_by h.worker w then Some t else held_from w (t + 1) hs
+
+-- CAUSES IN THEIR ORDER
+
+-- a cause if the test fails, or if it holds; else what comes after it
+abbrev pub unless : Bool → Refused → Option Refused → Option Refused
+unless test cause rest = if test then rest else Some cause
+
+abbrev pub where_it : Bool → Refused → Option Refused → Option Refused
+where_it test cause rest = if test then Some cause else rest
+
+abbrev pub where_holding : Option ℕ → Option Refused → Option Refused
+where_holding None rest = rest
+where_holding (Some t) rest = Some (Holding t)
+
+-- a number says what it should
+abbrev pub counted : ℕ → ℕ → Option Refused → Option Refused
+counted said is rest = unless (said == is) (Count said is) rest
+
+-- the worker is at the task t, which isn't amid a leaf collection
+abbrev pub on_running : Ledger → ℕ → ℕ → Option Refused → Option Refused
+on_running l w t rest = unless (is_out l w t) NotOut (where_it (is_some (heap_of l t).begun) Collecting rest)
+
+-- the task t waits, and its heap wasn't swept since its last fork
+abbrev pub on_waiting : Ledger → ℕ → Option Refused → Option Refused
+on_waiting l t rest = unless (is_waiting (slice_get l.machine.tasks t)) NotWaiting (where_it (heap_of l t).swept Swept rest)
+
+-- its heap is being marked
+abbrev pub on_marking : Ledger → ℕ → Option Refused → Option Refused
+on_marking l t rest = on_waiting l t (unless (is_some (heap_of l t).marked) NotMarking rest)
+
+-- a leaf collection of t is due
+abbrev pub on_due : Limits → ProgramText → Ledger → ℕ → Option Refused → Option Refused
+on_due s p l t rest = unless (is_due s p l t) (NotDue (heap_of l t).since) rest
+
+-- the chunks that are free are enough for a leaf collection of t
+abbrev pub is_pool_enough : Limits → Ledger → ℕ → Bool
+is_pool_enough s l t = nat_le (in_use l + take_of l.machine (heap_of l t)) s.chunks
+
+-- only so many of k steps can stand in one entry
+abbrev pub long_at : ℕ → ℕ → Option Refused
+long_at k m = unless (nat_le k m) (Long m) None
+
+-- the numbers that an entry says of the end of a leaf collection, and those that it should say
+abbrev pub ends_as : ℕ × ℕ × ℕ → ℕ × ℕ × ℕ → Option Refused
+ends_as said is = counted said.0 is.0 (counted said.1 is.1 (counted said.2 is.2 None))
+
+-- why an entry is refused for what it says, or none
+abbrev pub kind_refusal : ProgramText → Limits → Ledger → ℕ → Kind → Option Refused
+kind_refusal p s l w (Took t) = unless (is_ready l t) NotReady (where_holding (held_from w 0 l.heaps) None)
+kind_refusal p s l w (Ran t k) = on_running l w t (long_at k (min most_steps (standing s p l t k)))
+kind_refusal p s l w (Chunk t) =
+    on_running l w t (where_it (is_due s p l t) (Due (heap_of l t).since) (unless (is_in_need p l t) (NotNeeded (heap_of l t).room) None))
+kind_refusal p s l w (Begin t) = on_running l w t (on_due s p l t (unless (is_pool_enough s l t) (PoolShort (in_use l)) None))
+kind_refusal p s l w (End t taken given left) =
+    unless (is_out l w t) NotOut (unless (is_some (heap_of l t).begun) NotCollecting (ends_as (taken, given, left) (end_numbers l.machine (heap_of l t))))
+kind_refusal p s l w (PutOff t) = on_running l w t (on_due s p l t (where_it (is_pool_enough s l t) (PoolEnough (in_use l)) None))
+kind_refusal p s l w (Mark t) =
+    on_waiting l t (where_it (is_some (heap_of l t).marked) Marking (
+    unless (nat_le s.inner (words_in l.machine (heap_of l t))) (NotDue (words_in l.machine (heap_of l t))) None))
+kind_refusal p s l w (More t n) = on_marking l t (where_it (left_in (heap_of l t) == 0) Marked None)
+kind_refusal p s l w (Sweep t given) =
+    on_marking l t (unless (left_in (heap_of l t) == 0) (Left (marked_in (heap_of l t))) (counted given (sweep_number l.machine (heap_of l t)) None))
+kind_refusal p s l w Fuel = unless (nat_le s.fuel l.steps) (NotSpent l.steps) None
+
+abbrev pub is_fuel : Kind → Bool
+is_fuel Fuel = true
+is_fuel _ = false
+
+-- the first cause for which an entry is refused, or none
+abbrev pub refusal : ProgramText → Limits → Ledger → Event → Option Refused
+refusal p s l e =
+    where_it (is_some l.end) Over (
+    where_it (nat_le s.fuel l.steps && not (is_fuel e.kind)) (Spent l.steps) (
+    unless (nat_lt e.worker s.workers) NoWorker (
+    kind_refusal p s l e.worker e.kind)))
+
+-- WHAT AN ENTRY CHANGES
+
+-- the units of the chunk that the next step needs
+abbrev pub chunk_units : Option ℕ → ℕ
+chunk_units None = 1
+chunk_units (Some w) = if is_small w then 1 else units w
+
+-- one chunk more: for a small object an empty one, for a large one its own
+abbrev pub with_chunk : Option ℕ → Heap → Heap
+with_chunk next h =
+    if on_asked next is_small
+    then record h { chunks = h.chunks ++ [] ∷ []; room = chunk_words }
+    else record h { reserved = chunk_units next }
+
+-- a chunk was asked for: the run ends where too few are free
+abbrev pub given_chunk : ProgramText → Limits → Ledger → ℕ → Ledger
+given_chunk p s l t =
+    if nat_lt s.chunks (in_use l + chunk_units (asked p l.machine t))
+    then record l { end = Some (Pool (in_use l)) }
+    else with_heap l t (with_chunk (asked p l.machine t))
+
+-- the accounts after an entry that isn't refused
+abbrev pub after_kind : ProgramText → Limits → Ledger → ℕ → Kind → Ledger
+after_kind p s l w (Took t) = with_heap l t (λ h. record h { worker = Some w })
+after_kind p s l w (Ran t k) = task_steps p l t k
+after_kind p s l w (Chunk t) = given_chunk p s l t
+after_kind p s l w (Begin t) = with_heap l t (λ h. record h { begun = Some (take_of l.machine h); survivors = within l t })
+after_kind p s l w (End t taken given left) = with_heap l t (collected l.machine)
+after_kind p s l w (PutOff t) = with_heap l t (λ h. record h { since = 0 })
+after_kind p s l w (Mark t) = with_heap l t (λ h. record h { marked = Some 0 })
+after_kind p s l w (More t n) = with_heap l t (λ h. record h { marked = Some (marked_in h + min n (left_in h)) })
+after_kind p s l w (Sweep t given) = with_heap l t swept_heap
+after_kind p s l w Fuel = record l { end = Some (FuelEnd l.steps) }
+
+abbrev pub after : ProgramText → Limits → Ledger → Event → Ledger
+after p s l e = after_kind p s l e.worker e.kind

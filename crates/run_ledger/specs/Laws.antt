@@ -1,0 +1,104 @@
+-- The laws of journals.
+use Rattle.std.specs.Prelude.{◌≡◌, ◌↔◌, ℕ, ◌+◌, ◌<◌, ◌≤◌, true, false, List, ◌∷◌, ◌++◌, Some, None, slice_get, length, Contains}
+use Rattle.walks.specs.Reached.{IsReached}
+use Rattle.run_trace.specs.declared.entry.Kind.TheVariants.{Ran}
+use Rattle.run_trace.specs.Entry.{Event}
+use Rattle.run_trace.specs.Settings.{Limits}
+use Rattle.hh_lang.specs.Form.{ProgramText}
+use Rattle.hh_model.specs.declared.data.Name.{Name}
+use Rattle.hh_model.specs.declared.data.Object.{Object}
+use Rattle.hh_model.specs.declared.data.Task.{Task}
+use Rattle.hh_model.specs.declared.data.State.{State}
+use Rattle.hh_model.specs.Names.{refs_at, task_names}
+use Rattle.hh_model.specs.Step.{asked}
+use Rattle.run_ledger.specs.declared.data.Ledger.{Ledger}
+use Rattle.run_ledger.specs.Reachable.{reached, IsReachedWithin}
+use Rattle.run_ledger.specs.declared.data.RefusedAt.{RefusedAt}
+use Rattle.run_ledger.specs.Heaps.{held, heap_of, lacks_room}
+use Rattle.run_ledger.specs.Steps.{task_steps}
+use Rattle.run_ledger.specs.Entries.{refusal}
+use Rattle.run_ledger.specs.Journals.{after_all, ledger_of, machine_of, is_legal, is_legal_from, Legal, first_refused}
+
+-- of these names, exactly those are reached to which a walk through them leads
+abbrev pub ReachedIsWalks : Type 0
+ReachedIsWalks =
+    (store : List (List Object)) (names roots : List Name) (n : Name)
+    → Contains (reached store names roots) n ↔ IsReachedWithin store names roots n
+
+-- the ledger's machine is the machine that never collects, over the journal's steps
+abbrev pub MachineIsRun : Type 0
+MachineIsRun = (p : ProgramText) (s : Limits) (journal : List Event) → (ledger_of p s journal).machine ≡ machine_of p s journal
+
+-- NOTHING REACHABLE IS FREED
+
+-- a task holds the name: in the registers of its frames while it runs or waits, or as its result once it has ended
+abbrev pub IsHeldByTask : State → Name → Type 0
+IsHeldByTask m n = (t : ℕ) × (x : Task) × (slice_get m.tasks t ≡ Some x) × Contains (task_names x) n
+
+-- the object of one name refers to the other
+abbrev pub Refers : State → Name → Name → Type 0
+Refers m n r = Contains (refs_at m.store n) r
+
+-- a walk along references leads to the name from one that a task holds
+abbrev pub IsReachable : State → Name → Type 0
+IsReachable m n = IsReached (IsHeldByTask m) (Refers m) n
+
+-- all that is reachable is held, and so is each reference of what is held
+pub record KeepsReachable (l : Ledger) : Type 0 where
+  pub reachable : (n : Name) → IsReachable l.machine n → Contains (held l) n
+  pub references : (n r : Name) → Contains (held l) n → Refers l.machine n r → Contains (held l) r
+
+abbrev pub NothingReachableIsFreed : Type 0
+NothingReachableIsFreed =
+    (p : ProgramText) (s : Limits) (journal : List Event) → is_legal p s journal ≡ true → KeepsReachable (ledger_of p s journal)
+
+-- CUTS AND REFUSALS
+
+-- the test of legal journals is what is meant
+abbrev pub LegalIsUnrefused : Type 0
+LegalIsUnrefused = (p : ProgramText) (s : Limits) (journal : List Event) → (is_legal p s journal ≡ true) ↔ Legal p s journal
+
+-- wherever a journal is cut, the accounts of the whole go on from those of its first part, and so does legality
+pub record GoesOn (p : ProgramText) (s : Limits) (first rest : List Event) : Type 0 where
+  pub accounts : ledger_of p s (first ++ rest) ≡ after_all p s (ledger_of p s first) rest
+  pub legal : (is_legal p s (first ++ rest) ≡ true) ↔ ((is_legal p s first ≡ true) × (is_legal_from p s (ledger_of p s first) rest ≡ true))
+
+abbrev pub JournalsCanBeCut : Type 0
+JournalsCanBeCut = (p : ProgramText) (s : Limits) (first rest : List Event) → GoesOn p s first rest
+
+-- the entry that is found as the first refused one: those before it are a legal journal, whose accounts refuse it for the
+-- cause that is named, and its number counts from 1
+pub record IsFirstRefused (p : ProgramText) (s : Limits) (journal : List Event) (r : RefusedAt) : Type 0 where
+  pub before : List Event
+  pub entry : Event
+  pub rest : List Event
+  pub is : journal ≡ before ++ entry ∷ rest
+  pub legal : is_legal p s before ≡ true
+  pub cause : refusal p s (ledger_of p s before) entry ≡ Some r.cause
+  pub index : r.index ≡ length before + 1
+
+-- there is a first refused entry just where the journal isn't legal
+pub record FindsRefused (p : ProgramText) (s : Limits) (journal : List Event) : Type 0 where
+  pub none : (first_refused p s journal ≡ None) ↔ (is_legal p s journal ≡ true)
+  pub some : (r : RefusedAt) → first_refused p s journal ≡ Some r → IsFirstRefused p s journal r
+
+abbrev pub FirstRefusedIsFirst : Type 0
+FirstRefusedIsFirst = (p : ProgramText) (s : Limits) (journal : List Event) → FindsRefused p s journal
+
+-- SPACE BY COUNT
+
+-- the steps of a legal journal are at most the fuel and 256 more
+abbrev pub StepsAreBounded : Type 0
+StepsAreBounded = (p : ProgramText) (s : Limits) (journal : List Event) → is_legal p s journal ≡ true → (ledger_of p s journal).steps ≤ s.fuel + 256
+
+-- before each allocation among k steps of t, its words since the last collection are below the limit, and the object has
+-- its place
+abbrev pub AllocatesInBounds : ProgramText → Limits → Ledger → ℕ → ℕ → Type 0
+AllocatesInBounds p s l t k =
+    (j w : ℕ) → j < k → asked p (task_steps p l t j).machine t ≡ Some w
+    → let h = heap_of (task_steps p l t j) t in (h.since < s.leaf) × (lacks_room h w ≡ false)
+
+abbrev pub AllocationsAreInBounds : Type 0
+AllocationsAreInBounds =
+    (p : ProgramText) (s : Limits) (before rest : List Event) (w t k : ℕ) → is_legal p s (before ++ record { worker = w; kind = Ran t k } ∷ rest) ≡ true
+    → AllocatesInBounds p s (ledger_of p s before) t k

@@ -1,0 +1,9 @@
+pub mod Reachable
+pub mod Heaps
+pub mod Steps
+pub mod Entries
+pub mod Journals
+pub mod Report
+pub mod Pace
+pub mod Text
+pub mod Laws

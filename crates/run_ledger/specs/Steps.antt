@@ -1,0 +1,146 @@
+-- The accounts of a task's steps: allocations, forks, ends and joins; and which steps are private, due or in need.
+use Rattle.std.specs.Prelude.{ℕ, zero, suc, ◌+◌, ◌-◌, ◌==◌, ◌&&◌, ◌||◌, not, Bool, true, false, Option, Some, None, List, [], ◌∷◌, ◌++◌, slice_get, length, if◌then◌else◌, nat_le, is_none}
+use Rattle.run_trace.specs.Settings.{Limits}
+use Rattle.hh_lang.specs.declared.instr.Instr.{Instr}
+use Rattle.hh_lang.specs.declared.instr.Instr.TheVariants.{Getr, Geti, Putr, Puti, Cntr, Cnti, Freeze, Cas, Par, Ret, Out}
+use Rattle.hh_lang.specs.declared.program.Line.{Line}
+use Rattle.hh_lang.specs.Form.{ProgramText}
+use Rattle.hh_model.specs.declared.data.Name.{Name}
+use Rattle.hh_model.specs.declared.data.Frame.{Frame}
+use Rattle.hh_model.specs.declared.data.Status.{Status}
+use Rattle.hh_model.specs.declared.data.Status.TheVariants.{Running, Waiting, Ended, Joined}
+use Rattle.hh_model.specs.declared.data.Task.{Task}
+use Rattle.hh_model.specs.declared.data.End.{End}
+use Rattle.hh_model.specs.declared.data.State.{State}
+use Rattle.hh_model.specs.Effect.{row_of, ref_in}
+use Rattle.hh_model.specs.Step.{step, can_step, fetched, asked, owner_of, is_left}
+use Rattle.run_ledger.specs.declared.data.Ledger.{Ledger}
+use Rattle.run_ledger.specs.declared.data.RunEnd.TheVariants.{Machine}
+use Rattle.run_ledger.specs.Heaps.{heap_of, with_heap, within, placed, lacks_room, fresh, forked_heap, merged, emptied, let_go}
+
+-- WHAT A STEP CHANGES
+
+-- the next step of the task t allocates so many words: the name is held from then on
+abbrev pub allocated_by : Ledger → ℕ → Option ℕ → Ledger
+allocated_by l t None = l
+allocated_by l t (Some w) = with_heap l t (λ h. placed h (record { task = t; count = length (row_of (slice_get l.machine.store t)) }) w)
+
+abbrev pub allocated_in : ProgramText → Ledger → ℕ → Ledger
+allocated_in p l t = allocated_by l t (asked p l.machine t)
+
+-- a fork: what is reached within the parent's heap is set down, and the children begin with nothing
+abbrev pub at_fork : Ledger → ℕ → Ledger
+at_fork l t = with_heap (record l { heaps = l.heaps ++ fresh ∷ fresh ∷ [] }) t (forked_heap (within l t))
+
+-- the parent's heap gets all that the left child's and the right child's hold, which is the next task's
+abbrev pub join_heaps : Ledger → ℕ → ℕ → Ledger
+join_heaps l parent left =
+    with_heap (with_heap (with_heap l parent (λ h. merged h (heap_of l left) (heap_of l (left + 1)))) left emptied) (left + 1) emptied
+
+-- a join, made by the child t that ended last
+abbrev pub at_join : Ledger → ℕ → Option ℕ → Ledger
+at_join l t None = l
+at_join l t (Some parent) = join_heaps l parent (if is_left t then t else t - 1)
+
+-- the task t runs on, has forked, has ended before its sibling, or has joined its parent together with it
+abbrev pub moved_on : Ledger → ℕ → Option ℕ → Status → Ledger
+moved_on l t parent Running = l
+moved_on l t parent Waiting = at_fork l t
+moved_on l t parent (Ended k n) = with_heap l t let_go
+moved_on l t parent Joined = at_join l t parent
+
+abbrev pub moved_to : Ledger → ℕ → Option Task → Ledger
+moved_to l t None = l
+moved_to l t (Some x) = moved_on l t x.parent x.status
+
+-- where the machine has ended, so has the run; else the step's task stands where it stands
+abbrev pub settled : Ledger → ℕ → Option End → Ledger
+settled l t (Some e) = record l { end = Some (Machine e) }
+settled l t None = moved_to l t (slice_get l.machine.tasks t)
+
+-- the accounts after a step of t that took the machine to m
+abbrev pub stepped_to : Ledger → ℕ → State → Ledger
+stepped_to l t m = settled (record l { machine = m; steps = l.steps + 1 }) t m.end
+
+-- one step of a task, with its accounts
+abbrev pub task_step : ProgramText → Ledger → ℕ → Ledger
+task_step p l t =
+    if can_step l.machine t
+    then stepped_to (allocated_in p l t) t (step p l.machine t)
+    else record l { steps = l.steps + 1 }
+
+abbrev pub task_steps : ProgramText → Ledger → ℕ → ℕ → Ledger
+task_steps p l t zero = l
+task_steps p l t (suc k) = task_steps p (task_step p l t) t k
+
+-- PRIVATE STEPS
+
+-- the object that an instruction reads or writes: that of its object register alone
+abbrev pub touched : Frame → Instr → Option Name
+touched f (Getr d o k) = ref_in f o
+touched f (Geti d o k) = ref_in f o
+touched f (Putr o k v) = ref_in f o
+touched f (Puti o k v) = ref_in f o
+touched f (Cntr d o) = ref_in f o
+touched f (Cnti d o) = ref_in f o
+touched f (Freeze o) = ref_in f o
+touched f (Cas d o k e v) = ref_in f o
+touched f _ = None
+
+abbrev pub has_no_caller : List Frame → Bool
+has_no_caller [] = true
+has_no_caller (f ∷ fs) = false
+
+-- an output, a fork and the return that ends the task
+abbrev pub is_open : Task → Instr → Bool
+is_open x (Out a) = true
+is_open x (Par g h) = true
+is_open x Ret = has_no_caller x.below
+is_open x _ = false
+
+-- the task owns the object, or there is none
+abbrev pub owns : List Task → ℕ → Option Name → Bool
+owns tasks t None = true
+owns tasks t (Some n) = owner_of tasks n.task == t
+
+abbrev pub is_private_line : ProgramText → State → ℕ → Task → Option Line → Bool
+is_private_line p m t x None = false
+is_private_line p m t x (Some line) = not (is_open x line.instr) && (owns m.tasks t (touched x.top line.instr) && is_none (step p m t).end)
+
+abbrev pub is_private_by : ProgramText → State → ℕ → Option Task → Bool
+is_private_by p m t None = false
+is_private_by p m t (Some x) = is_private_line p m t x (fetched p x.top)
+
+-- the next step of a running task is private: it is no output, no fork, no end of the task or of the run, and reads or
+-- writes no object that another task owns
+abbrev pub is_private : ProgramText → State → ℕ → Bool
+is_private p m t = is_private_by p m t (slice_get m.tasks t)
+
+-- DUE AND IN NEED
+
+-- the next step allocates, and its words pass the test
+abbrev pub on_asked : Option ℕ → (ℕ → Bool) → Bool
+on_asked None test = false
+on_asked (Some w) test = test w
+
+-- the next step allocates, and a leaf collection is due
+abbrev pub is_due : Limits → ProgramText → Ledger → ℕ → Bool
+is_due s p l t = on_asked (asked p l.machine t) (λ w. nat_le s.leaf (heap_of l t).since)
+
+-- the next step allocates, and its object has no place yet
+abbrev pub is_in_need : ProgramText → Ledger → ℕ → Bool
+is_in_need p l t = on_asked (asked p l.machine t) (lacks_room (heap_of l t))
+
+-- THE STEPS OF ONE ENTRY
+
+-- the most steps of one entry
+abbrev pub most_steps : ℕ
+most_steps = 257
+
+-- how many of the next k steps of a task can stand in one entry, its limit left aside: those before the first that is due
+-- or in need, up to the first that isn't private
+abbrev pub standing : Limits → ProgramText → Ledger → ℕ → ℕ → ℕ
+standing s p l t zero = 0
+standing s p l t (suc k) =
+    if is_due s p l t || is_in_need p l t then 0
+    else if is_private p l.machine t then suc (standing s p (task_step p l t) t k) else 1

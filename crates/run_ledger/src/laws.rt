@@ -1,0 +1,43 @@
+// The laws of journals, each the clause of a function that does nothing.
+
+ghost use Rattle.run_ledger.specs.Laws.{ReachedIsWalks, MachineIsRun, NothingReachableIsFreed, LegalIsUnrefused, JournalsCanBeCut, FirstRefusedIsFirst, StepsAreBounded, AllocationsAreInBounds};
+
+/// Of some names, those are reached to which walks along references lead, through these names alone.
+pub fn reached_is_walks()
+    ensures { ReachedIsWalks }
+{}
+
+/// A ledger's machine is the machine that never collects, over the journal's steps.
+pub fn machine_is_run()
+    ensures { MachineIsRun }
+{}
+
+/// After every legal journal all that is reachable is held, and so is each reference of what is held.
+pub fn nothing_reachable_is_freed()
+    ensures { NothingReachableIsFreed }
+{}
+
+/// The test of legal journals is what is meant by them.
+pub fn legal_is_unrefused()
+    ensures { LegalIsUnrefused }
+{}
+
+/// A journal can be cut anywhere: its accounts go on from those of the first part, and it is legal where both parts are.
+pub fn journals_can_be_cut()
+    ensures { JournalsCanBeCut }
+{}
+
+/// The entry that is found as the first refused one is that.
+pub fn first_refused_is_first()
+    ensures { FirstRefusedIsFirst }
+{}
+
+/// The steps of a legal journal are at most the fuel and 256 more.
+pub fn steps_are_bounded()
+    ensures { StepsAreBounded }
+{}
+
+/// Before each allocation in a legal journal its heap isn't due for a collection, and the object has its place.
+pub fn allocations_are_in_bounds()
+    ensures { AllocationsAreInBounds }
+{}

@@ -1,0 +1,12 @@
+// Journals of runs: the accounts that each entry changes, which entries are legal, what a run comes to, and the laws of
+// all legal journals. The definitions are in specs/.
+#![tactic(auto)]
+
+mod data;
+mod laws;
+
+pub use data::{Heap, Ledger, Owed, Previous, Refused, RefusedAt, Report, RunEnd, WorkerPace};
+pub use laws::{
+    allocations_are_in_bounds, first_refused_is_first, journals_can_be_cut, legal_is_unrefused,
+    machine_is_run, nothing_reachable_is_freed, reached_is_walks, steps_are_bounded,
+};
