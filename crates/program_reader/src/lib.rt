@@ -1,0 +1,5 @@
+// Reads texts of the register language.
+#![tactic(auto)]
+
+mod names;
+mod words;
