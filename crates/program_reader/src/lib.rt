@@ -1,5 +1,13 @@
 // Reads texts of the register language.
 #![tactic(auto)]
 
+mod cause;
+mod head;
+mod labels;
 mod names;
+mod operands;
+mod outline;
+mod sense;
 mod words;
+
+pub use cause::{Cause, Refused};
