@@ -1,3 +1,5 @@
 mod Runs
 mod Tables
 mod Counts
+mod Lines
+mod Outlines

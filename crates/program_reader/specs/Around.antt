@@ -20,9 +20,9 @@ operands_of_line line = operands_of (words_of line)
 -- ---- whether a function is open
 
 abbrev pub is_open_after : Head → Bool → Bool
-is_open_after Begin open = true
-is_open_after End open = false
-is_open_after _ open = open
+is_open_after Begin b = true
+is_open_after End b = false
+is_open_after _ b = b
 
 -- the last of `fn` and `end` above is `fn`
 abbrev pub is_inside : List (List ℕ) → Bool

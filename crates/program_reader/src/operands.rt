@@ -1,6 +1,6 @@
 // Registers, counts and names as operands.
 
-ghost use Rattle.std.specs.Prelude.{◌≡◌, ◌<◌, MatchOption, None, Some, IfSome};
+ghost use Rattle.std.specs.Prelude.{◌≡◌, ◌<◌, IfSome, option_copied};
 ghost use Rattle.program_reader.specs.Operands.{register_number, int_register, ref_register, field_count};
 ghost use Rattle.program_reader.specs.Sense.{only_name};
 ghost use Rattle.program_reader.specs.Words.{words_of};
@@ -55,7 +55,7 @@ pub(crate) fn read_field_count(word: &[u8]) -> Option<FieldCount>
 
 /// The name that stands alone in the rest of a line.
 pub(crate) fn read_only_name(rest: &[u8]) -> Option<&[u8]>
-    ensures { MatchOption result (only_name (words_of rest.now) ≡ None) (λ name. only_name (words_of rest.now) ≡ Some name.now) }
+    ensures { option_copied result ≡ only_name (words_of rest.now) }
 {
     let (name, rest) = next_word(rest)?;
     if is_name_word(name) && next_word(rest).is_none() {
