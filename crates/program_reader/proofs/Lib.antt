@@ -3,3 +3,4 @@ mod Tables
 mod Counts
 mod Lines
 mod Outlines
+mod LabelSteps

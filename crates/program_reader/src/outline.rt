@@ -24,8 +24,8 @@ pub(crate) fn split_line(line: &[u8]) -> (Head, &[u8])
     }
 }
 
-// Notes a name, if there is one.
-fn note_if<'a>(
+/// Notes a name, if there is one.
+pub(crate) fn note_if<'a>(
     table: &mut Table<'a>,
     name: Option<&'a [u8]>,
     number: u32,
