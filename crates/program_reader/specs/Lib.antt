@@ -6,3 +6,5 @@ pub mod Sense
 pub mod Around
 pub mod Cause
 pub mod Fault
+pub mod Program
+pub mod Reading

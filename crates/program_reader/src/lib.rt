@@ -7,6 +7,7 @@ mod labels;
 mod names;
 mod operands;
 mod outline;
+mod reader;
 mod sense;
 mod words;
 
