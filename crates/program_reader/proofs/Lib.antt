@@ -4,3 +4,4 @@ mod Counts
 mod Lines
 mod Outlines
 mod LabelSteps
+mod Causes

@@ -98,17 +98,30 @@ is_too_many s _ = false
 
 -- ---- the first cause on a line, and the first line with one
 
-abbrev pub fault_by : Outline → Spot → Head → List (List ℕ) → Sense → Option Cause
-fault_by o s h ws sense =
-    if is_misplaced s.inside h then Some Word
-    else if has_wrong_operand sense then Some Operand
-    else if leaves_open s h then Some NoEnd
-    else if is_second s h ws then Some TwoNames
-    else if names_no_function sense then Some NoName
-    else if names_no_label sense then Some NoLabel
-    else if lacks_main o s then Some NoMain
-    else if is_too_many s h then Some TooMany
+-- causes in their order, each with whether it holds
+abbrev pub first_cause : Bool → Bool → Bool → Bool → Bool → Bool → Bool → Bool → Option Cause
+first_cause word operand no_end two_names no_name no_label no_main too_many =
+    if word then Some Word
+    else if operand then Some Operand
+    else if no_end then Some NoEnd
+    else if two_names then Some TwoNames
+    else if no_name then Some NoName
+    else if no_label then Some NoLabel
+    else if no_main then Some NoMain
+    else if too_many then Some TooMany
     else None
+
+-- the first cause on a line that is UTF-8
+abbrev pub fault_by : Outline → Spot → Head → List (List ℕ) → Sense → Option Cause
+fault_by o s h ws sense = first_cause
+    (is_misplaced s.inside h)
+    (has_wrong_operand sense)
+    (leaves_open s h)
+    (is_second s h ws)
+    (names_no_function sense)
+    (names_no_label sense)
+    (lacks_main o s)
+    (is_too_many s h)
 
 -- the first cause on a line; the outline is that of the whole text
 abbrev pub fault_on : Outline → Spot → List ℕ → Option Cause

@@ -8,8 +8,8 @@ use Rattle.program_reader.specs.declared.sense.Sense.{Sense}
 use Rattle.program_reader.specs.declared.sense.Sense.TheVariants.{Does}
 use Rattle.program_reader.specs.declared.sense.Outline.{Outline}
 use Rattle.program_reader.specs.declared.reader.Reader.{Reader}
-use Rattle.program_reader.specs.Sense.{only_name}
-use Rattle.program_reader.specs.Around.{no_labels, labels_onto}
+use Rattle.program_reader.specs.Sense.{only_name, sense_of}
+use Rattle.program_reader.specs.Around.{head_of_line, operands_of_line, no_labels, labels_onto}
 use Rattle.program_reader.specs.Fault.{Spot}
 use Rattle.program_reader.specs.Program.{line_of}
 
@@ -43,6 +43,10 @@ after_line r End ws sense number below = after_end r number
 after_line r Label ws sense number below = record r { labeled = r.labeled + 1 }
 after_line r (Order v) ws sense number below = after_order r sense number
 after_line r _ ws sense number below = r
+
+-- the same, by the line itself
+abbrev pub line_taken : Outline → Reader → ℕ → List ℕ → List (List ℕ) → Reader
+line_taken o r number line below = after_line r (head_of_line line) (operands_of_line line) (sense_of o r.labels.entries (head_of_line line) (operands_of_line line)) number below
 
 -- the counts are those of a text, and are counted by 32 bits
 pub record IsCounted (r : Reader) : Type 0 where

@@ -83,6 +83,13 @@ impl<'a> Table<'a> {
         self.numbers.get_index_of(name)
     }
 
+    /// Whether a name is there.
+    pub(crate) fn has(&self, name: &[u8]) -> bool
+        ensures { result ≡ is_noted self.now name.now }
+    {
+        self.numbers.contains_key(name)
+    }
+
     /// Whether a name stands among so many first ones.
     pub(crate) fn has_among_first(&self, count: usize, name: &[u8]) -> bool
         ensures { result ≡ is_noted (take count self.now) name.now }
