@@ -1,12 +1,15 @@
 -- Which cause comes first.
-use Rattle.std.proofs.Common.{◌≡◌, ℕ, Bool, true, false, cond, List, refl}
+use Rattle.std.proofs.Common.{◌≡◌, ℕ, Bool, true, false, cond, List, refl, ap, sym, ◌∙◌}
 use Rattle.std.specs.Prelude.{Option, Some, None}
 use Rattle.program_reader.specs.declared.cause.Cause.{Cause}
-use Rattle.program_reader.specs.declared.cause.Cause.TheVariants.{Word, Operand, NoEnd, TwoNames, NoName, NoLabel, NoMain, TooMany}
+use Rattle.program_reader.specs.declared.cause.Cause.TheVariants.{NotUtf8, Word, Operand, NoEnd, TwoNames, NoName, NoLabel, NoMain, TooMany}
 use Rattle.program_reader.specs.declared.head.Head.{Head}
 use Rattle.program_reader.specs.declared.sense.Sense.{Sense}
 use Rattle.program_reader.specs.declared.sense.Outline.{Outline}
-use Rattle.program_reader.specs.Fault.{Spot, is_misplaced, has_wrong_operand, leaves_open, is_second, names_no_function, names_no_label, lacks_main, is_too_many, first_cause, fault_by}
+use Rattle.program_reader.specs.Fault.{Spot, is_misplaced, has_wrong_operand, leaves_open, is_second, names_no_function, names_no_label, lacks_main, is_too_many, first_cause, fault_by, fault_on}
+use Rattle.std.specs.Str.{is_utf8}
+use Rattle.program_reader.specs.Sense.{sense_of}
+use Rattle.program_reader.specs.Around.{head_of_line, operands_of_line}
 
 by_word : (a b c d e f g h : Bool) → a ≡ true → ◌≡◌ {A = Option Cause} (Some Word) (first_cause a b c d e f g h)
 by_word a b c d e f g h pa = rw pa refl
@@ -95,3 +98,13 @@ faultless o s h ws x e =
     let e6 = passed (lacks_main o s) NoMain (cond (is_too_many s h) (Some TooMany) None) e5.1 in
     let e7 = passed (is_too_many s h) TooMany None e6.1 in
     record { known = e0.0; operand = e1.0; no_end = e2.0; two_names = e3.0; no_name = e4.0; no_label = e5.0; no_main = e6.0; too_many = e7.0 }
+
+pub gives_not_utf8 : (o : Outline) (s : Spot) (line : List ℕ) → is_utf8 line ≡ false → ◌≡◌ {A = Option Cause} (Some NotUtf8) (fault_on o s line)
+gives_not_utf8 o s line e = ap (λ b. cond b (fault_by o s (head_of_line line) (operands_of_line line) (sense_of o s.labels (head_of_line line) (operands_of_line line))) (Some NotUtf8)) (sym e)
+
+pub gives_fault : (o : Outline) (s : Spot) (line : List ℕ) (r : Option Cause) (h : Head) (ws : List (List ℕ)) (x : Sense) → is_utf8 line ≡ true → h ≡ head_of_line line → ws ≡ operands_of_line line → x ≡ sense_of o s.labels h ws → r ≡ fault_by o s h ws x → r ≡ fault_on o s line
+gives_fault o s line r h ws x e eh ews ex er =
+    let e1 : fault_by o s h ws x ≡ fault_by o s h ws (sense_of o s.labels h ws) = ap (λ y. fault_by o s h ws y) ex in
+    let e2 : fault_by o s h ws (sense_of o s.labels h ws) ≡ fault_by o s (head_of_line line) ws (sense_of o s.labels (head_of_line line) ws) = ap (λ y. fault_by o s y ws (sense_of o s.labels y ws)) eh in
+    let e3 : fault_by o s (head_of_line line) ws (sense_of o s.labels (head_of_line line) ws) ≡ fault_by o s (head_of_line line) (operands_of_line line) (sense_of o s.labels (head_of_line line) (operands_of_line line)) = ap (λ y. fault_by o s (head_of_line line) y (sense_of o s.labels (head_of_line line) y)) ews in
+    er ∙ e1 ∙ e2 ∙ e3 ∙ ap (λ b. cond b (fault_by o s (head_of_line line) (operands_of_line line) (sense_of o s.labels (head_of_line line) (operands_of_line line))) (Some NotUtf8)) (sym e)

@@ -5,3 +5,4 @@ mod Lines
 mod Outlines
 mod LabelSteps
 mod Causes
+mod Prefixes

@@ -1,5 +1,5 @@
 -- The program of a text.
-use Rattle.std.specs.Prelude.{ℕ, ◌+◌, Option, Some, None, List, [], ◌∷◌, ◌++◌, codes, length}
+use Rattle.std.specs.Prelude.{ℕ, ◌+◌, Option, Some, None, List, [], ◌∷◌, ◌++◌, codes, length, map}
 use Rattle.std.specs.Option.{unwrap_or}
 use Rattle.hh_lang.specs.declared.instr.Operator.TheVariants.{Add, Sub, Div, Lt, Eq}
 use Rattle.hh_lang.specs.declared.instr.Instr.{Instr}
@@ -55,8 +55,7 @@ number_of o name = unwrap_or (place_of o.functions name) 0
 
 -- all instructions with one line
 abbrev pub on_line : ℕ → List Instr → List Line
-on_line number [] = []
-on_line number (i ∷ is) = line_of i number ∷ on_line number is
+on_line number code = map (λ i. line_of i number) code
 
 -- `f?` calls f where one number is left, forks both halves where there are more, and answers 0 where
 -- there is none

@@ -4,6 +4,7 @@
 mod cause;
 mod head;
 mod labels;
+mod loops;
 mod names;
 mod operands;
 mod outline;

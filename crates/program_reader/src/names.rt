@@ -1,8 +1,8 @@
 // Names, and tables of them.
 
-ghost use Rattle.std.specs.Prelude.{◌≡◌, ◌<◌, [], length, take, OnOk, OnErr, IfSome, Some, option_map, option_copied};
+ghost use Rattle.std.specs.Prelude.{◌≡◌, ◌<◌, [], length, take, OnOk, OnErr, IfSome, Some, option_map, slice_get};
 ghost use Rattle.std.specs.List.{list_all};
-ghost use Rattle.program_reader.specs.Names.{is_letter, is_digit, is_name_byte, is_name, begins_name, is_noted, noted, place_of, numbered_of};
+ghost use Rattle.program_reader.specs.Names.{is_letter, is_digit, is_name_byte, is_name, begins_name, is_noted, noted, place_of, numbered_of, entry_of};
 
 use indexmap::IndexMap;
 use std::alloc::{AllocError, Global};
@@ -81,6 +81,14 @@ impl<'a> Table<'a> {
         ensures { result ≡ place_of self.now name.now }
     {
         self.numbers.get_index_of(name)
+    }
+
+    /// The name at a place, and its number.
+    pub(crate) fn entry(&self, place: usize) -> Option<(&'a [u8], u32)>
+        ensures { option_map (λ e. entry_of e.0.now e.1) result ≡ slice_get self.now place }
+    {
+        let (name, number) = self.numbers.get_index(place)?;
+        Some((*name, *number))
     }
 
     /// Whether a name is there.

@@ -1,6 +1,7 @@
 // How far a text was read.
 
 ghost use Rattle.std.specs.Prelude.{◌≡◌, ◌≤◌, ◌&&◌, Bool, not, codes, length, IfOk, IfNone, OnOk};
+ghost use Rattle.std.specs.Str.{is_utf8};
 ghost use Rattle.program_reader.specs.Words.{lines_of, words_of};
 ghost use Rattle.program_reader.specs.Names.{is_noted};
 ghost use Rattle.program_reader.specs.Sense.{only_name, IsSmall, sense_of};
@@ -86,6 +87,16 @@ fn open_after(head: Head, inside: bool) -> bool
         Head::Begin => true,
         Head::End => false,
         _ => inside,
+    }
+}
+
+// Whether bytes are UTF-8.
+fn is_text(line: &[u8]) -> bool
+    ensures { result ≡ is_utf8 line.now }
+{
+    match str::from_utf8(line) {
+        Ok(_) => true,
+        Err(_) => false,
     }
 }
 
@@ -259,15 +270,17 @@ impl<'a> Reader<'a> {
         ensures fault { IfOk result (λ fault. fault ≡ fault_on outline.now (spot_in outline.now self.old last) line.now) }
         ensures taken { IfOk result (λ fault. IfNone fault (self.new ≡ line_taken outline.now self.old number line.now (lines_of below.now))) }
     {
-        if str::from_utf8(line).is_err() {
+        if !is_text(line) {
             return Ok(Some(Cause::NotUtf8));
         }
         let (head, rest) = split_line(line);
         let sense = read_operands(outline, &self.labels.entries, head, rest);
-        if let Some(cause) = self.fault(outline, head, rest, &sense, last) {
-            return Ok(Some(cause));
+        match self.fault(outline, head, rest, &sense, last) {
+            Some(cause) => Ok(Some(cause)),
+            None => {
+                self.take_line(alloc, head, rest, &sense, number, below)?;
+                Ok(None)
+            }
         }
-        self.take_line(alloc, head, rest, &sense, number, below)?;
-        Ok(None)
     }
 }
