@@ -6,3 +6,4 @@ mod Outlines
 mod LabelSteps
 mod Causes
 mod Prefixes
+mod LoopFunctions

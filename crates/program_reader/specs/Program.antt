@@ -1,5 +1,5 @@
 -- The program of a text.
-use Rattle.std.specs.Prelude.{ℕ, ◌+◌, Option, Some, None, List, [], ◌∷◌, ◌++◌, codes, length, map}
+use Rattle.std.specs.Prelude.{ℕ, ◌+◌, Option, Some, None, List, [], ◌∷◌, ◌++◌, codes, length, map, Result, Ok, Err}
 use Rattle.std.specs.Option.{unwrap_or}
 use Rattle.hh_lang.specs.declared.instr.Operator.TheVariants.{Add, Sub, Div, Lt, Eq}
 use Rattle.hh_lang.specs.declared.instr.Instr.{Instr}
@@ -13,6 +13,8 @@ use Rattle.program_reader.specs.declared.head.Head.TheVariants.{Begin, End}
 use Rattle.program_reader.specs.declared.sense.Sense.{Sense}
 use Rattle.program_reader.specs.declared.sense.Sense.TheVariants.{Does}
 use Rattle.program_reader.specs.declared.sense.Outline.{Outline}
+use Rattle.program_reader.specs.declared.cause.Refused.{Refused}
+use Rattle.program_reader.specs.Fault.{first_fault}
 use Rattle.program_reader.specs.Words.{lines_of}
 use Rattle.program_reader.specs.Names.{Entry, place_of}
 use Rattle.program_reader.specs.Sense.{sense_of, loop_function}
@@ -92,12 +94,16 @@ loops_from o k (e ∷ es) = loop_functions o (loop_function o k) e ++ loops_from
 
 -- ---- the program
 
-abbrev pub program_by : Outline → List ℕ → ProgramText
-program_by o text = record {
-  functions = functions_from o 1 (lines_of text) ++ loops_from o 0 o.loops;
-  main = number_of o (codes "main");
-}
-
 -- the program of a text without a fault
 abbrev pub program_of : List ℕ → ProgramText
-program_of text = program_by (outline_of text) text
+program_of text =
+    let o = outline_of text in
+    record { functions = functions_from o 1 (lines_of text) ++ loops_from o 0 o.loops; main = number_of o (codes "main") }
+
+abbrev pub unless_refused : Option Refused → ProgramText → Result ProgramText Refused
+unless_refused None p = Ok p
+unless_refused (Some r) p = Err r
+
+-- what a text is read as: its first fault, or its program
+abbrev pub reading_of : List ℕ → Result ProgramText Refused
+reading_of text = unless_refused (first_fault text) (program_of text)

@@ -1,5 +1,5 @@
 -- How far a text was read, and what a line adds to that: what the reader's own functions say.
-use Rattle.std.specs.Prelude.{ℕ, ◌+◌, ◌<◌, ◌^◌, Bool, true, false, Option, Some, None, List, [], ◌∷◌, ◌++◌, take}
+use Rattle.std.specs.Prelude.{ℕ, ◌+◌, ◌<◌, ◌^◌, Bool, true, false, Option, Some, None, List, [], ◌∷◌, ◌++◌, take, codes}
 use Rattle.hh_lang.specs.declared.instr.Instr.{Instr}
 use Rattle.hh_lang.specs.declared.instr.Instr.TheVariants.{Ret}
 use Rattle.program_reader.specs.declared.head.Head.{Head}
@@ -11,7 +11,9 @@ use Rattle.program_reader.specs.declared.reader.Reader.{Reader}
 use Rattle.program_reader.specs.Sense.{only_name, sense_of}
 use Rattle.program_reader.specs.Around.{head_of_line, operands_of_line, no_labels, labels_onto}
 use Rattle.program_reader.specs.Fault.{Spot}
-use Rattle.program_reader.specs.Program.{line_of}
+use Rattle.program_reader.specs.Program.{line_of, loops_from, number_of}
+use Rattle.hh_lang.specs.declared.program.Fun.{Fun}
+use Rattle.hh_lang.specs.Form.{ProgramText}
 
 -- where the next line stands
 abbrev pub spot_in : Outline → Reader → Bool → Spot
@@ -53,3 +55,11 @@ pub record IsCounted (r : Reader) : Type 0 where
   pub begun : r.begun < 2 ^ 31
   pub labeled : r.labeled < 2 ^ 31
   pub orders : r.orders < 2 ^ 31
+
+-- before the first line
+abbrev pub nothing_read : Reader
+nothing_read = record { inside = false; begun = 0; labeled = 0; orders = 0; labels = no_labels; name = []; code = []; done = [] }
+
+-- the program of these functions and those of the loops
+abbrev pub program_in : Outline → List Fun → ProgramText
+program_in o functions = record { functions = functions ++ loops_from o 0 o.loops; main = number_of o (codes "main") }

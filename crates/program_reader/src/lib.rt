@@ -8,8 +8,10 @@ mod loops;
 mod names;
 mod operands;
 mod outline;
+mod read;
 mod reader;
 mod sense;
 mod words;
 
 pub use cause::{Cause, Refused};
+pub use read::read_program;

@@ -1,6 +1,6 @@
 // The functions of loops.
 
-ghost use Rattle.std.specs.Prelude.{◌≡◌, ◌<◌, ◌+◌, ◌^◌, ◌++◌, ◌∷◌, [], length, codes, IfOk, OnOk};
+ghost use Rattle.std.specs.Prelude.{◌≡◌, ◌<◌, ◌+◌, ◌^◌, ◌++◌, ◌∷◌, [], length, codes, IfOk, OnOk, MatchOption, slice_get};
 ghost use Rattle.program_reader.specs.Names.{entry_of};
 ghost use Rattle.program_reader.specs.Sense.{IsSmall, loop_function};
 ghost use Rattle.program_reader.specs.Program.{function_of, on_line, whole_code, left_code, right_code, loop_functions, loops_from, number_of};
@@ -126,4 +126,70 @@ fn right_function(
         Instr::Ret,
     ];
     function_on(alloc, name, b'>', number, &code)
+}
+
+/// The number of the function of this name.
+pub(crate) fn number_in(outline: &Outline<'_>, name: &[u8]) -> u32
+    requires { IsSmall outline.now }
+    ensures { result ≡ number_of outline.now name.now }
+{
+    match outline.functions.find(name) {
+        Some(place) => place as u32,
+        None => 0,
+    }
+}
+
+// Adds the functions of a loop, of which the first one's number is given.
+fn add_named(
+    alloc: Global,
+    outline: &Outline<'_>,
+    functions: &mut Listed<Fun>,
+    name: &[u8],
+    number: u32,
+    first: u32,
+) -> Result<(), AllocError>
+    requires small { IsSmall outline.now }
+    requires fits { first + 2 < 2 ^ 32 }
+    ensures { OnOk result (functions.new ≡ functions.old ++ loop_functions outline.now first (entry_of name.now number)) }
+{
+    let function = number_in(outline, name);
+    functions.push(whole_function(alloc, name, number, function, first)?)?;
+    functions.push(left_function(alloc, name, number, first)?)?;
+    functions.push(right_function(alloc, name, number, first)?)?;
+    Ok(())
+}
+
+// Adds the functions of the loop at a place.
+fn add_loop(
+    alloc: Global,
+    outline: &Outline<'_>,
+    functions: &mut Listed<Fun>,
+    place: usize,
+) -> Result<(), AllocError>
+    requires small { IsSmall outline.now }
+    requires there { place < length outline.now.loops }
+    ensures { OnOk result (MatchOption (slice_get outline.now.loops place) (functions.new ≡ functions.old) (λ e. functions.new ≡ functions.old ++ loop_functions outline.now (loop_function outline.now place) e)) }
+{
+    match outline.loops.entry(place) {
+        None => Ok(()),
+        Some((name, number)) => {
+            let first = (outline.functions.len() + 3 * place) as u32;
+            add_named(alloc, outline, functions, name, number, first)
+        }
+    }
+}
+
+/// Adds the functions of all loops.
+pub(crate) fn add_loops(
+    alloc: Global,
+    outline: &Outline<'_>,
+    functions: &mut Listed<Fun>,
+) -> Result<(), AllocError>
+    requires { IsSmall outline.now }
+    ensures { OnOk result (functions.new ≡ functions.old ++ loops_from outline.now 0 outline.now.loops) }
+{
+    for place in 0..outline.loops.len() {
+        add_loop(alloc, outline, functions, place)?;
+    }
+    Ok(())
 }
