@@ -13,5 +13,8 @@ mod reader;
 mod sense;
 mod words;
 
+#[cfg(test)]
+mod tests;
+
 pub use cause::{Cause, Refused};
 pub use read::read_program;
