@@ -7,3 +7,5 @@ mod LabelSteps
 mod Causes
 mod Prefixes
 mod LoopFunctions
+mod Spots
+mod Ranges
