@@ -9,3 +9,4 @@ mod Prefixes
 mod LoopFunctions
 mod Spots
 mod Ranges
+mod Steps

@@ -1,0 +1,127 @@
+-- One line without a fault more.
+use Rattle.std.proofs.Common.{◌≡◌, ◌<◌, ◌≤◌, ◌+◌, ◌++◌, ◌^◌, ℕ, zero, suc, Bool, true, false, cond, List, [], ◌∷◌, length, map, take, arith, refl, ap, sym, subst, ◌∙◌, append_assoc, length-append}
+use Rattle.std.specs.Prelude.{Option, Some, None, ◌&&◌, ◌||◌}
+use Rattle.std.specs.List.{All}
+use Rattle.std.proofs.lemmas.List.{append-nil}
+use Rattle.std.proofs.lemmas.List.Elements.{All-append, All-nil}
+use Rattle.hh_lang.specs.declared.instr.Instr.{Instr}
+use Rattle.hh_lang.specs.declared.instr.Instr.TheVariants.{Ret}
+use Rattle.hh_lang.specs.declared.program.Line.{Line}
+use Rattle.hh_lang.specs.declared.program.Fun.{Fun}
+use Rattle.hh_lang.specs.Form.{NamesExist, IsFunction, EndsWithReturn}
+use Rattle.program_reader.specs.declared.head.Head.{Head}
+use Rattle.program_reader.specs.declared.head.Head.TheVariants.{Blank, Begin, End, Label, Order, Unknown}
+use Rattle.program_reader.specs.declared.sense.Sense.{Sense}
+use Rattle.program_reader.specs.declared.sense.Sense.TheVariants.{Fits, Does, WrongOperand, NoSuchFunction, NoSuchLabel}
+use Rattle.program_reader.specs.declared.sense.Outline.{Outline}
+use Rattle.program_reader.specs.declared.labels.Labels.{Labels}
+use Rattle.program_reader.specs.declared.reader.Reader.{Reader}
+use Rattle.program_reader.specs.Names.{Entry, is_noted, noted}
+use Rattle.program_reader.specs.Sense.{sense_of, only_name, named, alone}
+use Rattle.program_reader.specs.Around.{is_inside, is_open_after, noted_if, begun_name, outline_above, no_labels, label_line, labels_after, labels_above, labels_onto, ends_body, begins, begun_above, orders, orders_above}
+use Rattle.program_reader.specs.Fault.{Spot, is_misplaced, has_wrong_operand, is_begin, is_among, names_no_function, names_no_label}
+use Rattle.program_reader.specs.Program.{line_of, code_by, code_from, with_function, functions_from}
+use Rattle.program_reader.specs.Reading.{spot_in, after_begin, after_end, after_order, after_line}
+use Rattle.program_reader.proofs.Causes.{IsFaultless}
+use Rattle.program_reader.proofs.Ranges.{all_functions, IsInRange}
+use Rattle.program_reader.proofs.Spots.{IsOpen, Follows, first_named, first_labeled}
+
+-- ---- small facts
+
+not_both : (b : Bool) → b ≡ true → b ≡ false → ⊥
+not_both b t f = cc
+
+wrong_none : (x : Sense) → x ≡ named None → has_wrong_operand x ≡ false → ⊥
+wrong_none x e f = not_both (has_wrong_operand x) (ap has_wrong_operand e) f
+
+fits_named : (x : Sense) (name : Option (List ℕ)) → x ≡ named name → has_wrong_operand x ≡ false → x ≡ Fits
+fits_named x None e f = absurd (wrong_none x e f)
+fits_named x (Some name) e f = e
+
+fits_alone : (x : Sense) (ws : List (List ℕ)) → x ≡ alone ws → has_wrong_operand x ≡ false → x ≡ Fits
+fits_alone x [] e f = e
+fits_alone x (w ∷ ws) e f = absurd (not_both (has_wrong_operand x) (ap has_wrong_operand e) f)
+
+outside_begin : (b : Bool) (c : Bool) → ((b && true) || c) ≡ false → b ≡ false
+outside_begin true c e = absurd (cc)
+outside_begin false c e = refl
+
+inside_end : (b : Bool) → is_misplaced b End ≡ false → b ≡ true
+inside_end true e = refl
+inside_end false e = absurd (cc)
+
+unknown_never : (b : Bool) → is_misplaced b Unknown ≡ false → ⊥
+unknown_never true e = cc
+unknown_never false e = cc
+
+push_length : {A : Type 0} (xs : List A) (x : A) → length (xs ++ x ∷ []) ≡ length xs + 1
+push_length xs x = grind (arith, length-append)
+
+push_map : {A B : Type 0} (f : A → B) (xs : List A) (x : A) → map f (xs ++ x ∷ []) ≡ map f xs ++ f x ∷ []
+push_map f [] x = refl
+push_map f (y ∷ ys) x = ap (λ l. f y ∷ l) (push_map f ys x)
+
+single : {A : Type 0} (P : A → Type 0) (x : A) → P x → All P (x ∷ [])
+single P x h zero d lt = h
+single P x h (suc k) d lt = absurd (let l : suc k < 1 = lt in omega arith)
+
+pub push_all : {A : Type 0} (P : A → Type 0) (xs : List A) (x : A) → All P xs → P x → All P (xs ++ x ∷ [])
+push_all P xs x h k = All-append P xs (x ∷ []) h (single P x k)
+
+-- a name that is new is noted behind the others
+new_name : (es : List Entry) (name : List ℕ) (n : ℕ) → is_noted es name ≡ false → noted es name n ≡ es ++ record { name = name; number = n } ∷ []
+new_name es name n e = ap (λ b. cond b es (es ++ record { name = name; number = n } ∷ [])) e
+
+-- what a line of this kind says, as far as it matters
+abbrev pub Told : Outline → Labels → Head → List (List ℕ) → Sense → Type 0
+Told o labels (Order v) ws x = IsInRange (all_functions o) (labels.next + 1) x
+Told o labels Begin ws x = x ≡ named (only_name ws)
+Told o labels Label ws x = x ≡ named (only_name ws)
+Told o labels _ ws x = x ≡ alone ws
+
+-- ---- what the lines tell, with one more
+
+pub record After (r : Reader) (above : List (List ℕ)) (h : Head) (ws : List (List ℕ)) (name : Option (List ℕ)) (ls : List (List ℕ)) : Type 0 where
+  pub inside : r.inside ≡ is_open_after h (is_inside above)
+  pub begun : r.begun ≡ begun_above above + begins h
+  pub named : length (noted_if (outline_above above).functions name (length above + 1)) ≡ r.begun
+  pub orders : r.orders ≡ orders_above above + orders h
+  pub opened : r.inside ≡ true → (r.labels ≡ labels_onto (labels_after h ws (labels_above above)) ls) × (length (labels_after h ws (labels_above above)).entries ≡ r.labeled)
+
+module _ (o : Outline) (r : Reader) (above : List (List ℕ)) (l : List ℕ) (ls : List (List ℕ)) (n : ℕ) (last : Bool) (f : Follows o r above (l ∷ ls)) (ws : List (List ℕ)) (x : Sense) where
+  begin_after : (name : Option (List ℕ)) → x ≡ named name → has_wrong_operand x ≡ false → is_among (take r.begun o.functions) name ≡ false → After (after_begin r name ls) above Begin ws name ls
+  begin_after None e w a = absurd (wrong_none x e w)
+  begin_after (Some name) e w a =
+      let fresh : is_noted (outline_above above).functions name ≡ false = ap (λ es. is_noted es name) (sym (first_named o r above (l ∷ ls) f)) ∙ a in
+      let e1 = new_name (outline_above above).functions name (length above + 1) fresh in
+      record {
+        inside = refl;
+        begun = ap (λ k. k + 1) f.begun;
+        named = ap length e1 ∙ push_length (outline_above above).functions (record { name = name; number = length above + 1 }) ∙ ap (λ k. k + 1) f.named;
+        orders = omega (arith, f.orders);
+        opened = λ t. (refl, refl);
+      }
+
+  end_after : After (after_end r n) above End ws None ls
+  end_after = record {
+    inside = refl;
+    begun = omega (arith, f.begun);
+    named = f.named;
+    orders = omega (arith, f.orders);
+    opened = λ t. absurd (not_both false t refl);
+  }
+
+  label_labeled : (p : IsOpen r above (l ∷ ls)) (name : Option (List ℕ)) → x ≡ named name → has_wrong_operand x ≡ false → is_among (take r.labeled r.labels.entries) name ≡ false → length (noted_if (labels_above above).entries name (labels_above above).next) ≡ r.labeled + 1
+  label_labeled p None e w a = absurd (wrong_none x e w)
+  label_labeled p (Some name) e w a =
+      let fresh : is_noted (labels_above above).entries name ≡ false = ap (λ es. is_noted es name) (sym (first_labeled r above (l ∷ ls) p)) ∙ a in
+      ap length (new_name (labels_above above).entries name (labels_above above).next fresh) ∙ push_length (labels_above above).entries (record { name = name; number = (labels_above above).next }) ∙ ap (λ k. k + 1) p.labeled
+
+  label_after : (ends_body Label ≡ false → labels_onto (labels_above above) (l ∷ ls) ≡ labels_onto (label_line Label ws (labels_above above)) ls) → x ≡ named (only_name ws) → has_wrong_operand x ≡ false → is_among (take r.labeled r.labels.entries) (only_name ws) ≡ false → After (record r { labeled = r.labeled + 1 }) above Label ws None ls
+  label_after on e w a = record {
+    inside = f.inside;
+    begun = omega (arith, f.begun);
+    named = f.named;
+    orders = omega (arith, f.orders);
+    opened = λ t. let p = f.opened t in (p.labels ∙ on refl, label_labeled p (only_name ws) e w a);
+  }
