@@ -125,3 +125,69 @@ module _ (o : Outline) (r : Reader) (above : List (List ℕ)) (l : List ℕ) (ls
     orders = omega (arith, f.orders);
     opened = λ t. let p = f.opened t in (p.labels ∙ on refl, label_labeled p (only_name ws) e w a);
   }
+
+  abbrev On : Head → Type 0
+  On h = ends_body h ≡ false → labels_onto (labels_above above) (l ∷ ls) ≡ labels_onto (label_line h ws (labels_above above)) ls
+
+  order_does : (v : _) (i : Instr) → On (Order v) → After (after_order r (Does i) n) above (Order v) ws None ls
+  order_does v i on = record {
+    inside = f.inside;
+    begun = omega (arith, f.begun);
+    named = f.named;
+    orders = ap (λ k. k + 1) f.orders;
+    opened = λ t. let p = f.opened t in (p.labels ∙ on refl, p.labeled);
+  }
+
+  order_after : (v : _) (y : Sense) → On (Order v) → IsInRange (all_functions o) (r.labels.next + 1) y → has_wrong_operand y ≡ false → names_no_function y ≡ false → names_no_label y ≡ false → After (after_order r y n) above (Order v) ws None ls
+  order_after v (Does i) on t w g j = order_does v i on
+  order_after v Fits on t w g j = absurd t
+  order_after v WrongOperand on t w g j = absurd (not_both true refl w)
+  order_after v NoSuchFunction on t w g j = absurd (not_both true refl g)
+  order_after v NoSuchLabel on t w g j = absurd (not_both true refl j)
+
+  blank_after : On Blank → After r above Blank ws None ls
+  blank_after on = record {
+    inside = f.inside;
+    begun = omega (arith, f.begun);
+    named = f.named;
+    orders = omega (arith, f.orders);
+    opened = λ t. let p = f.opened t in (p.labels ∙ on refl, p.labeled);
+  }
+
+  pub after : (h : Head) → On h → Told o r.labels h ws x → IsFaultless o (spot_in o r last) h ws x → After (after_line r h ws x n ls) above h ws (begun_name h ws) ls
+  after Blank on t q = blank_after on
+  after Begin on t q = begin_after (only_name ws) t q.operand q.two_names
+  after End on t q = end_after
+  after Label on t q = label_after on t q.operand q.two_names
+  after (Order v) on t q = order_after v x on t q.operand q.no_name q.no_label
+  after Unknown on t q = absurd (unknown_never r.inside q.known)
+
+-- ---- the functions so far, with those that the rest makes
+
+abbrev pub made : Reader → List Line → List Fun → List Fun
+made r code rest = cond r.inside (r.done ++ record { name = r.name; code = r.code ++ code } ∷ rest) (r.done ++ rest)
+
+module _ (o : Outline) (r : Reader) (ls : List (List ℕ)) (n : ℕ) (last : Bool) (ws : List (List ℕ)) (x : Sense) (new code : List Line) (rest : List Fun) where
+  begin_made : (name : Option (List ℕ)) → r.inside ≡ false → x ≡ named name → has_wrong_operand x ≡ false → made r [] (with_function name new rest) ≡ made (after_begin r name ls) new rest
+  begin_made None i e w = absurd (wrong_none x e w)
+  begin_made (Some name) i e w = ap (λ b. cond b (r.done ++ record { name = r.name; code = r.code ++ [] } ∷ record { name = name; code = new } ∷ rest) (r.done ++ record { name = name; code = new } ∷ rest)) i
+
+  end_made : r.inside ≡ true → made r (line_of Ret n ∷ []) rest ≡ made (after_end r n) code rest
+  end_made i =
+      let fun : Fun = record { name = r.name; code = r.code ++ line_of Ret n ∷ [] } in
+      ap (λ b. cond b (r.done ++ fun ∷ rest) (r.done ++ rest)) i ∙ sym (append_assoc r.done (fun ∷ []) rest)
+
+  order_made : (v : _) (y : Sense) → IsInRange (all_functions o) (r.labels.next + 1) y → has_wrong_operand y ≡ false → names_no_function y ≡ false → names_no_label y ≡ false → made r (code_by (Order v) y n code) rest ≡ made (after_order r y n) code rest
+  order_made v (Does i) t w g j = ap (λ c. cond r.inside (r.done ++ record { name = r.name; code = c } ∷ rest) (r.done ++ rest)) (sym (append_assoc r.code (line_of i n ∷ []) code))
+  order_made v Fits t w g j = absurd t
+  order_made v WrongOperand t w g j = absurd (not_both true refl w)
+  order_made v NoSuchFunction t w g j = absurd (not_both true refl g)
+  order_made v NoSuchLabel t w g j = absurd (not_both true refl j)
+
+  pub made_more : (h : Head) → Told o r.labels h ws x → IsFaultless o (spot_in o r last) h ws x → made r (code_by h x n code) (with_function (begun_name h ws) new rest) ≡ made (after_line r h ws x n ls) (cond (is_begin h) new code) rest
+  made_more Blank t q = ap (λ y. made r (code_by Blank y n code) rest) (fits_alone x ws t q.operand)
+  made_more Begin t q = begin_made (only_name ws) (outside_begin r.inside (last && true) q.no_end) t q.operand
+  made_more End t q = end_made (inside_end r.inside q.known)
+  made_more Label t q = ap (λ y. made r (code_by Label y n code) rest) (fits_named x (only_name ws) t q.operand)
+  made_more (Order v) t q = order_made v x t q.operand q.no_name q.no_label
+  made_more Unknown t q = absurd (unknown_never r.inside q.known)
