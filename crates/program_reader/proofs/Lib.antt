@@ -10,3 +10,5 @@ mod LoopFunctions
 mod Spots
 mod Ranges
 mod Steps
+mod Sounds
+mod Rounds

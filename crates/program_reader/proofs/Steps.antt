@@ -28,10 +28,10 @@ use Rattle.program_reader.proofs.Spots.{IsOpen, Follows, first_named, first_labe
 
 -- ---- small facts
 
-not_both : (b : Bool) → b ≡ true → b ≡ false → ⊥
+pub not_both : (b : Bool) → b ≡ true → b ≡ false → ⊥
 not_both b t f = cc
 
-wrong_none : (x : Sense) → x ≡ named None → has_wrong_operand x ≡ false → ⊥
+pub wrong_none : (x : Sense) → x ≡ named None → has_wrong_operand x ≡ false → ⊥
 wrong_none x e f = not_both (has_wrong_operand x) (ap has_wrong_operand e) f
 
 fits_named : (x : Sense) (name : Option (List ℕ)) → x ≡ named name → has_wrong_operand x ≡ false → x ≡ Fits
@@ -42,22 +42,22 @@ fits_alone : (x : Sense) (ws : List (List ℕ)) → x ≡ alone ws → has_wrong
 fits_alone x [] e f = e
 fits_alone x (w ∷ ws) e f = absurd (not_both (has_wrong_operand x) (ap has_wrong_operand e) f)
 
-outside_begin : (b : Bool) (c : Bool) → ((b && true) || c) ≡ false → b ≡ false
+pub outside_begin : (b : Bool) (c : Bool) → ((b && true) || c) ≡ false → b ≡ false
 outside_begin true c e = absurd (cc)
 outside_begin false c e = refl
 
-inside_end : (b : Bool) → is_misplaced b End ≡ false → b ≡ true
+pub inside_end : (b : Bool) → is_misplaced b End ≡ false → b ≡ true
 inside_end true e = refl
 inside_end false e = absurd (cc)
 
-unknown_never : (b : Bool) → is_misplaced b Unknown ≡ false → ⊥
+pub unknown_never : (b : Bool) → is_misplaced b Unknown ≡ false → ⊥
 unknown_never true e = cc
 unknown_never false e = cc
 
-push_length : {A : Type 0} (xs : List A) (x : A) → length (xs ++ x ∷ []) ≡ length xs + 1
+pub push_length : {A : Type 0} (xs : List A) (x : A) → length (xs ++ x ∷ []) ≡ length xs + 1
 push_length xs x = grind (arith, length-append)
 
-push_map : {A B : Type 0} (f : A → B) (xs : List A) (x : A) → map f (xs ++ x ∷ []) ≡ map f xs ++ f x ∷ []
+pub push_map : {A B : Type 0} (f : A → B) (xs : List A) (x : A) → map f (xs ++ x ∷ []) ≡ map f xs ++ f x ∷ []
 push_map f [] x = refl
 push_map f (y ∷ ys) x = ap (λ l. f y ∷ l) (push_map f ys x)
 
@@ -69,7 +69,7 @@ pub push_all : {A : Type 0} (P : A → Type 0) (xs : List A) (x : A) → All P x
 push_all P xs x h k = All-append P xs (x ∷ []) h (single P x k)
 
 -- a name that is new is noted behind the others
-new_name : (es : List Entry) (name : List ℕ) (n : ℕ) → is_noted es name ≡ false → noted es name n ≡ es ++ record { name = name; number = n } ∷ []
+pub new_name : (es : List Entry) (name : List ℕ) (n : ℕ) → is_noted es name ≡ false → noted es name n ≡ es ++ record { name = name; number = n } ∷ []
 new_name es name n e = ap (λ b. cond b es (es ++ record { name = name; number = n } ∷ [])) e
 
 -- what a line of this kind says, as far as it matters
