@@ -12,3 +12,5 @@ mod Ranges
 mod Steps
 mod Sounds
 mod Rounds
+mod Whole
+mod Endings

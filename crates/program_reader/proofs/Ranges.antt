@@ -46,7 +46,7 @@ numbered_at_most : (b : ℕ) (es : List Entry) (name : List ℕ) (p : ℕ) → A
 numbered_at_most b [] name p h e = absurd (cc)
 numbered_at_most b (e ∷ es) name p h eq = at_most_by b p e.number (numbered_of es name) (bytes_eq name e.name) h.0 (numbered_at_most b es name p h.1) eq
 
-place_below : (es : List Entry) (name : List ℕ) (k : ℕ) → place_of es name ≡ Some k → k < length es
+pub place_below : (es : List Entry) (name : List ℕ) (k : ℕ) → place_of es name ≡ Some k → k < length es
 place_below es name k e = (position-Some (λ x. bytes_eq name x.name) es k (record { name = []; number = 0 }) e).0
 
 either : (f p : ℕ) (b : Bool) (s t : Sense) → IsInRange f p s → IsInRange f p t → IsInRange f p (cond b s t)

@@ -65,16 +65,18 @@ pub fn read_program(
         let last = end == rest.len();
         let below = behind(rest, end);
         let line = &rest[..end];
-        if let Some(cause) = reader.read_line(alloc, &outline, number, line, last, below)? {
-            return Ok(Err(Refused {
-                line: number,
-                cause,
-            }));
+        match reader.read_line(alloc, &outline, number, line, last, below)? {
+            Some(cause) => {
+                return Ok(Err(Refused {
+                    line: number,
+                    cause,
+                }));
+            }
+            None if last => return Ok(Ok(finish(alloc, &outline, reader.done)?)),
+            None => {
+                rest = below;
+                number += 1;
+            }
         }
-        if last {
-            return Ok(Ok(finish(alloc, &outline, reader.done)?));
-        }
-        rest = below;
-        number += 1;
     }
 }
