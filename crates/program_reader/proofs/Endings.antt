@@ -6,15 +6,18 @@ use Rattle.std.proofs.lemmas.List.{drop_all}
 use Rattle.hh_lang.specs.Form.{ProgramText, IsProgram}
 use Rattle.program_reader.specs.declared.cause.Cause.{Cause}
 use Rattle.program_reader.specs.declared.cause.Refused.{Refused}
+use Rattle.program_reader.specs.declared.head.Head.{Head}
+use Rattle.program_reader.specs.declared.head.Head.TheVariants.{Begin}
+use Rattle.program_reader.specs.declared.sense.Sense.{Sense}
 use Rattle.program_reader.specs.declared.sense.Outline.{Outline}
 use Rattle.program_reader.specs.declared.reader.Reader.{Reader}
 use Rattle.program_reader.specs.Words.{lines_of}
 use Rattle.program_reader.specs.Names.{is_noted}
-use Rattle.program_reader.specs.Sense.{IsSmall}
-use Rattle.program_reader.specs.Around.{outline_of}
+use Rattle.program_reader.specs.Sense.{IsSmall, only_name, sense_of}
+use Rattle.program_reader.specs.Around.{outline_of, head_of_line, operands_of_line}
 use Rattle.program_reader.specs.Fault.{is_last, fault_on, first_fault}
 use Rattle.program_reader.specs.Program.{functions_from, program_of, unless_refused, reading_of}
-use Rattle.program_reader.specs.Reading.{spot_in, line_taken, program_in}
+use Rattle.program_reader.specs.Reading.{spot_in, after_begin, after_line, line_taken, program_in}
 use Rattle.program_reader.proofs.Lines.{lines_first, lines_last, lines_cut, lines_behind}
 use Rattle.program_reader.proofs.Rounds.{IsReading, next_line, refused_at, no_fault, functions_done, at_last, has_main}
 use Rattle.program_reader.proofs.Sounds.{fun_names, entry_names}
@@ -37,6 +40,15 @@ last_by : (rest : List ℕ) (end : ℕ) (b : Bool) → end ≤ length rest → n
 last_by rest end true le e = (let f : nat_eq end (length rest) ≡ false = grind (arith, e) in f) ∙ sym (some_line (drop (end + 1) rest))
 last_by rest end false le e = grind (arith, e, le)
 
+-- one empty line below is the same as none
+begun_over : (r : Reader) (name : Option (List ℕ)) → after_begin r name ([] ∷ []) ≡ after_begin r name []
+begun_over r None = refl
+begun_over r (Some name) = refl
+
+over : (r : Reader) (h : Head) (ws : List (List ℕ)) (x : Sense) (n : ℕ) → after_line r h ws x n ([] ∷ []) ≡ after_line r h ws x n []
+over r Begin ws x n = begun_over r (only_name ws)
+over r _ ws x n = refl
+
 abbrev Ends : ℕ → List ℕ → Type 0
 Ends end rest = end ≡ position_or_len (λ c. c == 10) rest
 
@@ -57,7 +69,7 @@ module _ (o : Outline) (text : List ℕ) (r : Reader) (n end : ℕ) (rest : List
     at_end t = grind (arith, same, t)
 
     nothing_below : last ≡ true → s ≡ line_taken o r n (take end rest) []
-    nothing_below t = taken ∙ ap (λ b. line_taken o r n (take end rest) (lines_of b)) (drop_all (end + 1) rest (omega (arith, at_end t)))
+    nothing_below t = taken ∙ ap (λ b. line_taken o r n (take end rest) (lines_of b)) (drop_all (end + 1) rest (omega (arith, at_end t))) ∙ over r (head_of_line (take end rest)) (operands_of_line (take end rest)) (sense_of o r.labels.entries (head_of_line (take end rest)) (operands_of_line (take end rest))) n
 
     last_line : last ≡ true → IsReading o text r n (take end rest ∷ [])
     last_line t = subst (IsReading o text r n) (lines_last rest end e (at_end t)) h
