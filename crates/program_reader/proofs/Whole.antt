@@ -54,10 +54,13 @@ other_half_in n first all a = (tt, (tt, (tt, (tt, (a, (tt, tt))))))
 loop_in : (o : Outline) (first : ℕ) (e : Entry) → number_of o e.name < all_functions o → first + 2 < all_functions o → Each (IsFunction (all_functions o)) (loop_functions o first e)
 loop_in o first e a b =
     let one : first + 1 < all_functions o = omega (arith, b) in
-    let none : first < all_functions o = omega (arith, b) in
-    (record { sized = omega arith; names = each_all (λ l. NamesExist (all_functions o) 16 l.instr) (on_line e.number (whole_code (number_of o e.name) first)) (whole_in e.number (number_of o e.name) first (all_functions o) a one b); ends = tt },
-    (record { sized = omega arith; names = each_all (λ l. NamesExist (all_functions o) 6 l.instr) (on_line e.number (left_code first)) (half_in e.number first (all_functions o) none); ends = tt },
-    (record { sized = omega arith; names = each_all (λ l. NamesExist (all_functions o) 6 l.instr) (on_line e.number (right_code first)) (other_half_in e.number first (all_functions o) none); ends = tt }, tt)))
+    let none : first < all_functions o = omega (arith, b) in (
+      record { sized = omega arith; names = each_all (λ l. NamesExist (all_functions o) 16 l.instr) (on_line e.number (whole_code (number_of o e.name) first)) (whole_in e.number (number_of o e.name) first (all_functions o) a one b); ends = tt },
+      (
+        record { sized = omega arith; names = each_all (λ l. NamesExist (all_functions o) 6 l.instr) (on_line e.number (left_code first)) (half_in e.number first (all_functions o) none); ends = tt },
+        (record { sized = omega arith; names = each_all (λ l. NamesExist (all_functions o) 6 l.instr) (on_line e.number (right_code first)) (other_half_in e.number first (all_functions o) none); ends = tt }, tt),
+      ),
+    )
 
 number_by : (o : Outline) (name : List ℕ) (r : Option ℕ) → 0 < length o.functions → place_of o.functions name ≡ r → unwrap_or r 0 < length o.functions
 number_by o name None h e = h
@@ -72,8 +75,8 @@ loops_in o k (e ∷ es) h le =
     let here : loop_function o k + 2 < all_functions o = omega (arith, le) in
     let more : k + 1 + length es ≤ length o.loops = omega (arith, le) in
     All-append (IsFunction (all_functions o)) (loop_functions o (loop_function o k) e) (loops_from o (k + 1) es)
-      (each_all (IsFunction (all_functions o)) (loop_functions o (loop_function o k) e) (loop_in o (loop_function o k) e (number_in_range o e.name h) here))
-      (loops_in o (k + 1) es h more)
+    (each_all (IsFunction (all_functions o)) (loop_functions o (loop_function o k) e) (loop_in o (loop_function o k) e (number_in_range o e.name h) here))
+    (loops_in o (k + 1) es h more)
 
 loops_length : (o : Outline) (k : ℕ) (es : List Entry) → length (loops_from o k es) ≡ 3 * length es
 loops_length o k [] = refl
@@ -122,5 +125,5 @@ is_program o fs names done main small =
       sized = omega (arith, long, small);
       each = subst (λ k. All (IsFunction k) (fs ++ loops_from o 0 o.loops)) (sym long) each;
       main = subst (λ k. IsSomeAnd (slice_get (fs ++ loops_from o 0 o.loops) k) (λ f. f.name ≡ codes "main")) (sym number)
-        (renamed (slice_get (fs ++ loops_from o 0 o.loops) found.0) (get_or o.functions found.0 d).name (codes "main") (same_bytes (codes "main") (get_or o.functions found.0 d).name at.1) (named_at fs (loops_from o 0 o.loops) o.functions found.0 d names at.0));
+          (renamed (slice_get (fs ++ loops_from o 0 o.loops) found.0) (get_or o.functions found.0 d).name (codes "main") (same_bytes (codes "main") (get_or o.functions found.0 d).name at.1) (named_at fs (loops_from o 0 o.loops) o.functions found.0 d names at.0));
     }

@@ -47,8 +47,8 @@ abbrev pub functions_from : Outline → ℕ → List (List ℕ) → List Fun
 functions_from o number [] = []
 functions_from o number (l ∷ ls) =
     with_function (begun_name (head_of_line l) (operands_of_line l))
-      (code_from o (labels_onto no_labels ls).entries (number + 1) ls)
-      (functions_from o (number + 1) ls)
+    (code_from o (labels_onto no_labels ls).entries (number + 1) ls)
+    (functions_from o (number + 1) ls)
 
 -- ---- the functions of loops: for each function that a `pfor` names, `f?`, `f<` and `f>`
 

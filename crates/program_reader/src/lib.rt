@@ -11,10 +11,9 @@ mod outline;
 mod read;
 mod reader;
 mod sense;
-mod words;
-
 #[cfg(test)]
 mod tests;
+mod words;
 
 pub use cause::{Cause, Refused};
 pub use read::read_program;

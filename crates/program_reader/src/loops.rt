@@ -81,12 +81,7 @@ fn whole_function(
 }
 
 // `f<`, which goes over the first half.
-fn left_function(
-    alloc: Global,
-    name: &[u8],
-    number: u32,
-    first: u32,
-) -> Result<Fun, AllocError>
+fn left_function(alloc: Global, name: &[u8], number: u32, first: u32) -> Result<Fun, AllocError>
     ensures { IfOk result (λ f. f ≡ function_of (name.now ++ codes "<") number (left_code first)) }
 {
     let low = IntReg::new(0);
@@ -105,12 +100,7 @@ fn left_function(
 }
 
 // `f>`, which goes over the second half.
-fn right_function(
-    alloc: Global,
-    name: &[u8],
-    number: u32,
-    first: u32,
-) -> Result<Fun, AllocError>
+fn right_function(alloc: Global, name: &[u8], number: u32, first: u32) -> Result<Fun, AllocError>
     ensures { IfOk result (λ f. f ≡ function_of (name.now ++ codes ">") number (right_code first)) }
 {
     let low = IntReg::new(0);

@@ -52,7 +52,7 @@ pub(crate) struct Table<'a> {
 impl<'a> Model for Table<'a> {
     ghost use Rattle.std.specs.Prelude.{List, map};
     ghost use Rattle.std.specs.List.{list_all};
-ghost use Rattle.program_reader.specs.Names.{Entry, entry_of};
+    ghost use Rattle.program_reader.specs.Names.{Entry, entry_of};
 
     ghost Value = { List Entry };
 

@@ -60,7 +60,7 @@ fn read_looped(head: Head, rest: &[u8]) -> Option<&[u8]>
 
 impl<'a> Outline<'a> {
     ghost use Rattle.program_reader.specs.Sense.{IsSmall};
-ghost use Rattle.program_reader.specs.Around.{outline_line};
+    ghost use Rattle.program_reader.specs.Around.{outline_line};
 
     // Notes what a line names.
     fn add_line(&mut self, line: &'a [u8], number: u32) -> Result<(), AllocError>

@@ -49,10 +49,7 @@ fn finish(
 
 /// Reads a program: the program that the text is, or the first line with a fault and the first cause
 /// on it. The error is want of memory.
-pub fn read_program(
-    alloc: Global,
-    text: &[u8],
-) -> Result<Result<Program, Refused>, AllocError>
+pub fn read_program(alloc: Global, text: &[u8]) -> Result<Result<Program, Refused>, AllocError>
     requires { length text.now ≤ 16777216 }
     ensures { IfOk result (λ reading. reading ≡ reading_of text.now) }
 {

@@ -124,14 +124,7 @@ fn read_cas(a: &[u8], b: &[u8], c: &[u8], d: &[u8], e: &[u8]) -> Option<Instr>
 }
 
 // An instruction with five operands.
-fn read_plain_five(
-    verb: Verb,
-    a: &[u8],
-    b: &[u8],
-    c: &[u8],
-    d: &[u8],
-    e: &[u8],
-) -> Option<Instr>
+fn read_plain_five(verb: Verb, a: &[u8], b: &[u8], c: &[u8], d: &[u8], e: &[u8]) -> Option<Instr>
     ensures { result ≡ plain_five verb a.now b.now c.now d.now e.now }
 {
     match verb {
@@ -196,10 +189,7 @@ fn read_fork(outline: &Outline<'_>, left: &[u8], right: &[u8]) -> Sense
     if !is_name_word(left) || !is_name_word(right) {
         return Sense::WrongOperand;
     }
-    match (
-        outline.functions.find(left),
-        outline.functions.find(right),
-    ) {
+    match (outline.functions.find(left), outline.functions.find(right)) {
         (Some(left), Some(right)) => Sense::Does(Instr::Par(left as u32, right as u32)),
         _ => Sense::NoSuchFunction,
     }

@@ -12,6 +12,6 @@ returns c =
     let d : Fun = function_of (c.args.name.now ++ codes ">") c.args.number (right_code c.args.first) in
     let whole : c.in_ok-whole_function.field-0 ≡ function_of (c.args.name.now ++ codes "?") c.args.number (whole_code c.number_in-function.result c.args.first) = c.in_ok-whole_function.ensures in
     three_added c.args.functions.now c.push.new.self c.push-2.new.self c.push-3.new.self c.in_ok-whole_function.field-0 c.in_ok-left_function.field-0 c.in_ok-right_function.field-0 a b d
-      c.in_ok-push.ensures.ok c.in_ok-push-2.ensures.ok c.in_ok-push-3.ensures.ok
-      (whole ∙ ap (λ f. function_of (c.args.name.now ++ codes "?") c.args.number (whole_code f c.args.first)) c.number_in-function.ensures)
-      c.in_ok-left_function.ensures c.in_ok-right_function.ensures
+    c.in_ok-push.ensures.ok c.in_ok-push-2.ensures.ok c.in_ok-push-3.ensures.ok
+    (whole ∙ ap (λ f. function_of (c.args.name.now ++ codes "?") c.args.number (whole_code f c.args.first)) c.number_in-function.ensures)
+    c.in_ok-left_function.ensures c.in_ok-right_function.ensures

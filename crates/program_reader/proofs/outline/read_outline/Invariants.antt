@@ -9,7 +9,7 @@ invariant-loop-outline l = record {
   value : outline_onto l.number l.outline (lines_of l.rest) ≡ outline_of l.text;
   above : l.number + length l.rest ≤ length l.text + 1;
   short : IsShort l.outline (l.number - 1);
-  counted : 1 ≤ l.number
+  counted : 1 ≤ l.number;
 }
 
 abbrev pub decreases-loop-outline : goal.decreases-loop-outline

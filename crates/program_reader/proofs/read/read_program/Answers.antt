@@ -63,6 +63,6 @@ loop-reader-preserved c =
     let few : c.loop-reader.number ≤ 16777217 = omega (arith, c.loop-reader.invariant.fits, c.requires) in
     record {
       reading = subst (IsReading c.in_ok-outline.outline c.args.text.now c.read_line.new.self (c.loop-reader.number + 1)) (sym below)
-        (goes_on c.in_ok-outline.outline c.args.text.now c.loop-reader.reader c.loop-reader.number c.line_end-end.result c.loop-reader.rest.now (nat_eq c.line_end-end.result (length c.loop-reader.rest.now)) c.loop-reader.invariant.reading c.line_end-end.ensures.end c.line_end-end.ensures.within (λ j. nat_eq c.line_end-end.result (length c.loop-reader.rest.now)) c.read_line.new.self few fault taken (apart c.line_end-end.result (length c.loop-reader.rest.now) c.if-last.false));
+          (goes_on c.in_ok-outline.outline c.args.text.now c.loop-reader.reader c.loop-reader.number c.line_end-end.result c.loop-reader.rest.now (nat_eq c.line_end-end.result (length c.loop-reader.rest.now)) c.loop-reader.invariant.reading c.line_end-end.ensures.end c.line_end-end.ensures.within (λ j. nat_eq c.line_end-end.result (length c.loop-reader.rest.now)) c.read_line.new.self few fault taken (apart c.line_end-end.result (length c.loop-reader.rest.now) c.if-last.false));
       fits = grind (arith, len, lt, length-drop, c.loop-reader.invariant.fits);
     }

@@ -6,7 +6,7 @@ use Rattle.program_reader.proofs.read.read_program.Given as goal
 abbrev pub invariant-loop-reader : goal.invariant-loop-reader
 invariant-loop-reader l = record {
   reading : IsReading l.outline l.text l.reader l.number (lines_of l.rest);
-  fits : l.number + length l.rest ≤ length l.text + 1
+  fits : l.number + length l.rest ≤ length l.text + 1;
 }
 
 abbrev pub decreases-loop-reader : goal.decreases-loop-reader
