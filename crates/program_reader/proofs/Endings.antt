@@ -1,6 +1,6 @@
 -- Reading on over the bytes of a text.
 use Rattle.std.proofs.Common.{◌≡◌, ◌<◌, ◌≤◌, ◌+◌, ◌++◌, ◌^◌, ℕ, Bool, true, false, cond, List, [], ◌∷◌, length, take, drop, arith, refl, ap, sym, subst, ◌∙◌, nat_lt, nat_eq}
-use Rattle.std.specs.Prelude.{Option, Some, None, Result, Ok, Err, ◌==◌, codes}
+use Rattle.std.specs.Prelude.{Option, Some, None, Result, Ok, ◌==◌, codes}
 use Rattle.std.specs.List.{position_or_len, onto_first}
 use Rattle.std.proofs.lemmas.List.{drop_all}
 use Rattle.hh_lang.specs.Form.{ProgramText, IsProgram}

@@ -1,6 +1,6 @@
 -- The functions of loops, one loop after the other.
-use Rattle.std.proofs.Common.{◌≡◌, ◌<◌, ◌≤◌, ◌+◌, ◌++◌, ℕ, List, [], ◌∷◌, length, drop, get_or, arith, refl, ap, sym, ◌∙◌, append_assoc, subst}
-use Rattle.std.specs.Prelude.{Option, Some, None, slice_get, MatchOption}
+use Rattle.std.proofs.Common.{◌≡◌, ◌<◌, ◌+◌, ◌++◌, ℕ, List, [], ◌∷◌, length, drop, get_or, ap, sym, ◌∙◌, append_assoc, subst}
+use Rattle.std.specs.Prelude.{Option, Some, slice_get, MatchOption}
 use Rattle.std.proofs.lemmas.List.{drop_more}
 use Rattle.std.proofs.lemmas.Option.{slice_get-get_or}
 use Rattle.hh_lang.specs.declared.program.Fun.{Fun}

@@ -1,10 +1,10 @@
 -- The outline of a text, line by line.
-use Rattle.std.proofs.Common.{◌≡◌, ◌<◌, ◌≤◌, ◌+◌, ◌*◌, ◌^◌, ◌++◌, ℕ, Bool, true, false, cond, List, [], ◌∷◌, length, take, drop, arith, ap, sym, ◌∙◌, length-append}
+use Rattle.std.proofs.Common.{◌≡◌, ◌<◌, ◌≤◌, ◌+◌, ◌++◌, ℕ, Bool, true, false, cond, List, [], ◌∷◌, length, take, drop, arith, ap, sym, length-append}
 use Rattle.std.specs.Prelude.{◌==◌, Option, Some, None}
 use Rattle.std.specs.List.{position_or_len}
 use Rattle.program_reader.specs.declared.sense.Outline.{Outline}
 use Rattle.program_reader.specs.Words.{lines_of}
-use Rattle.program_reader.specs.Names.{Entry, is_noted, noted}
+use Rattle.program_reader.specs.Names.{Entry, is_noted}
 use Rattle.program_reader.specs.Sense.{IsSmall}
 use Rattle.program_reader.specs.Around.{head_of_line, operands_of_line, begun_name, looped_name, noted_if, outline_line, outline_onto}
 use Rattle.program_reader.proofs.Lines.{lines_first, lines_last}

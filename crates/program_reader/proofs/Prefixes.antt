@@ -1,14 +1,14 @@
 -- What the lines above make stands at the front of what all lines make.
-use Rattle.std.proofs.Common.{◌≡◌, ◌<◌, ◌≤◌, ◌+◌, ◌++◌, ℕ, Bool, true, false, cond, List, [], ◌∷◌, length, take, arith, refl, ap, sym, ◌∙◌, append_assoc, length-append}
+use Rattle.std.proofs.Common.{◌≡◌, ◌+◌, ◌++◌, ℕ, Bool, true, false, cond, List, [], ◌∷◌, length, take, refl, ap, sym, ◌∙◌, append_assoc}
 use Rattle.std.specs.Prelude.{Option, Some, None}
 use Rattle.std.proofs.lemmas.List.{append-nil}
 use Rattle.program_reader.specs.declared.head.Head.{Head}
-use Rattle.program_reader.specs.declared.head.Head.TheVariants.{Begin, Label, Order}
+use Rattle.program_reader.specs.declared.head.Head.TheVariants.{Label}
 use Rattle.program_reader.specs.declared.sense.Outline.{Outline}
 use Rattle.program_reader.specs.declared.labels.Labels.{Labels}
-use Rattle.program_reader.specs.Names.{Entry, is_noted, noted}
+use Rattle.program_reader.specs.Names.{Entry, is_noted}
 use Rattle.program_reader.specs.Sense.{only_name}
-use Rattle.program_reader.specs.Around.{head_of_line, operands_of_line, begun_name, looped_name, noted_if, outline_line, outline_onto, label_line, labels_onto, ends_body}
+use Rattle.program_reader.specs.Around.{head_of_line, operands_of_line, begun_name, noted_if, outline_line, outline_onto, label_line, labels_onto, ends_body}
 
 -- ys begins with xs
 abbrev pub BeginsWith : List Entry → List Entry → Type 0

@@ -1,6 +1,6 @@
 -- Instructions name functions and places that there are.
-use Rattle.std.proofs.Common.{◌≡◌, ◌<◌, ◌≤◌, ◌+◌, ◌*◌, ℕ, Bool, true, false, cond, List, [], ◌∷◌, ◌++◌, length, arith, refl, ap, sym, subst, ◌∙◌}
-use Rattle.std.specs.Prelude.{ℤ, Option, Some, None, ◌&&◌, position}
+use Rattle.std.proofs.Common.{◌≡◌, ◌<◌, ◌≤◌, ◌+◌, ◌*◌, ℕ, Bool, true, false, cond, List, [], ◌∷◌, ◌++◌, length, arith, refl}
+use Rattle.std.specs.Prelude.{Option, Some, None, ◌&&◌}
 use Rattle.std.specs.Str.{bytes_eq}
 use Rattle.std.proofs.lemmas.List.Quantifiers.{position-Some}
 use Rattle.hh_lang.specs.declared.instr.Instr.{Instr}
@@ -12,13 +12,13 @@ use Rattle.program_reader.specs.declared.head.Verb.TheVariants.{Set, Mov, Movr, 
 use Rattle.program_reader.specs.declared.head.Head.{Head}
 use Rattle.program_reader.specs.declared.head.Head.TheVariants.{Begin, Label, Order}
 use Rattle.program_reader.specs.declared.sense.Sense.{Sense}
-use Rattle.program_reader.specs.declared.sense.Sense.TheVariants.{Fits, Does, WrongOperand, NoSuchFunction, NoSuchLabel}
+use Rattle.program_reader.specs.declared.sense.Sense.TheVariants.{Fits, Does, WrongOperand}
 use Rattle.program_reader.specs.declared.sense.Outline.{Outline}
 use Rattle.program_reader.specs.declared.labels.Labels.{Labels}
-use Rattle.program_reader.specs.Names.{Entry, is_name, is_noted, noted, place_of, numbered_of}
+use Rattle.program_reader.specs.Names.{Entry, is_name, is_noted, place_of, numbered_of}
 use Rattle.program_reader.specs.Operands.{int_register, ref_register, field_count}
-use Rattle.program_reader.specs.Sense.{one, two, three, five, plain, plain_one, plain_two, plain_three, plain_five, at_label, jump, jump_on_zero, calling, call, forking, fork, looping, loop_over, order_alone, order_one, order_two, order_of, only_name}
-use Rattle.program_reader.specs.Around.{head_of_line, operands_of_line, noted_if, label_line, labels_after, labels_above, labels_onto, ends_body, no_labels}
+use Rattle.program_reader.specs.Sense.{one, two, three, five, plain, plain_one, plain_two, plain_three, plain_five, at_label, jump_on_zero, calling, forking, looping, order_alone, order_one, order_two, order_of, only_name}
+use Rattle.program_reader.specs.Around.{head_of_line, operands_of_line, noted_if, label_line, labels_after, labels_above, labels_onto, ends_body}
 
 -- the number of all functions, those of loops included
 abbrev pub all_functions : Outline → ℕ

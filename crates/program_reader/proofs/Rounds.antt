@@ -1,12 +1,10 @@
 -- Reading a text, line by line.
-use Rattle.std.proofs.Common.{◌≡◌, ◌<◌, ◌≤◌, ◌+◌, ◌++◌, ◌^◌, ℕ, suc, Bool, true, false, cond, List, [], ◌∷◌, length, take, drop, map, arith, refl, ap, sym, subst, ◌∙◌}
-use Rattle.std.specs.Prelude.{Option, Some, None, ◌&&◌, ◌||◌, ◌==◌, not, codes}
-use Rattle.std.specs.List.{position_or_len}
+use Rattle.std.proofs.Common.{◌≡◌, ◌<◌, ◌≤◌, ◌+◌, ◌++◌, ◌^◌, ℕ, suc, Bool, true, false, cond, List, [], ◌∷◌, length, arith, refl, ap, sym, subst, ◌∙◌}
+use Rattle.std.specs.Prelude.{Option, Some, None, ◌&&◌, ◌||◌, not, codes}
 use Rattle.std.specs.Str.{is_utf8}
 use Rattle.std.proofs.lemmas.List.{append-nil}
 use Rattle.std.proofs.lemmas.List.Elements.{All-nil}
 use Rattle.hh_lang.specs.Form.{IsFunction}
-use Rattle.hh_lang.specs.declared.program.Fun.{Fun}
 use Rattle.program_reader.specs.declared.cause.Cause.{Cause}
 use Rattle.program_reader.specs.declared.cause.Cause.TheVariants.{NotUtf8}
 use Rattle.program_reader.specs.declared.cause.Refused.{Refused}
@@ -21,13 +19,13 @@ use Rattle.program_reader.specs.declared.reader.Reader.{Reader}
 use Rattle.program_reader.specs.Words.{lines_of}
 use Rattle.program_reader.specs.Sense.{sense_of, only_name, named}
 use Rattle.program_reader.specs.Around.{begun_name, head_of_line, operands_of_line, is_open_after, outline_of, outline_onto, outline_above, outline_line, no_labels, labels_above, labels_onto, ends_body, label_line}
-use Rattle.program_reader.specs.Fault.{Spot, spot_of, is_last, is_misplaced, is_begin, fault_by, fault_on, fault_from, first_fault, or_later, has_wrong_operand}
-use Rattle.program_reader.specs.Program.{code_from, code_by, functions_from, with_function}
+use Rattle.program_reader.specs.Fault.{is_last, is_misplaced, is_begin, fault_by, fault_on, fault_from, first_fault, or_later, has_wrong_operand}
+use Rattle.program_reader.specs.Program.{code_from, functions_from}
 use Rattle.program_reader.specs.Reading.{spot_in, after_line, after_begin, after_order, line_taken, nothing_read, IsCounted}
 use Rattle.program_reader.proofs.Causes.{IsFaultless, faultless}
 use Rattle.program_reader.proofs.LabelSteps.{goes_on}
 use Rattle.program_reader.proofs.Ranges.{all_functions, order_in, AreInside, onto_inside, above_inside}
-use Rattle.program_reader.proofs.Spots.{IsOpen, Follows, same_fault}
+use Rattle.program_reader.proofs.Spots.{Follows, same_fault}
 use Rattle.program_reader.proofs.Steps.{Told, not_both, wrong_none, After, after, made, made_more}
 use Rattle.program_reader.proofs.Sounds.{Sound, SoundAt, sound_more}
 

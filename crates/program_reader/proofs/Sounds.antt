@@ -1,9 +1,8 @@
 -- What was read so far is in range, and has the names that the lines give.
-use Rattle.std.proofs.Common.{◌≡◌, ◌<◌, ◌≤◌, ◌+◌, ◌++◌, ◌^◌, ℕ, zero, suc, Bool, true, false, cond, List, [], ◌∷◌, length, map, take, arith, refl, ap, sym, subst, ◌∙◌, append_assoc, length-append}
+use Rattle.std.proofs.Common.{◌≡◌, ◌<◌, ◌≤◌, ◌+◌, ◌++◌, ◌^◌, ℕ, Bool, true, false, cond, List, [], ◌∷◌, length, map, take, arith, refl, ap, sym, subst, ◌∙◌}
 use Rattle.std.specs.Prelude.{Option, Some, None, ◌&&◌}
 use Rattle.std.specs.List.{All}
 use Rattle.std.proofs.lemmas.List.Elements.{All-nil}
-use Rattle.hh_lang.specs.declared.instr.Instr.{Instr}
 use Rattle.hh_lang.specs.declared.instr.Instr.TheVariants.{Ret}
 use Rattle.hh_lang.specs.declared.program.Line.{Line}
 use Rattle.hh_lang.specs.declared.program.Fun.{Fun}
@@ -17,12 +16,12 @@ use Rattle.program_reader.specs.declared.reader.Reader.{Reader}
 use Rattle.program_reader.specs.Names.{Entry, is_noted}
 use Rattle.program_reader.specs.Sense.{only_name, named}
 use Rattle.program_reader.specs.Around.{noted_if, begun_name, outline_above, labels_after, labels_above, labels_onto, ends_body}
-use Rattle.program_reader.specs.Fault.{is_among, has_wrong_operand, names_no_function, names_no_label, is_misplaced}
+use Rattle.program_reader.specs.Fault.{is_among, has_wrong_operand, names_no_function, names_no_label}
 use Rattle.program_reader.specs.Program.{line_of}
 use Rattle.program_reader.specs.Reading.{spot_in, after_begin, after_end, after_order, after_line}
 use Rattle.program_reader.proofs.Causes.{IsFaultless}
 use Rattle.program_reader.proofs.Ranges.{all_functions, IsInRange}
-use Rattle.program_reader.proofs.Spots.{IsOpen, Follows, first_named}
+use Rattle.program_reader.proofs.Spots.{Follows, first_named}
 use Rattle.program_reader.proofs.Steps.{Told, not_both, wrong_none, outside_begin, inside_end, unknown_never, push_length, push_map, push_all, new_name}
 
 abbrev pub fun_names : List Fun → List (List ℕ)

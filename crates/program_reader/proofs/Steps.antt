@@ -1,14 +1,12 @@
 -- One line without a fault more.
-use Rattle.std.proofs.Common.{◌≡◌, ◌<◌, ◌≤◌, ◌+◌, ◌++◌, ◌^◌, ℕ, zero, suc, Bool, true, false, cond, List, [], ◌∷◌, length, map, take, arith, refl, ap, sym, subst, ◌∙◌, append_assoc, length-append}
+use Rattle.std.proofs.Common.{◌≡◌, ◌<◌, ◌+◌, ◌++◌, ℕ, zero, suc, Bool, true, false, cond, List, [], ◌∷◌, length, map, take, arith, refl, ap, sym, ◌∙◌, append_assoc, length-append}
 use Rattle.std.specs.Prelude.{Option, Some, None, ◌&&◌, ◌||◌}
 use Rattle.std.specs.List.{All}
-use Rattle.std.proofs.lemmas.List.{append-nil}
-use Rattle.std.proofs.lemmas.List.Elements.{All-append, All-nil}
+use Rattle.std.proofs.lemmas.List.Elements.{All-append}
 use Rattle.hh_lang.specs.declared.instr.Instr.{Instr}
 use Rattle.hh_lang.specs.declared.instr.Instr.TheVariants.{Ret}
 use Rattle.hh_lang.specs.declared.program.Line.{Line}
 use Rattle.hh_lang.specs.declared.program.Fun.{Fun}
-use Rattle.hh_lang.specs.Form.{NamesExist, IsFunction, EndsWithReturn}
 use Rattle.program_reader.specs.declared.head.Head.{Head}
 use Rattle.program_reader.specs.declared.head.Head.TheVariants.{Blank, Begin, End, Label, Order, Unknown}
 use Rattle.program_reader.specs.declared.sense.Sense.{Sense}
@@ -17,10 +15,10 @@ use Rattle.program_reader.specs.declared.sense.Outline.{Outline}
 use Rattle.program_reader.specs.declared.labels.Labels.{Labels}
 use Rattle.program_reader.specs.declared.reader.Reader.{Reader}
 use Rattle.program_reader.specs.Names.{Entry, is_noted, noted}
-use Rattle.program_reader.specs.Sense.{sense_of, only_name, named, alone}
-use Rattle.program_reader.specs.Around.{is_inside, is_open_after, noted_if, begun_name, outline_above, no_labels, label_line, labels_after, labels_above, labels_onto, ends_body, begins, begun_above, orders, orders_above}
-use Rattle.program_reader.specs.Fault.{Spot, is_misplaced, has_wrong_operand, is_begin, is_among, names_no_function, names_no_label}
-use Rattle.program_reader.specs.Program.{line_of, code_by, code_from, with_function, functions_from}
+use Rattle.program_reader.specs.Sense.{only_name, named, alone}
+use Rattle.program_reader.specs.Around.{is_inside, is_open_after, noted_if, begun_name, outline_above, label_line, labels_after, labels_above, labels_onto, ends_body, begins, begun_above, orders, orders_above}
+use Rattle.program_reader.specs.Fault.{is_misplaced, has_wrong_operand, is_begin, is_among, names_no_function, names_no_label}
+use Rattle.program_reader.specs.Program.{line_of, code_by, with_function}
 use Rattle.program_reader.specs.Reading.{spot_in, after_begin, after_end, after_order, after_line}
 use Rattle.program_reader.proofs.Causes.{IsFaultless}
 use Rattle.program_reader.proofs.Ranges.{all_functions, IsInRange}

@@ -1,7 +1,7 @@
 -- A table's names, as its map has them.
-use Rattle.std.proofs.Common.{◌≡◌, ℕ, zero, suc, ◌<◌, ◌≤◌, ◌+◌, Bool, true, false, cond, List, [], ◌∷◌, ◌++◌, length, take, map, refl, ap, sym, ◌∙◌, arith, Bor, nat_lt, nat_eq, ◌||◌, ◌&&◌}
-use Rattle.std.specs.Prelude.{Option, Some, None, IsSome, is_some, position, not}
-use Rattle.std.specs.List.{list_any, prefix_len, position_or_len}
+use Rattle.std.proofs.Common.{◌≡◌, ℕ, zero, suc, ◌+◌, Bool, true, false, cond, List, [], ◌∷◌, ◌++◌, length, take, map, refl, ap, sym, ◌∙◌, arith, Bor, nat_lt, ◌||◌, ◌&&◌}
+use Rattle.std.specs.Prelude.{Option, Some, None, is_some, position, not}
+use Rattle.std.specs.List.{list_any, position_or_len}
 use Rattle.std.specs.Map.{keys_of, lookup}
 use Rattle.std.specs.Str.{bytes_eq}
 use Rattle.indexmap.specs.IndexMap.{IndexMap, insert_entry}

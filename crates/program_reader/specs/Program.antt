@@ -1,5 +1,5 @@
 -- The program of a text.
-use Rattle.std.specs.Prelude.{ℕ, ◌+◌, Option, Some, None, List, [], ◌∷◌, ◌++◌, codes, length, map, Result, Ok, Err}
+use Rattle.std.specs.Prelude.{ℕ, ◌+◌, Option, Some, None, List, [], ◌∷◌, ◌++◌, codes, map, Result, Ok, Err}
 use Rattle.std.specs.Option.{unwrap_or}
 use Rattle.hh_lang.specs.declared.instr.Operator.TheVariants.{Add, Sub, Div, Lt, Eq}
 use Rattle.hh_lang.specs.declared.instr.Instr.{Instr}

@@ -1,8 +1,7 @@
 use Rattle.std.proofs.Common.{◌<◌, ◌≡◌, ◌≤◌, ◌+◌, ◌-◌, length, drop, take, ap, arith, ◌∙◌}
 use Rattle.std.proofs.lemmas.List.{length-drop}
-use Rattle.program_reader.specs.Words.{lines_of}
-use Rattle.program_reader.specs.Around.{outline_onto, outline_line}
-use Rattle.program_reader.proofs.Outlines.{outline_more, outline_last, IsShort, short_more, short_small}
+use Rattle.program_reader.specs.Around.{outline_line}
+use Rattle.program_reader.proofs.Outlines.{outline_more, outline_last, short_more, short_small}
 use Rattle.program_reader.proofs.outline.read_outline.Goals as goal
 
 pub returns-then-end-rest : goal.returns-then-end-rest

@@ -1,10 +1,9 @@
-use Rattle.std.proofs.Common.{◌<◌, ◌≡◌, ◌≤◌, ◌+◌, ℕ, true, false, length, drop, take, ap, arith, sym, subst, ◌∙◌, eq-eqb, nat_eq}
-use Rattle.std.specs.Prelude.{Option, Some, None, Result, Ok, Err, IfNone}
+use Rattle.std.proofs.Common.{◌<◌, ◌≡◌, ◌≤◌, ◌+◌, ℕ, false, length, drop, take, ap, arith, sym, subst, ◌∙◌, eq-eqb, nat_eq}
+use Rattle.std.specs.Prelude.{Option, Some, None, Result, Ok, IfNone}
 use Rattle.std.proofs.lemmas.List.{length-drop}
 use Rattle.hh_lang.specs.Form.{ProgramText}
 use Rattle.program_reader.specs.declared.cause.Cause.{Cause}
 use Rattle.program_reader.specs.declared.cause.Refused.{Refused}
-use Rattle.program_reader.specs.declared.reader.Reader.{Reader}
 use Rattle.program_reader.specs.Words.{lines_of}
 use Rattle.program_reader.specs.Program.{program_of, unless_refused}
 use Rattle.program_reader.specs.Reading.{line_taken}
