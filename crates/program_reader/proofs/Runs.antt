@@ -1,0 +1,50 @@
+-- Steps along the runs and the words of a line.
+use Rattle.std.proofs.Common.{◌≡◌, ◌<◌, ◌≤◌, ◌+◌, ℕ, zero, suc, Bool, true, false, List, [], ◌∷◌, length, take, drop, filter, get_or, arith, refl, ap, sym, ◌∙◌, cond}
+use Rattle.std.proofs.Common.{◌⊎◌, inl, inr}
+use Rattle.std.proofs.lemmas.Bool.{cases_lt}
+use Rattle.std.proofs.lemmas.List.{take_all, drop_all}
+use Rattle.std.specs.List.{slice_split, position_or_len, All}
+use Rattle.std.proofs.lemmas.List.Splits.{slice_split_first, slice_split_none}
+use Rattle.std.proofs.lemmas.List.Sums.{fails_before_first, position_or_len_is}
+use Rattle.program_reader.specs.Words.{is_blank, is_word, runs_of}
+
+pub position_at : {X : Type 0} (p : X → Bool) (xs : List X) (i : ℕ) (d : X) → i < length xs → ((k : ℕ) → k < i → p (get_or xs k d) ≡ false) → p (get_or xs i d) ≡ true → i ≡ position_or_len p xs
+position_at p xs i d lt before here = sym (position_or_len_is p xs i d (omega (arith, lt)) before (λ _. here))
+
+pub position_end : {X : Type 0} (p : X → Bool) (xs : List X) (i : ℕ) (d : X) → length xs ≤ i → ((k : ℕ) → k < i → p (get_or xs k d) ≡ false) → length xs ≡ position_or_len p xs
+position_end p xs i d le before = sym (position_or_len_is p xs (length xs) d (omega arith) (λ k lt. before k (omega (arith, lt, le))) (λ lt. absurd (let h : length xs < length xs = lt in omega arith)))
+
+none_pass : {X : Type 0} (p : X → Bool) (xs : List X) → position_or_len p xs ≡ length xs → All (λ x. p x ≡ false) xs
+none_pass p xs e = λ k d lt. fails_before_first p xs k d (let h : k < length xs = lt in omega (arith, e, h))
+
+-- the last piece
+pub split_last : {X : Type 0} (p : X → Bool) (xs : List X) → position_or_len p xs ≡ length xs → slice_split p xs ≡ xs ∷ []
+split_last p xs e = slice_split_none p xs (none_pass p xs e)
+
+-- a piece that isn't empty is a word
+abbrev pub kept_word : List ℕ → List (List ℕ) → List (List ℕ)
+kept_word w ws = cond (is_word w) (w ∷ ws) ws
+
+cut_short : (line : List ℕ) → position_or_len is_blank line < length line → runs_of line ≡ kept_word (take (position_or_len is_blank line) line) (runs_of (drop (position_or_len is_blank line + 1) line))
+cut_short line lt = ap (filter is_word) (slice_split_first is_blank line 0 lt)
+
+whole : (line : List ℕ) → position_or_len is_blank line ≡ length line → runs_of line ≡ kept_word (take (position_or_len is_blank line) line) (runs_of (drop (position_or_len is_blank line + 1) line))
+whole line e = ap (filter is_word) (split_last is_blank line e) ∙ rw (e, take_all (length line) line (omega arith), drop_all (length line + 1) line (omega arith)) refl
+
+by_end : (line : List ℕ) → position_or_len is_blank line ≤ length line → (position_or_len is_blank line < length line) ⊎ (length line ≤ position_or_len is_blank line) → runs_of line ≡ kept_word (take (position_or_len is_blank line) line) (runs_of (drop (position_or_len is_blank line + 1) line))
+by_end line le (inl lt) = cut_short line lt
+by_end line le (inr ge) = whole line (omega (arith, le, ge))
+
+-- the runs of a line, by the first of them
+pub runs_step : (line : List ℕ) (end : ℕ) → end ≡ position_or_len is_blank line → end ≤ length line → runs_of line ≡ kept_word (take end line) (runs_of (drop (end + 1) line))
+runs_step line end e le = rw e (by_end line (omega (arith, e, le)) (cases_lt (position_or_len is_blank line) (length line)))
+
+-- a run that isn't empty is the first one
+pub run_first : (line : List ℕ) (end : ℕ) → end ≡ position_or_len is_blank line → end ≤ length line → 0 < end → runs_of line ≡ take end line ∷ runs_of (drop (end + 1) line)
+run_first line zero e le lt = absurd (omega (arith, lt))
+run_first [] (suc n) e le lt = absurd (omega (arith, le))
+run_first (c ∷ cs) (suc n) e le lt = runs_step (c ∷ cs) (suc n) e le
+
+-- an empty run is none
+pub run_none : (line : List ℕ) (end : ℕ) → end ≡ position_or_len is_blank line → end ≡ 0 → runs_of line ≡ runs_of (drop 1 line)
+run_none line end e z = runs_step line 0 (sym z ∙ e) (omega arith)

@@ -1,0 +1,32 @@
+-- Lines and words of a text.
+use Rattle.std.specs.Prelude.{ℕ, ◌==◌, ◌||◌, Bool, true, false, List, [], ◌∷◌, filter, if◌then◌else◌}
+use Rattle.std.specs.List.{slice_split}
+
+-- a text is cut at its line feeds
+abbrev pub lines_of : List ℕ → List (List ℕ)
+lines_of text = slice_split (λ c. c == 10) text
+
+-- space, tab and carriage return
+abbrev pub is_blank : ℕ → Bool
+is_blank c = (c == 32) || (c == 9) || (c == 13)
+
+abbrev pub is_word : List ℕ → Bool
+is_word [] = false
+is_word (c ∷ cs) = true
+
+-- the runs of other bytes than blanks
+abbrev pub runs_of : List ℕ → List (List ℕ)
+runs_of line = filter is_word (slice_split is_blank line)
+
+-- a word that begins with a number sign begins a comment
+abbrev pub begins_comment : List ℕ → Bool
+begins_comment [] = false
+begins_comment (c ∷ cs) = c == 35
+
+abbrev pub before_comment : List (List ℕ) → List (List ℕ)
+before_comment [] = []
+before_comment (w ∷ ws) = if begins_comment w then [] else w ∷ before_comment ws
+
+-- the words of a line
+abbrev pub words_of : List ℕ → List (List ℕ)
+words_of line = before_comment (runs_of line)

@@ -1,0 +1,77 @@
+// Lines and words of a text.
+
+ghost use Rattle.std.specs.Prelude.{◌≡◌, ◌≤◌, ◌==◌, [], ◌∷◌, length, take, drop, MatchOption, ◌+◌};
+ghost use Rattle.std.specs.List.{position_or_len};
+ghost use Rattle.program_reader.specs.Words.{is_blank, runs_of, words_of};
+
+fn is_blank_byte(byte: u8) -> bool
+    ensures { result ≡ is_blank byte }
+{
+    byte == b' ' || byte == b'\t' || byte == b'\r'
+}
+
+/// Where the first line ends: at its line feed, or with the text.
+pub(crate) fn line_end(text: &[u8]) -> usize
+    ensures end { result ≡ position_or_len (λ c. c == 10) text.now }
+    ensures within { result ≤ length text.now }
+{
+    for (i, byte) in text.iter().enumerate() {
+        if *byte == b'\n' {
+            return i;
+        }
+    }
+    text.len()
+}
+
+// Where the first run of other bytes than blanks ends.
+fn run_end(line: &[u8]) -> usize
+    ensures end { result ≡ position_or_len is_blank line.now }
+    ensures within { result ≤ length line.now }
+{
+    for (i, byte) in line.iter().enumerate() {
+        if is_blank_byte(*byte) {
+            return i;
+        }
+    }
+    line.len()
+}
+
+/// What comes behind the byte at a place, or nothing where there is none.
+pub(crate) fn behind(line: &[u8], end: usize) -> &[u8]
+    requires { end ≤ length line.now }
+    ensures { result.now ≡ drop (end + 1) line.now }
+{
+    if end < line.len() {
+        &line[end + 1..]
+    } else {
+        &line[end..]
+    }
+}
+
+// The first run and what comes behind the blank after it, or None where there are only blanks.
+fn next_run(line: &[u8]) -> Option<(&[u8], &[u8])>
+    ensures { MatchOption result (runs_of line.now ≡ []) (λ r. runs_of line.now ≡ r.0.now ∷ runs_of r.1.now) }
+{
+    let mut rest = line;
+    loop {
+        let end = run_end(rest);
+        if end > 0 {
+            return Some((&rest[..end], behind(rest, end)));
+        }
+        if rest.is_empty() {
+            return None;
+        }
+        rest = &rest[1..];
+    }
+}
+
+/// The first word of a line and the rest of the line, or None where it has no word before its comment.
+pub(crate) fn next_word(line: &[u8]) -> Option<(&[u8], &[u8])>
+    ensures { MatchOption result (words_of line.now ≡ []) (λ r. words_of line.now ≡ r.0.now ∷ words_of r.1.now) }
+{
+    let (word, rest) = next_run(line)?;
+    if word.first() == Some(&b'#') {
+        return None;
+    }
+    Some((word, rest))
+}
