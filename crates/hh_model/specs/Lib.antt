@@ -7,3 +7,4 @@ pub mod Action
 pub mod Machine
 pub mod Store
 pub mod ReadLaws
+pub mod Winner
