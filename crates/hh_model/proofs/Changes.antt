@@ -38,7 +38,7 @@ abbrev pub WritesField : Frame → Instr → Object → Object → Type 0
 WritesField f (Putr o k v) x y = (x.mutable ≡ true) × ((at : ℕ) × (place_in (length x.refs) (int_in f k) ≡ Some at) × (y.refs ≡ slice_set x.refs at (ref_in f v)))
 WritesField f (Cas d o k e v) x y =
     (x.mutable ≡ true) × ((at : ℕ) × (place_in (length x.refs) (int_in f k) ≡ Some at) × (y.refs ≡ slice_set x.refs at (ref_in f v))
-        × (same_name (flat (slice_get x.refs at)) (ref_in f e) ≡ true))
+    × (same_name (flat (slice_get x.refs at)) (ref_in f e) ≡ true))
 WritesField f _ x y = y.refs ≡ x.refs
 
 pub record Writes (s : Setting) (f : Frame) (instr : Instr) (store store' : List (List Object)) : Type 0 where
