@@ -21,3 +21,4 @@ pub mod Numbers
 pub mod FreeReads
 pub mod Frozen
 pub mod Winner
+pub mod Next

@@ -1,10 +1,10 @@
 -- Of the tasks that try to set a nil field by compare and swap, the first one does.
-use Rattle.std.proofs.Common.{◌≡◌, ℕ, ℤ, zero, suc, pos, negsuc, ◌+◌, ◌-◌, ◌<◌, ◌≤◌, Bool, true, false, cond, Option, Some, None, List, [], ◌∷◌, ◌++◌, length, take, slice_get, slice_set, nat_lt, ◌⊎◌, inl, inr, refl, ap, sym, subst, ◌∙◌, arith, add-one}
-use Rattle.std.proofs.lemmas.Bool.{cases_eq, cases_lt, both_ways, false≢true, lt-ltb, ltb-true}
+use Rattle.std.proofs.Common.{◌≡◌, ℕ, ℤ, zero, suc, pos, negsuc, ◌+◌, ◌-◌, ◌<◌, ◌≤◌, Bool, true, false, cond, Option, Some, None, List, [], ◌∷◌, length, take, slice_get, slice_set, nat_lt, ◌⊎◌, inl, inr, refl, ap, sym, subst, ◌∙◌, arith, add-one}
+use Rattle.std.proofs.lemmas.Bool.{cases_eq, cases_lt, both_ways, lt-ltb, ltb-true}
 use Rattle.std.proofs.lemmas.Option.{same_Some}
-use Rattle.listed.proofs.Members.{In, got_same, got_other, got_in, got_within, got_past}
+use Rattle.listed.proofs.Members.{In, got_same, got_other, got_in, got_within}
 use Rattle.hh_lang.specs.declared.instr.Instr.{Instr}
-use Rattle.hh_lang.specs.declared.instr.Instr.TheVariants.{Set, Mov, Movr, Nil as NilOf, Calc, Same, Jmp, Jz, Newm, Pack, Getr, Geti, Putr, Puti, Cntr, Cnti, Freeze, Cas, Call, Par, Ret, Out}
+use Rattle.hh_lang.specs.declared.instr.Instr.TheVariants.{Putr, Puti, Freeze, Cas}
 use Rattle.hh_lang.specs.declared.program.Line.{Line}
 use Rattle.hh_lang.specs.Form.{ProgramText}
 use Rattle.hh_model.specs.declared.data.Name.{Name}
@@ -12,13 +12,13 @@ use Rattle.hh_model.specs.declared.data.Object.{Object}
 use Rattle.hh_model.specs.declared.data.Frame.{Frame}
 use Rattle.hh_model.specs.declared.data.Task.{Task}
 use Rattle.hh_model.specs.declared.data.State.{State}
-use Rattle.hh_model.specs.Effect.{Effect, Goes, Setting, effect, object_at, put_object, row_of, int_in, ref_in, with_int, onward, same_name, place_in, flat}
-use Rattle.hh_model.specs.Step.{step, run, run_from, start, setting, can_step, fetched, follow}
+use Rattle.hh_model.specs.Effect.{Goes, Setting, effect, object_at, put_object, int_in, ref_in, with_int, onward, same_name, place_in, flat}
+use Rattle.hh_model.specs.Step.{step, run_from, start, setting, can_step, follow}
 use Rattle.hh_model.specs.Store.{IsWriteTo, IsNext, StaysAs}
-use Rattle.hh_model.specs.Winner.{Field, FieldHolds, MayWrite, after, IsTurn, IsPutr, IsCas, expects, brings, Yields, OnlyFromNil, IsUntried, HasOneWinner, OneWinner}
-use Rattle.hh_model.proofs.Stores.{in_row, put_cases, made_cases}
+use Rattle.hh_model.specs.Winner.{Field, FieldHolds, MayWrite, after, IsCas, expects, brings, Yields, OnlyFromNil, IsUntried, OneWinner}
+use Rattle.hh_model.proofs.Stores.{put_cases, made_cases}
 use Rattle.hh_model.proofs.Changes.{WritesField}
-use Rattle.hh_model.proofs.Kept.{Kept, start_kept, run_kept, step_kept, empty_rows, no_objects}
+use Rattle.hh_model.proofs.Kept.{Kept, start_kept, run_kept, empty_rows, no_objects}
 use Rattle.hh_model.proofs.Objects.{made_stays, put_here, put_other, rows_stay, same_stays, stays_on, object_later}
 use Rattle.hh_model.proofs.Steps.{Alters, step_cases}
 use Rattle.hh_model.proofs.Taken.{step_taken, step_idle}

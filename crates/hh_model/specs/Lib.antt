@@ -8,3 +8,4 @@ pub mod Machine
 pub mod Store
 pub mod ReadLaws
 pub mod Winner
+pub mod NextLaw
