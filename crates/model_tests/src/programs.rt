@@ -1,9 +1,11 @@
 // Programs with the order of their tasks, their outputs and their ends.
 
-use crate::runs::{run, steps};
+use crate::runs::{run, steps, told};
 use crate::texts::program;
-use hh_model::{End, Machine, Trap};
+use hh_model::Machine;
 use std::test::Fail;
+
+const SEVEN: &str = "fn main / set i0 7 / out i0 / ret / end";
 
 const FORK_AND_SUM: &str =
     "fn left / set i1 10 / add i0 i1 i2 / ret / end / fn right / set i1 20 / add i0 i1 i2 / ret / end / fn main / set i2 3 / par left right / add i0 i0 i1 / out i0 / ret / end";
@@ -56,147 +58,97 @@ const PACKED: &str =
 const OPERATORS: &str =
     "fn main / set i0 -7 / set i1 2 / div i2 i0 i1 / out i2 / rem i2 i0 i1 / out i2 / sub i2 i1 i0 / out i2 / mul i2 i0 i1 / out i2 / lt i2 i0 i1 / out i2 / lt i2 i0 i0 / out i2 / eq i2 i0 i0 / out i2 / eq i2 i0 i1 / out i2 / ret / end";
 
+// A program, the order of its tasks, and what comes of it.
+const RUNS: [(&str, &str, &str); 17] = [
+    (SEVEN, "0:2 0:1", "7 done"),
+    (FORK_AND_SUM, "0:2 1:3 2:3 0:2 0:1", "36 done"),
+    (
+        ENTANGLED_READ,
+        "0:4 1:2 1:2 1:1 2:2",
+        "entangled reader 2 owner 1",
+    ),
+    (ENTANGLED_READ, "0:4 2:2 2:1 1:4 1:1 0:1", "done"),
+    (HUNDRED_OBJECTS, "0:404", "done"),
+    (OWN_DOWN_POINTER, "0:4 1:9 2:2 0:2", "42 done"),
+    (LIFTED_ENTRY, "0:5 1:1 3:1 4:7 1:5 2:1 0:5", "7 done"),
+    (
+        CLEARED_WHILE_COLLECTING,
+        "0:4 1:5 2:3 1:2 2:1 0:6",
+        "1 done",
+    ),
+    (SELF_REFERENCE, "0:6 0:5 0:1 0:1", "1 1 done"),
+    (OVERWRITTEN_BEFORE_MARK, "0:11 1:6 2:1 0:1 0:1", "5 done"),
+    (
+        JOINED_CHILDS_OBJECT,
+        "0:4 1:1 3:5 4:1 1:1 2:2",
+        "entangled reader 2 owner 1",
+    ),
+    (ENDLESS_LIST, "0:502", "goes on"),
+    (MARK_AND_SWEEP, "0:7 1:2 2:2 0:1", "0 0 done"),
+    (
+        LEAST_NUMBER,
+        "0:10",
+        "-9223372036854775808 0 9223372036854775807 trap div task 0 line 11",
+    ),
+    (CALL_AND_RETURN, "0:17", "4 11 4 12 4 done"),
+    (PACKED, "0:18", "2 3 -7 1 0 done"),
+    (OPERATORS, "0:19", "-3 -1 9 -14 1 0 1 0 done"),
+];
+
 #[test]
 fn runs_of_programs(rt: HostRuntime) -> Result<(), Fail> {
-    let done = Some(End::Done);
-    let entangled = Some(End::Entangled(2, 1));
-    let cases: [(&'static str, &[(u32, u32)], &[i64], Option<End>); 17] = [
-        (
-            "fn main / set i0 7 / out i0 / ret / end",
-            &[(0, 2), (0, 1)],
-            &[7],
-            done,
-        ),
-        (
-            FORK_AND_SUM,
-            &[(0, 2), (1, 3), (2, 3), (0, 2), (0, 1)],
-            &[36],
-            done,
-        ),
-        (
-            ENTANGLED_READ,
-            &[(0, 4), (1, 2), (1, 2), (1, 1), (2, 2)],
-            &[],
-            entangled,
-        ),
-        (
-            ENTANGLED_READ,
-            &[(0, 4), (2, 2), (2, 1), (1, 4), (1, 1), (0, 1)],
-            &[],
-            done,
-        ),
-        (HUNDRED_OBJECTS, &[(0, 404)], &[], done),
-        (
-            OWN_DOWN_POINTER,
-            &[(0, 4), (1, 9), (2, 2), (0, 2)],
-            &[42],
-            done,
-        ),
-        (
-            LIFTED_ENTRY,
-            &[(0, 5), (1, 1), (3, 1), (4, 7), (1, 5), (2, 1), (0, 5)],
-            &[7],
-            done,
-        ),
-        (
-            CLEARED_WHILE_COLLECTING,
-            &[(0, 4), (1, 5), (2, 3), (1, 2), (2, 1), (0, 6)],
-            &[1],
-            done,
-        ),
-        (
-            SELF_REFERENCE,
-            &[(0, 2), (0, 4), (0, 5), (0, 1), (0, 1)],
-            &[1, 1],
-            done,
-        ),
-        (
-            OVERWRITTEN_BEFORE_MARK,
-            &[(0, 11), (1, 6), (2, 1), (0, 1), (0, 1)],
-            &[5],
-            done,
-        ),
-        (
-            JOINED_CHILDS_OBJECT,
-            &[(0, 4), (1, 1), (3, 5), (4, 1), (1, 1), (2, 2)],
-            &[],
-            entangled,
-        ),
-        (ENDLESS_LIST, &[(0, 502)], &[], None),
-        (
-            MARK_AND_SWEEP,
-            &[(0, 7), (1, 2), (2, 2), (0, 1)],
-            &[0, 0],
-            done,
-        ),
-        (
-            LEAST_NUMBER,
-            &[(0, 10)],
-            &[i64::MIN, 0, i64::MAX],
-            Some(End::Trapped(Trap::Div, 0, 11)),
-        ),
-        (CALL_AND_RETURN, &[(0, 17)], &[4, 11, 4, 12, 4], done),
-        (PACKED, &[(0, 18)], &[2, 3, -7, 1, 0], done),
-        (OPERATORS, &[(0, 19)], &[-3, -1, 9, -14, 1, 0, 1, 0], done),
-    ];
-    for (k, (text, trace, outputs, end)) in cases.into_iter().enumerate() {
-        let (written, came) = run(rt.alloc(), text, 1022, trace)?;
-        assert_eq!(rt; written.as_slice(), outputs, "case {k}");
-        assert_eq!(rt; came, end, "case {k}");
+    for (text, trace, expected) in RUNS {
+        assert_eq!(rt;
+            run(rt.alloc(), text, 1022, trace)?.as_str(),
+            expected,
+            "{text}"
+        );
     }
     Ok(())
 }
 
+// The most fields, numbers of references and numbers, and what comes of it.
+const LARGEST: [(u32, &str, &str); 6] = [
+    (1022, "set i0 0 / set i1 1022", "goes on"),
+    (1022, "set i0 0 / set i1 1023", "trap size task 0 line 4"),
+    (1000000, "set i0 0 / set i1 1023", "goes on"),
+    (1000000, "set i0 0 / set i1 1000000", "goes on"),
+    (
+        1000000,
+        "set i0 0 / set i1 1000001",
+        "trap size task 0 line 4",
+    ),
+    (
+        1000000,
+        "set i0 1 / set i1 1000000",
+        "trap size task 0 line 4",
+    ),
+];
+
 #[test]
 fn the_largest_object(rt: HostRuntime) -> Result<(), Fail> {
-    let too_large = Some(End::Trapped(Trap::Size, 0, 4));
-    let cases: [(&'static str, u32, Option<End>); 6] = [
-        (
-            "fn main / set i0 0 / set i1 1022 / newm r0 i0 i1 / ret / end",
-            1022,
-            None,
-        ),
-        (
-            "fn main / set i0 0 / set i1 1023 / newm r0 i0 i1 / ret / end",
-            1022,
-            too_large,
-        ),
-        (
-            "fn main / set i0 0 / set i1 1023 / newm r0 i0 i1 / ret / end",
-            1000000,
-            None,
-        ),
-        (
-            "fn main / set i0 0 / set i1 1000000 / newm r0 i0 i1 / ret / end",
-            1000000,
-            None,
-        ),
-        (
-            "fn main / set i0 0 / set i1 1000001 / newm r0 i0 i1 / ret / end",
-            1000000,
-            too_large,
-        ),
-        (
-            "fn main / set i0 1 / set i1 1000000 / newm r0 i0 i1 / ret / end",
-            1000000,
-            too_large,
-        ),
-    ];
-    for (k, (text, limit, end)) in cases.into_iter().enumerate() {
-        let (_, came) = run(rt.alloc(), text, limit, &[(0, 3)])?;
-        assert_eq!(rt; came, end, "case {k}");
+    for (limit, counts, expected) in LARGEST {
+        let text = format!(in rt.alloc(); "fn main / {counts} / newm r0 i0 i1 / ret / end")?;
+        assert_eq!(rt;
+            run(rt.alloc(), &text, limit, "0:3")?.as_str(),
+            expected,
+            "{counts}"
+        );
     }
     Ok(())
 }
 
 #[test]
 fn the_deepest_calls(rt: HostRuntime) -> Result<(), Fail> {
-    let recursion = program(rt.alloc(), "fn main / call main / end")?;
-    let mut machine = Machine::start(rt.alloc(), &recursion, 1022)?;
-    steps(&mut machine, 0, 999)?;
-    assert_eq!(rt; machine.end(), None);
-    steps(&mut machine, 0, 1)?;
-    assert_eq!(rt; machine.end(), Some(End::Trapped(Trap::Depth, 0, 2)));
+    let recursion = "fn main / call main / end";
+    assert_eq!(rt;
+        run(rt.alloc(), recursion, 1022, "0:999")?.as_str(),
+        "goes on"
+    );
+    assert_eq!(rt;
+        run(rt.alloc(), recursion, 1022, "0:1000")?.as_str(),
+        "trap depth task 0 line 2"
+    );
     Ok(())
 }
 
@@ -208,10 +160,13 @@ fn the_deepest_forks(rt: HostRuntime) -> Result<(), Fail> {
     for level in 0..999 {
         steps(&mut machine, 2 * level + 1, 1)?;
     }
-    assert_eq!(rt; machine.end(), None);
+    assert_eq!(rt; told(rt.alloc(), &machine)?.as_str(), "goes on");
     assert_eq!(rt; machine.state().tasks.len(), 2001);
     steps(&mut machine, 1999, 1)?;
-    assert_eq!(rt; machine.end(), Some(End::Trapped(Trap::Depth, 1999, 2)));
+    assert_eq!(rt;
+        told(rt.alloc(), &machine)?.as_str(),
+        "trap depth task 1999 line 2"
+    );
     assert_eq!(rt; machine.steps(), 1001);
     Ok(())
 }
