@@ -6,10 +6,14 @@ mod arithmetic;
 mod change;
 mod data;
 mod decide;
+mod fork;
 mod frame;
+mod frames;
 mod laws;
 mod lookup;
 mod machine;
+mod returns;
+mod store;
 mod take;
 
 pub use data::{Edge, End, Frame, Name, Object, State, Status, Strand, Task, Trap};

@@ -7,56 +7,91 @@ use std::test::Fail;
 
 const SEVEN: &str = "fn main / set i0 7 / out i0 / ret / end";
 
-const FORK_AND_SUM: &str =
-    "fn left / set i1 10 / add i0 i1 i2 / ret / end / fn right / set i1 20 / add i0 i1 i2 / ret / end / fn main / set i2 3 / par left right / add i0 i0 i1 / out i0 / ret / end";
+const FORK_AND_SUM: &str = "\
+    fn left / set i1 10 / add i0 i1 i2 / ret / end / \
+    fn right / set i1 20 / add i0 i1 i2 / ret / end / \
+    fn main / set i2 3 / par left right / add i0 i0 i1 / out i0 / ret / end";
 
 // The left child stores an object of its own into the root's object; the right child reads it there.
-const ENTANGLED_READ: &str =
-    "fn left / set i0 0 / set i1 1 / newm r1 i0 i1 / putr r0 i0 r1 / ret / end / fn right / set i0 0 / getr r1 r0 i0 / ret / end / fn main / set i0 1 / set i1 0 / newm r0 i0 i1 / par left right / ret / end";
+const ENTANGLED_READ: &str = "\
+    fn left / set i0 0 / set i1 1 / newm r1 i0 i1 / putr r0 i0 r1 / ret / end / \
+    fn right / set i0 0 / getr r1 r0 i0 / ret / end / \
+    fn main / set i0 1 / set i1 0 / newm r0 i0 i1 / par left right / ret / end";
 
-const HUNDRED_OBJECTS: &str =
-    "fn main / set i0 0 / set i1 8 / set i2 1 / set i3 100 / newm r0 i0 i1 / sub i3 i3 i2 / jz i3 8 / jmp 4 / ret / end";
+const HUNDRED_OBJECTS: &str = "\
+    fn main / set i0 0 / set i1 8 / set i2 1 / set i3 100 / newm r0 i0 i1 / sub i3 i3 i2 / jz i3 8 / \
+    jmp 4 / ret / end";
 
-const OWN_DOWN_POINTER: &str =
-    "fn left / set i0 0 / set i1 1 / newm r1 i0 i1 / set i2 42 / puti r1 i0 i2 / putr r0 i0 r1 / getr r2 r0 i0 / geti i0 r2 i0 / ret / end / fn right / set i0 0 / ret / end / fn main / set i0 1 / set i1 0 / newm r0 i0 i1 / par left right / out i0 / ret / end";
+const OWN_DOWN_POINTER: &str = "\
+    fn left / set i0 0 / set i1 1 / newm r1 i0 i1 / set i2 42 / puti r1 i0 i2 / putr r0 i0 r1 / \
+    getr r2 r0 i0 / geti i0 r2 i0 / ret / end / \
+    fn right / set i0 0 / ret / end / \
+    fn main / set i0 1 / set i1 0 / newm r0 i0 i1 / par left right / out i0 / ret / end";
 
 // What a child of a child stored is read once both levels have joined.
-const LIFTED_ENTRY: &str =
-    "fn nop / ret / end / fn store / set i0 0 / set i1 1 / newm r1 i0 i1 / set i2 7 / puti r1 i0 i2 / putr r0 i0 r1 / ret / end / fn mid / par nop store / set i2 0 / set i3 18 / newm r2 i2 i3 / newm r2 i2 i3 / ret / end / fn main / set i0 1 / set i1 0 / newm r0 i0 i1 / movr r5 r0 / par mid nop / set i2 0 / getr r3 r5 i2 / geti i4 r3 i2 / out i4 / ret / end";
+const LIFTED_ENTRY: &str = "\
+    fn nop / ret / end / \
+    fn store / set i0 0 / set i1 1 / newm r1 i0 i1 / set i2 7 / puti r1 i0 i2 / putr r0 i0 r1 / ret / \
+    end / \
+    fn mid / par nop store / set i2 0 / set i3 18 / newm r2 i2 i3 / newm r2 i2 i3 / ret / end / \
+    fn main / set i0 1 / set i1 0 / newm r0 i0 i1 / movr r5 r0 / par mid nop / set i2 0 / \
+    getr r3 r5 i2 / geti i4 r3 i2 / out i4 / ret / end";
 
-const CLEARED_WHILE_COLLECTING: &str =
-    "fn left / set i0 0 / set i1 14 / newm r1 i0 i1 / putr r0 i0 r1 / nil r1 / newm r2 i0 i1 / ret / end / fn right / set i0 0 / nil r1 / putr r0 i0 r1 / ret / end / fn main / set i0 1 / set i1 0 / newm r0 i0 i1 / par left right / set i2 0 / getr r3 r0 i2 / nil r4 / same i3 r3 r4 / out i3 / ret / end";
+const CLEARED_WHILE_COLLECTING: &str = "\
+    fn left / set i0 0 / set i1 14 / newm r1 i0 i1 / putr r0 i0 r1 / nil r1 / newm r2 i0 i1 / ret / \
+    end / \
+    fn right / set i0 0 / nil r1 / putr r0 i0 r1 / ret / end / \
+    fn main / set i0 1 / set i1 0 / newm r0 i0 i1 / par left right / set i2 0 / getr r3 r0 i2 / \
+    nil r4 / same i3 r3 r4 / out i3 / ret / end";
 
-const SELF_REFERENCE: &str =
-    "fn main / set i0 1 / set i1 13 / newm r0 i0 i1 / set i2 0 / putr r0 i2 r0 / movr r1 r0 / newm r2 i0 i1 / getr r3 r0 i2 / same i3 r0 r1 / same i4 r3 r1 / out i3 / out i4 / ret / end";
+const SELF_REFERENCE: &str = "\
+    fn main / set i0 1 / set i1 13 / newm r0 i0 i1 / set i2 0 / putr r0 i2 r0 / movr r1 r0 / \
+    newm r2 i0 i1 / getr r3 r0 i2 / same i3 r0 r1 / same i4 r3 r1 / out i3 / out i4 / ret / end";
 
 // A register keeps the object whose last field its task clears.
-const OVERWRITTEN_BEFORE_MARK: &str =
-    "fn left / set i0 0 / getr r1 r0 i0 / nil r2 / putr r0 i0 r2 / geti i0 r1 i0 / ret / end / fn right / ret / end / fn main / set i0 1 / set i1 0 / newm r0 i0 i1 / set i0 0 / set i1 14 / newm r1 i0 i1 / set i2 5 / puti r1 i0 i2 / putr r0 i0 r1 / nil r1 / par left right / out i0 / ret / end";
+const OVERWRITTEN_BEFORE_MARK: &str = "\
+    fn left / set i0 0 / getr r1 r0 i0 / nil r2 / putr r0 i0 r2 / geti i0 r1 i0 / ret / end / \
+    fn right / ret / end / \
+    fn main / set i0 1 / set i1 0 / newm r0 i0 i1 / set i0 0 / set i1 14 / newm r1 i0 i1 / set i2 5 / \
+    puti r1 i0 i2 / putr r0 i0 r1 / nil r1 / par left right / out i0 / ret / end";
 
 // The object was made by a child of task 1 that has joined.
-const JOINED_CHILDS_OBJECT: &str =
-    "fn nop / ret / end / fn mk / set i0 0 / set i1 1 / newm r1 i0 i1 / putr r0 i0 r1 / ret / end / fn left / par mk nop / ret / end / fn right / set i0 0 / getr r1 r0 i0 / ret / end / fn main / set i0 1 / set i1 0 / newm r0 i0 i1 / par left right / ret / end";
+const JOINED_CHILDS_OBJECT: &str = "\
+    fn nop / ret / end / \
+    fn mk / set i0 0 / set i1 1 / newm r1 i0 i1 / putr r0 i0 r1 / ret / end / \
+    fn left / par mk nop / ret / end / \
+    fn right / set i0 0 / getr r1 r0 i0 / ret / end / \
+    fn main / set i0 1 / set i1 0 / newm r0 i0 i1 / par left right / ret / end";
 
-const ENDLESS_LIST: &str =
-    "fn main / set i0 1 / set i1 597 / newm r1 i0 i1 / set i2 0 / putr r1 i2 r0 / movr r0 r1 / jmp 2 / end";
+const ENDLESS_LIST: &str = "\
+    fn main / set i0 1 / set i1 597 / newm r1 i0 i1 / set i2 0 / putr r1 i2 r0 / movr r0 r1 / jmp 2 / \
+    end";
 
-const MARK_AND_SWEEP: &str =
-    "fn kid / out i0 / ret / end / fn main / set i0 0 / set i1 1000 / newm r0 i0 i1 / nil r0 / set i1 500 / newm r1 i0 i1 / par kid kid / ret / end";
+const MARK_AND_SWEEP: &str = "\
+    fn kid / out i0 / ret / end / \
+    fn main / set i0 0 / set i1 1000 / newm r0 i0 i1 / nil r0 / set i1 500 / newm r1 i0 i1 / \
+    par kid kid / ret / end";
 
-const LEAST_NUMBER: &str =
-    "fn main / set i0 -9223372036854775808 / set i1 -1 / div i2 i0 i1 / out i2 / rem i3 i0 i1 / out i3 / add i2 i0 i1 / out i2 / set i1 0 / div i2 i0 i1 / ret / end";
+const LEAST_NUMBER: &str = "\
+    fn main / set i0 -9223372036854775808 / set i1 -1 / div i2 i0 i1 / out i2 / rem i3 i0 i1 / \
+    out i3 / add i2 i0 i1 / out i2 / set i1 0 / div i2 i0 i1 / ret / end";
 
 // The callee has the caller's registers; the caller gets back i0 and r0 alone.
-const CALL_AND_RETURN: &str =
-    "fn f / out i3 / set i0 11 / set i3 12 / newm r0 i3 i3 / nil r4 / ret / end / fn main / set i3 4 / mov i4 i3 / newm r4 i3 i4 / call f / out i0 / out i3 / cntr i5 r0 / out i5 / cnti i6 r4 / out i6 / ret / end";
+const CALL_AND_RETURN: &str = "\
+    fn f / out i3 / set i0 11 / set i3 12 / newm r0 i3 i3 / nil r4 / ret / end / \
+    fn main / set i3 4 / mov i4 i3 / newm r4 i3 i4 / call f / out i0 / out i3 / cntr i5 r0 / out i5 / \
+    cnti i6 r4 / out i6 / ret / end";
 
 // An immutable object holds the first registers of each kind.
-const PACKED: &str =
-    "fn main / set i0 0 / set i1 1 / set i2 -7 / set i3 2 / newm r1 i1 i0 / pack r2 2 3 / cntr i4 r2 / out i4 / cnti i4 r2 / out i4 / geti i5 r2 i3 / out i5 / getr r3 r2 i1 / same i6 r3 r1 / out i6 / same i6 r3 r2 / out i6 / ret / end";
+const PACKED: &str = "\
+    fn main / set i0 0 / set i1 1 / set i2 -7 / set i3 2 / newm r1 i1 i0 / pack r2 2 3 / cntr i4 r2 / \
+    out i4 / cnti i4 r2 / out i4 / geti i5 r2 i3 / out i5 / getr r3 r2 i1 / same i6 r3 r1 / out i6 / \
+    same i6 r3 r2 / out i6 / ret / end";
 
-const OPERATORS: &str =
-    "fn main / set i0 -7 / set i1 2 / div i2 i0 i1 / out i2 / rem i2 i0 i1 / out i2 / sub i2 i1 i0 / out i2 / mul i2 i0 i1 / out i2 / lt i2 i0 i1 / out i2 / lt i2 i0 i0 / out i2 / eq i2 i0 i0 / out i2 / eq i2 i0 i1 / out i2 / ret / end";
+const OPERATORS: &str = "\
+    fn main / set i0 -7 / set i1 2 / div i2 i0 i1 / out i2 / rem i2 i0 i1 / out i2 / sub i2 i1 i0 / \
+    out i2 / mul i2 i0 i1 / out i2 / lt i2 i0 i1 / out i2 / lt i2 i0 i0 / out i2 / eq i2 i0 i0 / \
+    out i2 / eq i2 i0 i1 / out i2 / ret / end";
 
 // A program, the order of its tasks, and what comes of it.
 const RUNS: [(&str, &str, &str); 17] = [
@@ -168,5 +203,19 @@ fn the_deepest_forks(rt: HostRuntime) -> Result<(), Fail> {
         "trap depth task 1999 line 2"
     );
     assert_eq!(rt; machine.steps(), 1001);
+    Ok(())
+}
+
+// Each turn of the loop calls, makes an object, and writes a field of each kind.
+const LOOP: &str = "\
+    fn f / newm r1 i1 i1 / puti r1 i0 i1 / putr r1 i0 r0 / movr r0 r1 / ret / end / \
+    fn main / set i1 1 / call f / jmp 1 / end";
+
+#[test]
+fn a_million_steps(rt: HostRuntime) -> Result<(), Fail> {
+    assert_eq!(rt;
+        run(rt.alloc(), LOOP, 1022, "0:1000000")?.as_str(),
+        "goes on"
+    );
     Ok(())
 }
