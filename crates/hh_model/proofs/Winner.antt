@@ -241,6 +241,27 @@ got_at [] k lt = absurd (omega arith)
 got_at (x ∷ xs) zero lt = (x, refl)
 got_at (x ∷ xs) (suc k) lt = got_at xs k (omega arith)
 
+-- the object of a name that an object has become
+stays_to : (store : List (List Object)) (n : Name) (old new o : Object) → object_at store n ≡ Some new → object_at store n ≡ Some o → StaysAs old new → StaysAs old o
+stays_to store n old new o is is' stays = subst (StaysAs old) (same_Some new o (sym is ∙ is')) stays
+
+-- the field was there before, and the object was mutable if it is now
+stayed_field : (old o : Object) (k : ℕ) (r : Option Name) → StaysAs old o → slice_get o.refs k ≡ Some r → (q : Option Name) × (slice_get old.refs k ≡ Some q)
+stayed_field old o k r stays value = let len : length o.refs ≡ length old.refs = stays.refs in got_at old.refs k (omega (arith, len, got_within o.refs k r value))
+
+stayed_mutable : (old o : Object) → StaysAs old o → o.mutable ≡ true → old.mutable ≡ true
+stayed_mutable old o stays mutable = by_mutable old.mutable refl
+  where
+    by_mutable : (b : Bool) → old.mutable ≡ b → old.mutable ≡ true
+    by_mutable true e = e
+    by_mutable false e = absurd (both_ways o.mutable (ap (λ (w : Object). w.mutable) (stays.frozen e) ∙ e) mutable)
+
+-- a field holds one value
+one_value : (store : List (List Object)) (n : Name) (o o' : Object) (k : ℕ) (r r' : Option Name) → object_at store n ≡ Some o → object_at store n ≡ Some o' → slice_get o.refs k ≡ Some r → slice_get o'.refs k ≡ Some r' → r ≡ r'
+one_value store n o o' k r r' is is' value value' =
+    let same : o ≡ o' = same_Some o o' (sym is ∙ is') in
+    same_Some r r' (sym value ∙ (ap (λ (w : Object). slice_get w.refs k) same ∙ value'))
+
 module _ (p : ProgramText) (limit : ℕ) (ts : List ℕ) (field : Field) (only : OnlyFromNil p limit ts field) where
   abbrev At : ℕ → State
   At i = after p limit ts i
@@ -315,22 +336,13 @@ module _ (p : ProgramText) (limit : ℕ) (ts : List ℕ) (field : Field) (only :
   nil_step i t e can never nil None none o r is mutable value = new_is_nil p (At i) t (kept i) field.object none o r is mutable (got_in o.refs field.index r value)
   nil_step i t e can never nil (Some old) was o r is mutable value =
       let later = object_later p (At i) t (kept i) field.object old was in
-      let same : later.0 ≡ o = same_Some later.0 o (sym later.1 ∙ is) in
-      let len : length o.refs ≡ length old.refs = ap (λ (w : Object). length w.refs) (sym same) ∙ later.2.refs in
-      let lt : field.index < length o.refs = got_within o.refs field.index r value in
-      let there = got_at old.refs field.index (omega (arith, len, lt)) in
-      let was_mutable : old.mutable ≡ true = by_mutable old.mutable refl (λ f. both_ways o.mutable (ap (λ (w : Object). w.mutable) (sym same ∙ later.2.frozen f) ∙ f) mutable) in
-      let was_nil : there.0 ≡ None = nil old there.0 was was_mutable there.1 in
+      let stays = stays_to (step p (At i) t).store field.object old later.0 o later.1 is later.2 in
+      let there = stayed_field old o field.index r stays value in
       let l = field_later p (At i) t (kept i) field old there.0 was there.1 in
-      let new : l.0 ≡ o = same_Some l.0 o (sym l.1 ∙ is) in
       elim l.2 [
-        | inl stays ↦ same_Some r there.0 (sym value ∙ (ap (λ (w : Object). slice_get w.refs field.index) (sym new) ∙ stays)) ∙ was_nil
+        | inl same ↦ one_value (step p (At i) t).store field.object o l.0 field.index r there.0 is l.1 value same ∙ nil old there.0 was (stayed_mutable old o stays mutable) there.1
         | inr w ↦ absurd (elim w [ inl q ↦ no_putr i t old there.0 e can q | inr c ↦ never (as_cas i t old there.0 e can c) ])
       ]
-    where
-      by_mutable : (b : Bool) → old.mutable ≡ b → (old.mutable ≡ false → ⊥) → old.mutable ≡ true
-      by_mutable true e never = e
-      by_mutable false e never = absurd (never e)
 
   nil_until : (i : ℕ) → IsUntried p limit ts field i → NilIn (At i)
   nil_until zero un = λ o r is mutable value. absurd (no_objects field.object.task field.object.count o is)
@@ -369,22 +381,14 @@ module _ (p : ProgramText) (limit : ℕ) (ts : List ℕ) (field : Field) (only :
   nil_at_first i h o r un is mutable holds = elim (cases_lt h i) [
     | inl before ↦
         let now = object_until h i o (omega arith) is in
-        let same : now.0 ≡ holds.object = same_Some now.0 holds.object (sym now.1 ∙ holds.is) in
-        let len : length holds.object.refs ≡ length o.refs = ap (λ (w : Object). length w.refs) (sym same) ∙ now.2.refs in
-        let lt : field.index < length holds.object.refs = got_within holds.object.refs field.index r holds.value in
-        let there = got_at o.refs field.index (omega (arith, len, lt)) in
-        let nil : there.0 ≡ None = nil_until h (λ j c. let le : i ≤ j = un j c in omega arith) o there.0 is mutable there.1 in
+        let there = stayed_field o holds.object field.index r (stays_to (At i).store field.object o now.0 holds.object now.1 holds.is now.2) holds.value in
         let later = field_until h i there.0 (omega arith) (λ k le lt c match. let le' : i ≤ k = un k c in omega arith) (record { object = o; is = is; value = there.1 }) in
-        same_Some r there.0 (sym (ap (λ (w : Object). slice_get w.refs field.index) (same_Some later.object holds.object (sym later.is ∙ holds.is)) ∙ holds.value) ∙ later.value) ∙ nil
+        one_value (At i).store field.object holds.object later.object field.index r there.0 holds.is later.is holds.value later.value
+        ∙ nil_until h (λ j c. let le : i ≤ j = un j c in omega arith) o there.0 is mutable there.1
     | inr after_it ↦
         let now = object_until i h holds.object after_it holds.is in
-        let same : now.0 ≡ o = same_Some now.0 o (sym now.1 ∙ is) in
-        nil_until i un holds.object r holds.is (by_mutable holds.object.mutable refl (λ f. both_ways o.mutable (ap (λ (w : Object). w.mutable) (sym same ∙ now.2.frozen f) ∙ f) mutable)) holds.value
+        nil_until i un holds.object r holds.is (stayed_mutable holds.object o (stays_to (At h).store field.object holds.object now.0 o now.1 is now.2) mutable) holds.value
   ]
-    where
-      by_mutable : (b : Bool) → holds.object.mutable ≡ b → (holds.object.mutable ≡ false → ⊥) → holds.object.mutable ≡ true
-      by_mutable true e never = e
-      by_mutable false e never = absurd (never e)
 
   -- what a field holds where a cas on it is taken
   held : (i : ℕ) (c : IsCas p limit ts field i) → (r : Option Name) × (slice_get c.writes.object.refs field.index ≡ Some r)
