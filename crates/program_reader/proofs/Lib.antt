@@ -14,3 +14,4 @@ mod Sounds
 mod Rounds
 mod Whole
 mod Endings
+mod FirstFaults

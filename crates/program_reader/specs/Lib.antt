@@ -8,3 +8,4 @@ pub mod Cause
 pub mod Fault
 pub mod Program
 pub mod Reading
+pub mod Laws

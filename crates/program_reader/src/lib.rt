@@ -4,6 +4,7 @@
 mod cause;
 mod head;
 mod labels;
+mod laws;
 mod loops;
 mod names;
 mod operands;
@@ -16,4 +17,5 @@ mod tests;
 mod words;
 
 pub use cause::{Cause, Refused};
+pub use laws::{first_fault_is_first, no_fault_on_any_line};
 pub use read::read_program;
