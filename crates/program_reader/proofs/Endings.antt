@@ -11,7 +11,7 @@ use Rattle.program_reader.specs.declared.head.Head.TheVariants.{Begin}
 use Rattle.program_reader.specs.declared.sense.Sense.{Sense}
 use Rattle.program_reader.specs.declared.sense.Outline.{Outline}
 use Rattle.program_reader.specs.declared.reader.Reader.{Reader}
-use Rattle.program_reader.specs.Words.{lines_of}
+use Rattle.text_lines.specs.Lines.{lines_of}
 use Rattle.program_reader.specs.Names.{is_noted}
 use Rattle.program_reader.specs.Sense.{IsSmall, only_name, sense_of}
 use Rattle.program_reader.specs.Around.{outline_of, head_of_line, operands_of_line}

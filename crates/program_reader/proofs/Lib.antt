@@ -1,4 +1,3 @@
-mod Runs
 mod Tables
 mod Counts
 mod Lines

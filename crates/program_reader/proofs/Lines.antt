@@ -4,8 +4,8 @@ use Rattle.std.specs.Prelude.{◌==◌}
 use Rattle.std.specs.List.{position_or_len}
 use Rattle.std.proofs.lemmas.List.{take_all}
 use Rattle.std.proofs.lemmas.List.Splits.{slice_split_first}
-use Rattle.program_reader.specs.Words.{lines_of}
-use Rattle.program_reader.proofs.Runs.{split_last}
+use Rattle.text_lines.specs.Lines.{lines_of}
+use Rattle.text_lines.proofs.Runs.{split_last}
 
 pub lines_first : (text : List ℕ) (end : ℕ) → end ≡ position_or_len (λ c. c == 10) text → end < length text → lines_of text ≡ take end text ∷ lines_of (drop (end + 1) text)
 lines_first text end e lt = rw e (slice_split_first (λ c. c == 10) text 0 (let h : position_or_len (λ c. c == 10) text < length text = omega (arith, e, lt) in h))

@@ -3,7 +3,7 @@ use Rattle.std.proofs.Common.{◌≡◌, ◌<◌, ◌≤◌, ◌+◌, ◌++◌, 
 use Rattle.std.specs.Prelude.{◌==◌, Option, Some, None}
 use Rattle.std.specs.List.{position_or_len}
 use Rattle.program_reader.specs.declared.sense.Outline.{Outline}
-use Rattle.program_reader.specs.Words.{lines_of}
+use Rattle.text_lines.specs.Lines.{lines_of}
 use Rattle.program_reader.specs.Names.{Entry, is_noted}
 use Rattle.program_reader.specs.Sense.{IsSmall}
 use Rattle.program_reader.specs.Around.{head_of_line, operands_of_line, begun_name, looped_name, noted_if, outline_line, outline_onto}

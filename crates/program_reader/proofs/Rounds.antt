@@ -16,7 +16,7 @@ use Rattle.program_reader.specs.Names.{is_noted}
 use Rattle.program_reader.specs.declared.sense.Outline.{Outline}
 use Rattle.program_reader.specs.declared.labels.Labels.{Labels}
 use Rattle.program_reader.specs.declared.reader.Reader.{Reader}
-use Rattle.program_reader.specs.Words.{lines_of}
+use Rattle.text_lines.specs.Lines.{lines_of}
 use Rattle.program_reader.specs.Sense.{sense_of, only_name, named}
 use Rattle.program_reader.specs.Around.{begun_name, head_of_line, operands_of_line, is_open_after, outline_of, outline_onto, outline_above, outline_line, no_labels, labels_above, labels_onto, ends_body, label_line}
 use Rattle.program_reader.specs.Fault.{is_last, is_misplaced, is_begin, fault_by, fault_on, fault_from, first_fault, or_later, has_wrong_operand}

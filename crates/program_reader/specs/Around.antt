@@ -6,7 +6,7 @@ use Rattle.program_reader.specs.declared.head.Head.{Head}
 use Rattle.program_reader.specs.declared.head.Head.TheVariants.{Begin, End, Label, Order}
 use Rattle.program_reader.specs.declared.sense.Outline.{Outline}
 use Rattle.program_reader.specs.declared.labels.Labels.{Labels}
-use Rattle.program_reader.specs.Words.{lines_of, words_of}
+use Rattle.text_lines.specs.Lines.{lines_of, words_of}
 use Rattle.program_reader.specs.Names.{Entry, noted}
 use Rattle.program_reader.specs.Head.{head_of_words, operands_of}
 use Rattle.program_reader.specs.Sense.{only_name}

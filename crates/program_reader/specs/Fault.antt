@@ -9,7 +9,7 @@ use Rattle.program_reader.specs.declared.head.Head.TheVariants.{Blank, Begin, La
 use Rattle.program_reader.specs.declared.sense.Sense.{Sense}
 use Rattle.program_reader.specs.declared.sense.Sense.TheVariants.{WrongOperand, NoSuchFunction, NoSuchLabel}
 use Rattle.program_reader.specs.declared.sense.Outline.{Outline}
-use Rattle.program_reader.specs.Words.{lines_of}
+use Rattle.text_lines.specs.Lines.{lines_of}
 use Rattle.program_reader.specs.Names.{Entry, is_noted}
 use Rattle.program_reader.specs.Sense.{sense_of, only_name}
 use Rattle.program_reader.specs.Around.{head_of_line, operands_of_line, is_inside, is_open_after, outline_above, outline_of, labels_above, labels_onto, begun_above, orders_above}

@@ -2,7 +2,7 @@
 use Rattle.std.specs.Prelude.{◌≡◌, ℕ, ◌+◌, ◌<◌, Option, Some, None, List, [], ◌∷◌, ◌++◌, length}
 use Rattle.program_reader.specs.declared.cause.Cause.{Cause}
 use Rattle.program_reader.specs.declared.cause.Refused.{Refused}
-use Rattle.program_reader.specs.Words.{lines_of}
+use Rattle.text_lines.specs.Lines.{lines_of}
 use Rattle.program_reader.specs.Around.{outline_of}
 use Rattle.program_reader.specs.Fault.{spot_of, fault_on, first_fault}
 

@@ -15,7 +15,7 @@ use Rattle.program_reader.specs.declared.sense.Sense.TheVariants.{Does}
 use Rattle.program_reader.specs.declared.sense.Outline.{Outline}
 use Rattle.program_reader.specs.declared.cause.Refused.{Refused}
 use Rattle.program_reader.specs.Fault.{first_fault}
-use Rattle.program_reader.specs.Words.{lines_of}
+use Rattle.text_lines.specs.Lines.{lines_of}
 use Rattle.program_reader.specs.Names.{Entry, place_of}
 use Rattle.program_reader.specs.Sense.{sense_of, loop_function}
 use Rattle.program_reader.specs.Around.{head_of_line, operands_of_line, begun_name, no_labels, labels_onto, outline_of}

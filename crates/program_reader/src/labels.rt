@@ -1,15 +1,15 @@
 // The labels of a function.
 
 ghost use Rattle.std.specs.Prelude.{◌≡◌, ◌<◌, ◌≤◌, ◌^◌, length, IfOk, OnOk, IsTrue};
-ghost use Rattle.program_reader.specs.Words.{lines_of, words_of};
+ghost use Rattle.text_lines.specs.Lines.{lines_of, words_of};
 ghost use Rattle.program_reader.specs.Around.{ends_body, no_labels, labels_onto};
 
 use crate::head::Head;
 use crate::names::Table;
 use crate::operands::read_only_name;
 use crate::outline::{note_if, split_line};
-use crate::words::{behind, line_end};
 use std::alloc::{AllocError, Global};
+use text_lines::{behind, line_end};
 
 /// Labels, each with the number of the instructions before it; and how many instructions there are.
 #[derive(Drop)]

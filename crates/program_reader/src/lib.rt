@@ -14,7 +14,6 @@ mod reader;
 mod sense;
 #[cfg(test)]
 mod tests;
-mod words;
 
 pub use cause::{Cause, Refused};
 pub use laws::{first_fault_is_first, no_fault_on_any_line};

@@ -3,11 +3,11 @@
 ghost use Rattle.std.specs.Prelude.{◌≡◌, ◌<◌, IfSome, option_copied};
 ghost use Rattle.program_reader.specs.Operands.{register_number, int_register, ref_register, field_count};
 ghost use Rattle.program_reader.specs.Sense.{only_name};
-ghost use Rattle.program_reader.specs.Words.{words_of};
+ghost use Rattle.text_lines.specs.Lines.{words_of};
 
 use crate::names::is_name_word;
-use crate::words::next_word;
 use hh_lang::{FieldCount, IntReg, RefReg, read_u32};
+use text_lines::next_word;
 
 // The number of a register, behind its letter.
 fn read_register(digits: &[u8]) -> Option<u8>

@@ -1,7 +1,7 @@
 // The names of the functions and of the loops of a text.
 
 ghost use Rattle.std.specs.Prelude.{◌≡◌, ◌≤◌, length, IfOk, OnOk, option_copied};
-ghost use Rattle.program_reader.specs.Words.{words_of};
+ghost use Rattle.text_lines.specs.Lines.{words_of};
 ghost use Rattle.program_reader.specs.Head.{head_of_words, operands_of};
 ghost use Rattle.program_reader.specs.Sense.{IsSmall};
 ghost use Rattle.program_reader.specs.Around.{begun_name, looped_name, noted_if, outline_of};
@@ -10,8 +10,8 @@ use crate::head::{Head, Verb, head_of};
 use crate::names::Table;
 use crate::operands::read_only_name;
 use crate::sense::Outline;
-use crate::words::{behind, line_end, next_word};
 use std::alloc::{AllocError, Global};
+use text_lines::{behind, line_end, next_word};
 
 /// What kind of line a line is, and what follows its first word.
 pub(crate) fn split_line(line: &[u8]) -> (Head, &[u8])

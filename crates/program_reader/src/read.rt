@@ -12,10 +12,10 @@ use crate::loops::{add_loops, number_in};
 use crate::outline::read_outline;
 use crate::reader::Reader;
 use crate::sense::Outline;
-use crate::words::{behind, line_end};
 use hh_lang::{Fun, Program};
 use listed::Listed;
 use std::alloc::{AllocError, Global};
+use text_lines::{behind, line_end};
 
 // Nothing was read yet.
 fn new_reader<'a>(alloc: Global) -> Reader<'a>

@@ -2,7 +2,7 @@
 
 ghost use Rattle.std.specs.Prelude.{◌≡◌, ◌≤◌, ◌&&◌, Bool, not, codes, length, IfOk, IfNone, OnOk};
 ghost use Rattle.std.specs.Str.{is_utf8};
-ghost use Rattle.program_reader.specs.Words.{lines_of, words_of};
+ghost use Rattle.text_lines.specs.Lines.{lines_of, words_of};
 ghost use Rattle.program_reader.specs.Names.{is_noted};
 ghost use Rattle.program_reader.specs.Sense.{only_name, IsSmall, sense_of};
 ghost use Rattle.program_reader.specs.Around.{head_of_line, operands_of_line, is_open_after, no_labels};

@@ -1,14 +1,14 @@
 // What the operands of a line say.
 
 ghost use Rattle.std.specs.Prelude.{◌≡◌, ◌<◌, ◌+◌, ◌*◌, ◌^◌, length};
-ghost use Rattle.program_reader.specs.Words.{words_of};
+ghost use Rattle.text_lines.specs.Lines.{words_of};
 ghost use Rattle.program_reader.specs.Sense.{plain, plain_one, plain_two, plain_three, plain_five, jump, jump_on_zero, call, fork, loop_over, order_alone, order_one, order_two, order_of, only_name, named, alone, sense_of, IsSmall};
 
 use crate::head::{Head, Verb};
 use crate::names::{Table, is_name_word};
 use crate::operands::{read_field_count, read_int_register, read_only_name, read_ref_register};
-use crate::words::next_word;
 use hh_lang::{Instr, IntReg, Operator, read_i64};
+use text_lines::next_word;
 
 /// What the operands of a line say.
 #[derive(Drop)]

@@ -1,5 +1,5 @@
 use Rattle.std.proofs.Common.{◌≡◌, ◌≤◌, ◌+◌, ◌-◌, length}
-use Rattle.program_reader.specs.Words.{lines_of}
+use Rattle.text_lines.specs.Lines.{lines_of}
 use Rattle.program_reader.specs.Around.{outline_onto, outline_of}
 use Rattle.program_reader.proofs.Outlines.{IsShort}
 use Rattle.program_reader.proofs.outline.read_outline.Given as goal

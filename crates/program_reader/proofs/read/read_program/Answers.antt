@@ -4,7 +4,7 @@ use Rattle.std.proofs.lemmas.List.{length-drop}
 use Rattle.hh_lang.specs.Form.{ProgramText}
 use Rattle.program_reader.specs.declared.cause.Cause.{Cause}
 use Rattle.program_reader.specs.declared.cause.Refused.{Refused}
-use Rattle.program_reader.specs.Words.{lines_of}
+use Rattle.text_lines.specs.Lines.{lines_of}
 use Rattle.program_reader.specs.Program.{program_of, unless_refused}
 use Rattle.program_reader.specs.Reading.{line_taken}
 use Rattle.program_reader.proofs.Endings.{refuses, goes_on, form, reads}

@@ -1,5 +1,5 @@
 use Rattle.std.proofs.Common.{◌≤◌, ◌+◌, length}
-use Rattle.program_reader.specs.Words.{lines_of}
+use Rattle.text_lines.specs.Lines.{lines_of}
 use Rattle.program_reader.proofs.Rounds.{IsReading}
 use Rattle.program_reader.proofs.read.read_program.Given as goal
 

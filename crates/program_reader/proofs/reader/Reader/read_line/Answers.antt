@@ -1,5 +1,5 @@
 use Rattle.std.proofs.Common.{None, Some, sym, ◌∙◌}
-use Rattle.program_reader.specs.Words.{words_of}
+use Rattle.text_lines.specs.Lines.{words_of}
 use Rattle.program_reader.specs.Reading.{spot_in}
 use Rattle.program_reader.proofs.Causes.{gives_not_utf8, gives_fault}
 use Rattle.program_reader.proofs.reader.Reader.read_line.Goals as goal
