@@ -10,3 +10,4 @@ pub mod Cuts
 pub mod Bounds
 pub mod Grown
 pub mod Weights
+pub mod Stocks

@@ -1,5 +1,6 @@
 -- The laws of journals.
 use Rattle.std.specs.Prelude.{◌≡◌, ◌↔◌, ℕ, ◌+◌, ◌<◌, ◌≤◌, true, false, List, ◌∷◌, ◌++◌, Some, None, slice_get, length, Contains}
+use Rattle.std.specs.List.{IsDistinct}
 use Rattle.walks.specs.Reached.{IsReached}
 use Rattle.run_trace.specs.declared.entry.Kind.TheVariants.{Ran}
 use Rattle.run_trace.specs.Entry.{Event}
@@ -10,11 +11,12 @@ use Rattle.hh_model.specs.declared.data.Object.{Object}
 use Rattle.hh_model.specs.declared.data.Task.{Task}
 use Rattle.hh_model.specs.declared.data.State.{State}
 use Rattle.hh_model.specs.Names.{refs_at, task_names}
-use Rattle.hh_model.specs.Step.{asked}
+use Rattle.hh_model.specs.Store.{IsStored}
+use Rattle.hh_model.specs.Step.{asked, owner_of}
 use Rattle.run_ledger.specs.declared.data.Ledger.{Ledger}
-use Rattle.run_ledger.specs.Reachable.{reached, IsReachedWithin}
+use Rattle.run_ledger.specs.Reachable.{is_name, reached, IsReachedWithin}
 use Rattle.run_ledger.specs.declared.data.RefusedAt.{RefusedAt}
-use Rattle.run_ledger.specs.Heaps.{held, heap_of, lacks_room}
+use Rattle.run_ledger.specs.Heaps.{held_in, held, heap_of, lacks_room}
 use Rattle.run_ledger.specs.Steps.{task_steps}
 use Rattle.run_ledger.specs.Entries.{refusal}
 use Rattle.run_ledger.specs.Journals.{after_all, ledger_of, machine_of, is_legal, is_legal_from, Legal, first_refused}
@@ -51,6 +53,17 @@ pub record KeepsReachable (l : Ledger) : Type 0 where
 abbrev pub NothingReachableIsFreed : Type 0
 NothingReachableIsFreed =
     (p : ProgramText) (s : Limits) (journal : List Event) → is_legal p s journal ≡ true → KeepsReachable (ledger_of p s journal)
+
+-- EACH HELD NAME IS HELD ONCE
+
+-- no name is held twice; each lies in the heap of the task that owns it, and names an object of the store
+pub record HoldsOnce (l : Ledger) : Type 0 where
+  pub once : IsDistinct is_name (held l)
+  pub owned : (t : ℕ) (n : Name) → Contains (held_in (heap_of l t)) n → owner_of l.machine.tasks n.task ≡ t
+  pub stored : (n : Name) → Contains (held l) n → IsStored l.machine n
+
+abbrev pub NamesAreHeldOnce : Type 0
+NamesAreHeldOnce = (p : ProgramText) (s : Limits) (journal : List Event) → is_legal p s journal ≡ true → HoldsOnce (ledger_of p s journal)
 
 -- CUTS AND REFUSALS
 

@@ -1,6 +1,6 @@
 // The laws of journals, each the clause of a function that does nothing.
 
-ghost use Rattle.run_ledger.specs.Laws.{ReachedIsWalks, MachineIsRun, NothingReachableIsFreed, LegalIsUnrefused, JournalsCanBeCut, FirstRefusedIsFirst, StepsAreBounded, AllocationsAreInBounds};
+ghost use Rattle.run_ledger.specs.Laws.{ReachedIsWalks, MachineIsRun, NothingReachableIsFreed, LegalIsUnrefused, JournalsCanBeCut, FirstRefusedIsFirst, StepsAreBounded, AllocationsAreInBounds, NamesAreHeldOnce};
 
 /// Of some names, those are reached to which walks along references lead, through these names alone.
 pub fn reached_is_walks()
@@ -40,4 +40,9 @@ pub fn steps_are_bounded()
 /// Before each allocation in a legal journal its heap isn't due for a collection, and the object has its place.
 pub fn allocations_are_in_bounds()
     ensures { AllocationsAreInBounds }
+{}
+
+/// After a legal journal each held name is held once, in its owner's heap, and is in the store.
+pub fn names_are_held_once()
+    ensures { NamesAreHeldOnce }
 {}
