@@ -11,3 +11,4 @@ pub mod Bounds
 pub mod Grown
 pub mod Weights
 pub mod Stocks
+pub mod Drops

@@ -47,7 +47,7 @@ pub hit_in : (n : Name) (xs : List Name) → 1 ≤ sum_by (hit n) xs → In xs n
 hit_in n [] h = absurd (omega arith)
 hit_in n (x ∷ xs) h = hit_in_by n x xs (is_name x n) refl (hit_in n xs) (subst (λ k. 1 ≤ k) (sum_by-cons (hit n) x xs) h)
 
-hit_itself : (n : Name) → hit n n ≡ 1
+pub hit_itself : (n : Name) → hit n n ≡ 1
 hit_itself n = ap (λ b. cond b 1 0) (is_name_itself n)
 
 pub in_hit : (n : Name) (xs : List Name) → In xs n → 1 ≤ sum_by (hit n) xs

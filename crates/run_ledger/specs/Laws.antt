@@ -1,8 +1,9 @@
 -- The laws of journals.
-use Rattle.std.specs.Prelude.{◌≡◌, ◌↔◌, ℕ, ◌+◌, ◌<◌, ◌≤◌, true, false, List, ◌∷◌, ◌++◌, Some, None, slice_get, length, Contains}
+use Rattle.std.specs.Prelude.{◌≡◌, ◌↔◌, ◌⊎◌, ℕ, ◌+◌, ◌<◌, ◌≤◌, true, false, List, [], ◌∷◌, ◌++◌, Some, None, slice_get, length, Contains}
 use Rattle.std.specs.List.{IsDistinct}
 use Rattle.walks.specs.Reached.{IsReached}
-use Rattle.run_trace.specs.declared.entry.Kind.TheVariants.{Ran}
+use Rattle.run_trace.specs.declared.entry.Kind.{Kind}
+use Rattle.run_trace.specs.declared.entry.Kind.TheVariants.{Ran, End, Sweep}
 use Rattle.run_trace.specs.Entry.{Event}
 use Rattle.run_trace.specs.Settings.{Limits}
 use Rattle.hh_lang.specs.Form.{ProgramText}
@@ -18,8 +19,8 @@ use Rattle.run_ledger.specs.Reachable.{is_name, reached, IsReachedWithin}
 use Rattle.run_ledger.specs.declared.data.RefusedAt.{RefusedAt}
 use Rattle.run_ledger.specs.Heaps.{held_in, held, heap_of, lacks_room}
 use Rattle.run_ledger.specs.Steps.{task_steps}
-use Rattle.run_ledger.specs.Entries.{refusal}
-use Rattle.run_ledger.specs.Journals.{after_all, ledger_of, machine_of, is_legal, is_legal_from, Legal, first_refused}
+use Rattle.run_ledger.specs.Entries.{refusal, after}
+use Rattle.run_ledger.specs.Journals.{opening, after_all, ledger_of, machine_of, is_legal, is_legal_from, Legal, first_refused}
 
 -- of these names, exactly those are reached to which a walk through them leads
 abbrev pub ReachedIsWalks : Type 0
@@ -64,6 +65,26 @@ pub record HoldsOnce (l : Ledger) : Type 0 where
 
 abbrev pub NamesAreHeldOnce : Type 0
 NamesAreHeldOnce = (p : ProgramText) (s : Limits) (journal : List Event) → is_legal p s journal ≡ true → HoldsOnce (ledger_of p s journal)
+
+-- WHAT IS HELD
+
+-- an entry drops an object that was allocated before it: the end of a leaf collection of t drops what t owns outside the
+-- survivors, and a sweep of t's heap what t owns outside the snapshot
+abbrev pub Drops : Ledger → Kind → Name → Type 0
+Drops l (End t taken given left) n = IsStored l.machine n × (owner_of l.machine.tasks n.task ≡ t) × (Contains (heap_of l t).survivors n → ⊥)
+Drops l (Sweep t given) n = IsStored l.machine n × (owner_of l.machine.tasks n.task ≡ t) × (Contains (heap_of l t).snapshot n → ⊥)
+Drops l _ n = ⊥
+
+-- one of the entries drops it, by the accounts before that entry
+abbrev pub IsDropped : ProgramText → Limits → Ledger → List Event → Name → Type 0
+IsDropped p s l [] n = ⊥
+IsDropped p s l (e ∷ es) n = Drops l e.kind n ⊎ IsDropped p s (after p s l e) es n
+
+-- held is what was allocated and wasn't dropped
+abbrev pub HeldIsUndropped : Type 0
+HeldIsUndropped =
+    (p : ProgramText) (s : Limits) (journal : List Event) → is_legal p s journal ≡ true → (n : Name)
+    → Contains (held (ledger_of p s journal)) n ↔ (IsStored (ledger_of p s journal).machine n × (IsDropped p s (opening p s) journal n → ⊥))
 
 -- CUTS AND REFUSALS
 

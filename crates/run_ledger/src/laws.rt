@@ -1,6 +1,6 @@
 // The laws of journals, each the clause of a function that does nothing.
 
-ghost use Rattle.run_ledger.specs.Laws.{ReachedIsWalks, MachineIsRun, NothingReachableIsFreed, LegalIsUnrefused, JournalsCanBeCut, FirstRefusedIsFirst, StepsAreBounded, AllocationsAreInBounds, NamesAreHeldOnce};
+ghost use Rattle.run_ledger.specs.Laws.{ReachedIsWalks, MachineIsRun, NothingReachableIsFreed, LegalIsUnrefused, JournalsCanBeCut, FirstRefusedIsFirst, StepsAreBounded, AllocationsAreInBounds, NamesAreHeldOnce, HeldIsUndropped};
 
 /// Of some names, those are reached to which walks along references lead, through these names alone.
 pub fn reached_is_walks()
@@ -45,4 +45,9 @@ pub fn allocations_are_in_bounds()
 /// After a legal journal each held name is held once, in its owner's heap, and is in the store.
 pub fn names_are_held_once()
     ensures { NamesAreHeldOnce }
+{}
+
+/// What is held after a legal journal is what was allocated and wasn't dropped by the end of a leaf collection or a sweep.
+pub fn held_is_undropped()
+    ensures { HeldIsUndropped }
 {}
