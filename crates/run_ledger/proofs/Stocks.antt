@@ -169,7 +169,7 @@ module _ (p : ProgramText) (l : Ledger) (t : ℕ) (S : SoundAt t l) (I : Stocked
   pub G : Grown p l.machine t
   G = grown p l.machine t K can row
 
-  pub L : StepLeaves t b k
+  pub L : StepLeaves t l b k
   L = step_leaves p l t S can
 
   abbrev Allotted : List Heap → Type 0
@@ -200,7 +200,7 @@ module _ (p : ProgramText) (l : Ledger) (t : ℕ) (S : SoundAt t l) (I : Stocked
   allotted = allotted_by (asked p m t) refl
 
   pub same_copies : (n : Name) → copies n k.heaps ≡ copies n b.heaps
-  same_copies n = moves_total (weight (hit n)) (weight_additive (hit n)) t b.heaps k.heaps L.2
+  same_copies n = moves_total (weight (hit n)) (weight_additive (hit n)) t l.machine.tasks b.heaps k.heaps L.2
 
   pub step_stocked : StockedLedger k
   step_stocked = subst (λ (s : State). Stocked s k.heaps) (sym (stepped_machine b t (step p m t))) (record {

@@ -5,6 +5,7 @@ use Rattle.std.proofs.lemmas.List.Sums.{sum_by-append, sum_by-cons}
 use Rattle.std.proofs.lemmas.List.Concat.{flat_map-append}
 use Rattle.listed.proofs.Members.{got_other, got_front, got_within}
 use Rattle.hh_model.specs.declared.data.Name.{Name}
+use Rattle.hh_model.specs.declared.data.Task.{Task}
 use Rattle.hh_model.specs.declared.data.State.{State}
 use Rattle.run_ledger.specs.declared.data.Heap.{Heap}
 use Rattle.run_ledger.specs.Reachable.{holds_name}
@@ -192,8 +193,8 @@ module _ (g : Heap → ℕ) where
         let e = ap total f.is in
         omega arith
 
-    joins_total : (heaps heaps' : List Heap) → Joins heaps heaps' → total heaps' ≡ total heaps
-    joins_total heaps heaps' j =
+    joins_total : (tasks : List Task) (heaps heaps' : List Heap) → Joins tasks heaps heaps' → total heaps' ≡ total heaps
+    joins_total tasks heaps heaps' j =
         let h1 : List Heap = slice_set heaps j.parent (merged j.own j.left j.right) in
         let h2 : List Heap = slice_set h1 j.child (emptied j.left) in
         let l1 : slice_get h1 j.child ≡ Some j.left = got_other heaps j.parent j.child (merged j.own j.left j.right) (λ e. let q : j.parent < j.child = j.under in omega arith) ∙ j.at_left in
@@ -206,11 +207,11 @@ module _ (g : Heap → ℕ) where
         let e = ap total j.is in
         omega arith
 
-    pub moves_total : (t : ℕ) (heaps heaps' : List Heap) → Moves t heaps heaps' → total heaps' ≡ total heaps
-    moves_total t heaps heaps' (inl e) = ap total e
-    moves_total t heaps heaps' (inr (inl m)) = let a = total_set heaps t m.heap (let_go m.heap) m.at in let b = A.let_go m.heap in let e = ap total m.is in omega arith
-    moves_total t heaps heaps' (inr (inr (inl f))) = forks_total t heaps heaps' f
-    moves_total t heaps heaps' (inr (inr (inr j))) = joins_total heaps heaps' j
+    pub moves_total : (t : ℕ) (tasks : List Task) (heaps heaps' : List Heap) → Moves t tasks heaps heaps' → total heaps' ≡ total heaps
+    moves_total t tasks heaps heaps' (inl e) = ap total e
+    moves_total t tasks heaps heaps' (inr (inl m)) = let a = total_set heaps t m.heap (let_go m.heap) m.at in let b = A.let_go m.heap in let e = ap total m.is in omega arith
+    moves_total t tasks heaps heaps' (inr (inr (inl f))) = forks_total t heaps heaps' f
+    moves_total t tasks heaps heaps' (inr (inr (inr j))) = joins_total tasks heaps heaps' j
 
 pub weight_additive : (f : Name → ℕ) → Additive (weight f)
 weight_additive f = record {
