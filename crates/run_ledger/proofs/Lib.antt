@@ -12,3 +12,4 @@ pub mod Grown
 pub mod Weights
 pub mod Stocks
 pub mod Drops
+pub mod Laid
