@@ -13,3 +13,4 @@ pub mod Weights
 pub mod Stocks
 pub mod Drops
 pub mod Laid
+pub mod Booked
