@@ -1,24 +1,18 @@
 -- The chunks of heaps: what a leaf collection took, where room comes from, what waits for a large object, and how many are
 -- in use.
-use Rattle.std.proofs.Common.{◌≡◌, ℕ, ℤ, zero, suc, ◌+◌, ◌-◌, ◌*◌, ◌<◌, ◌≤◌, ◌==◌, ◌&&◌, ◌||◌, not, max, min, Bool, true, false, cond, Option, Some, None, List, [], ◌∷◌, ◌++◌, map, length, slice_get, slice_set, sum_by, nat_lt, nat_le, Contains, ◌⊎◌, inl, inr, refl, ap, ap₂, sym, subst, ◌∙◌, arith, is_some, is_none, length-append, length-set}
-use Rattle.std.proofs.lemmas.Bool.{false≢true, both_ways, cases_eq, cases_lt, and_parts, leb-true, leb-false, ltb-false, eqb-true, cond-true, cond-false}
-use Rattle.std.proofs.lemmas.List.{length-map}
+use Rattle.std.proofs.Common.{◌≡◌, ℕ, zero, suc, ◌+◌, ◌-◌, ◌*◌, ◌<◌, ◌≤◌, ◌==◌, ◌||◌, not, max, Bool, true, false, cond, Option, Some, None, List, [], ◌∷◌, ◌++◌, length, slice_get, slice_set, sum_by, nat_lt, inl, inr, refl, ap, ap₂, sym, subst, ◌∙◌, arith, is_some, length-append}
+use Rattle.std.proofs.lemmas.Bool.{false≢true, both_ways, cases_eq, ltb-false, eqb-true}
 use Rattle.std.proofs.lemmas.List.Sums.{sum_by-append, sum_by-cons}
 use Rattle.std.proofs.lemmas.Option.{same_Some}
-use Rattle.listed.proofs.Members.{In, got_same, got_other, got_front, got_within, in_append_left, in_append_right}
-use Rattle.run_trace.specs.declared.entry.Kind.{Kind}
-use Rattle.run_trace.specs.declared.entry.Kind.TheVariants.{Took, Ran, Chunk, Begin, End as EndOf, PutOff, Mark, More, Sweep, Fuel}
-use Rattle.run_trace.specs.Entry.{Event}
-use Rattle.run_trace.specs.Settings.{Limits, field_limit}
-use Rattle.hh_lang.specs.declared.program.Line.{Line}
+use Rattle.listed.proofs.Members.{In, got_same, got_other, got_within, in_append_left, in_append_right}
+use Rattle.run_trace.specs.Settings.{Limits}
 use Rattle.hh_lang.specs.Form.{ProgramText}
 use Rattle.hh_model.specs.declared.data.Name.{Name}
 use Rattle.hh_model.specs.declared.data.Status.TheVariants.{Waiting}
 use Rattle.hh_model.specs.declared.data.Task.{Task}
 use Rattle.hh_model.specs.declared.data.State.{State}
-use Rattle.hh_model.specs.Effect.{onward, object_at}
+use Rattle.hh_model.specs.Effect.{onward}
 use Rattle.hh_model.specs.Step.{runs, is_running, is_waiting, child, joined_task, resumed, ended_task, result_of, step, can_step, asked, asked_by, asked_line, fetched}
-use Rattle.hh_model.specs.Store.{IsStored}
 use Rattle.hh_model.proofs.Carried.{next_name}
 use Rattle.hh_model.proofs.Kept.{Kept}
 use Rattle.hh_model.proofs.Steps.{step_cases}
@@ -26,23 +20,16 @@ use Rattle.hh_model.proofs.Counts.{step_limit}
 use Rattle.hh_model.proofs.Runs.{waiting, running_tells, grown_other, three_other, wp, below}
 use Rattle.run_ledger.specs.declared.data.Heap.{Heap}
 use Rattle.run_ledger.specs.declared.data.Ledger.{Ledger}
-use Rattle.run_ledger.specs.declared.data.Refused.{Refused}
-use Rattle.run_ledger.specs.declared.data.RunEnd.TheVariants.{Pool, Fuel as FuelEnd}
-use Rattle.run_ledger.specs.Heaps.{chunk_words, units, is_small, words_of, words_at, words_sum, units_sum, small_in, held_in, begun_in, units_in, fresh, heap_at, heap_of, or_fresh, with_heap, with_heap_at, in_use, within, placed, put_last, lacks_room, forked_heap, merged, emptied, let_go, take_of, collected, room_behind, marked_in, left_in, swept_heap, in_snapshot, is_last_empty, without_empty, laid_onto, small_survivors}
-use Rattle.run_ledger.specs.Steps.{allocated_by, allocated_in, stepped_to, task_step, task_steps, on_asked, is_due, is_in_need, is_private, standing}
-use Rattle.run_ledger.specs.Entries.{refusal, kind_refusal, after_kind, after, is_out, on_due, is_pool_enough, chunk_units, with_chunk}
-use Rattle.run_ledger.specs.Journals.{opening, after_all, is_legal_from}
+use Rattle.run_ledger.specs.Heaps.{units, is_small, words_of, words_at, small_in, held_in, begun_in, units_in, fresh, heap_of, or_fresh, with_heap_at, in_use, placed, put_last, lacks_room, take_of}
+use Rattle.run_ledger.specs.Steps.{allocated_by, allocated_in, stepped_to, task_step, task_steps, is_due, is_in_need, is_private, standing}
 use Rattle.run_ledger.proofs.Machine.{stepped_machine}
-use Rattle.run_ledger.proofs.Held.{placed_begun}
-use Rattle.run_ledger.proofs.Sound.{collecting, Sound, SoundLedger, names_of}
-use Rattle.run_ledger.proofs.Moves.{Moves, moves_each}
-use Rattle.run_ledger.proofs.Steps.{SoundAt, StepLeaves, step_leaves, heap_of_task, can_tells, task_step_sound}
+use Rattle.run_ledger.proofs.Sound.{collecting, names_of}
+use Rattle.run_ledger.proofs.Moves.{moves_each}
+use Rattle.run_ledger.proofs.Steps.{SoundAt, StepLeaves, heap_of_task, can_tells, task_step_sound}
 use Rattle.run_ledger.proofs.Grown.{Grown}
-use Rattle.run_ledger.proofs.Weights.{total, total_set, Additive, moves_total, kept_weight}
-use Rattle.run_ledger.proofs.Laid.{collected_bound, room_some, nonempty_length, last_some}
-use Rattle.run_ledger.proofs.Stocks.{StockedLedger, G, L, with_heap_any, task_step_stocked}
-use Rattle.run_ledger.proofs.Bounds.{asked_bounds, stands_by, ran_tells}
-use Rattle.run_ledger.proofs.Journals.{none_unless, none_where, out_tells, wait_tells, entry_tells, not_waiting}
+use Rattle.run_ledger.proofs.Weights.{total, total_set, Additive, moves_total}
+use Rattle.run_ledger.proofs.Stocks.{StockedLedger, G, L, task_step_stocked}
+use Rattle.run_ledger.proofs.Bounds.{asked_bounds, stands_by}
 
 -- SUMS THAT ARE THE SAME
 
@@ -91,7 +78,7 @@ pub record BookedLedger (p : ProgramText) (s : Limits) (l : Ledger) : Type 0 whe
   pub each : (u : ℕ) (h : Heap) → slice_get l.heaps u ≡ Some h → Booked p s l.machine u h
   pub within : in_use l ≤ s.chunks
 
-no_begun : {A : Type 0} (h : Heap) (c : ℕ) → is_some h.begun ≡ false → h.begun ≡ Some c → A
+pub no_begun : {A : Type 0} (h : Heap) (c : ℕ) → is_some h.begun ≡ false → h.begun ≡ Some c → A
 no_begun h c e is = absurd (false≢true (sym e ∙ ap is_some is))
 
 -- the task runs whose next step asks for words
@@ -106,14 +93,14 @@ asked_runs_by p m (Some x) w e = by (is_running (Some x)) refl (subst (λ b. con
     by true is q = is
     by false is q = none_some q
 
-asked_runs : (p : ProgramText) (m : State) (u w : ℕ) → asked p m u ≡ Some w → is_running (slice_get m.tasks u) ≡ true
+pub asked_runs : (p : ProgramText) (m : State) (u w : ℕ) → asked p m u ≡ Some w → is_running (slice_get m.tasks u) ≡ true
 asked_runs p m u w e = asked_runs_by p m (slice_get m.tasks u) w e
 
 asked_limit : (p : ProgramText) (m m' : State) (o : Option Task) → m'.field_limit ≡ m.field_limit → asked_by p m' o ≡ asked_by p m o
 asked_limit p m m' None e = refl
 asked_limit p m m' (Some x) e = ap (λ k. cond (is_running (Some x)) (asked_line k x.top (fetched p x.top)) None) e
 
-wait_run : (m : State) (u : ℕ) → waiting m.tasks u ≡ true → is_running (slice_get m.tasks u) ≡ true → ⊥
+pub wait_run : (m : State) (u : ℕ) → waiting m.tasks u ≡ true → is_running (slice_get m.tasks u) ≡ true → ⊥
 wait_run m u w r = by (slice_get m.tasks u) w r
   where
     by : (o : Option Task) → is_waiting o ≡ true → is_running o ≡ true → ⊥
@@ -330,7 +317,7 @@ module _ (p : ProgramText) (s : Limits) where
       by false e = record { each = B.each; within = B.within }
       by true e = step_booked p s l t S I B e fine
 
-  task_steps_booked : (k : ℕ) (l : Ledger) (t : ℕ) → SoundAt t l → StockedLedger l → BookedLedger p s l → k ≤ standing s p l t k → BookedLedger p s (task_steps p l t k)
+  pub task_steps_booked : (k : ℕ) (l : Ledger) (t : ℕ) → SoundAt t l → StockedLedger l → BookedLedger p s l → k ≤ standing s p l t k → BookedLedger p s (task_steps p l t k)
   task_steps_booked zero l t S I B h = B
   task_steps_booked (suc k) l t S I B h =
       elim (stands_by p s t l k (is_due s p l t || is_in_need p l t) (is_private p l.machine t) (standing s p (task_step p l t) t k) h) [

@@ -134,7 +134,7 @@ chunk_sound p l t S true small end units E = E
 chunk_sound p l t S false true end units E = plain l t _ S (λ h n i. chunk_down h chunk_words n i) (λ h n i. chunk_up h chunk_words n i) (λ h. refl) (λ h. refl) (λ h. refl)
 chunk_sound p l t S false false end units E = plain l t _ S (λ h n i. i) (λ h n i. i) (λ h. refl) (λ h. refl) (λ h. refl)
 
-out_runs : (l : Ledger) (w t : ℕ) → is_out l w t ≡ true → is_running (slice_get l.machine.tasks t) ≡ true
+pub out_runs : (l : Ledger) (w t : ℕ) → is_out l w t ≡ true → is_running (slice_get l.machine.tasks t) ≡ true
 out_runs l w t h = (and_parts (is_running (slice_get l.machine.tasks t)) (is_held_by (heap_of l t).worker w) h).0
 
 -- what an entry that isn't refused tells of the task that it speaks of

@@ -1,12 +1,12 @@
 -- How many lists a leaf collection lays its survivors into, and that each has a name.
-use Rattle.std.proofs.Common.{◌≡◌, ℕ, zero, suc, ◌+◌, ◌-◌, ◌*◌, ◌/◌, ◌<◌, ◌≤◌, max, Bool, true, false, cond, List, [], ◌∷◌, ◌++◌, map, length, nat_le, filter, sum_by, ◌⊎◌, inl, inr, refl, ap, sym, subst, ◌∙◌, arith}
+use Rattle.std.proofs.Common.{◌≡◌, ℕ, suc, ◌+◌, ◌-◌, ◌*◌, ◌<◌, ◌≤◌, max, Bool, true, false, cond, List, [], ◌∷◌, ◌++◌, length, nat_le, ◌⊎◌, inl, inr, refl, ap, sym, subst, ◌∙◌, arith}
 use Rattle.std.proofs.lemmas.Bool.{leb-false}
 use Rattle.std.proofs.lemmas.List.Sums.{sum_by-append, sum_by-cons}
 use Rattle.listed.proofs.Members.{In}
 use Rattle.hh_model.specs.declared.data.Name.{Name}
 use Rattle.hh_model.specs.declared.data.State.{State}
 use Rattle.run_ledger.specs.declared.data.Heap.{Heap}
-use Rattle.run_ledger.specs.Heaps.{chunk_words, units, words_at, words_sum, small_in, lay, laid_onto, small_survivors, collected, take_of, is_empty, without_empty, is_last_empty, room_behind}
+use Rattle.run_ledger.specs.Heaps.{chunk_words, units, words_at, words_sum, small_in, lay, laid_onto, small_survivors, collected, take_of, without_empty, is_last_empty, room_behind}
 use Rattle.run_ledger.proofs.Weights.{survivors_weight}
 
 -- the words in the last list

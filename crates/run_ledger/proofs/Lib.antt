@@ -14,3 +14,4 @@ pub mod Stocks
 pub mod Drops
 pub mod Laid
 pub mod Booked
+pub mod Space

@@ -17,7 +17,7 @@ use Rattle.hh_model.specs.Step.{asked, owner_of}
 use Rattle.run_ledger.specs.declared.data.Ledger.{Ledger}
 use Rattle.run_ledger.specs.Reachable.{is_name, reached, IsReachedWithin}
 use Rattle.run_ledger.specs.declared.data.RefusedAt.{RefusedAt}
-use Rattle.run_ledger.specs.Heaps.{held_in, held, heap_of, lacks_room}
+use Rattle.run_ledger.specs.Heaps.{held_in, held, heap_of, lacks_room, begun_in, take_of, in_use}
 use Rattle.run_ledger.specs.Steps.{task_steps}
 use Rattle.run_ledger.specs.Entries.{refusal, after}
 use Rattle.run_ledger.specs.Journals.{opening, after_all, ledger_of, machine_of, is_legal, is_legal_from, Legal, first_refused}
@@ -136,3 +136,37 @@ abbrev pub AllocationsAreInBounds : Type 0
 AllocationsAreInBounds =
     (p : ProgramText) (s : Limits) (before rest : List Event) (w t k : ℕ) → is_legal p s (before ++ record { worker = w; kind = Ran t k } ∷ rest) ≡ true
     → AllocatesInBounds p s (ledger_of p s before) t k
+
+-- each list has a name
+abbrev pub EachHasName : List (List Name) → Type 0
+EachHasName lists = (ns : List Name) → Contains lists ns → 0 < length ns
+
+-- the end of t's leaf collection, by the accounts l before it and those after it: as many chunks were taken when it began
+-- as its small names would take still; at most so many hold the small survivors, each has one, and none waits for a large
+-- object
+pub record CollectedWithin (l after : Ledger) (t : ℕ) : Type 0 where
+  pub took : begun_in (heap_of l t) ≡ take_of l.machine (heap_of l t)
+  pub most : length (heap_of after t).chunks ≤ take_of l.machine (heap_of l t)
+  pub each : EachHasName (heap_of after t).chunks
+  pub reserved : (heap_of after t).reserved ≡ 0
+
+abbrev pub LeafCollectionsAreBounded : Type 0
+LeafCollectionsAreBounded =
+    (p : ProgramText) (s : Limits) (before rest : List Event) (w t taken given left : ℕ)
+    → let e : Event = record { worker = w; kind = End t taken given left } in
+    is_legal p s (before ++ e ∷ rest) ≡ true → CollectedWithin (ledger_of p s before) (after p s (ledger_of p s before) e) t
+
+-- a sweep of t's heap, by the accounts after it: each chunk has a name, and none waits for a large object
+pub record SweptWithin (after : Ledger) (t : ℕ) : Type 0 where
+  pub each : EachHasName (heap_of after t).chunks
+  pub reserved : (heap_of after t).reserved ≡ 0
+
+abbrev pub SweepsAreBounded : Type 0
+SweepsAreBounded =
+    (p : ProgramText) (s : Limits) (before rest : List Event) (w t given : ℕ)
+    → let e : Event = record { worker = w; kind = Sweep t given } in
+    is_legal p s (before ++ e ∷ rest) ≡ true → SweptWithin (after p s (ledger_of p s before) e) t
+
+-- the chunks in use never exceed the limit
+abbrev pub UseIsBounded : Type 0
+UseIsBounded = (p : ProgramText) (s : Limits) (journal : List Event) → is_legal p s journal ≡ true → in_use (ledger_of p s journal) ≤ s.chunks

@@ -1,6 +1,6 @@
 // The laws of journals, each the clause of a function that does nothing.
 
-ghost use Rattle.run_ledger.specs.Laws.{ReachedIsWalks, MachineIsRun, NothingReachableIsFreed, LegalIsUnrefused, JournalsCanBeCut, FirstRefusedIsFirst, StepsAreBounded, AllocationsAreInBounds, NamesAreHeldOnce, HeldIsUndropped};
+ghost use Rattle.run_ledger.specs.Laws.{ReachedIsWalks, MachineIsRun, NothingReachableIsFreed, LegalIsUnrefused, JournalsCanBeCut, FirstRefusedIsFirst, StepsAreBounded, AllocationsAreInBounds, NamesAreHeldOnce, HeldIsUndropped, UseIsBounded, LeafCollectionsAreBounded, SweepsAreBounded};
 
 /// Of some names, those are reached to which walks along references lead, through these names alone.
 pub fn reached_is_walks()
@@ -50,4 +50,19 @@ pub fn names_are_held_once()
 /// What is held after a legal journal is what was allocated and wasn't dropped by the end of a leaf collection or a sweep.
 pub fn held_is_undropped()
     ensures { HeldIsUndropped }
+{}
+
+/// In a legal journal the chunks in use never exceed the limit.
+pub fn use_is_bounded()
+    ensures { UseIsBounded }
+{}
+
+/// In a legal journal the end of a leaf collection leaves at most the chunks that it took for the small survivors, each with one.
+pub fn leaf_collections_are_bounded()
+    ensures { LeafCollectionsAreBounded }
+{}
+
+/// In a legal journal a sweep leaves no chunk without a held object.
+pub fn sweeps_are_bounded()
+    ensures { SweepsAreBounded }
 {}
