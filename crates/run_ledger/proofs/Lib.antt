@@ -15,3 +15,5 @@ pub mod Drops
 pub mod Laid
 pub mod Booked
 pub mod Space
+pub mod Within
+pub mod Paced

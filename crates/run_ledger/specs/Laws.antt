@@ -13,14 +13,15 @@ use Rattle.hh_model.specs.declared.data.Task.{Task}
 use Rattle.hh_model.specs.declared.data.State.{State}
 use Rattle.hh_model.specs.Names.{refs_at, task_names}
 use Rattle.hh_model.specs.Store.{IsStored}
-use Rattle.hh_model.specs.Step.{asked, owner_of}
+use Rattle.hh_model.specs.Step.{asked, owner_of, is_running, is_waiting}
 use Rattle.run_ledger.specs.declared.data.Ledger.{Ledger}
 use Rattle.run_ledger.specs.Reachable.{is_name, reached, IsReachedWithin}
 use Rattle.run_ledger.specs.declared.data.RefusedAt.{RefusedAt}
-use Rattle.run_ledger.specs.Heaps.{held_in, held, heap_of, lacks_room, begun_in, take_of, in_use}
+use Rattle.run_ledger.specs.Heaps.{held_in, held, heap_of, lacks_room, begun_in, take_of, in_use, roots_of, within}
 use Rattle.run_ledger.specs.Steps.{task_steps}
-use Rattle.run_ledger.specs.Entries.{refusal, after}
+use Rattle.run_ledger.specs.Entries.{refusal, after, is_fuel}
 use Rattle.run_ledger.specs.Journals.{opening, after_all, ledger_of, machine_of, is_legal, is_legal_from, Legal, first_refused}
+use Rattle.run_ledger.specs.Pace.{gives, owed, pace_of, pace_at_end, is_paced}
 
 -- of these names, exactly those are reached to which a walk through them leads
 abbrev pub ReachedIsWalks : Type 0
@@ -54,6 +55,26 @@ pub record KeepsReachable (l : Ledger) : Type 0 where
 abbrev pub NothingReachableIsFreed : Type 0
 NothingReachableIsFreed =
     (p : ProgramText) (s : Limits) (journal : List Event) → is_legal p s journal ≡ true → KeepsReachable (ledger_of p s journal)
+
+-- WHAT IS REACHED WITHIN A HEAP
+
+-- a walk through all that the task t owns, held or not, begins at a root of its heap
+abbrev pub StartsOwned : Ledger → ℕ → Name → Type 0
+StartsOwned l t n = (owner_of l.machine.tasks n.task ≡ t) × Contains (roots_of l t) n
+
+-- and goes on along a reference to a name that t owns
+abbrev pub LeadsOwned : Ledger → ℕ → Name → Name → Type 0
+LeadsOwned l t m n = (owner_of l.machine.tasks n.task ≡ t) × Refers l.machine m n
+
+-- the task t runs or waits
+abbrev pub IsAtWork : Ledger → ℕ → Type 0
+IsAtWork l t = (is_running (slice_get l.machine.tasks t) ≡ true) ⊎ (is_waiting (slice_get l.machine.tasks t) ≡ true)
+
+-- after a legal journal it makes no difference that only held names are walked through
+abbrev pub WithinIsOwned : Type 0
+WithinIsOwned =
+    (p : ProgramText) (s : Limits) (journal : List Event) → is_legal p s journal ≡ true
+    → let l = ledger_of p s journal in (t : ℕ) (n : Name) → IsAtWork l t → Contains (within l t) n ↔ IsReached (StartsOwned l t) (LeadsOwned l t) n
 
 -- EACH HELD NAME IS HELD ONCE
 
@@ -118,6 +139,18 @@ pub record FindsRefused (p : ProgramText) (s : Limits) (journal : List Event) : 
 
 abbrev pub FirstRefusedIsFirst : Type 0
 FirstRefusedIsFirst = (p : ProgramText) (s : Limits) (journal : List Event) → FindsRefused p s journal
+
+-- PACED JOURNALS
+
+-- in words: wherever a journal is cut before an entry, the entry ends the run for spent fuel or gives what its worker owes
+-- by what comes before it
+abbrev pub Paced : ProgramText → Limits → List Event → Type 0
+Paced p s journal =
+    (before : List Event) (e : Event) (rest : List Event) → journal ≡ before ++ e ∷ rest
+    → (is_fuel e.kind ≡ true) ⊎ (gives (owed s (ledger_of p s before) (pace_of (pace_at_end p s before) e.worker)) e.kind ≡ true)
+
+abbrev pub PacedIsMeant : Type 0
+PacedIsMeant = (p : ProgramText) (s : Limits) (journal : List Event) → (is_paced p s journal ≡ true) ↔ Paced p s journal
 
 -- SPACE BY COUNT
 

@@ -1,6 +1,6 @@
 // The laws of journals, each the clause of a function that does nothing.
 
-ghost use Rattle.run_ledger.specs.Laws.{ReachedIsWalks, MachineIsRun, NothingReachableIsFreed, LegalIsUnrefused, JournalsCanBeCut, FirstRefusedIsFirst, StepsAreBounded, AllocationsAreInBounds, NamesAreHeldOnce, HeldIsUndropped, UseIsBounded, LeafCollectionsAreBounded, SweepsAreBounded};
+ghost use Rattle.run_ledger.specs.Laws.{ReachedIsWalks, MachineIsRun, NothingReachableIsFreed, LegalIsUnrefused, JournalsCanBeCut, FirstRefusedIsFirst, StepsAreBounded, AllocationsAreInBounds, NamesAreHeldOnce, HeldIsUndropped, UseIsBounded, LeafCollectionsAreBounded, SweepsAreBounded, WithinIsOwned, PacedIsMeant};
 
 /// Of some names, those are reached to which walks along references lead, through these names alone.
 pub fn reached_is_walks()
@@ -65,4 +65,14 @@ pub fn leaf_collections_are_bounded()
 /// In a legal journal a sweep leaves no chunk without a held object.
 pub fn sweeps_are_bounded()
     ensures { SweepsAreBounded }
+{}
+
+/// After a legal journal what is reached within a heap's held names is what is reached through all that its task owns.
+pub fn within_is_owned()
+    ensures { WithinIsOwned }
+{}
+
+/// The test of paced journals is what is meant by them.
+pub fn paced_is_meant()
+    ensures { PacedIsMeant }
 {}
