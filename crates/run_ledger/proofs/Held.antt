@@ -145,7 +145,7 @@ in_insert n [] x (inl e) = inl e
 in_insert n [] x (inr i) = absurd i
 in_insert n (m ∷ ms) x i = into_by n m ms x (in_insert n ms x) (name_le n m) i
 
-birth_cases : (ns : List Name) (x : Name) → In (by_birth ns) x → In ns x
+pub birth_cases : (ns : List Name) (x : Name) → In (by_birth ns) x → In ns x
 birth_cases [] x i = i
 birth_cases (n ∷ ns) x i = elim (insert_cases n (by_birth ns) x i) [ inl e ↦ inl e | inr j ↦ inr (birth_cases ns x j) ]
 

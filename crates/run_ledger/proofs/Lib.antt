@@ -12,6 +12,7 @@ pub mod Grown
 pub mod Weights
 pub mod Stocks
 pub mod Drops
+pub mod Chunks
 pub mod Laid
 pub mod Booked
 pub mod Space

@@ -44,7 +44,7 @@ Moves t tasks heaps heaps' = (heaps' ≡ heaps) ⊎ (LetsGo t heaps heaps' ⊎ (
 -- what every heap has it keeps, if each of these changes keeps it
 pub moves_each : (Q : ℕ → Heap → Type 0) (t : ℕ) (tasks : List Task) (heaps heaps' : List Heap) → Moves t tasks heaps heaps'
     → ((u : ℕ) (h : Heap) → slice_get heaps u ≡ Some h → Q u h) → ((u : ℕ) (h : Heap) → Q u h → Q u (let_go h)) → ((u : ℕ) → Q u fresh) → ((u : ℕ) (ns : List Name) (h : Heap) → Q u h → Q u (forked_heap ns h))
-    → ((u : ℕ) (h l r : Heap) → slice_get heaps u ≡ Some h → waiting tasks u ≡ true → is_some h.begun ≡ false → Q u h → Q u (merged h l r))
+    → ((u : ℕ) (h l r : Heap) (v w : ℕ) → slice_get heaps u ≡ Some h → waiting tasks u ≡ true → is_some h.begun ≡ false → Q u h → Q v l → Q w r → Q u (merged h l r))
     → ((u : ℕ) (h : Heap) → is_some h.begun ≡ false → Q u h → Q u (emptied h))
     → (u : ℕ) (h : Heap) → slice_get heaps' u ≡ Some h → Q u h
 moves_each Q t tasks heaps heaps' (inl e) each go new fork merge empty u h is = each u h (ap (λ hs. slice_get hs u) (sym e) ∙ is)
@@ -73,7 +73,7 @@ moves_each Q t tasks heaps heaps' (inr (inr (inr j))) each go new fork merge emp
         | inr other' ↦ elim (got_cases heaps j.parent u (merged j.own j.left j.right) h other') [
           | inl e ↦
               let at : slice_get heaps u ≡ Some j.own = ap (slice_get heaps) e.0 ∙ j.at_parent in
-              subst (Q u) (sym e.1) (merge u j.own j.left j.right at (ap (waiting tasks) e.0 ∙ j.waits) j.idle_parent (each u j.own at))
+              subst (Q u) (sym e.1) (merge u j.own j.left j.right j.child (j.child + 1) at (ap (waiting tasks) e.0 ∙ j.waits) j.idle_parent (each u j.own at) (each j.child j.left j.at_left) (each (j.child + 1) j.right j.at_right))
           | inr old ↦ each u h old
         ]
       ]

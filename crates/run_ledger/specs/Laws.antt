@@ -1,5 +1,5 @@
 -- The laws of journals.
-use Rattle.std.specs.Prelude.{◌≡◌, ◌↔◌, ◌⊎◌, ℕ, ◌+◌, ◌<◌, ◌≤◌, true, false, List, [], ◌∷◌, ◌++◌, Some, None, slice_get, length, Contains}
+use Rattle.std.specs.Prelude.{◌≡◌, ◌↔◌, ◌⊎◌, ℕ, ◌+◌, ◌*◌, ◌<◌, ◌≤◌, true, false, List, [], ◌∷◌, ◌++◌, Some, None, slice_get, length, Contains}
 use Rattle.std.specs.List.{IsDistinct}
 use Rattle.walks.specs.Reached.{IsReached}
 use Rattle.run_trace.specs.declared.entry.Kind.{Kind}
@@ -14,10 +14,11 @@ use Rattle.hh_model.specs.declared.data.State.{State}
 use Rattle.hh_model.specs.Names.{refs_at, task_names}
 use Rattle.hh_model.specs.Store.{IsStored}
 use Rattle.hh_model.specs.Step.{asked, owner_of, is_running, is_waiting}
+use Rattle.run_ledger.specs.declared.data.Heap.{Heap}
 use Rattle.run_ledger.specs.declared.data.Ledger.{Ledger}
 use Rattle.run_ledger.specs.Reachable.{is_name, reached, IsReachedWithin}
 use Rattle.run_ledger.specs.declared.data.RefusedAt.{RefusedAt}
-use Rattle.run_ledger.specs.Heaps.{held_in, held, heap_of, lacks_room, begun_in, take_of, in_use, roots_of, within}
+use Rattle.run_ledger.specs.Heaps.{chunk_words, words_sum, held_in, held, heap_of, lacks_room, begun_in, take_of, in_use, roots_of, within}
 use Rattle.run_ledger.specs.Steps.{task_steps}
 use Rattle.run_ledger.specs.Entries.{refusal, after, is_fuel}
 use Rattle.run_ledger.specs.Journals.{opening, after_all, ledger_of, machine_of, is_legal, is_legal_from, Legal, first_refused}
@@ -203,3 +204,22 @@ SweepsAreBounded =
 -- the chunks in use never exceed the limit
 abbrev pub UseIsBounded : Type 0
 UseIsBounded = (p : ProgramText) (s : Limits) (journal : List Event) → is_legal p s journal ≡ true → in_use (ledger_of p s journal) ≤ s.chunks
+
+-- the words in the last list, and none without one
+abbrev pub last_words : State → List (List Name) → ℕ
+last_words m [] = 0
+last_words m (ns ∷ []) = words_sum m ns
+last_words m (ns ∷ ms ∷ rest) = last_words m (ms ∷ rest)
+
+-- a list has at most a chunk's words, and the last one leaves the room that is there
+pub record FitsInChunks (m : State) (h : Heap) : Type 0 where
+  pub each : (ns : List Name) → Contains h.chunks ns → words_sum m ns ≤ chunk_words
+  pub last : last_words m h.chunks + h.room ≤ chunk_words
+
+-- the heaps fit in their chunks, and the held names have at most the words of the chunks in use
+pub record Fits (l : Ledger) : Type 0 where
+  pub heaps : (t : ℕ) → FitsInChunks l.machine (heap_of l t)
+  pub words : words_sum l.machine (held l) ≤ chunk_words * in_use l
+
+abbrev pub HeapsFit : Type 0
+HeapsFit = (p : ProgramText) (s : Limits) (journal : List Event) → is_legal p s journal ≡ true → Fits (ledger_of p s journal)

@@ -1,6 +1,6 @@
 // The laws of journals, each the clause of a function that does nothing.
 
-ghost use Rattle.run_ledger.specs.Laws.{ReachedIsWalks, MachineIsRun, NothingReachableIsFreed, LegalIsUnrefused, JournalsCanBeCut, FirstRefusedIsFirst, StepsAreBounded, AllocationsAreInBounds, NamesAreHeldOnce, HeldIsUndropped, UseIsBounded, LeafCollectionsAreBounded, SweepsAreBounded, WithinIsOwned, PacedIsMeant};
+ghost use Rattle.run_ledger.specs.Laws.{ReachedIsWalks, MachineIsRun, NothingReachableIsFreed, LegalIsUnrefused, JournalsCanBeCut, FirstRefusedIsFirst, StepsAreBounded, AllocationsAreInBounds, NamesAreHeldOnce, HeldIsUndropped, UseIsBounded, LeafCollectionsAreBounded, SweepsAreBounded, WithinIsOwned, PacedIsMeant, HeapsFit};
 
 /// Of some names, those are reached to which walks along references lead, through these names alone.
 pub fn reached_is_walks()
@@ -75,4 +75,9 @@ pub fn within_is_owned()
 /// The test of paced journals is what is meant by them.
 pub fn paced_is_meant()
     ensures { PacedIsMeant }
+{}
+
+/// After a legal journal no list of names has more words than a chunk, and all held names at most the words of the chunks in use.
+pub fn heaps_fit()
+    ensures { HeapsFit }
 {}
