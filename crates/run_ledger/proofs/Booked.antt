@@ -22,7 +22,7 @@ use Rattle.run_ledger.specs.declared.data.Heap.{Heap}
 use Rattle.run_ledger.specs.declared.data.Ledger.{Ledger}
 use Rattle.run_ledger.specs.Heaps.{units, is_small, words_of, words_at, small_in, held_in, begun_in, units_in, fresh, heap_of, or_fresh, with_heap_at, in_use, placed, put_last, lacks_room, take_of, chunk_words}
 use Rattle.run_ledger.specs.Steps.{allocated_by, allocated_in, stepped_to, task_step, task_steps, is_due, is_in_need, is_private, standing}
-use Rattle.run_ledger.specs.Laws.{last_words}
+use Rattle.run_ledger.specs.Space.{last_words}
 use Rattle.run_ledger.proofs.Chunks.{sum_same, Full, full_same, last_same, last_full, put_last_words, put_full, append_full, last_append}
 use Rattle.run_ledger.proofs.Machine.{stepped_machine}
 use Rattle.run_ledger.proofs.Sound.{collecting, names_of}

@@ -8,7 +8,7 @@ use Rattle.hh_model.specs.declared.data.Name.{Name}
 use Rattle.hh_model.specs.declared.data.State.{State}
 use Rattle.run_ledger.specs.declared.data.Heap.{Heap}
 use Rattle.run_ledger.specs.Heaps.{chunk_words, units, words_at, words_sum, units_sum, small_in, words_in, put_last, lay, laid_onto, room_behind, is_empty, without_empty, is_last_empty, in_snapshot}
-use Rattle.run_ledger.specs.Laws.{last_words}
+use Rattle.run_ledger.specs.Space.{last_words}
 use Rattle.run_ledger.proofs.Weights.{kept_weight}
 
 pub sum_same : {A : Type 0} (f g : A → ℕ) (xs : List A) → ((x : A) → In xs x → f x ≡ g x) → sum_by f xs ≡ sum_by g xs

@@ -7,7 +7,7 @@ use Rattle.hh_model.specs.declared.data.Name.{Name}
 use Rattle.hh_model.specs.declared.data.State.{State}
 use Rattle.run_ledger.specs.declared.data.Heap.{Heap}
 use Rattle.run_ledger.specs.Heaps.{chunk_words, units, words_at, words_sum, small_in, lay, laid_onto, small_survivors, collected, take_of, without_empty, is_last_empty, room_behind}
-use Rattle.run_ledger.specs.Laws.{last_words}
+use Rattle.run_ledger.specs.Space.{last_words}
 use Rattle.run_ledger.proofs.Weights.{survivors_weight}
 
 -- of so many lists with u words in the last one and so many in all, two neighbours have more than a chunk's words

@@ -21,7 +21,7 @@ use Rattle.run_ledger.specs.Heaps.{chunk_words, units, is_small, words_at, units
 use Rattle.run_ledger.specs.Steps.{on_asked, is_due, is_in_need}
 use Rattle.run_ledger.specs.Entries.{refusal, after_kind, after, is_out, is_pool_enough, chunk_units, with_chunk}
 use Rattle.run_ledger.specs.Journals.{opening, after_all, ledger_of, is_legal_from, is_legal}
-use Rattle.run_ledger.specs.Laws.{EachHasName, LeafCollectionsAreBounded, SweptWithin, SweepsAreBounded, UseIsBounded, last_words, FitsInChunks, HeapsFit}
+use Rattle.run_ledger.specs.Space.{EachHasName, LeafCollectionsAreBounded, SweptWithin, SweepsAreBounded, UseIsBounded, last_words, FitsInChunks, HeapsFit}
 use Rattle.run_ledger.proofs.Sound.{collecting, SoundLedger}
 use Rattle.run_ledger.proofs.Weights.{sum_flat, total, total_set, kept_weight}
 use Rattle.run_ledger.proofs.Chunks.{Full, last_full, append_full, last_append, onto_full, room_full, small_full, swept_full, swept_last, heap_words}

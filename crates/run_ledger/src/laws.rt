@@ -1,6 +1,8 @@
 // The laws of journals, each the clause of a function that does nothing.
 
-ghost use Rattle.run_ledger.specs.Laws.{ReachedIsWalks, MachineIsRun, NothingReachableIsFreed, LegalIsUnrefused, JournalsCanBeCut, FirstRefusedIsFirst, StepsAreBounded, AllocationsAreInBounds, NamesAreHeldOnce, HeldIsUndropped, UseIsBounded, LeafCollectionsAreBounded, SweepsAreBounded, WithinIsOwned, PacedIsMeant, HeapsFit};
+ghost use Rattle.run_ledger.specs.Laws.{ReachedIsWalks, MachineIsRun, NothingReachableIsFreed, NamesAreHeldOnce, HeldIsUndropped, WithinIsOwned};
+ghost use Rattle.run_ledger.specs.Cuts.{LegalIsUnrefused, JournalsCanBeCut, FirstRefusedIsFirst, PacedIsMeant};
+ghost use Rattle.run_ledger.specs.Space.{StepsAreBounded, AllocationsAreInBounds, UseIsBounded, LeafCollectionsAreBounded, SweepsAreBounded, HeapsFit};
 
 /// Of some names, those are reached to which walks along references lead, through these names alone.
 pub fn reached_is_walks()
@@ -15,6 +17,21 @@ pub fn machine_is_run()
 /// After every legal journal all that is reachable is held, and so is each reference of what is held.
 pub fn nothing_reachable_is_freed()
     ensures { NothingReachableIsFreed }
+{}
+
+/// After a legal journal what is reached within a heap's held names is what is reached through all that its task owns.
+pub fn within_is_owned()
+    ensures { WithinIsOwned }
+{}
+
+/// After a legal journal each held name is held once, in its owner's heap, and is in the store.
+pub fn names_are_held_once()
+    ensures { NamesAreHeldOnce }
+{}
+
+/// What is held after a legal journal is what was allocated and wasn't dropped by the end of a leaf collection or a sweep.
+pub fn held_is_undropped()
+    ensures { HeldIsUndropped }
 {}
 
 /// The test of legal journals is what is meant by them.
@@ -32,6 +49,11 @@ pub fn first_refused_is_first()
     ensures { FirstRefusedIsFirst }
 {}
 
+/// The test of paced journals is what is meant by them.
+pub fn paced_is_meant()
+    ensures { PacedIsMeant }
+{}
+
 /// The steps of a legal journal are at most the fuel and 256 more.
 pub fn steps_are_bounded()
     ensures { StepsAreBounded }
@@ -40,21 +62,6 @@ pub fn steps_are_bounded()
 /// Before each allocation in a legal journal its heap isn't due for a collection, and the object has its place.
 pub fn allocations_are_in_bounds()
     ensures { AllocationsAreInBounds }
-{}
-
-/// After a legal journal each held name is held once, in its owner's heap, and is in the store.
-pub fn names_are_held_once()
-    ensures { NamesAreHeldOnce }
-{}
-
-/// What is held after a legal journal is what was allocated and wasn't dropped by the end of a leaf collection or a sweep.
-pub fn held_is_undropped()
-    ensures { HeldIsUndropped }
-{}
-
-/// In a legal journal the chunks in use never exceed the limit.
-pub fn use_is_bounded()
-    ensures { UseIsBounded }
 {}
 
 /// In a legal journal the end of a leaf collection leaves at most the chunks that it took for the small survivors, each with one.
@@ -67,17 +74,12 @@ pub fn sweeps_are_bounded()
     ensures { SweepsAreBounded }
 {}
 
-/// After a legal journal what is reached within a heap's held names is what is reached through all that its task owns.
-pub fn within_is_owned()
-    ensures { WithinIsOwned }
-{}
-
-/// The test of paced journals is what is meant by them.
-pub fn paced_is_meant()
-    ensures { PacedIsMeant }
-{}
-
 /// After a legal journal no list of names has more words than a chunk, and all held names at most the words of the chunks in use.
 pub fn heaps_fit()
     ensures { HeapsFit }
+{}
+
+/// In a legal journal the chunks in use never exceed the limit.
+pub fn use_is_bounded()
+    ensures { UseIsBounded }
 {}
