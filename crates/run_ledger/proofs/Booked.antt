@@ -109,7 +109,7 @@ wait_run m u w r = by (slice_get m.tasks u) w r
     by (Some x) a b = both_ways (is_waiting (Some x)) (running_tells x.status b).1 a
 
 -- a step leaves the other tasks that run as they are
-step_others : (p : ProgramText) (m : State) (t u : ℕ) → Kept m → (u ≡ t → ⊥) → is_running (slice_get m.tasks u) ≡ true → slice_get (step p m t).tasks u ≡ slice_get m.tasks u
+pub step_others : (p : ProgramText) (m : State) (t u : ℕ) → Kept m → (u ≡ t → ⊥) → is_running (slice_get m.tasks u) ≡ true → slice_get (step p m t).tasks u ≡ slice_get m.tasks u
 step_others p m t u K ne run =
     step_cases p m t K (λ m'. slice_get m'.tasks u ≡ slice_get m.tasks u) refl (λ x e is r why. refl)
     (λ x y store outs is r ep ed es ej names fields alters grows. got_other m.tasks t u y ne)
@@ -281,9 +281,9 @@ module _ (p : ProgramText) (s : Limits) (l : Ledger) (t : ℕ) (S : SoundAt t l)
   each_k : (u : ℕ) (h : Heap) → slice_get k.heaps u ≡ Some h → Booked p s m' u h
   each_k =
       moves_each (Booked p s m') t m.tasks b.heaps k.heaps leaves.2 (each_by (asked p m t) refl)
-      (λ u h q. record { begun = q.begun; room = q.room; reserved = q.reserved; full = q.full; last = q.last })
+      (λ h q. record { begun = q.begun; room = q.room; reserved = q.reserved; full = q.full; last = q.last })
       (λ u. record { begun = λ c e. no_begun fresh c refl e; room = λ pos. absurd (omega arith); reserved = λ pos. absurd (omega arith); full = λ ns i. absurd i; last = omega arith })
-      (λ u ns h q. record { begun = q.begun; room = q.room; reserved = q.reserved; full = q.full; last = q.last })
+      (λ ns h q. record { begun = q.begun; room = q.room; reserved = q.reserved; full = q.full; last = q.last })
       (λ u h x y v z is w none q qx qy. record {
         begun = λ c e. no_begun h c none e;
         room = λ pos. (let a = q.room pos in omega (arith, length-append (x.chunks ++ y.chunks) h.chunks));

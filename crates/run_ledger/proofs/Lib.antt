@@ -18,3 +18,4 @@ pub mod Booked
 pub mod Space
 pub mod Within
 pub mod Paced
+pub mod Holders

@@ -43,6 +43,15 @@ heap_there tasks heaps t len lt = go (slice_get heaps t) refl
     go None e = absurd (inside heaps t (omega arith) e)
     go (Some h) e = (h, e)
 
+-- who holds the task of a heap
+abbrev pub worker_at : Option Heap → Option ℕ
+worker_at None = None
+worker_at (Some h) = h.worker
+
+-- where a task stands after its step: the machine has ended, the task runs on, or nobody holds it
+abbrev pub StandsAfter : ℕ → Ledger → Type 0
+StandsAfter t k = (is_some k.machine.end ≡ true) ⊎ ((is_running (slice_get k.machine.tasks t) ≡ true) ⊎ (worker_at (slice_get k.heaps t) ≡ None))
+
 -- the heaps after the account of an allocation
 pub record Allots (t : ℕ) (next : Name) (does : Bool) (heaps heaps1 : List Heap) : Type 0 where
   pub down : (u : ℕ) (n : Name) → InHeaps heaps1 u n → InHeaps heaps u n ⊎ ((u ≡ t) × (n ≡ next))
@@ -163,7 +172,7 @@ module _ (p : ProgramText) (l : Ledger) (S : SoundLedger l) (t : ℕ) (x : Task)
 
   -- all is kept, the task collects nothing, and the heaps have changed so
   abbrev pub Good : Ledger → Type 0
-  Good k = SoundLedger k × (collecting (slice_get k.heaps t) ≡ false) × Moves t l.machine.tasks b.heaps k.heaps
+  Good k = SoundLedger k × (collecting (slice_get k.heaps t) ≡ false) × Moves t l.machine.tasks b.heaps k.heaps × StandsAfter t k
 
   -- what a state after the step owes
   abbrev Owes : State → Type 0
@@ -193,13 +202,13 @@ module _ (p : ProgramText) (l : Ledger) (S : SoundLedger l) (t : ℕ) (x : Task)
 
   -- the machine has ended
   halts : (m' : State) (e : End) → m'.end ≡ Some e → Sound m'.tasks m'.edges m'.store b.heaps → Good (stepped_to b t m')
-  halts m' e at s = subst Good (sym (ap (settled (record b { machine = m'; steps = b.steps + 1 }) t) at)) (s, A.still ∙ idle, inl refl)
+  halts m' e at s = subst Good (sym (ap (settled (record b { machine = m'; steps = b.steps + 1 }) t) at)) (s, A.still ∙ idle, inl refl, inl (ap is_some at))
 
   -- the step left the task running
   runs_on : (m' : State) (y : Task) → m'.end ≡ None → slice_get m'.tasks t ≡ Some y → y.status ≡ Running → Sound m'.tasks m'.edges m'.store b.heaps → Good (stepped_to b t m')
   runs_on m' y on at st s =
       let k : Ledger = record b { machine = m'; steps = b.steps + 1 } in
-      subst Good (sym (ap (settled k t) on ∙ (ap (moved_to k t) at ∙ ap (moved_on k t y.parent) st))) (s, A.still ∙ idle, inl refl)
+      subst Good (sym (ap (settled k t) on ∙ (ap (moved_to k t) at ∙ ap (moved_on k t y.parent) st))) (s, A.still ∙ idle, inl refl, inr (inl (ap is_running at ∙ ap runs st)))
 
   same_sound : (m' : State) → m'.tasks ≡ tasks → KeptIn m'.tasks m'.edges m'.store → Disentangled m'.tasks m'.store → Closed m'.tasks m'.store (Keeps b.heaps)
       → ((u : ℕ) (ns : List Name) → (u ≡ t → ⊥) → Spares tasks l.machine.store l.heaps u ns → Spares m'.tasks m'.store b.heaps u ns)
@@ -231,6 +240,7 @@ module _ (p : ProgramText) (l : Ledger) (S : SoundLedger l) (t : ℕ) (x : Task)
         renewed m'.tasks m'.edges m'.store b.heaps s t h.0 (let_go h.0) h.1 (λ n i. i) (λ n i. i) refl refl refl,
         ap collecting (got_same b.heaps t h.0 (let_go h.0) h.1) ∙ (ap collecting (sym h.1) ∙ (A.still ∙ idle)),
         inr (inl (record { heap = h.0; at = h.1; is = refl })),
+        inr (inr (ap worker_at (got_same b.heaps t h.0 (let_go h.0) h.1))),
       )
 
   -- the task forks
@@ -395,6 +405,7 @@ module _ (p : ProgramText) (l : Ledger) (S : SoundLedger l) (t : ℕ) (x : Task)
           fork_sound K D C sp,
           ap collecting at3 ∙ (ap collecting (sym hb.1) ∙ (A.still ∙ idle)),
           inr (inr (inl (record { heap = hb.0; names = within a t; at = hb.1; is = refl }))),
+          inr (inr (ap worker_at at3)),
         )
 
   -- both children of a task have ended
@@ -695,6 +706,7 @@ module _ (p : ProgramText) (l : Ledger) (S : SoundLedger l) (t : ℕ) (x : Task)
         at_right = e_r;
         is = refl;
       }))),
+      inr (inr (elim side [ inl s ↦ ap (λ v. worker_at (slice_get j4 v)) s.0 ∙ ap worker_at j4_l | inr s ↦ ap (λ v. worker_at (slice_get j4 v)) s.0 ∙ ap worker_at j4_r ])),
     )
       where
         stops : (v : Bool) → collecting (slice_get j4 t) ≡ v → collecting (slice_get j4 t) ≡ false
@@ -747,7 +759,7 @@ SoundAt t l = SoundLedger l × (collecting (slice_get l.heaps t) ≡ false)
 
 -- what a step of such a task leaves
 abbrev pub StepLeaves : ℕ → Ledger → Ledger → Ledger → Type 0
-StepLeaves t l b k = SoundLedger k × (collecting (slice_get k.heaps t) ≡ false) × Moves t l.machine.tasks b.heaps k.heaps
+StepLeaves t l b k = SoundLedger k × (collecting (slice_get k.heaps t) ≡ false) × Moves t l.machine.tasks b.heaps k.heaps × StandsAfter t k
 
 running_at : (ts : List Task) (t : ℕ) (o : Option Task) → slice_get ts t ≡ o → is_running o ≡ true → (x : Task) × (slice_get ts t ≡ Some x) × (is_running (Some x) ≡ true)
 running_at ts t None e h = absurd (false≢true h)

@@ -1,5 +1,5 @@
 -- The laws of journals.
-use Rattle.std.specs.Prelude.{◌≡◌, ◌↔◌, ◌⊎◌, ℕ, true, List, [], ◌∷◌, Some, slice_get, Contains}
+use Rattle.std.specs.Prelude.{◌≡◌, ◌↔◌, ◌⊎◌, ℕ, true, List, [], ◌∷◌, Some, slice_get, Contains, None, length, is_some}
 use Rattle.std.specs.List.{IsDistinct}
 use Rattle.walks.specs.Reached.{IsReached}
 use Rattle.run_trace.specs.declared.entry.Kind.{Kind}
@@ -83,6 +83,19 @@ pub record HoldsOnce (l : Ledger) : Type 0 where
 
 abbrev pub NamesAreHeldOnce : Type 0
 NamesAreHeldOnce = (p : ProgramText) (s : Limits) (journal : List Event) → is_legal p s journal ≡ true → HoldsOnce (ledger_of p s journal)
+
+-- WHO HOLDS A TASK
+
+-- each task has a heap; a task that a worker holds runs, unless the run has ended; no worker holds two; and a leaf
+-- collection goes on in a held task alone
+pub record HoldsTasks (l : Ledger) : Type 0 where
+  pub as_many : length l.heaps ≡ length l.machine.tasks
+  pub runs : l.end ≡ None → (t w : ℕ) → (heap_of l t).worker ≡ Some w → is_running (slice_get l.machine.tasks t) ≡ true
+  pub one : (t u w : ℕ) → (heap_of l t).worker ≡ Some w → (heap_of l u).worker ≡ Some w → t ≡ u
+  pub collecting : (t : ℕ) → is_some (heap_of l t).begun ≡ true → is_some (heap_of l t).worker ≡ true
+
+abbrev pub TasksAreHeldOnce : Type 0
+TasksAreHeldOnce = (p : ProgramText) (s : Limits) (journal : List Event) → is_legal p s journal ≡ true → HoldsTasks (ledger_of p s journal)
 
 -- WHAT IS HELD
 

@@ -1,6 +1,6 @@
 // The laws of journals, each the clause of a function that does nothing.
 
-ghost use Rattle.run_ledger.specs.Laws.{ReachedIsWalks, MachineIsRun, NothingReachableIsFreed, NamesAreHeldOnce, HeldIsUndropped, WithinIsOwned};
+ghost use Rattle.run_ledger.specs.Laws.{ReachedIsWalks, MachineIsRun, NothingReachableIsFreed, NamesAreHeldOnce, TasksAreHeldOnce, HeldIsUndropped, WithinIsOwned};
 ghost use Rattle.run_ledger.specs.Cuts.{LegalIsUnrefused, JournalsCanBeCut, FirstRefusedIsFirst, PacedIsMeant};
 ghost use Rattle.run_ledger.specs.Space.{StepsAreBounded, AllocationsAreInBounds, UseIsBounded, LeafCollectionsAreBounded, SweepsAreBounded, HeapsFit};
 
@@ -27,6 +27,11 @@ pub fn within_is_owned()
 /// After a legal journal each held name is held once, in its owner's heap, and is in the store.
 pub fn names_are_held_once()
     ensures { NamesAreHeldOnce }
+{}
+
+/// After a legal journal a task that a worker holds runs, unless the run has ended, and no worker holds two.
+pub fn tasks_are_held_once()
+    ensures { TasksAreHeldOnce }
 {}
 
 /// What is held after a legal journal is what was allocated and wasn't dropped by the end of a leaf collection or a sweep.
