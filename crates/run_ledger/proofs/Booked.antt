@@ -35,7 +35,7 @@ use Rattle.run_ledger.proofs.Bounds.{asked_bounds, stands_by}
 
 -- SUMS THAT ARE THE SAME
 
-total_same : (f g : Heap → ℕ) (heaps : List Heap) → ((u : ℕ) (h : Heap) → slice_get heaps u ≡ Some h → f h ≡ g h) → total f heaps ≡ total g heaps
+pub total_same : (f g : Heap → ℕ) (heaps : List Heap) → ((u : ℕ) (h : Heap) → slice_get heaps u ≡ Some h → f h ≡ g h) → total f heaps ≡ total g heaps
 total_same f g [] same = refl
 total_same f g (h ∷ heaps) same =
     sum_by-cons f h heaps ∙ (ap₂ (λ a b. a + b) (same zero h refl) (total_same f g heaps (λ u k e. same (suc u) k e)) ∙ sym (sum_by-cons g h heaps))

@@ -19,3 +19,4 @@ pub mod Space
 pub mod Within
 pub mod Paced
 pub mod Holders
+pub mod Words

@@ -1,5 +1,7 @@
 -- Laws of space by count.
-use Rattle.std.specs.Prelude.{◌≡◌, ℕ, ◌+◌, ◌*◌, ◌<◌, ◌≤◌, true, false, List, [], ◌∷◌, ◌++◌, Some, length, Contains}
+use Rattle.hh_model.specs.declared.data.Object.{Object}
+use Rattle.run_ledger.specs.Report.{report_of}
+use Rattle.std.specs.Prelude.{◌≡◌, ℕ, ◌+◌, ◌*◌, ◌<◌, ◌≤◌, true, false, List, [], ◌∷◌, ◌++◌, Some, length, Contains, sum_by}
 use Rattle.run_trace.specs.declared.entry.Kind.TheVariants.{Ran, End, Sweep}
 use Rattle.run_trace.specs.Entry.{Event}
 use Rattle.run_trace.specs.Settings.{Limits}
@@ -9,7 +11,7 @@ use Rattle.hh_model.specs.declared.data.State.{State}
 use Rattle.hh_model.specs.Step.{asked}
 use Rattle.run_ledger.specs.declared.data.Heap.{Heap}
 use Rattle.run_ledger.specs.declared.data.Ledger.{Ledger}
-use Rattle.run_ledger.specs.Heaps.{chunk_words, words_sum, held, heap_of, lacks_room, begun_in, take_of, in_use}
+use Rattle.run_ledger.specs.Heaps.{chunk_words, words_sum, held, heap_of, lacks_room, begun_in, take_of, in_use, words_of}
 use Rattle.run_ledger.specs.Steps.{task_steps}
 use Rattle.run_ledger.specs.Entries.{after}
 use Rattle.run_ledger.specs.Journals.{ledger_of, is_legal}
@@ -82,3 +84,14 @@ pub record Fits (l : Ledger) : Type 0 where
 
 abbrev pub HeapsFit : Type 0
 HeapsFit = (p : ProgramText) (s : Limits) (journal : List Event) → is_legal p s journal ≡ true → Fits (ledger_of p s journal)
+
+-- the words of all objects of a store
+abbrev pub store_words : List (List Object) → ℕ
+store_words store = sum_by (λ row. sum_by (λ o. words_of (Some o)) row) store
+
+-- each word that was allocated is held, or the end of a leaf collection or a sweep has dropped it
+abbrev pub WordsAreAccounted : Type 0
+WordsAreAccounted =
+    (p : ProgramText) (s : Limits) (journal : List Event) → is_legal p s journal ≡ true
+    → let l = ledger_of p s journal in
+    let r = report_of p s journal in r.leaf_freed + r.inner_freed + words_sum l.machine (held l) ≡ store_words l.machine.store

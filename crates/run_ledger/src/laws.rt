@@ -2,7 +2,7 @@
 
 ghost use Rattle.run_ledger.specs.Laws.{ReachedIsWalks, MachineIsRun, NothingReachableIsFreed, NamesAreHeldOnce, TasksAreHeldOnce, HeldIsUndropped, WithinIsOwned};
 ghost use Rattle.run_ledger.specs.Cuts.{LegalIsUnrefused, JournalsCanBeCut, FirstRefusedIsFirst, PacedIsMeant};
-ghost use Rattle.run_ledger.specs.Space.{StepsAreBounded, AllocationsAreInBounds, UseIsBounded, LeafCollectionsAreBounded, SweepsAreBounded, HeapsFit};
+ghost use Rattle.run_ledger.specs.Space.{StepsAreBounded, AllocationsAreInBounds, UseIsBounded, LeafCollectionsAreBounded, SweepsAreBounded, HeapsFit, WordsAreAccounted};
 
 /// Of some names, those are reached to which walks along references lead, through these names alone.
 pub fn reached_is_walks()
@@ -87,4 +87,9 @@ pub fn heaps_fit()
 /// In a legal journal the chunks in use never exceed the limit.
 pub fn use_is_bounded()
     ensures { UseIsBounded }
+{}
+
+/// After a legal journal each word that was allocated is held, or is among those that the report counts as freed.
+pub fn words_are_accounted()
+    ensures { WordsAreAccounted }
 {}
