@@ -52,7 +52,7 @@ allocated_steps : (l : Ledger) (t : ℕ) (o : Option ℕ) → (allocated_by l t 
 allocated_steps l t None = refl
 allocated_steps l t (Some w) = heap_steps l t _
 
-task_step_steps : (p : ProgramText) (l : Ledger) (t : ℕ) → (task_step p l t).steps ≡ l.steps + 1
+pub task_step_steps : (p : ProgramText) (l : Ledger) (t : ℕ) → (task_step p l t).steps ≡ l.steps + 1
 task_step_steps p l t = by (can_step l.machine t)
   where
     by : (v : Bool) → (cond v (stepped_to (allocated_in p l t) t (step p l.machine t)) (record l { steps = l.steps + 1 })).steps ≡ l.steps + 1

@@ -20,3 +20,4 @@ pub mod Within
 pub mod Paced
 pub mod Holders
 pub mod Words
+pub mod Since

@@ -20,6 +20,7 @@ use Rattle.run_ledger.specs.declared.data.RunEnd.TheVariants.{Pool}
 use Rattle.run_ledger.specs.Heaps.{chunk_words, units, is_small, words_at, units_sum, begun_in, units_in, fresh, heap_at, heap_of, or_fresh, with_heap, with_heap_at, in_use, within, lacks_room, take_of, collected, swept_heap, in_snapshot, is_last_empty, without_empty, laid_onto, small_survivors, small_in, held_in, words_sum, words_in}
 use Rattle.run_ledger.specs.Steps.{on_asked, is_due, is_in_need}
 use Rattle.run_ledger.specs.Entries.{refusal, after_kind, after, is_out, is_pool_enough, chunk_units, with_chunk}
+use Rattle.run_ledger.specs.Report.{peak_from}
 use Rattle.run_ledger.specs.Journals.{opening, after_all, ledger_of, is_legal_from, is_legal}
 use Rattle.run_ledger.specs.Space.{EachHasName, LeafCollectionsAreBounded, SweptWithin, SweepsAreBounded, UseIsBounded, last_words, FitsInChunks, HeapsFit}
 use Rattle.run_ledger.proofs.Sound.{collecting, SoundLedger}
@@ -267,8 +268,21 @@ heaps_fit p s journal legal =
     fits_by l t B None e = record { each = λ ns c. absurd (in_from_contains [] ns c); last = omega arith }
     fits_by l t B (Some h) e = let b = B.each t h e in record { each = λ ns c. b.full ns (in_from_contains h.chunks ns c); last = b.last }
 
+-- the most chunks in use
+peak_bounded : (p : ProgramText) (s : Limits) (journal : List Event) (l : Ledger) → SoundLedger l → StockedLedger l → BookedLedger p s l → is_legal_from p s l journal ≡ true → peak_from p s l journal ≤ s.chunks
+peak_bounded p s [] l S I B h = omega arith
+peak_bounded p s (e ∷ es) l S I B h =
+    let both = and_parts (is_none (refusal p s l e)) (is_legal_from p s (after p s l e) es) h in
+    let B' = kind_booked p s l e.worker e.kind S I B both.0 in
+    let now : in_use (after p s l e) ≤ s.chunks = B'.within in
+    let later = peak_bounded p s es (after p s l e) (entry_sound p s l e S both.0) (kind_stocked p s l e.worker e.kind S (entry_tells p s l e both.0).2 I) B' both.1 in
+    omega arith
+
 pub use_is_bounded : UseIsBounded
-use_is_bounded p s journal legal = (legal_booked p s journal legal).within
+use_is_bounded p s journal legal = record {
+  now = (legal_booked p s journal legal).within;
+  peak = peak_bounded p s journal (opening p s) (opening_sound p s) (opening_stocked p s) (opening_booked p s) legal;
+}
 
 -- where an entry isn't refused after a journal that is legal
 legal_entry : (p : ProgramText) (s : Limits) (before : List Event) (e : Event) (rest : List Event) → is_legal p s (before ++ e ∷ rest) ≡ true → (is_legal p s before ≡ true) × (is_none (refusal p s (ledger_of p s before) e) ≡ true)

@@ -1,12 +1,11 @@
 -- Laws of space by count.
-use Rattle.hh_model.specs.declared.data.Object.{Object}
-use Rattle.run_ledger.specs.Report.{report_of}
 use Rattle.std.specs.Prelude.{◌≡◌, ℕ, ◌+◌, ◌*◌, ◌<◌, ◌≤◌, true, false, List, [], ◌∷◌, ◌++◌, Some, length, Contains, sum_by}
 use Rattle.run_trace.specs.declared.entry.Kind.TheVariants.{Ran, End, Sweep}
 use Rattle.run_trace.specs.Entry.{Event}
-use Rattle.run_trace.specs.Settings.{Limits}
+use Rattle.run_trace.specs.Settings.{Limits, field_limit}
 use Rattle.hh_lang.specs.Form.{ProgramText}
 use Rattle.hh_model.specs.declared.data.Name.{Name}
+use Rattle.hh_model.specs.declared.data.Object.{Object}
 use Rattle.hh_model.specs.declared.data.State.{State}
 use Rattle.hh_model.specs.Step.{asked}
 use Rattle.run_ledger.specs.declared.data.Heap.{Heap}
@@ -15,6 +14,7 @@ use Rattle.run_ledger.specs.Heaps.{chunk_words, words_sum, held, heap_of, lacks_
 use Rattle.run_ledger.specs.Steps.{task_steps}
 use Rattle.run_ledger.specs.Entries.{after}
 use Rattle.run_ledger.specs.Journals.{ledger_of, is_legal}
+use Rattle.run_ledger.specs.Report.{report_of}
 
 -- the steps of a legal journal are at most the fuel and 256 more
 abbrev pub StepsAreBounded : Type 0
@@ -62,9 +62,23 @@ SweepsAreBounded =
     → let e : Event = record { worker = w; kind = Sweep t given } in
     is_legal p s (before ++ e ∷ rest) ≡ true → SweptWithin (after p s (ledger_of p s before) e) t
 
--- the chunks in use never exceed the limit
+-- the chunks in use never exceed the limit, neither at the end nor before
+pub record UsesFew (p : ProgramText) (s : Limits) (journal : List Event) : Type 0 where
+  pub now : in_use (ledger_of p s journal) ≤ s.chunks
+  pub peak : (report_of p s journal).peak ≤ s.chunks
+
 abbrev pub UseIsBounded : Type 0
-UseIsBounded = (p : ProgramText) (s : Limits) (journal : List Event) → is_legal p s journal ≡ true → in_use (ledger_of p s journal) ≤ s.chunks
+UseIsBounded = (p : ProgramText) (s : Limits) (journal : List Event) → is_legal p s journal ≡ true → UsesFew p s journal
+
+-- with this limit on the fields of objects, no step of the program asks for more words than so many
+abbrev pub AsksAtMost : ProgramText → ℕ → ℕ → Type 0
+AsksAtMost p limit most = (m : State) (t w : ℕ) → m.field_limit ≡ limit → asked p m t ≡ Some w → w ≤ most
+
+-- so the words that a heap counts since its last leaf collection are at most so many for each step taken
+abbrev pub SinceIsBounded : Type 0
+SinceIsBounded =
+    (p : ProgramText) (s : Limits) (journal : List Event) (most : ℕ) → is_legal p s journal ≡ true → AsksAtMost p (field_limit s.version) most
+    → let l = ledger_of p s journal in (t : ℕ) → (heap_of l t).since ≤ most * l.steps
 
 -- the words in the last list, and none without one
 abbrev pub last_words : State → List (List Name) → ℕ

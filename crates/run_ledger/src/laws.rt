@@ -2,7 +2,7 @@
 
 ghost use Rattle.run_ledger.specs.Laws.{ReachedIsWalks, MachineIsRun, NothingReachableIsFreed, NamesAreHeldOnce, TasksAreHeldOnce, HeldIsUndropped, WithinIsOwned};
 ghost use Rattle.run_ledger.specs.Cuts.{LegalIsUnrefused, JournalsCanBeCut, FirstRefusedIsFirst, PacedIsMeant};
-ghost use Rattle.run_ledger.specs.Space.{StepsAreBounded, AllocationsAreInBounds, UseIsBounded, LeafCollectionsAreBounded, SweepsAreBounded, HeapsFit, WordsAreAccounted};
+ghost use Rattle.run_ledger.specs.Space.{StepsAreBounded, AllocationsAreInBounds, UseIsBounded, LeafCollectionsAreBounded, SweepsAreBounded, HeapsFit, WordsAreAccounted, SinceIsBounded};
 
 /// Of some names, those are reached to which walks along references lead, through these names alone.
 pub fn reached_is_walks()
@@ -92,4 +92,10 @@ pub fn use_is_bounded()
 /// After a legal journal each word that was allocated is held, or is among those that the report counts as freed.
 pub fn words_are_accounted()
     ensures { WordsAreAccounted }
+{}
+
+/// After a legal journal the words that a heap counts since its last collection are at most so many for each step taken as one
+/// step can ask for.
+pub fn since_is_bounded()
+    ensures { SinceIsBounded }
 {}
