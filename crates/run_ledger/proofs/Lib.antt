@@ -21,3 +21,4 @@ pub mod Paced
 pub mod Holders
 pub mod Words
 pub mod Since
+pub mod OwedEntries

@@ -1,12 +1,17 @@
 -- What the tests of legal and of paced journals mean, and how journals are cut.
-use Rattle.std.specs.Prelude.{◌≡◌, ◌↔◌, ◌⊎◌, ◌+◌, true, List, ◌∷◌, ◌++◌, Some, None, length}
+use Rattle.std.specs.Prelude.{◌≡◌, ◌↔◌, ◌⊎◌, ◌+◌, true, List, ◌∷◌, ◌++◌, Some, None, length, ℕ}
 use Rattle.run_trace.specs.Entry.{Event}
 use Rattle.run_trace.specs.Settings.{Limits}
 use Rattle.hh_lang.specs.Form.{ProgramText}
 use Rattle.run_ledger.specs.declared.data.RefusedAt.{RefusedAt}
-use Rattle.run_ledger.specs.Entries.{refusal, is_fuel}
+use Rattle.run_trace.specs.declared.entry.Kind.TheVariants.{Mark, More, Sweep}
+use Rattle.run_ledger.specs.declared.data.Ledger.{Ledger}
+use Rattle.run_ledger.specs.declared.data.Owed.{Owed}
+use Rattle.run_ledger.specs.declared.data.Owed.TheVariants.{Mark as OwesMark, More as OwesMore, Sweep as OwesSweep, Nothing}
+use Rattle.run_ledger.specs.Heaps.{heap_of, sweep_number}
+use Rattle.run_ledger.specs.Entries.{refusal, is_fuel, kind_refusal}
 use Rattle.run_ledger.specs.Journals.{after_all, ledger_of, is_legal, is_legal_from, Legal, first_refused}
-use Rattle.run_ledger.specs.Pace.{gives, owed, pace_of, pace_at_end, is_paced}
+use Rattle.run_ledger.specs.Pace.{gives, owed, pace_of, pace_at_end, is_paced, marked_at_once}
 
 -- CUTS AND REFUSALS
 
@@ -52,3 +57,16 @@ Paced p s journal =
 
 abbrev pub PacedIsMeant : Type 0
 PacedIsMeant = (p : ProgramText) (s : Limits) (journal : List Event) → (is_paced p s journal ≡ true) ↔ Paced p s journal
+
+-- an entry that gives what is owed isn't refused for what it says
+abbrev pub CanBeGiven : ProgramText → Limits → Ledger → ℕ → Owed → Type 0
+CanBeGiven p s l w (OwesMark t) = kind_refusal p s l w (Mark t) ≡ None
+CanBeGiven p s l w (OwesMore t) = kind_refusal p s l w (More t marked_at_once) ≡ None
+CanBeGiven p s l w (OwesSweep t) = kind_refusal p s l w (Sweep t (sweep_number l.machine (heap_of l t))) ≡ None
+CanBeGiven p s l w Nothing = Unit {0}
+
+-- so the pace never asks for an entry that isn't legal
+abbrev pub OwedCanBeGiven : Type 0
+OwedCanBeGiven =
+    (p : ProgramText) (s : Limits) (journal : List Event) (w : ℕ) → is_legal p s journal ≡ true
+    → let l = ledger_of p s journal in CanBeGiven p s l w (owed s l (pace_of (pace_at_end p s journal) w))

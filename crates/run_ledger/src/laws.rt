@@ -1,7 +1,7 @@
 // The laws of journals, each the clause of a function that does nothing.
 
 ghost use Rattle.run_ledger.specs.Laws.{ReachedIsWalks, MachineIsRun, NothingReachableIsFreed, NamesAreHeldOnce, TasksAreHeldOnce, HeldIsUndropped, WithinIsOwned};
-ghost use Rattle.run_ledger.specs.Cuts.{LegalIsUnrefused, JournalsCanBeCut, FirstRefusedIsFirst, PacedIsMeant};
+ghost use Rattle.run_ledger.specs.Cuts.{LegalIsUnrefused, JournalsCanBeCut, FirstRefusedIsFirst, PacedIsMeant, OwedCanBeGiven};
 ghost use Rattle.run_ledger.specs.Space.{StepsAreBounded, AllocationsAreInBounds, UseIsBounded, LeafCollectionsAreBounded, SweepsAreBounded, HeapsFit, WordsAreAccounted, SinceIsBounded};
 
 /// Of some names, those are reached to which walks along references lead, through these names alone.
@@ -57,6 +57,11 @@ pub fn first_refused_is_first()
 /// The test of paced journals is what is meant by them.
 pub fn paced_is_meant()
     ensures { PacedIsMeant }
+{}
+
+/// After a legal journal an entry that gives what a worker owes to the pace isn't refused for what it says.
+pub fn owed_can_be_given()
+    ensures { OwedCanBeGiven }
 {}
 
 /// The steps of a legal journal are at most the fuel and 256 more.
