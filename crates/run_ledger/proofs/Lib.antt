@@ -22,3 +22,4 @@ pub mod Holders
 pub mod Words
 pub mod Since
 pub mod OwedEntries
+pub mod Frames

@@ -142,7 +142,7 @@ module _ (p : ProgramText) (l : Ledger) (t : ℕ) (S : SoundAt t l) (can : can_s
       → (slice_get (step p l.machine t).tasks fork.task ≡ Some g.0) ⊎ ((y : Task) × (slice_get (step p l.machine t).tasks fork.task ≡ Some y) × (g.0.joins < y.joins)) → Known k fork
   going_by fork ne g (inl same) =
       let at : slice_get k.machine.tasks fork.task ≡ Some g.0 = ap (λ (m : State). slice_get m.tasks fork.task) machine_is ∙ same in
-      inr (g.0, at, g.2, g.3, subst (λ o. Touched (or_fresh o)) (sym ((step_leaves p l t S can).4 fork.task ne (ap is_waiting at ∙ g.3))) g.4)
+      inr (g.0, at, g.2, g.3, subst (λ o. Touched (or_fresh o)) (sym ((step_leaves p l t S can).4 fork.task ne (inr (ap is_waiting at ∙ g.3)))) g.4)
   going_by fork ne g (inr y) = inl (subst (λ (m : State). Past m fork) (sym machine_is) (y.0, y.1, let lt : g.0.joins < y.0.joins = y.2 in let e : g.0.joins ≡ fork.joins = g.2 in omega arith))
 
   known_step : (fork : Strand) → Known l fork → Known k fork

@@ -1,5 +1,5 @@
 -- The laws of journals.
-use Rattle.std.specs.Prelude.{◌≡◌, ◌↔◌, ◌⊎◌, ℕ, true, List, [], ◌∷◌, Some, slice_get, Contains, None, length, is_some}
+use Rattle.std.specs.Prelude.{◌≡◌, ◌↔◌, ◌⊎◌, ℕ, true, List, [], ◌∷◌, Some, slice_get, Contains, None, length, is_some, ◌++◌}
 use Rattle.std.specs.List.{IsDistinct}
 use Rattle.walks.specs.Reached.{IsReached}
 use Rattle.run_trace.specs.declared.entry.Kind.{Kind}
@@ -96,6 +96,18 @@ pub record HoldsTasks (l : Ledger) : Type 0 where
 
 abbrev pub TasksAreHeldOnce : Type 0
 TasksAreHeldOnce = (p : ProgramText) (s : Limits) (journal : List Event) → is_legal p s journal ≡ true → HoldsTasks (ledger_of p s journal)
+
+-- WHAT AN ENTRY LEAVES ALONE
+
+-- an entry of one worker leaves what another worker holds: the task and the account of its heap
+pub record LeavesTask (l after : Ledger) (u : ℕ) : Type 0 where
+  pub task : slice_get after.machine.tasks u ≡ slice_get l.machine.tasks u
+  pub heap : heap_of after u ≡ heap_of l u
+
+abbrev pub EntriesLeaveOthers : Type 0
+EntriesLeaveOthers =
+    (p : ProgramText) (s : Limits) (before rest : List Event) (e : Event) (u v : ℕ) → is_legal p s (before ++ e ∷ rest) ≡ true
+    → let l = ledger_of p s before in (heap_of l u).worker ≡ Some v → (v ≡ e.worker → ⊥) → LeavesTask l (after p s l e) u
 
 -- WHAT IS HELD
 

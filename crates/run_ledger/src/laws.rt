@@ -1,6 +1,6 @@
 // The laws of journals, each the clause of a function that does nothing.
 
-ghost use Rattle.run_ledger.specs.Laws.{ReachedIsWalks, MachineIsRun, NothingReachableIsFreed, NamesAreHeldOnce, TasksAreHeldOnce, HeldIsUndropped, WithinIsOwned};
+ghost use Rattle.run_ledger.specs.Laws.{ReachedIsWalks, MachineIsRun, NothingReachableIsFreed, NamesAreHeldOnce, TasksAreHeldOnce, EntriesLeaveOthers, HeldIsUndropped, WithinIsOwned};
 ghost use Rattle.run_ledger.specs.Cuts.{LegalIsUnrefused, JournalsCanBeCut, FirstRefusedIsFirst, PacedIsMeant, OwedCanBeGiven};
 ghost use Rattle.run_ledger.specs.Space.{StepsAreBounded, AllocationsAreInBounds, UseIsBounded, LeafCollectionsAreBounded, SweepsAreBounded, HeapsFit, WordsAreAccounted, SinceIsBounded};
 
@@ -32,6 +32,11 @@ pub fn names_are_held_once()
 /// After a legal journal a task that a worker holds runs, unless the run has ended, and no worker holds two.
 pub fn tasks_are_held_once()
     ensures { TasksAreHeldOnce }
+{}
+
+/// An entry of one worker leaves a task that another worker holds as it is, and the account of its heap.
+pub fn entries_leave_others()
+    ensures { EntriesLeaveOthers }
 {}
 
 /// What is held after a legal journal is what was allocated and wasn't dropped by the end of a leaf collection or a sweep.
