@@ -23,3 +23,4 @@ pub mod Words
 pub mod Since
 pub mod OwedEntries
 pub mod Frames
+pub mod Collections

@@ -15,8 +15,9 @@ use Rattle.hh_model.specs.Names.{refs_at, task_names}
 use Rattle.hh_model.specs.Store.{IsStored}
 use Rattle.hh_model.specs.Step.{owner_of, is_running, is_waiting}
 use Rattle.run_ledger.specs.declared.data.Ledger.{Ledger}
+use Rattle.run_ledger.specs.declared.data.Heap.{Heap}
 use Rattle.run_ledger.specs.Reachable.{is_name, reached, IsReachedWithin}
-use Rattle.run_ledger.specs.Heaps.{held_in, held, heap_of, roots_of, within}
+use Rattle.run_ledger.specs.Heaps.{held_in, held, heap_of, roots_of, within, name_le, small_in, collected, swept_heap}
 use Rattle.run_ledger.specs.Entries.{after}
 use Rattle.run_ledger.specs.Journals.{opening, ledger_of, machine_of, is_legal}
 
@@ -83,6 +84,22 @@ pub record HoldsOnce (l : Ledger) : Type 0 where
 
 abbrev pub NamesAreHeldOnce : Type 0
 NamesAreHeldOnce = (p : ProgramText) (s : Limits) (journal : List Event) → is_legal p s journal ≡ true → HoldsOnce (ledger_of p s journal)
+
+-- WHAT A COLLECTION KEEPS
+
+-- no name was born later than one behind it
+abbrev pub AreByBirth : List Name → Type 0
+AreByBirth [] = Unit {0}
+AreByBirth (n ∷ ns) = ((k : Name) → Contains ns k → name_le n k ≡ true) × AreByBirth ns
+
+-- a leaf collection keeps just the survivors among the held names, the small ones by birth; a sweep keeps just the snapshot
+pub record KeepsJust (m : State) (h : Heap) : Type 0 where
+  pub survivors : (n : Name) → Contains (held_in (collected m h)) n ↔ (Contains (held_in h) n × Contains h.survivors n)
+  pub order : AreByBirth (small_in (collected m h))
+  pub snapshot : (n : Name) → Contains (held_in (swept_heap h)) n ↔ (Contains (held_in h) n × Contains h.snapshot n)
+
+abbrev pub CollectionsKeepJust : Type 0
+CollectionsKeepJust = (m : State) (h : Heap) → KeepsJust m h
 
 -- WHO HOLDS A TASK
 

@@ -1,6 +1,6 @@
 // The laws of journals, each the clause of a function that does nothing.
 
-ghost use Rattle.run_ledger.specs.Laws.{ReachedIsWalks, MachineIsRun, NothingReachableIsFreed, NamesAreHeldOnce, TasksAreHeldOnce, EntriesLeaveOthers, HeldIsUndropped, WithinIsOwned};
+ghost use Rattle.run_ledger.specs.Laws.{ReachedIsWalks, MachineIsRun, NothingReachableIsFreed, NamesAreHeldOnce, CollectionsKeepJust, TasksAreHeldOnce, EntriesLeaveOthers, HeldIsUndropped, WithinIsOwned};
 ghost use Rattle.run_ledger.specs.Cuts.{LegalIsUnrefused, JournalsCanBeCut, FirstRefusedIsFirst, PacedIsMeant, OwedCanBeGiven};
 ghost use Rattle.run_ledger.specs.Space.{StepsAreBounded, AllocationsAreInBounds, UseIsBounded, LeafCollectionsAreBounded, SweepsAreBounded, HeapsFit, WordsAreAccounted, SinceIsBounded};
 
@@ -37,6 +37,11 @@ pub fn tasks_are_held_once()
 /// An entry of one worker leaves a task that another worker holds as it is, and the account of its heap.
 pub fn entries_leave_others()
     ensures { EntriesLeaveOthers }
+{}
+
+/// A leaf collection keeps just the survivors among the held names, the small ones by birth, and a sweep just the snapshot.
+pub fn collections_keep_just()
+    ensures { CollectionsKeepJust }
 {}
 
 /// What is held after a legal journal is what was allocated and wasn't dropped by the end of a leaf collection or a sweep.
