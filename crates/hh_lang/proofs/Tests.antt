@@ -26,10 +26,10 @@ passed_fits : (z : ℤ) → fits_i64 z ≡ true → FitsSigned w64 z
 passed_fits (pos n) e = record { sfits = let f : n < 2 ^ 63 = grind (arith, e) in f }
 passed_fits (negsuc n) e = record { sfits = let f : n < 2 ^ 63 = grind (arith, e) in f }
 
-numeral_passes : (ds : List ℕ) → IsNumeral 10 ds → is_numeral ds ≡ true
+pub numeral_passes : (ds : List ℕ) → IsNumeral 10 ds → is_numeral ds ≡ true
 numeral_passes ds h = let i = digits_pass ds h.1 in let l : 0 < length ds = h.0 in grind (arith, i, l)
 
-passed_numeral : (ds : List ℕ) → is_numeral ds ≡ true → IsNumeral 10 ds
+pub passed_numeral : (ds : List ℕ) → is_numeral ds ≡ true → IsNumeral 10 ds
 passed_numeral ds e = let both = and_parts (nat_lt 0 (length ds)) (are_digits ds) e in (grind (arith, both.0), passed_digits ds both.1)
 
 abbrev test : List ℕ → Bool

@@ -2,8 +2,9 @@
 
 use listed::Listed;
 
-/// Where an object was allocated: its task, and how many objects that task had allocated before.
-#[derive(Clone, Copy, PartialEq, Eq, Debug)]
+/// Where an object was allocated: its task, and how many objects that task had allocated before. Names are ordered by task,
+/// then by count.
+#[derive(Clone, Copy, PartialEq, Eq, PartialOrd, Ord, Hash, Debug)]
 pub struct Name {
     pub task: u32,
     pub count: u32,

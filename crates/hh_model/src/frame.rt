@@ -2,10 +2,12 @@
 
 ghost use Rattle.std.specs.Prelude.{◌≡◌, ◌<◌, ◌+◌, ◌^◌};
 ghost use Rattle.hh_model.specs.Effect.{int_in, ref_in, with_int, with_ref, onward};
+ghost use Rattle.hh_model.specs.Names.{words_asked};
 ghost use Rattle.hh_model.specs.Step.{entry_frame, result_of};
 
+use crate::arithmetic::field_counts;
 use crate::data::{Frame, Name};
-use hh_lang::{IntReg, RefReg};
+use hh_lang::{Instr, IntReg, RefReg};
 
 impl Frame {
     /// What a number register holds.
@@ -32,6 +34,20 @@ impl Frame {
         ensures { self.new ≡ with_ref self.old register value }
     {
         self.refs[register.index()] = value;
+    }
+
+    /// The words that an instruction allocates, where it allocates: two for the header and the name, and one for each field.
+    pub fn asked(&self, field_limit: u32, instr: Instr) -> Option<usize>
+        ensures { result ≡ words_asked field_limit self.now instr }
+    {
+        match instr {
+            Instr::Newm(_, refs, ints) => {
+                let (refs, ints) = field_counts(field_limit, self.int(refs), self.int(ints))?;
+                Some(2 + refs + ints)
+            }
+            Instr::Pack(_, refs, ints) => Some(2 + refs.count() + ints.count()),
+            _ => None,
+        }
     }
 
     /// Goes on with the next instruction.

@@ -2,13 +2,14 @@
 
 ghost use Rattle.std.specs.Prelude.{◌≡◌, ◌<◌, length, option_copied, slice_get, IfSome};
 ghost use Rattle.hh_model.specs.Effect.{object_at};
-ghost use Rattle.hh_model.specs.Step.{can_step, is_on_path, owner_of, parents, joined, kept_by, strand_of};
+ghost use Rattle.hh_model.specs.Step.{asked, can_step, is_on_path, owner_of, parents, joined, kept_by, strand_of};
 
 use crate::data::{Name, Object, State, Status, Strand};
+use hh_lang::Program;
 
 impl State {
     /// Whether the task runs and the machine hasn't ended.
-    pub(crate) fn can_step(&self, t: u32) -> bool
+    pub fn can_step(&self, t: u32) -> bool
         ensures { result ≡ can_step self.now t }
     {
         match (&self.end, self.tasks.get(t as usize)) {
@@ -21,13 +22,26 @@ impl State {
     }
 
     /// The object of a name.
-    pub(crate) fn object(&self, name: Name) -> Option<&Object>
+    pub fn object(&self, name: Name) -> Option<&Object>
         ensures { option_copied result ≡ object_at self.now.store name }
     {
         match self.store.get(name.task as usize) {
             Some(row) => row.get(name.count as usize),
             None => None,
         }
+    }
+
+    /// The words that the next step of a task allocates, where it allocates.
+    pub fn asked(&self, program: &Program, t: u32) -> Option<usize>
+        ensures { result ≡ asked program.now self.now t }
+    {
+        let task = self.tasks.get(t as usize)?;
+        match task.status {
+            Status::Running => {}
+            _ => return None,
+        }
+        let line = program.line(task.top.function, task.top.next)?;
+        task.top.asked(self.field_limit, line.instr)
     }
 
     /// The strand that a task is on.
@@ -76,7 +90,7 @@ impl State {
     }
 
     /// The task that owns what a task allocated.
-    pub(crate) fn owner(&self, task: u32) -> u32
+    pub fn owner(&self, task: u32) -> u32
         ensures { result ≡ owner_of self.now.tasks task }
     {
         let mut at = task;
@@ -93,7 +107,7 @@ impl State {
     }
 
     /// Whether a task is another one or stands above it.
-    pub(crate) fn is_on_path(&self, above: u32, task: u32) -> bool
+    pub fn is_on_path(&self, above: u32, task: u32) -> bool
         ensures { result ≡ is_on_path self.now.tasks above task }
     {
         let mut at = task;

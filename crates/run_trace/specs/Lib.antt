@@ -1,2 +1,5 @@
 pub mod Entry
 pub mod Settings
+pub mod Line
+pub mod Trace
+pub mod TraceLaw

@@ -2,7 +2,12 @@
 #![tactic(auto)]
 
 mod entry;
+mod laws;
+mod line;
 mod settings;
+mod trace;
 
 pub use entry::{Entry, Kind};
+pub use laws::texts_are_read_again;
 pub use settings::{Settings, Version};
+pub use trace::{Trace, TraceError, read_trace, trace_text};

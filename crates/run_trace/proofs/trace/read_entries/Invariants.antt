@@ -1,0 +1,13 @@
+use Rattle.std.proofs.Common.{◌≡◌, ◌++◌, ◌≤◌, ◌+◌, length}
+use Rattle.run_trace.specs.Trace.{first_bad, entries_in}
+use Rattle.text_lines.specs.Lines.{lines_of}
+use Rattle.run_trace.proofs.trace.read_entries.Given as goal
+
+abbrev pub invariant-loop-entries : goal.invariant-loop-entries
+invariant-loop-entries l =
+    (l.entries ++ entries_in (lines_of l.rest) ≡ entries_in (lines_of l.text))
+    × (first_bad l.number (lines_of l.rest) ≡ first_bad l.first_line (lines_of l.text))
+    × (l.number + length l.rest ≤ l.first_line + length l.text)
+
+abbrev pub decreases-loop-entries : goal.decreases-loop-entries
+decreases-loop-entries l = length l.rest

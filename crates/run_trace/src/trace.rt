@@ -1,0 +1,196 @@
+// Trace texts.
+
+ghost use Rattle.std.specs.Prelude.{◌≡◌, ◌++◌, ◌≤◌, ◌+◌, length, IfOk, OnErr, IfErr, OnOk, Option, Some, None};
+ghost use Rattle.run_trace.specs.Line.{said_by};
+ghost use Rattle.run_trace.specs.Trace.{version_by, version_of, first_bad, entries_in, onto_entries, trace_fault, IsTraceText, version_line, TraceFails, NotesLine};
+ghost use Rattle.run_trace.specs.Trace.{trace_text as text_of};
+ghost use Rattle.text_lines.specs.Lines.{lines_of};
+
+use crate::entry::Entry;
+use crate::line::{Said, add_entry, read_line};
+use crate::settings::Version;
+use listed::Listed;
+use std::alloc::{AllocError, Global};
+use text_lines::{next_line, next_word};
+
+/// What a trace text says.
+#[derive(Drop)]
+pub struct Trace {
+    pub version: Version,
+    pub entries: Listed<Entry>,
+}
+
+/// Why a text couldn't be read.
+#[derive(Clone, Copy, PartialEq, Eq, Debug)]
+pub enum TraceError {
+    /// The line of this number isn't of the form; it is the first such line.
+    BadLine(u32),
+    /// Want of memory.
+    NoMemory,
+}
+
+impl From<AllocError> for TraceError {
+    ghost use Rattle.std.specs.Prelude.{◌≡◌};
+    ghost use Rattle.run_trace.specs.declared.trace.TraceError.TheVariants.{NoMemory};
+
+    ghost from_gives = { λ _ e. e ≡ NoMemory };
+
+    fn from(_: AllocError) -> TraceError {
+        TraceError::NoMemory
+    }
+}
+
+// The version that a word names.
+fn version_named(word: &[u8]) -> Option<Version>
+    ensures { result ≡ version_by word.now }
+{
+    if word == b"1".as_slice() {
+        Some(Version::One)
+    } else if word == b"2".as_slice() {
+        Some(Version::Two)
+    } else {
+        None
+    }
+}
+
+// The version that the first line bears.
+fn read_version(line: &[u8]) -> Option<Version>
+    ensures { result ≡ version_of line.now }
+{
+    let (word, rest) = next_word(line)?;
+    let (version, rest) = next_word(rest)?;
+    match next_word(rest) {
+        None if word == b"trace".as_slice() => version_named(version),
+        _ => None,
+    }
+}
+
+// Adds what a line says to the entries before it; false where it says what is no entry.
+fn note(entries: &mut Listed<Entry>, line: &[u8]) -> Result<bool, AllocError>
+    ensures { IfOk result (NotesLine entries.old entries.new (said_by line.now)) }
+{
+    match read_line(line) {
+        Said::Nothing => Ok(true),
+        Said::Says(entry) => {
+            entries.push(entry)?;
+            Ok(true)
+        }
+        Said::Wrong => Ok(false),
+    }
+}
+
+/// Reads a trace text that begins on the line `first_line` of the whole input. The first line is `trace 1` or `trace 2`; each
+/// further line is an entry, or has no words.
+pub fn read_trace(alloc: Global, text: &[u8], first_line: u32) -> Result<Trace, TraceError>
+    requires sized { length text.now ≤ 16777216 }
+    requires numbered { first_line ≤ 16777217 }
+    ensures read { IfOk result (IsTraceText first_line text.now) }
+    ensures bad { IfErr result (TraceFails (trace_fault first_line text.now)) }
+{
+    let (line, lines) = next_line(text);
+    let Some(version) = read_version(line) else {
+        return Err(TraceError::BadLine(first_line));
+    };
+    let entries = match lines {
+        None => Listed::new(alloc),
+        Some(rest) => read_entries(alloc, rest, first_line + 1)?,
+    };
+    Ok(Trace { version, entries })
+}
+
+// The entries of lines of which the first has this number.
+fn read_entries(alloc: Global, text: &[u8], first_line: u32) -> Result<Listed<Entry>, TraceError>
+    requires { first_line + length text.now ≤ 33554434 }
+    ensures read { IfOk result (λ entries. (first_bad first_line (lines_of text.now) ≡ None) × (entries ≡ entries_in (lines_of text.now))) }
+    ensures bad { IfErr result (TraceFails (first_bad first_line (lines_of text.now))) }
+{
+    let mut entries = Listed::new(alloc);
+    let mut rest = text;
+    let mut number = first_line;
+    loop {
+        let (line, lines) = next_line(rest);
+        if !note(&mut entries, line)? {
+            return Err(TraceError::BadLine(number));
+        }
+        match lines {
+            None => return Ok(entries),
+            Some(more) => rest = more,
+        }
+        number += 1;
+    }
+}
+
+/// The trace text of a journal.
+pub fn trace_text(alloc: Global, version: Version, journal: &[Entry]) -> Result<Vec<u8>, AllocError>
+    ensures { IfOk result (λ text. text.items ≡ text_of version journal.now) }
+{
+    let mut text = Vec::new(alloc);
+    text.extend_from_slice(format!(in alloc; "trace {}\n", version.number())?.as_bytes())?;
+    for entry in journal {
+        add_entry(alloc, &mut text, *entry)?;
+    }
+    Ok(text)
+}
+
+#[cfg(test)]
+mod tests {
+    use super::*;
+    use crate::entry::Kind;
+    use std::test::Fail;
+
+    #[test]
+    fn a_trace_is_read_and_written(rt: HostRuntime) -> Result<(), Fail> {
+        let text =
+            b"trace 2 # versions\n\n0 took 0\r\n\t63 ran 007 257 #no word\n0 chunk 1\n0 begin 1\n0 end 1 2 3 4\n0 putoff 1\n1 mark 0 # #\n1 some 0 1024\n1 sweep 0 5\n0 fuel";
+        let trace = match read_trace(rt.alloc(), text.as_slice(), 7) {
+            Ok(trace) => trace,
+            Err(_) => Trace {
+                version: Version::One,
+                entries: Listed::new(rt.alloc()),
+            },
+        };
+        assert_eq!(rt; trace.version, Version::Two);
+        let read = trace.entries.as_slice();
+        assert_eq!(rt; read.len(), 10);
+        assert_eq!(rt; read.get(1), Some(&Entry::new(63, Kind::Ran(7, 257))));
+        assert_eq!(rt; read.get(4), Some(&Entry::new(0, Kind::End(1, 2, 3, 4))));
+        assert_eq!(rt; read.get(8), Some(&Entry::new(1, Kind::Sweep(0, 5))));
+        let written = trace_text(rt.alloc(), Version::One, trace.entries.as_slice())?;
+        let wanted =
+            b"trace 1\n0 took 0\n63 ran 7 257\n0 chunk 1\n0 begin 1\n0 end 1 2 3 4\n0 putoff 1\n1 mark 0\n1 some 0 1024\n1 sweep 0 5\n0 fuel\n";
+        assert_eq!(rt; written.as_slice(), wanted.as_slice());
+        Ok(())
+    }
+
+    #[test]
+    fn the_first_bad_line_is_told(rt: HostRuntime) {
+        let cases: [(&[u8], u32); 19] = [
+            (b"trace 9\n64 took 0", 6),
+            (b"trace 01", 6),
+            (b"trace", 6),
+            (b"trace 1 1", 6),
+            (b"", 6),
+            (b"trace 1\n64 took 0", 7),
+            (b"trace 1\n0 ran 0 258", 7),
+            (b"trace 1\n0 ran 0 0", 7),
+            (b"trace 1\n0 some 0 0", 7),
+            (b"trace 1\n0 some 0 1025", 7),
+            (b"trace 1\n0 took 4294967296", 7),
+            (b"trace 1\n0 sweep 0", 7),
+            (b"trace 1\n0 ran 0", 7),
+            (b"trace 1\n0 took +1", 7),
+            (b"trace 1\n0 took 0\n0 end 0 1 2\nx", 8),
+            (b"trace 1\n\n#\n0 fuel 0", 9),
+            (b"trace 1\n0", 7),
+            (b"trace 1\n0 end 0 1 2 3 4", 7),
+            (b"trace 1\n0 fuel # \xff", 7),
+        ];
+        for (text, line) in &cases {
+            let told = match read_trace(rt.alloc(), *text, 6) {
+                Err(TraceError::BadLine(told)) => told,
+                _ => 0,
+            };
+            assert_eq!(rt; told, *line);
+        }
+    }
+}
