@@ -17,7 +17,7 @@ use Rattle.run_ledger.specs.Heaps.{with_heap, with_heap_at, heap_at, heap_of, wi
 use Rattle.run_ledger.specs.Steps.{join_heaps, moved_on, moved_to, settled, stepped_to, allocated_by, allocated_in, task_step, task_steps, on_asked, is_due, is_in_need, is_private, most_steps, standing}
 use Rattle.run_ledger.specs.Entries.{after_kind, after, chunk_units, refusal, long_at}
 use Rattle.run_ledger.specs.Journals.{after_all, opening, ledger_of, is_legal_from}
-use Rattle.run_ledger.specs.Laws.{StepsAreBounded, AllocatesInBounds, AllocationsAreInBounds}
+use Rattle.run_ledger.specs.Space.{StepsAreBounded, AllocatesInBounds, AllocationsAreInBounds}
 use Rattle.run_ledger.proofs.Journals.{entry_tells, out_tells, none_unless}
 use Rattle.run_ledger.proofs.Cuts.{cut_legal}
 
@@ -52,7 +52,7 @@ allocated_steps : (l : Ledger) (t : ℕ) (o : Option ℕ) → (allocated_by l t 
 allocated_steps l t None = refl
 allocated_steps l t (Some w) = heap_steps l t _
 
-task_step_steps : (p : ProgramText) (l : Ledger) (t : ℕ) → (task_step p l t).steps ≡ l.steps + 1
+pub task_step_steps : (p : ProgramText) (l : Ledger) (t : ℕ) → (task_step p l t).steps ≡ l.steps + 1
 task_step_steps p l t = by (can_step l.machine t)
   where
     by : (v : Bool) → (cond v (stepped_to (allocated_in p l t) t (step p l.machine t)) (record l { steps = l.steps + 1 })).steps ≡ l.steps + 1
@@ -116,7 +116,7 @@ steps_are_bounded p s journal legal = bound_from p s journal (opening p s) legal
 
 -- ALLOCATIONS
 
-asked_bounds : (s : Limits) (h : Heap) (o : Option ℕ) (w : ℕ) → o ≡ Some w → (on_asked o (λ v. nat_le s.leaf h.since) || on_asked o (lacks_room h)) ≡ false → (h.since < s.leaf) × (lacks_room h w ≡ false)
+pub asked_bounds : (s : Limits) (h : Heap) (o : Option ℕ) (w : ℕ) → o ≡ Some w → (on_asked o (λ v. nat_le s.leaf h.since) || on_asked o (lacks_room h)) ≡ false → (h.since < s.leaf) × (lacks_room h w ≡ false)
 asked_bounds s h o w e f = by (nat_le s.leaf h.since) (lacks_room h w) refl (subst (λ (v : Option ℕ). (on_asked v (λ u. nat_le s.leaf h.since) || on_asked v (lacks_room h)) ≡ false) e f)
   where
     by : (a b : Bool) → nat_le s.leaf h.since ≡ a → (a || b) ≡ false → (h.since < s.leaf) × (b ≡ false)
@@ -124,7 +124,7 @@ asked_bounds s h o w e f = by (nat_le s.leaf h.since) (lacks_room h w) refl (sub
     by false b is g = (leb-false s.leaf h.since is, g)
 
 module _ (p : ProgramText) (s : Limits) (t : ℕ) where
-  stands_by : (l : Ledger) (k : ℕ) (a b : Bool) (rest : ℕ) → suc k ≤ cond a 0 (cond b (suc rest) 1) → (a ≡ false) × ((b ≡ true) × (k ≤ rest)) ⊎ (a ≡ false) × (k ≡ 0)
+  pub stands_by : (l : Ledger) (k : ℕ) (a b : Bool) (rest : ℕ) → suc k ≤ cond a 0 (cond b (suc rest) 1) → (a ≡ false) × ((b ≡ true) × (k ≤ rest)) ⊎ (a ≡ false) × (k ≡ 0)
   stands_by l k true b rest h = absurd (omega arith)
   stands_by l k false true rest h = inl (refl, (refl, omega arith))
   stands_by l k false false rest h = inr (refl, omega arith)

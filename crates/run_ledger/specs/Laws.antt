@@ -1,7 +1,9 @@
 -- The laws of journals.
-use Rattle.std.specs.Prelude.{◌≡◌, ◌↔◌, ℕ, ◌+◌, ◌<◌, ◌≤◌, true, false, List, ◌∷◌, ◌++◌, Some, None, slice_get, length, Contains}
+use Rattle.std.specs.Prelude.{◌≡◌, ◌↔◌, ◌⊎◌, ℕ, true, List, [], ◌∷◌, Some, slice_get, Contains, None, length, is_some, ◌++◌}
+use Rattle.std.specs.List.{IsDistinct}
 use Rattle.walks.specs.Reached.{IsReached}
-use Rattle.run_trace.specs.declared.entry.Kind.TheVariants.{Ran}
+use Rattle.run_trace.specs.declared.entry.Kind.{Kind}
+use Rattle.run_trace.specs.declared.entry.Kind.TheVariants.{End, Sweep}
 use Rattle.run_trace.specs.Entry.{Event}
 use Rattle.run_trace.specs.Settings.{Limits}
 use Rattle.hh_lang.specs.Form.{ProgramText}
@@ -10,14 +12,14 @@ use Rattle.hh_model.specs.declared.data.Object.{Object}
 use Rattle.hh_model.specs.declared.data.Task.{Task}
 use Rattle.hh_model.specs.declared.data.State.{State}
 use Rattle.hh_model.specs.Names.{refs_at, task_names}
-use Rattle.hh_model.specs.Step.{asked}
+use Rattle.hh_model.specs.Store.{IsStored}
+use Rattle.hh_model.specs.Step.{owner_of, is_running, is_waiting}
 use Rattle.run_ledger.specs.declared.data.Ledger.{Ledger}
-use Rattle.run_ledger.specs.Reachable.{reached, IsReachedWithin}
-use Rattle.run_ledger.specs.declared.data.RefusedAt.{RefusedAt}
-use Rattle.run_ledger.specs.Heaps.{held, heap_of, lacks_room}
-use Rattle.run_ledger.specs.Steps.{task_steps}
-use Rattle.run_ledger.specs.Entries.{refusal}
-use Rattle.run_ledger.specs.Journals.{after_all, ledger_of, machine_of, is_legal, is_legal_from, Legal, first_refused}
+use Rattle.run_ledger.specs.declared.data.Heap.{Heap}
+use Rattle.run_ledger.specs.Reachable.{is_name, reached, IsReachedWithin}
+use Rattle.run_ledger.specs.Heaps.{held_in, held, heap_of, roots_of, within, name_le, small_in, collected, swept_heap}
+use Rattle.run_ledger.specs.Entries.{after}
+use Rattle.run_ledger.specs.Journals.{opening, ledger_of, machine_of, is_legal}
 
 -- of these names, exactly those are reached to which a walk through them leads
 abbrev pub ReachedIsWalks : Type 0
@@ -52,53 +54,94 @@ abbrev pub NothingReachableIsFreed : Type 0
 NothingReachableIsFreed =
     (p : ProgramText) (s : Limits) (journal : List Event) → is_legal p s journal ≡ true → KeepsReachable (ledger_of p s journal)
 
--- CUTS AND REFUSALS
+-- WHAT IS REACHED WITHIN A HEAP
 
--- the test of legal journals is what is meant
-abbrev pub LegalIsUnrefused : Type 0
-LegalIsUnrefused = (p : ProgramText) (s : Limits) (journal : List Event) → (is_legal p s journal ≡ true) ↔ Legal p s journal
+-- a walk through all that the task t owns, held or not, begins at a root of its heap
+abbrev pub StartsOwned : Ledger → ℕ → Name → Type 0
+StartsOwned l t n = (owner_of l.machine.tasks n.task ≡ t) × Contains (roots_of l t) n
 
--- wherever a journal is cut, the accounts of the whole go on from those of its first part, and so does legality
-pub record GoesOn (p : ProgramText) (s : Limits) (first rest : List Event) : Type 0 where
-  pub accounts : ledger_of p s (first ++ rest) ≡ after_all p s (ledger_of p s first) rest
-  pub legal : (is_legal p s (first ++ rest) ≡ true) ↔ ((is_legal p s first ≡ true) × (is_legal_from p s (ledger_of p s first) rest ≡ true))
+-- and goes on along a reference to a name that t owns
+abbrev pub LeadsOwned : Ledger → ℕ → Name → Name → Type 0
+LeadsOwned l t m n = (owner_of l.machine.tasks n.task ≡ t) × Refers l.machine m n
 
-abbrev pub JournalsCanBeCut : Type 0
-JournalsCanBeCut = (p : ProgramText) (s : Limits) (first rest : List Event) → GoesOn p s first rest
+-- the task t runs or waits
+abbrev pub IsAtWork : Ledger → ℕ → Type 0
+IsAtWork l t = (is_running (slice_get l.machine.tasks t) ≡ true) ⊎ (is_waiting (slice_get l.machine.tasks t) ≡ true)
 
--- the entry that is found as the first refused one: those before it are a legal journal, whose accounts refuse it for the
--- cause that is named, and its number counts from 1
-pub record IsFirstRefused (p : ProgramText) (s : Limits) (journal : List Event) (r : RefusedAt) : Type 0 where
-  pub before : List Event
-  pub entry : Event
-  pub rest : List Event
-  pub is : journal ≡ before ++ entry ∷ rest
-  pub legal : is_legal p s before ≡ true
-  pub cause : refusal p s (ledger_of p s before) entry ≡ Some r.cause
-  pub index : r.index ≡ length before + 1
+-- after a legal journal it makes no difference that only held names are walked through
+abbrev pub WithinIsOwned : Type 0
+WithinIsOwned =
+    (p : ProgramText) (s : Limits) (journal : List Event) → is_legal p s journal ≡ true
+    → let l = ledger_of p s journal in (t : ℕ) (n : Name) → IsAtWork l t → Contains (within l t) n ↔ IsReached (StartsOwned l t) (LeadsOwned l t) n
 
--- there is a first refused entry just where the journal isn't legal
-pub record FindsRefused (p : ProgramText) (s : Limits) (journal : List Event) : Type 0 where
-  pub none : (first_refused p s journal ≡ None) ↔ (is_legal p s journal ≡ true)
-  pub some : (r : RefusedAt) → first_refused p s journal ≡ Some r → IsFirstRefused p s journal r
+-- EACH HELD NAME IS HELD ONCE
 
-abbrev pub FirstRefusedIsFirst : Type 0
-FirstRefusedIsFirst = (p : ProgramText) (s : Limits) (journal : List Event) → FindsRefused p s journal
+-- no name is held twice; each lies in the heap of the task that owns it, and names an object of the store
+pub record HoldsOnce (l : Ledger) : Type 0 where
+  pub once : IsDistinct is_name (held l)
+  pub owned : (t : ℕ) (n : Name) → Contains (held_in (heap_of l t)) n → owner_of l.machine.tasks n.task ≡ t
+  pub stored : (n : Name) → Contains (held l) n → IsStored l.machine n
 
--- SPACE BY COUNT
+abbrev pub NamesAreHeldOnce : Type 0
+NamesAreHeldOnce = (p : ProgramText) (s : Limits) (journal : List Event) → is_legal p s journal ≡ true → HoldsOnce (ledger_of p s journal)
 
--- the steps of a legal journal are at most the fuel and 256 more
-abbrev pub StepsAreBounded : Type 0
-StepsAreBounded = (p : ProgramText) (s : Limits) (journal : List Event) → is_legal p s journal ≡ true → (ledger_of p s journal).steps ≤ s.fuel + 256
+-- WHAT A COLLECTION KEEPS
 
--- before each allocation among k steps of t, its words since the last collection are below the limit, and the object has
--- its place
-abbrev pub AllocatesInBounds : ProgramText → Limits → Ledger → ℕ → ℕ → Type 0
-AllocatesInBounds p s l t k =
-    (j w : ℕ) → j < k → asked p (task_steps p l t j).machine t ≡ Some w
-    → let h = heap_of (task_steps p l t j) t in (h.since < s.leaf) × (lacks_room h w ≡ false)
+-- no name was born later than one behind it
+abbrev pub AreByBirth : List Name → Type 0
+AreByBirth [] = Unit {0}
+AreByBirth (n ∷ ns) = ((k : Name) → Contains ns k → name_le n k ≡ true) × AreByBirth ns
 
-abbrev pub AllocationsAreInBounds : Type 0
-AllocationsAreInBounds =
-    (p : ProgramText) (s : Limits) (before rest : List Event) (w t k : ℕ) → is_legal p s (before ++ record { worker = w; kind = Ran t k } ∷ rest) ≡ true
-    → AllocatesInBounds p s (ledger_of p s before) t k
+-- a leaf collection keeps just the survivors among the held names, the small ones by birth; a sweep keeps just the snapshot
+pub record KeepsJust (m : State) (h : Heap) : Type 0 where
+  pub survivors : (n : Name) → Contains (held_in (collected m h)) n ↔ (Contains (held_in h) n × Contains h.survivors n)
+  pub order : AreByBirth (small_in (collected m h))
+  pub snapshot : (n : Name) → Contains (held_in (swept_heap h)) n ↔ (Contains (held_in h) n × Contains h.snapshot n)
+
+abbrev pub CollectionsKeepJust : Type 0
+CollectionsKeepJust = (m : State) (h : Heap) → KeepsJust m h
+
+-- WHO HOLDS A TASK
+
+-- each task has a heap; a task that a worker holds runs, unless the run has ended; no worker holds two; and a leaf
+-- collection goes on in a held task alone
+pub record HoldsTasks (l : Ledger) : Type 0 where
+  pub as_many : length l.heaps ≡ length l.machine.tasks
+  pub runs : l.end ≡ None → (t w : ℕ) → (heap_of l t).worker ≡ Some w → is_running (slice_get l.machine.tasks t) ≡ true
+  pub one : (t u w : ℕ) → (heap_of l t).worker ≡ Some w → (heap_of l u).worker ≡ Some w → t ≡ u
+  pub collecting : (t : ℕ) → is_some (heap_of l t).begun ≡ true → is_some (heap_of l t).worker ≡ true
+
+abbrev pub TasksAreHeldOnce : Type 0
+TasksAreHeldOnce = (p : ProgramText) (s : Limits) (journal : List Event) → is_legal p s journal ≡ true → HoldsTasks (ledger_of p s journal)
+
+-- WHAT AN ENTRY LEAVES ALONE
+
+-- an entry of one worker leaves what another worker holds: the task and the account of its heap
+pub record LeavesTask (l after : Ledger) (u : ℕ) : Type 0 where
+  pub task : slice_get after.machine.tasks u ≡ slice_get l.machine.tasks u
+  pub heap : heap_of after u ≡ heap_of l u
+
+abbrev pub EntriesLeaveOthers : Type 0
+EntriesLeaveOthers =
+    (p : ProgramText) (s : Limits) (before rest : List Event) (e : Event) (u v : ℕ) → is_legal p s (before ++ e ∷ rest) ≡ true
+    → let l = ledger_of p s before in (heap_of l u).worker ≡ Some v → (v ≡ e.worker → ⊥) → LeavesTask l (after p s l e) u
+
+-- WHAT IS HELD
+
+-- an entry drops an object that was allocated before it: the end of a leaf collection of t drops what t owns outside the
+-- survivors, and a sweep of t's heap what t owns outside the snapshot
+abbrev pub Drops : Ledger → Kind → Name → Type 0
+Drops l (End t taken given left) n = IsStored l.machine n × (owner_of l.machine.tasks n.task ≡ t) × (Contains (heap_of l t).survivors n → ⊥)
+Drops l (Sweep t given) n = IsStored l.machine n × (owner_of l.machine.tasks n.task ≡ t) × (Contains (heap_of l t).snapshot n → ⊥)
+Drops l _ n = ⊥
+
+-- one of the entries drops it, by the accounts before that entry
+abbrev pub IsDropped : ProgramText → Limits → Ledger → List Event → Name → Type 0
+IsDropped p s l [] n = ⊥
+IsDropped p s l (e ∷ es) n = Drops l e.kind n ⊎ IsDropped p s (after p s l e) es n
+
+-- held is what was allocated and wasn't dropped
+abbrev pub HeldIsUndropped : Type 0
+HeldIsUndropped =
+    (p : ProgramText) (s : Limits) (journal : List Event) → is_legal p s journal ≡ true → (n : Name)
+    → Contains (held (ledger_of p s journal)) n ↔ (IsStored (ledger_of p s journal).machine n × (IsDropped p s (opening p s) journal n → ⊥))
