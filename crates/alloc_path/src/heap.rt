@@ -68,6 +68,13 @@ impl LeafHeap {
         &self.chunks
     }
 
+    /// At which place the chunk stands that is reserved for a large object, if one is.
+    pub fn reserved(&self) -> Option<usize>
+        ensures { result ≡ self.now.reserved }
+    {
+        self.reserved
+    }
+
     /// The words left in the small chunk that is being filled; 0 where none is.
     pub fn room(&self) -> u32
         ensures { result ≡ room_of self.now }
