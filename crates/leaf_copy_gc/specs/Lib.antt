@@ -1,1 +1,2 @@
 pub mod Survivors
+pub mod Search

@@ -1,13 +1,7 @@
-// A library with one function.
+// The copying collector of a heap that one task owns.
 #![tactic(auto)]
 
-ghost use Rattle.std.specs.Prelude.{◌≡◌};
-ghost use Rattle.leaf_copy_gc.specs.Echo.{echo_of};
+mod discovery;
+mod lists;
 
-// The `ensures` clause is the contract: what `echo` returns is `echo_of` of its argument, a definition
-// in `specs/Echo.antt`, which a caller's clause can cite too.
-pub fn echo(x: usize) -> usize
-    ensures { result ≡ echo_of x }
-{
-    x
-}
+pub use lists::{Moved, Survivor, ToChunks};

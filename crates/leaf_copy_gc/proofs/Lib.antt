@@ -1,0 +1,4 @@
+mod ListLemmas
+mod Puts
+mod FoundLemmas
+mod Discovered
