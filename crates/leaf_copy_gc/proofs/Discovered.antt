@@ -1,9 +1,10 @@
 -- What a search finds is what survives.
-use Rattle.std.proofs.Common.{◌≡◌, ℕ, zero, suc, ◌+◌, ◌<◌, ◌≤◌, List, [], ◌∷◌, ◌++◌, length, get_or, take, fold, refl, sym, ap, ◌∙◌, subst, arith, inl, inr, Option, Some, None, Contains, ◌↔◌, length-append, All}
+use Rattle.std.proofs.Common.{◌≡◌, ℕ, zero, suc, ◌+◌, ◌<◌, ◌≤◌, List, [], ◌∷◌, ◌++◌, length, get_or, take, fold, refl, sym, ap, ◌∙◌, subst, arith, inl, inr, Option, Some, None, Contains, ◌↔◌, length-append, All, map}
 use Rattle.std.proofs.lemmas.List.{append_assoc, append-nil, take_more, take_all, get_or_append_left, take-append-le}
 use Rattle.object_layout.specs.declared.word.Addr.{Addr}
 use Rattle.object_layout.specs.declared.word.Birth.{Birth}
-use Rattle.object_layout.specs.Cell.{Cell, Mark, Born, Moved, IsBorn}
+use Rattle.object_layout.specs.Cell.{Cell, Mark, Born, Moved, IsBorn, IsObject}
+use Rattle.object_layout.proofs.ChunkLaws as laws
 use Rattle.object_layout.specs.Content.{Content}
 use Rattle.object_layout.specs.Chunks.{cell_of}
 use Rattle.listed.proofs.Members.{In, in_append_left, in_append_right, in_append_cases, contains_from_in, in_from_contains}
@@ -14,7 +15,9 @@ use Rattle.leaf_copy_gc.specs.Search.{found_in, all_found, Search, visited, visi
 use Rattle.leaf_copy_gc.proofs.Puts as puts
 use Rattle.leaf_copy_gc.proofs.FoundLemmas as marks
 use Rattle.leaf_copy_gc.proofs.FoundLemmas.{birth_live, live_birth, born_live}
-use Rattle.leaf_copy_gc.proofs.ListLemmas.{in_read}
+use Rattle.leaf_copy_gc.proofs.ListLemmas.{in_read, read_in, all_from, fold_append}
+use Rattle.leaf_copy_gc.specs.Survivors.{held_by, as_reference}
+use Rattle.task_frames.specs.declared.frames.Frame.{Frame}
 
 -- ---- what has been found so far
 
@@ -271,5 +274,30 @@ module _ (h : List Content) (from : List (Option Addr)) (closed : IsClosed h) (s
       (targets_now (cell_of h a).refs (closed a l))
 
   -- it is an object still, found or not
-  pub object_now : (a : Addr) → IsLive h a → a.offset < 1024 → IsTarget s.heap (Some a)
-  object_now a l o = target_now (Some a) (λ _. (l, o))
+  pub object_now : (a : Addr) → IsLive h a → IsObject (cell_of s.heap a).mark
+  object_now a l = subst (λ (k : List Content). IsObject (cell_of k a).mark) (sym d.heap) (marks.all_found_object h (olds s.found) a (laws.born_object h a l))
+
+-- the frames and the roots were followed
+module _ (h : List Content) (fs : List Frame) (roots : List Addr) (sound : All (IsSound h) (held_by fs ++ map as_reference roots)) where
+  first_targets : All (IsTarget h) (held_by fs)
+  first_targets = all_from (IsTarget h) (held_by fs) (λ r i. marks.sound_target h r (read_in (IsSound h) (held_by fs ++ map as_reference roots) r (in_append_left (held_by fs) (map as_reference roots) r i) sound))
+
+  pub frames_targets : All (IsTarget h) (held_by fs)
+  frames_targets = first_targets
+
+  pub roots_targets : (k : List Content) (found : List Survivor) → ◌≡◌ {A = Search} (record { heap = k; found = found }) (fold visited (record { heap = h; found = [] }) (held_by fs)) → All (IsTarget k) (map as_reference roots)
+  roots_targets k found e =
+      marks.fold_all_targets (record { heap = h; found = [] }) (held_by fs) k (ap (λ (t : Search). t.heap) e) (map as_reference roots)
+      (all_from (IsTarget h) (map as_reference roots) (λ r i. marks.sound_target h r (read_in (IsSound h) (held_by fs ++ map as_reference roots) r (in_append_right (held_by fs) (map as_reference roots) r i) sound)))
+
+  pub begun : (s t : Search) → s ≡ fold visited (record { heap = h; found = [] }) (held_by fs) → t ≡ fold visited s (map as_reference roots) → Going h (held_by fs ++ map as_reference roots) t 0
+  begun s t e f =
+      let from = held_by fs ++ map as_reference roots in
+      let whole : t ≡ fold visited (record { heap = h; found = [] }) from = f ∙ (ap (λ (x : Search). fold visited x (map as_reference roots)) e ∙ sym (fold_append visited (record { heap = h; found = [] }) (held_by fs) (map as_reference roots))) in
+      let v = visit_all h from (record { heap = h; found = [] }) (discovered_none h from) from (λ a i l. (0, (l, contains_from_in from (Some a) i))) in
+      subst (λ (x : Search). Going h from x 0) (sym whole) (record {
+        discovered = v.discovered;
+        first = λ a i l. v.covers a i l;
+        closed = λ m a i j l. absurd i;
+        within = omega arith;
+      })

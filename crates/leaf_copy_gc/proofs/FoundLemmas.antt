@@ -1,5 +1,5 @@
 -- A heap with some objects marked as found.
-use Rattle.std.proofs.Common.{◌≡◌, ℕ, ◌<◌, ◌≤◌, List, [], ◌∷◌, ◌++◌, length, refl, sym, ap, ◌∙◌, subst, arith, inl, inr, Option, Some, None, get_or, All}
+use Rattle.std.proofs.Common.{◌≡◌, ℕ, ◌<◌, ◌≤◌, List, [], ◌∷◌, ◌++◌, length, refl, sym, ap, ◌∙◌, subst, arith, inl, inr, Option, Some, None, get_or, All, fold}
 use Rattle.object_layout.specs.declared.word.Addr.{Addr}
 use Rattle.object_layout.specs.declared.word.Birth.{Birth}
 use Rattle.object_layout.specs.Cell.{Cell, Mark, Born, Moved, Hole, IsBorn, IsObject, moved_to, with_mark}
@@ -115,3 +115,30 @@ visit_live h a b r e f = born_live (cell_of h a).mark b (birth_live (cell_of h a
 
 pub visited_all_targets : (s : Search) (v : Option Addr) (k : List Content) → k ≡ (visited s v).heap → (rs : List (Option Addr)) → All (IsTarget s.heap) rs → All (IsTarget k) rs
 visited_all_targets s v k e rs all = λ i r l. subst (λ (h : List Content). IsTarget h (get_or rs i r)) (sym e) (visited_targets s v (get_or rs i r) (all i r l))
+
+at_refs : (s : Search) (x : Addr) (b : Option Birth) (a : Addr) → (cell_of (visited_at s x b).heap a).refs ≡ (cell_of s.heap a).refs
+at_refs s x None a = refl
+at_refs s x (Some b) a = found_refs s.heap x a
+
+pub visited_refs : (s : Search) (v : Option Addr) (a : Addr) → (cell_of (visited s v).heap a).refs ≡ (cell_of s.heap a).refs
+visited_refs s None a = refl
+visited_refs s (Some x) a = at_refs s x (birth_in (cell_of s.heap x).mark) a
+
+at_object : (s : Search) (x : Addr) (b : Option Birth) (a : Addr) → IsObject (cell_of s.heap a).mark → IsObject (cell_of (visited_at s x b).heap a).mark
+at_object s x None a o = o
+at_object s x (Some b) a o = puts.mark_object s.heap x (Moved x) tt a o
+
+pub visited_object : (s : Search) (v : Option Addr) (a : Addr) → IsObject (cell_of s.heap a).mark → IsObject (cell_of (visited s v).heap a).mark
+visited_object s None a o = o
+visited_object s (Some x) a o = at_object s x (birth_in (cell_of s.heap x).mark) a o
+
+fold_targets : (s : Search) (vs : List (Option Addr)) (r : Option Addr) → IsTarget s.heap r → IsTarget (fold visited s vs).heap r
+fold_targets s [] r t = t
+fold_targets s (v ∷ vs) r t = fold_targets (visited s v) vs r (visited_targets s v r t)
+
+pub fold_all_targets : (s : Search) (vs : List (Option Addr)) (k : List Content) → k ≡ (fold visited s vs).heap → (rs : List (Option Addr)) → All (IsTarget s.heap) rs → All (IsTarget k) rs
+fold_all_targets s vs k e rs all = λ i r l. subst (λ (h : List Content). IsTarget h (get_or rs i r)) (sym e) (fold_targets s vs (get_or rs i r) (all i r l))
+
+pub all_found_object : (h : List Content) (xs : List Addr) (a : Addr) → IsObject (cell_of h a).mark → IsObject (cell_of (all_found h xs) a).mark
+all_found_object h [] a o = o
+all_found_object h (x ∷ xs) a o = all_found_object (found_in h x) xs a (puts.mark_object h x (Moved x) tt a o)
