@@ -2,3 +2,4 @@ mod ListLemmas
 mod Puts
 mod FoundLemmas
 mod Discovered
+mod LastChunk

@@ -1,2 +1,4 @@
 pub mod Survivors
 pub mod Search
+pub mod Laid
+pub mod Copying

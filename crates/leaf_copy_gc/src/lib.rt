@@ -1,6 +1,7 @@
 // The copying collector of a heap that one task owns.
 #![tactic(auto)]
 
+mod copying;
 mod discovery;
 mod lists;
 
