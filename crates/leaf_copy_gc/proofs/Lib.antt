@@ -3,3 +3,6 @@ mod Puts
 mod FoundLemmas
 mod Discovered
 mod LastChunk
+mod Upto
+mod FollowLemmas
+mod FrameLemmas

@@ -2,3 +2,4 @@ pub mod Survivors
 pub mod Search
 pub mod Laid
 pub mod Copying
+pub mod Redirected

@@ -13,7 +13,7 @@ use alloc_path::LeafHeap;
 use object_layout::{Addr, Chunk};
 
 /// How many words a small object has at most.
-const SMALL: u32 = 1024;
+pub(crate) const SMALL: u32 = 1024;
 
 // How many words the object at an address takes.
 pub(crate) fn size_at(heap: &LeafHeap, object: Addr) -> u32

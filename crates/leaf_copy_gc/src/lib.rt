@@ -4,5 +4,6 @@
 mod copying;
 mod discovery;
 mod lists;
+mod redirect;
 
 pub use lists::{Moved, Survivor, ToChunks};
