@@ -6,3 +6,4 @@ mod LastChunk
 mod Upto
 mod FollowLemmas
 mod FrameLemmas
+mod Exchanges

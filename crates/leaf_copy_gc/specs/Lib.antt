@@ -3,3 +3,4 @@ pub mod Search
 pub mod Laid
 pub mod Copying
 pub mod Redirected
+pub mod Exchanged

@@ -51,3 +51,8 @@ followed_at h a = put_object h a (led (followed_ref h) (cell_of h a))
 -- the same, where the object is large
 abbrev pub followed_large : List Content → Survivor → List Content
 followed_large h s = if is_small h s.old then h else followed_at h s.old
+
+-- the references of each of these can be followed in its turn
+abbrev pub CanFollow : List Content → List Survivor → Type 0
+CanFollow h [] = Unit {0}
+CanFollow h (s ∷ ss) = HasTargets h (cell_of h s.old) × CanFollow (followed_large h s) ss

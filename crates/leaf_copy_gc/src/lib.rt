@@ -3,6 +3,7 @@
 
 mod copying;
 mod discovery;
+mod exchange;
 mod lists;
 mod redirect;
 

@@ -7,7 +7,7 @@ ghost use Rattle.object_layout.specs.Place.{cell_at, put_cell, IsObjectAt};
 ghost use Rattle.task_frames.specs.Stack.{frames_of};
 ghost use Rattle.leaf_copy_gc.specs.Survivors.{held_by, with_chunks};
 ghost use Rattle.leaf_copy_gc.specs.Search.{IsTarget};
-ghost use Rattle.leaf_copy_gc.specs.Redirected.{followed_at, followed_large, followed_ref, led, led_chunk, led_frame, HasTargets};
+ghost use Rattle.leaf_copy_gc.specs.Redirected.{followed_at, followed_large, followed_ref, led, led_chunk, led_frame, CanFollow, HasTargets};
 
 use crate::copying::{SMALL, size_at};
 use crate::lists::Survivor;
@@ -98,5 +98,25 @@ pub fn follow_frames(frames: &mut Frames, heap: &LeafHeap)
         let mut references = frames.references_in(frame);
         follow_all(&mut references, heap);
         frames.set_references_in(frame, &references);
+    }
+}
+
+// Leads the references of an object of the heap, if it is large.
+fn follow_if_large(heap: &mut LeafHeap, survivor: Survivor)
+    requires { HasTargets heap.old.chunks (cell_of heap.old.chunks survivor.old) }
+    ensures { heap.new ≡ with_chunks heap.old (followed_large heap.old.chunks survivor) }
+{
+    if size_at(heap, survivor.old) > SMALL {
+        follow_object(heap, survivor.old);
+    }
+}
+
+/// Leads the references of the large survivors, where they are.
+pub fn follow_larges(heap: &mut LeafHeap, found: &[Survivor])
+    requires { CanFollow heap.old.chunks found.now }
+    ensures { heap.new ≡ with_chunks heap.old (fold followed_large heap.old.chunks found.now) }
+{
+    for &survivor in found {
+        follow_if_large(heap, survivor);
     }
 }
