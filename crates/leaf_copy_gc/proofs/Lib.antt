@@ -7,3 +7,4 @@ mod Upto
 mod FollowLemmas
 mod FrameLemmas
 mod Exchanges
+mod Moves
