@@ -8,3 +8,4 @@ mod FollowLemmas
 mod FrameLemmas
 mod Exchanges
 mod Moves
+mod Rooms
