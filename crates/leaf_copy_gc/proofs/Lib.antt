@@ -9,3 +9,4 @@ mod FrameLemmas
 mod Exchanges
 mod Moves
 mod Rooms
+mod Leading
