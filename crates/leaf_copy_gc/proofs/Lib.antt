@@ -10,3 +10,4 @@ mod Exchanges
 mod Moves
 mod Rooms
 mod Leading
+mod Larges

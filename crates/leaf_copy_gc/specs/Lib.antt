@@ -4,3 +4,4 @@ pub mod Laid
 pub mod Copying
 pub mod Redirected
 pub mod Exchanged
+pub mod Collected

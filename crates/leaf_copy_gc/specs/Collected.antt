@@ -1,0 +1,45 @@
+-- What a collection makes of a heap.
+use Rattle.std.specs.Prelude.{◌≡◌, ℕ, ◌+◌, ◌↔◌, Bool, false, List, [], ◌∷◌, ◌++◌, Option, Contains, map}
+use Rattle.std.specs.List.Sorted.{IsSorted}
+use Rattle.object_layout.specs.declared.word.Addr.{Addr}
+use Rattle.object_layout.specs.Cell.{Moved, size_of, with_mark}
+use Rattle.object_layout.specs.Content.{Content}
+use Rattle.object_layout.specs.Chunks.{cell_of}
+use Rattle.leaf_copy_gc.specs.declared.lists.Survivor.{Survivor}
+use Rattle.leaf_copy_gc.specs.Survivors.{HaveNames, IsSurvivor, Once, olds, survivor_order}
+use Rattle.leaf_copy_gc.specs.Laid.{Laying, before, is_small, laid_all, relocations, smalls}
+use Rattle.leaf_copy_gc.specs.Redirected.{led, redirected}
+
+-- exactly what the references from outside lead to, each once, under its name, in order of birth
+pub record AreSurvivors (h : List Content) (from : List (Option Addr)) (ss : List Survivor) : Type 0 where
+  pub exactly : (a : Addr) → Contains (olds ss) a ↔ IsSurvivor h from a
+  pub once : Once (olds ss)
+  pub names : HaveNames h ss
+  pub order : IsSorted survivor_order ss
+
+-- the new chunks once the small survivors are laid into them, and those not opened
+abbrev pub laying_of : List Content → List Survivor → List Content → Laying
+laying_of h ss news = laid_all (before news) h (smalls h (olds ss))
+
+-- where each small survivor was, and where it is laid
+abbrev pub moves_of : List Content → List Survivor → List Content → List (Addr × Addr)
+moves_of h ss news = relocations (before news) h (smalls h (olds ss))
+
+-- where each reference leads
+abbrev pub redirection : List Content → List Survivor → List Content → Option Addr → Option Addr
+redirection h ss news r = redirected (moves_of h ss news) r
+
+-- ---- the old chunks, once all references are led
+
+-- chunks of the same numbers and sizes, with objects of the same sizes
+abbrev pub AreAlike : List Content → List Content → Type 0
+AreAlike [] [] = Unit {0}
+AreAlike [] (l ∷ ls) = ⊥
+AreAlike (k ∷ ks) [] = ⊥
+AreAlike (k ∷ ks) (l ∷ ls) = ((l.number ≡ k.number) × (l.size ≡ k.size) × (map size_of l.cells ≡ map size_of k.cells)) × AreAlike ks ls
+
+-- a large survivor is where it was, marked as found, with its references led; what doesn't survive is as it was
+pub record IsLeft (h g : List Content) (ss : List Addr) (f : Option Addr → Option Addr) : Type 0 where
+  pub alike : AreAlike h g
+  pub large : (a : Addr) → Contains ss a → is_small h a ≡ false → cell_of g a ≡ led f (with_mark (cell_of h a) (Moved a))
+  pub others : (a : Addr) → (Contains ss a → ⊥) → cell_of g a ≡ cell_of h a
