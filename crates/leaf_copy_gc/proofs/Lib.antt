@@ -11,3 +11,4 @@ mod Moves
 mod Rooms
 mod Leading
 mod Larges
+mod Evacuated

@@ -27,7 +27,7 @@ moves_of h ss news = relocations (before news) h (smalls h (olds ss))
 
 -- where each reference leads
 abbrev pub redirection : List Content → List Survivor → List Content → Option Addr → Option Addr
-redirection h ss news r = redirected (moves_of h ss news) r
+redirection h ss news = redirected (moves_of h ss news)
 
 -- ---- the old chunks, once all references are led
 

@@ -3,6 +3,7 @@
 
 mod copying;
 mod discovery;
+mod evacuation;
 mod exchange;
 mod lists;
 mod redirect;
