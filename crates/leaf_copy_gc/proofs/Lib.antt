@@ -12,3 +12,4 @@ mod Rooms
 mod Leading
 mod Larges
 mod Evacuated
+mod Numbers

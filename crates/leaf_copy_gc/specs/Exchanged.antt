@@ -19,6 +19,10 @@ stays k = is_found_large (cell_at k.cells 0)
 abbrev pub goes : Content → Bool
 goes k = not (stays k)
 
+-- a chunk without its objects
+abbrev pub emptied : Content → Content
+emptied k = record k { cells = [] }
+
 -- the chunks but for the reserved one, and the reserved one
 abbrev pub unreserved : List Content → Option ℕ → List Content
 unreserved ks None = ks

@@ -5,3 +5,4 @@ pub mod Copying
 pub mod Redirected
 pub mod Exchanged
 pub mod Collected
+pub mod Lists

@@ -1,10 +1,10 @@
 // Exchanges the chunks of the heap for the new ones.
 
-ghost use Rattle.std.specs.Prelude.{◌≡◌, ◌+◌, ◌-◌, ◌≤◌, ◌<◌, ◌++◌, ◌∷◌, [], length, vec_len, vec_capacity, fold, filter, remove, None, Some};
+ghost use Rattle.std.specs.Prelude.{◌≡◌, ◌+◌, ◌-◌, ◌≤◌, ◌<◌, ◌++◌, ◌∷◌, [], length, vec_len, vec_capacity, fold, filter, map, remove, None, Some};
 ghost use Rattle.object_layout.specs.Chunks.{held_words};
 ghost use Rattle.alloc_path.specs.Heap.{exchanged, with_places, AreApart, IsCurrent, IsReserved};
 ghost use Rattle.leaf_copy_gc.specs.Survivors.{with_chunks};
-ghost use Rattle.leaf_copy_gc.specs.Exchanged.{counted32, goes, last_place, named, reserved_of, reserved_place, stays, unit_count, unreserved, CanName};
+ghost use Rattle.leaf_copy_gc.specs.Exchanged.{counted32, emptied, goes, last_place, named, reserved_of, reserved_place, stays, unit_count, unreserved, CanName};
 
 use crate::copying::SMALL;
 use crate::lists::Survivor;
@@ -26,16 +26,18 @@ fn part(chunks: Vec<Chunk>, laid: &mut Vec<Chunk>, back: &mut Vec<Chunk>)
     requires laid { vec_len laid.old + vec_len chunks ≤ vec_capacity laid.old }
     requires back { vec_len back.old + vec_len chunks ≤ vec_capacity back.old }
     ensures laid { laid.new.items ≡ laid.old.items ++ filter stays chunks.items }
-    ensures back { back.new.items ≡ back.old.items ++ filter goes chunks.items }
+    ensures back { back.new.items ≡ back.old.items ++ map emptied (filter goes chunks.items) }
+    ensures back_count { vec_len back.new ≤ vec_len back.old + vec_len chunks }
     ensures laid_count { vec_len laid.new ≤ vec_len laid.old + vec_len chunks }
     ensures laid_length { length laid.new.items ≤ length laid.old.items + length chunks.items }
     ensures laid_room { vec_capacity laid.new ≡ vec_capacity laid.old }
     ensures back_room { vec_capacity back.new ≡ vec_capacity back.old }
 {
-    for chunk in chunks {
+    for mut chunk in chunks {
         if has_found_large(&chunk) {
             laid.push_reserved(chunk);
         } else {
+            chunk.clear();
             back.push_reserved(chunk);
         }
     }
@@ -102,7 +104,9 @@ pub fn exchange(heap: &mut LeafHeap, mut laid: Vec<Chunk>, back: &mut Vec<Chunk>
     requires back { vec_len back.old + length heap.old.chunks ≤ vec_capacity back.old }
     requires spare { length laid.items ≤ heap.old.spare }
     ensures heap { let kept = filter stays (unreserved heap.old.chunks heap.old.reserved) in heap.new ≡ with_places (exchanged heap.old (laid.items ++ (kept ++ reserved_of heap.old.chunks heap.old.reserved)) (last_place laid.items) (reserved_place (length laid.items + length kept) heap.old.reserved)) heap.new.slots heap.new.spare }
-    ensures back { back.new.items ≡ back.old.items ++ filter goes (unreserved heap.old.chunks heap.old.reserved) }
+    ensures reserved { IsReserved heap.old.chunks heap.old.reserved }
+    ensures back { back.new.items ≡ back.old.items ++ map emptied (filter goes (unreserved heap.old.chunks heap.old.reserved)) }
+    ensures back_count { vec_len back.new ≤ vec_len back.old + length heap.old.chunks }
     ensures back_room { vec_capacity back.new ≡ vec_capacity back.old }
 {
     let current = place_of_last(&laid);

@@ -1,6 +1,7 @@
 // The copying collector of a heap that one task owns.
 #![tactic(auto)]
 
+mod collection;
 mod copying;
 mod discovery;
 mod evacuation;
@@ -8,4 +9,5 @@ mod exchange;
 mod lists;
 mod redirect;
 
+pub use collection::copy;
 pub use lists::{Moved, Survivor, ToChunks};
