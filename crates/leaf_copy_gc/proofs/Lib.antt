@@ -13,3 +13,4 @@ mod Leading
 mod Larges
 mod Evacuated
 mod Numbers
+mod Extent

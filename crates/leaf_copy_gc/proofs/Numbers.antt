@@ -1,6 +1,7 @@
 -- The numbers of chunks, each once.
 use Rattle.std.proofs.Common.{◌≡◌, ℕ, zero, suc, ◌+◌, ◌<◌, ◌≤◌, Bool, true, false, cond, List, [], ◌∷◌, ◌++◌, length, get_or, take, drop, map, filter, refl, sym, ap, ◌∙◌, subst, arith, inl, inr, ◌⊎◌, Option, Some, None}
 use Rattle.std.specs.Prelude.{remove, nat_lt, reverse}
+use Rattle.std.proofs.lemmas.List.{reverse-append}
 use Rattle.object_layout.specs.declared.word.Addr.{Addr}
 use Rattle.object_layout.specs.Cell.{Cell, size_of}
 use Rattle.object_layout.specs.Content.{Content}
@@ -225,3 +226,31 @@ numbers_of_map f e ks = numbers_map f e ks
 
 pub small_of_map : (f : Content → Content) → ((k : Content) → (f k).size ≡ k.size) → (ks : List Content) → AreSmall ks → AreSmall (map f ks)
 small_of_map f e ks s = small_map f e ks s
+
+-- ---- in reverse
+
+reverse_first : (k : Content) (ks : List Content) → reverse (k ∷ ks) ≡ reverse ks ++ k ∷ []
+reverse_first k ks = reverse-append (k ∷ []) ks
+
+pub in_reverse : (ks : List Content) (n : ℕ) → In (numbers (reverse ks)) n → In (numbers ks) n
+in_reverse [] n i = i
+in_reverse (k ∷ ks) n i =
+    elim (in_append_cases (numbers (reverse ks)) (k.number ∷ []) n (subst (λ (ns : List ℕ). In ns n) (ap numbers (reverse_first k ks) ∙ numbers_append (reverse ks) (k ∷ [])) i)) [
+      | inl j ↦ inr (in_reverse ks n j)
+      | inr j ↦ elim j [ inl e ↦ inl e | inr z ↦ absurd z ]
+    ]
+
+pub distinct_reverse : (ks : List Content) → Distinct (numbers ks) → Distinct (numbers (reverse ks))
+distinct_reverse [] d = tt
+distinct_reverse (k ∷ ks) d =
+    subst Distinct (sym (ap numbers (reverse_first k ks) ∙ numbers_append (reverse ks) (k ∷ [])))
+    (distinct_append (numbers (reverse ks)) (k.number ∷ []) (distinct_reverse ks d.1) ((λ i. i), tt)
+    (λ n i j. elim j [ inl e ↦ d.0 (in_reverse ks k.number (subst (In (numbers (reverse ks))) (sym e) i)) | inr z ↦ z ]))
+
+new_push : (ks : List Content) (k : Content) → AreNew ks → (k.cells ≡ []) × (k.size ≡ 1024) → AreNew (ks ++ k ∷ [])
+new_push [] k n e = (e, tt)
+new_push (x ∷ ks) k n e = (n.0, new_push ks k n.1 e)
+
+pub new_reverse : (ks : List Content) → AreNew ks → AreNew (reverse ks)
+new_reverse [] n = tt
+new_reverse (k ∷ ks) n = subst AreNew (sym (reverse_first k ks)) (new_push (reverse ks) k (new_reverse ks n.1) n.0)
