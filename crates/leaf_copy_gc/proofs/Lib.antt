@@ -14,3 +14,4 @@ mod Larges
 mod Evacuated
 mod Numbers
 mod Extent
+mod Rebuilt
