@@ -15,3 +15,4 @@ mod Evacuated
 mod Numbers
 mod Extent
 mod Rebuilt
+mod Naming

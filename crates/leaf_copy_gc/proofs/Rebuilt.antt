@@ -39,14 +39,14 @@ first_unmoved [] a = refl
 first_unmoved (c ∷ cs) a = All-head (λ (c : Cell). moved_to c.mark ≡ None) c cs a
 
 -- a chunk of which the first object is large has no other
-alone_first : (k : Content) → IsTidy k → 1024 < size_of (cell_at k.cells 0) → length k.cells ≡ 1
+pub alone_first : (k : Content) → IsTidy k → 1024 < size_of (cell_at k.cells 0) → length k.cells ≡ 1
 alone_first k t l = alone_in k.cells (length k.cells ≡ 1) t.alone l
   where
     alone_in : (cs : List Cell) (P : Type 0) → All (λ (c : Cell). 1024 < size_of c → P) cs → 1024 < size_of (cell_at cs 0) → P
     alone_in [] P a l = absurd (omega arith)
     alone_in (c ∷ cs) P a l = All-head (λ (c : Cell). 1024 < size_of c → P) c cs a l
 
-one_cell : (cs : List Cell) → length cs ≡ 1 → cs ≡ cell_at cs 0 ∷ []
+pub one_cell : (cs : List Cell) → length cs ≡ 1 → cs ≡ cell_at cs 0 ∷ []
 one_cell [] e = absurd (omega arith)
 one_cell (c ∷ []) e = refl
 one_cell (c ∷ (d ∷ cs)) e = absurd (omega arith)
@@ -58,7 +58,7 @@ one_length (c ∷ []) (d ∷ []) e l = refl
 one_length (c ∷ []) (d ∷ (b ∷ ds)) e l = absurd cc
 one_length (c ∷ (b ∷ cs)) ds e l = absurd (omega arith)
 
-any_here : (ss : List Survivor) (a : Addr) → In (olds ss) a → list_any (λ (s : Survivor). same_address s.old a) ss ≡ true
+pub any_here : (ss : List Survivor) (a : Addr) → In (olds ss) a → list_any (λ (s : Survivor). same_address s.old a) ss ≡ true
 any_here [] a i = absurd i
 any_here (s ∷ ss) a (inl e) = rw (moves.addr_itself s.old a e) refl
 any_here (s ∷ ss) a (inr i) =
@@ -67,7 +67,7 @@ any_here (s ∷ ss) a (inr i) =
       | inr e ↦ rw e (any_here ss a i)
     ]
 
-any_none : (ss : List Survivor) (a : Addr) → (In (olds ss) a → ⊥) → list_any (λ (s : Survivor). same_address s.old a) ss ≡ false
+pub any_none : (ss : List Survivor) (a : Addr) → (In (olds ss) a → ⊥) → list_any (λ (s : Survivor). same_address s.old a) ss ≡ false
 any_none [] a n = refl
 any_none (s ∷ ss) a n = rw (moves.addr_other s.old a (λ e. n (inl e))) (any_none ss a (λ i. n (inr i)))
 
