@@ -16,3 +16,5 @@ mod Numbers
 mod Extent
 mod Rebuilt
 mod Naming
+mod Order
+mod Collecting

@@ -80,7 +80,8 @@ fn collect(
     );
     moved.sort_unstable();
     let taken = counted(laid.len() as u64);
-    exchange(heap, laid, &mut back);
+    let reserved = heap.reserved();
+    exchange(heap, laid, reserved, &mut back);
     let _ = back.append(&mut chunks);
     name_all(heap, &found);
     heap.reset_since();

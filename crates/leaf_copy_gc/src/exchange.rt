@@ -97,20 +97,25 @@ pub fn name_all(heap: &mut LeafHeap, found: &[Survivor])
 }
 
 /// Takes the old chunks out, and puts in the new ones, those of large objects that were found, and the reserved one.
-pub fn exchange(heap: &mut LeafHeap, mut laid: Vec<Chunk>, back: &mut Vec<Chunk>)
-    requires apart { AreApart (laid.items ++ (filter stays (unreserved heap.old.chunks heap.old.reserved) ++ reserved_of heap.old.chunks heap.old.reserved)) }
+pub fn exchange(
+    heap: &mut LeafHeap,
+    mut laid: Vec<Chunk>,
+    reserved: Option<usize>,
+    back: &mut Vec<Chunk>,
+)
+    requires place { reserved ≡ heap.old.reserved }
+    requires empty { IsReserved heap.old.chunks reserved }
+    requires apart { AreApart (laid.items ++ (filter stays (unreserved heap.old.chunks reserved) ++ reserved_of heap.old.chunks reserved)) }
     requires small { IsCurrent laid.items (last_place laid.items) }
     requires laid { vec_len laid + length heap.old.chunks ≤ vec_capacity laid }
     requires back { vec_len back.old + length heap.old.chunks ≤ vec_capacity back.old }
     requires spare { length laid.items ≤ heap.old.spare }
-    ensures heap { let kept = filter stays (unreserved heap.old.chunks heap.old.reserved) in heap.new ≡ with_places (exchanged heap.old (laid.items ++ (kept ++ reserved_of heap.old.chunks heap.old.reserved)) (last_place laid.items) (reserved_place (length laid.items + length kept) heap.old.reserved)) heap.new.slots heap.new.spare }
-    ensures reserved { IsReserved heap.old.chunks heap.old.reserved }
-    ensures back { back.new.items ≡ back.old.items ++ map emptied (filter goes (unreserved heap.old.chunks heap.old.reserved)) }
+    ensures heap { let kept = filter stays (unreserved heap.old.chunks reserved) in heap.new ≡ with_places (exchanged heap.old (laid.items ++ (kept ++ reserved_of heap.old.chunks reserved)) (last_place laid.items) (reserved_place (length laid.items + length kept) reserved)) heap.new.slots heap.new.spare }
+    ensures back { back.new.items ≡ back.old.items ++ map emptied (filter goes (unreserved heap.old.chunks reserved)) }
     ensures back_count { vec_len back.new ≤ vec_len back.old + length heap.old.chunks }
     ensures back_room { vec_capacity back.new ≡ vec_capacity back.old }
 {
     let current = place_of_last(&laid);
-    let reserved = heap.reserved();
     let mut old = heap.take_chunks();
     match reserved {
         None => {
