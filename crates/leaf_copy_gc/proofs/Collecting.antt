@@ -1,17 +1,17 @@
 -- From the old chunks as they are left to the heap as it is to be.
 use Rattle.std.proofs.Common.{◌≡◌, ℕ, ◌+◌, ◌<◌, ◌≤◌, List, [], ◌∷◌, ◌++◌, length, map, filter, fold, refl, sym, ap, ◌∙◌, subst, arith, inl, inr, Option, Some, None, Contains, ◌↔◌}
 use Rattle.std.specs.Prelude.{reverse}
-use Rattle.std.proofs.lemmas.List.{length-map}
+use Rattle.std.proofs.lemmas.List.{length-map, reverse-reverse}
 use Rattle.object_layout.specs.declared.word.Addr.{Addr}
 use Rattle.object_layout.specs.Content.{Content}
 use Rattle.object_layout.specs.Chunks.{chunk_at}
-use Rattle.alloc_path.specs.Heap.{AreApart, IsReserved, IsCurrent}
+use Rattle.alloc_path.specs.Heap.{AreApart, Heap, IsReserved, IsCurrent, exchanged, with_places}
 use Rattle.listed.proofs.Members.{In, in_append_left, contains_from_in}
 use Rattle.leaf_copy_gc.specs.declared.lists.Survivor.{Survivor}
-use Rattle.leaf_copy_gc.specs.Survivors.{olds, Once, HaveNames}
+use Rattle.leaf_copy_gc.specs.Survivors.{olds, with_chunks, Once, HaveNames}
 use Rattle.leaf_copy_gc.specs.Laid.{before, laid_all, smalls, AreNew}
 use Rattle.leaf_copy_gc.specs.Redirected.{led_chunk}
-use Rattle.leaf_copy_gc.specs.Exchanged.{emptied, goes, stays, unreserved, reserved_of, named, last_place, CanName}
+use Rattle.leaf_copy_gc.specs.Exchanged.{emptied, goes, stays, unreserved, reserved_of, reserved_place, named, last_place, CanName}
 use Rattle.leaf_copy_gc.specs.Collected.{AreAlike, AreTidy, IsLeft, keeps, leaves, laying_of, redirection}
 use Rattle.leaf_copy_gc.proofs.Numbers as nums
 use Rattle.leaf_copy_gc.proofs.Numbers.{numbers, Distinct, Within}
@@ -90,3 +90,34 @@ module _ (h g : List Content) (ss : List Survivor) (news : List Content) (r : Op
   kept_count =
       ap (λ (xs : List Content). length xs) stay_is
       ∙ (length-map (filter (keeps ss) (unreserved h r)) (marked_chunk ss (redirection h ss (reverse news))) ∙ sym (length-map (filter (keeps ss) (unreserved h r)) (led_chunk (redirection h ss (reverse news)))))
+
+  -- ---- the heap, field by field
+
+  module _ (H : Heap) (r_is : r ≡ H.reserved) where
+    pub heap_is : H.chunks ≡ h → (E M N : Heap) (G : Heap)
+        → E ≡ with_places (exchanged G (laid ++ (filter stays (unreserved g r) ++ reserved_of g r)) (last_place laid) (reserved_place (length laid + length (filter stays (unreserved g r))) r)) E.slots E.spare
+        → M ≡ with_chunks E (fold named E.chunks ss) → N ≡ record M { since = 0 }
+        → N ≡ with_places (record H {
+          chunks = map (led_chunk (redirection h ss (reverse news))) (laying_of h ss (reverse news)).laid ++ (map (led_chunk (redirection h ss (reverse news))) (filter (keeps ss) (unreserved h H.reserved)) ++ reserved_of h H.reserved);
+          current = last_place (map (led_chunk (redirection h ss (reverse news))) (laying_of h ss (reverse news)).laid);
+          reserved = reserved_place (length (map (led_chunk (redirection h ss (reverse news))) (laying_of h ss (reverse news)).laid) + length (map (led_chunk (redirection h ss (reverse news))) (filter (keeps ss) (unreserved h H.reserved)))) H.reserved;
+          since = 0;
+        }) N.slots N.spare
+    heap_is h_is E M N G e m n =
+        let chunks = ap (λ (x : Heap). x.chunks) n ∙ (ap (λ (x : Heap). x.chunks) m ∙ (ap (λ (x : Heap). fold named x.chunks ss) e ∙ (named_is
+            ∙ (ap (λ (o : Option ℕ). laid ++ (map (led_chunk (redirection h ss (reverse news))) (filter (keeps ss) (unreserved h o)) ++ reserved_of h o)) r_is
+            ∙ ap (λ (ks : List Content). ks ++ (map (led_chunk (redirection h ss (reverse news))) (filter (keeps ss) (unreserved h H.reserved)) ++ reserved_of h H.reserved)) is)))) in
+        let current = ap (λ (x : Heap). x.current) n ∙ (ap (λ (x : Heap). x.current) m ∙ (ap (λ (x : Heap). x.current) e ∙ ap last_place is)) in
+        let place = ap (λ (x : Heap). x.reserved) n ∙ (ap (λ (x : Heap). x.reserved) m ∙ (ap (λ (x : Heap). x.reserved) e
+            ∙ (ap (λ (k : ℕ). reserved_place (length laid + k) r) kept_count
+            ∙ (ap (λ (o : Option ℕ). reserved_place (length laid + length (map (led_chunk (redirection h ss (reverse news))) (filter (keeps ss) (unreserved h o)))) o) r_is
+            ∙ ap (λ (ks : List Content). reserved_place (length ks + length (map (led_chunk (redirection h ss (reverse news))) (filter (keeps ss) (unreserved h H.reserved)))) H.reserved) is)))) in
+        let since = ap (λ (x : Heap). x.since) n in
+        λ i. record { chunks = chunks i; current = current i; reserved = place i; since = since i; slots = N.slots; spare = N.spare }
+
+    pub back_is : (old : List Content) → old ≡ [] → (rest : List Content) → reverse rest ≡ (laying_of h ss (reverse news)).spare → (back : List Content) → back ≡ old ++ map emptied (filter goes (unreserved g r))
+        → back ++ rest ≡ map emptied (filter (leaves ss) (unreserved h H.reserved)) ++ reverse (laying_of h ss (reverse news)).spare
+    back_is old none rest e back b =
+        let first : back ≡ map emptied (filter (leaves ss) (unreserved h H.reserved)) = b ∙ (ap (λ (xs : List Content). xs ++ map emptied (filter goes (unreserved g r))) none ∙ (go_is ∙ ap (λ (o : Option ℕ). map emptied (filter (leaves ss) (unreserved h o))) r_is)) in
+        let second : rest ≡ reverse (laying_of h ss (reverse news)).spare = sym (reverse-reverse rest) ∙ ap (λ (ks : List Content). reverse ks) e in
+        ap (λ (xs : List Content). xs ++ rest) first ∙ ap (λ (ys : List Content). map emptied (filter (leaves ss) (unreserved h H.reserved)) ++ ys) second

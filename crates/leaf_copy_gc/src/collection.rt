@@ -1,9 +1,10 @@
 // A whole collection of a heap.
 
-ghost use Rattle.std.specs.Prelude.{◌≡◌, ◌+◌, ◌*◌, ◌/◌, ◌≤◌, ◌++◌, [], length, vec_len, All};
+ghost use Rattle.std.specs.Prelude.{◌≡◌, ◌+◌, ◌*◌, ◌/◌, ◌≤◌, ◌++◌, length, vec_len, vec_capacity, All};
 ghost use Rattle.alloc_path.specs.Heap.{AreApart};
 ghost use Rattle.leaf_copy_gc.specs.Survivors.{outside, IsClosed, IsSound};
 ghost use Rattle.leaf_copy_gc.specs.Laid.{small_words, AreNew};
+ghost use Rattle.leaf_copy_gc.specs.Exchanged.{counted32};
 ghost use Rattle.leaf_copy_gc.specs.Collected.{AreTidy};
 ghost use Rattle.leaf_copy_gc.specs.Lists.{AreReserved, IsCollected};
 
@@ -11,7 +12,7 @@ use crate::evacuation::evacuate;
 use crate::exchange::{counted, exchange, name_all, units_of};
 use crate::lists::{Moved, ToChunks};
 use alloc_path::LeafHeap;
-use object_layout::Addr;
+use object_layout::{Addr, Chunk};
 use outside_io::{Gate, Point};
 use task_frames::Frames;
 
@@ -79,10 +80,10 @@ fn collect(
         &mut moved,
     );
     moved.sort_unstable();
-    let taken = counted(laid.len() as u64);
+    let taken = count_of(&laid);
     let reserved = heap.reserved();
     exchange(heap, laid, reserved, &mut back);
-    let _ = back.append(&mut chunks);
+    give_rest(&mut back, &mut chunks);
     name_all(heap, &found);
     heap.reset_since();
     Moved {
@@ -92,4 +93,19 @@ fn collect(
         left: counted(heap.words()),
         back,
     }
+}
+
+// Puts the new chunks that were not opened with those to give back.
+fn give_rest(back: &mut Vec<Chunk>, spare: &mut Vec<Chunk>)
+    requires { vec_len back.old + vec_len spare.old ≤ vec_capacity back.old }
+    ensures { back.new.items ≡ back.old.items ++ spare.old.items }
+{
+    let _ = back.append(spare);
+}
+
+// How many chunks these are, as far as 32 bits count.
+fn count_of(chunks: &[Chunk]) -> u32
+    ensures { result ≡ counted32 (length chunks.now) }
+{
+    counted(chunks.len() as u64)
 }
