@@ -8,6 +8,7 @@ mod evacuation;
 mod exchange;
 mod lists;
 mod redirect;
+mod reserving;
 
 pub use collection::copy;
 pub use lists::{Moved, Survivor, ToChunks};
