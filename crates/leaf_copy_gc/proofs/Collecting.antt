@@ -105,13 +105,13 @@ module _ (h g : List Content) (ss : List Survivor) (news : List Content) (r : Op
         }) N.slots N.spare
     heap_is h_is E M N G e m n =
         let chunks = ap (λ (x : Heap). x.chunks) n ∙ (ap (λ (x : Heap). x.chunks) m ∙ (ap (λ (x : Heap). fold named x.chunks ss) e ∙ (named_is
-            ∙ (ap (λ (o : Option ℕ). laid ++ (map (led_chunk (redirection h ss (reverse news))) (filter (keeps ss) (unreserved h o)) ++ reserved_of h o)) r_is
-            ∙ ap (λ (ks : List Content). ks ++ (map (led_chunk (redirection h ss (reverse news))) (filter (keeps ss) (unreserved h H.reserved)) ++ reserved_of h H.reserved)) is)))) in
+        ∙ (ap (λ (o : Option ℕ). laid ++ (map (led_chunk (redirection h ss (reverse news))) (filter (keeps ss) (unreserved h o)) ++ reserved_of h o)) r_is
+        ∙ ap (λ (ks : List Content). ks ++ (map (led_chunk (redirection h ss (reverse news))) (filter (keeps ss) (unreserved h H.reserved)) ++ reserved_of h H.reserved)) is)))) in
         let current = ap (λ (x : Heap). x.current) n ∙ (ap (λ (x : Heap). x.current) m ∙ (ap (λ (x : Heap). x.current) e ∙ ap last_place is)) in
         let place = ap (λ (x : Heap). x.reserved) n ∙ (ap (λ (x : Heap). x.reserved) m ∙ (ap (λ (x : Heap). x.reserved) e
-            ∙ (ap (λ (k : ℕ). reserved_place (length laid + k) r) kept_count
-            ∙ (ap (λ (o : Option ℕ). reserved_place (length laid + length (map (led_chunk (redirection h ss (reverse news))) (filter (keeps ss) (unreserved h o)))) o) r_is
-            ∙ ap (λ (ks : List Content). reserved_place (length ks + length (map (led_chunk (redirection h ss (reverse news))) (filter (keeps ss) (unreserved h H.reserved)))) H.reserved) is)))) in
+        ∙ (ap (λ (k : ℕ). reserved_place (length laid + k) r) kept_count
+        ∙ (ap (λ (o : Option ℕ). reserved_place (length laid + length (map (led_chunk (redirection h ss (reverse news))) (filter (keeps ss) (unreserved h o)))) o) r_is
+        ∙ ap (λ (ks : List Content). reserved_place (length ks + length (map (led_chunk (redirection h ss (reverse news))) (filter (keeps ss) (unreserved h H.reserved)))) H.reserved) is)))) in
         let since = ap (λ (x : Heap). x.since) n in
         λ i. record { chunks = chunks i; current = current i; reserved = place i; since = since i; slots = N.slots; spare = N.spare }
 

@@ -149,7 +149,7 @@ module _ (h : List Content) where
       let same = same_small k.old s (as' s (inl refl)).0 in
       let r = ready_step k s ss o as' (λ k' a q. are_ready k' ss o.1 a q) (is_small h s.old) refl room in
       let t : (is_small k.old s.old ≡ true → HasRoom k.laying (size_of (cell_of k.old s.old))) × IsReady (cond (is_small k.old s.old) (copied_one k s) k) ss
-          = subst (λ (b : Bool). (b ≡ true → HasRoom k.laying (size_of (cell_of k.old s.old))) × IsReady (cond b (copied_one k s) k) ss) (sym same) r in
+      = subst (λ (b : Bool). (b ≡ true → HasRoom k.laying (size_of (cell_of k.old s.old))) × IsReady (cond b (copied_one k s) k) ss) (sym same) r in
       (((as' s (inl refl)).1, t.0), t.1)
 
   -- ---- by the heap as it was; ss are small from here on

@@ -184,7 +184,7 @@ module _ (h : List Content) (ss : List Survivor) (f : Option Addr → Option Add
       at_first zero z = λ t. record { chunk = sym q t; offset = sym z t }
       at_first (suc n) z =
           let there : cell_of h a ≡ no_cell = extent.chunk_there h k d i a q ∙ (ap (λ (p : ℕ). cell_at k.cells p) (sym z)
-              ∙ (ap (λ (cs : List Cell). cell_at cs (suc n)) (kept_alone k i e).0 ∙ extent.alone_cell (cell_at k.cells 0) n)) in
+          ∙ (ap (λ (cs : List Cell). cell_at cs (suc n)) (kept_alone k i e).0 ∙ extent.alone_cell (cell_at k.cells 0) n)) in
           let dead = subst (λ (c : Cell). IsBorn c.mark) there (lives a j) in absurd dead
 
   not_reserved : (a : Addr) → In (olds ss) a → In (numbers (reserved_of h r)) a.chunk → ⊥

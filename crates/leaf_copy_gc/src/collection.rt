@@ -44,12 +44,7 @@ pub fn copy<G: Gate>(
 }
 
 // The collection itself.
-fn collect(
-    heap: &mut LeafHeap,
-    frames: &mut Frames,
-    roots: &[Addr],
-    to_chunks: ToChunks,
-) -> Moved
+fn collect(heap: &mut LeafHeap, frames: &mut Frames, roots: &[Addr], to_chunks: ToChunks) -> Moved
     requires closed { IsClosed heap.old.chunks }
     requires outside { All (IsSound heap.old.chunks) (outside frames.old roots.now) }
     requires tidy { AreTidy heap.old.chunks }

@@ -108,12 +108,7 @@ fn visit_roots(heap: &mut LeafHeap, roots: &[Addr], found: &mut Vec<Survivor>)
 
 /// Finds what the references of the frames and the roots lead to within the heap: exactly what survives. Each
 /// survivor is marked as moved to where it is.
-pub fn discover(
-    heap: &mut LeafHeap,
-    frames: &Frames,
-    roots: &[Addr],
-    found: &mut Vec<Survivor>,
-)
+pub fn discover(heap: &mut LeafHeap, frames: &Frames, roots: &[Addr], found: &mut Vec<Survivor>)
     requires closed { IsClosed heap.old.chunks }
     requires outside { All (IsSound heap.old.chunks) (outside frames.now roots.now) }
     requires empty { found.old.items ≡ [] }

@@ -20,7 +20,7 @@ copy_to-address-requires-clause-room c =
     let some = last.some_room c.args.laid.now (cell_of c.args.heap.now.chunks c.args.survivor.old) c.requires.room in
     let room = last.read_room c.args.laid.now c.index-laid-last.result some c.index-laid-last.is in
     let same = ap (λ (h : Heap). size_of (cell_of h.chunks c.args.survivor.old)) c.own_set_birth.ensures
-        ∙ ap size_of (laws.cell_of-put_same c.args.heap.now.chunks c.args.survivor.old (with_mark (cell_of c.args.heap.now.chunks c.args.survivor.old) (Born c.args.survivor.birth)) c.requires.object) in
+    ∙ ap size_of (laws.cell_of-put_same c.args.heap.now.chunks c.args.survivor.old (with_mark (cell_of c.args.heap.now.chunks c.args.survivor.old) (Born c.args.survivor.birth)) c.requires.object) in
     let fits = c.requires.room in
     rw (← c.index-laid-last.is) (omega arith)
 
@@ -46,7 +46,7 @@ returns-clause-laid c =
     let some = last.some_room c.args.laid.now (cell_of c.args.heap.now.chunks c.args.survivor.old) c.requires.room in
     let k : Content = c.index-laid-last.result in
     let same = ap (λ (h : Heap). cell_of h.chunks c.args.survivor.old) c.own_set_birth.ensures
-        ∙ laws.cell_of-put_same c.args.heap.now.chunks c.args.survivor.old (with_mark (cell_of c.args.heap.now.chunks c.args.survivor.old) (Born c.args.survivor.birth)) c.requires.object in
+    ∙ laws.cell_of-put_same c.args.heap.now.chunks c.args.survivor.old (with_mark (cell_of c.args.heap.now.chunks c.args.survivor.old) (Born c.args.survivor.birth)) c.requires.object in
     ap (λ (x : Content). set c.args.laid.now (length c.args.laid.now - 1) x) ((rw (← c.index-laid-last.is) at c.copy_to-address.ensures.copied) ∙ ap (λ (d : Cell). let r : Content = record k { cells = k.cells ++ d ∷ [] } in r) same)
     ∙ sym (last.read_placed c.args.laid.now k some c.index-laid-last.is (with_mark (cell_of c.args.heap.now.chunks c.args.survivor.old) (Born c.args.survivor.birth)))
 

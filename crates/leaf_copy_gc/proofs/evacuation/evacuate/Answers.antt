@@ -207,4 +207,3 @@ returns-clause-left c =
     let is : t ≡ fold copied k ss = c.copy_all.ensures.copied ∙ ap (fold copied k) c.deref.ensures.value in
     let chunks = ap (λ (x : Heap). x.chunks) c.follow_larges.ensures ∙ ap (fold followed_large t.old) c.deref-2.ensures.value in
     subst (λ (g : List Content). IsLeft h g (olds ss) (redirection h ss spare)) (sym chunks) (evacuated.left h from c.requires.closed c.requires.outside ss (olds xs) spare kept once all (evacuated.in_sorted xs ss p) names k k_old k_laying c.requires.moved c.requires.new t is)
-

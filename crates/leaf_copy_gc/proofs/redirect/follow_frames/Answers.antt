@@ -14,7 +14,7 @@ follow_all-requires c =
     let fs = frames_of c.args.frames.now in
     let within : c.loop-frame.frame < length fs = omega (arith, length-append c.args.frames.now.below) in
     let same = c.references_in-references.ensures
-        ∙ (ap (λ (xs : List Frame). references_of xs c.loop-frame.frame) c.loop-frame.invariant ∙ frames.next_frame (followed_ref c.args.heap.now.chunks) fs c.loop-frame.frame within) in
+    ∙ (ap (λ (xs : List Frame). references_of xs c.loop-frame.frame) c.loop-frame.invariant ∙ frames.next_frame (followed_ref c.args.heap.now.chunks) fs c.loop-frame.frame within) in
     subst (λ (rs : List (Option Addr)). All (IsTarget c.args.heap.now.chunks) rs) (sym same)
     (lists.all_from (IsTarget c.args.heap.now.chunks) (references_of fs c.loop-frame.frame)
     (λ r i. lists.read_in (IsTarget c.args.heap.now.chunks) (held_by fs) r (lists.in_frames fs c.loop-frame.frame r i) c.requires))
@@ -25,5 +25,5 @@ loop-frame-preserved c =
     let f = followed_ref c.args.heap.now.chunks in
     let within : c.loop-frame.frame < length fs = omega (arith, length-append c.args.frames.now.below) in
     let same = c.references_in-references.ensures
-        ∙ (ap (λ (xs : List Frame). references_of xs c.loop-frame.frame) c.loop-frame.invariant ∙ frames.next_frame f fs c.loop-frame.frame within) in
+    ∙ (ap (λ (xs : List Frame). references_of xs c.loop-frame.frame) c.loop-frame.invariant ∙ frames.next_frame f fs c.loop-frame.frame within) in
     rw (c.set_references_in.ensures, c.follow_all.ensures, same, c.loop-frame.invariant) (frames.more_frames f fs c.loop-frame.frame within)
