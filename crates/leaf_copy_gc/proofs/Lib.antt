@@ -18,3 +18,4 @@ mod Rebuilt
 mod Naming
 mod Order
 mod Collecting
+mod Reading

@@ -141,7 +141,7 @@ module _ (ks : List Content) (d : Distinct (numbers ks)) where
 
 -- ---- the new chunks
 
-numbers_placed : (ks : List Content) (c : Cell) → numbers (placed ks c) ≡ numbers ks
+pub numbers_placed : (ks : List Content) (c : Cell) → numbers (placed ks c) ≡ numbers ks
 numbers_placed [] c = refl
 numbers_placed (k ∷ []) c = refl
 numbers_placed (k ∷ (l ∷ ks)) c = ap (λ (ns : List ℕ). k.number ∷ ns) (numbers_placed (l ∷ ks) c)
@@ -154,7 +154,7 @@ open_numbers : (laid spare : List Content) → numbers (open_next laid spare).la
 open_numbers laid [] = refl
 open_numbers laid (k ∷ ks) = ap (λ (ns : List ℕ). ns ++ numbers ks) (numbers_append laid (k ∷ [])) ∙ move_over (numbers laid) k.number (numbers ks)
 
-opened_numbers : (y : Laying) (b : Bool) → numbers (cond b (open_next y.laid y.spare) y).laid ++ numbers (cond b (open_next y.laid y.spare) y).spare ≡ numbers y.laid ++ numbers y.spare
+pub opened_numbers : (y : Laying) (b : Bool) → numbers (cond b (open_next y.laid y.spare) y).laid ++ numbers (cond b (open_next y.laid y.spare) y).spare ≡ numbers y.laid ++ numbers y.spare
 opened_numbers y true = open_numbers y.laid y.spare
 opened_numbers y false = refl
 

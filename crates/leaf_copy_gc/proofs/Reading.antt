@@ -1,0 +1,118 @@
+-- What is read at a new address.
+use Rattle.std.proofs.Common.{◌≡◌, ℕ, zero, suc, ◌+◌, ◌-◌, ◌<◌, ◌≤◌, Bool, true, false, cond, List, [], ◌∷◌, ◌++◌, length, map, refl, sym, ap, ◌∙◌, subst, arith, inl, inr, Option, eqb}
+use Rattle.std.specs.Prelude.{nat_lt}
+use Rattle.std.proofs.lemmas.Bool.{cases_Bool, cases_lt, le-leb, lt-leb}
+use Rattle.object_layout.specs.declared.word.Addr.{Addr}
+use Rattle.object_layout.specs.Cell.{Cell, IsObject, no_cell, size_of}
+use Rattle.object_layout.specs.Content.{Content}
+use Rattle.object_layout.specs.Place.{cell_at, words_in, IsCellAt}
+use Rattle.object_layout.specs.Chunks.{cell_of}
+use Rattle.object_layout.proofs.PlaceLemmas as place
+use Rattle.object_layout.proofs.ChunkLaws as laws
+use Rattle.listed.proofs.Members.{In, in_append_left}
+use Rattle.leaf_copy_gc.specs.Laid.{Laying, HasRoom, HaveRoom, laid_all, laid_at, laid_one, next_place, opened, open_next, placed, relocations, room_in}
+use Rattle.leaf_copy_gc.specs.Redirected.{led, led_chunk}
+use Rattle.leaf_copy_gc.proofs.FollowLemmas.{size_led}
+use Rattle.leaf_copy_gc.proofs.LastChunk.{some_room}
+use Rattle.leaf_copy_gc.proofs.Numbers as nums
+use Rattle.leaf_copy_gc.proofs.Numbers.{numbers, Distinct}
+use Rattle.leaf_copy_gc.proofs.Extent as extent
+
+-- what has an object has its number
+pub object_number : (ks : List Content) (a : Addr) → IsObject (cell_of ks a).mark → In (numbers ks) a.chunk
+object_number ks a o =
+    elim (extent.in_numbers (numbers ks) a.chunk) [
+      | inl i ↦ i
+      | inr n ↦ let z = subst (λ (c : Cell). IsObject c.mark) (extent.nowhere ks a n) o in absurd z
+    ]
+
+next_number : (ks : List Content) → 0 < length ks → In (numbers ks) (next_place ks).chunk
+next_number [] l = absurd (omega arith)
+next_number (k ∷ []) l = inl refl
+next_number (k ∷ (x ∷ ks)) l = inr (next_number (x ∷ ks) (omega arith))
+
+-- an object is read where it was placed
+placed_there : (ks : List Content) (c : Cell) → 0 < length ks → Distinct (numbers ks) → cell_of (placed ks c) (next_place ks) ≡ c
+placed_there [] c l d = absurd (omega arith)
+placed_there (k ∷ []) c l d = extent.here (record k { cells = k.cells ++ c ∷ [] }) [] (next_place (k ∷ [])) refl ∙ place.cell_at-last k.cells c
+placed_there (k ∷ (x ∷ ks)) c l d =
+    extent.later k (placed (x ∷ ks) c) (next_place (x ∷ ks)) (λ e. d.0 (subst (In (numbers (x ∷ ks))) (sym e) (next_number (x ∷ ks) (omega arith))))
+    ∙ placed_there (x ∷ ks) c (omega arith) d.1
+
+-- other objects stay
+placed_other : (ks : List Content) (c : Cell) (b : Addr) → IsObject (cell_of ks b).mark → cell_of (placed ks c) b ≡ cell_of ks b
+placed_other [] c b o = refl
+placed_other (k ∷ []) c b o =
+    elim (cases_Bool (eqb k.number b.chunk)) [
+      | inl e ↦ let p = rw e at o in rw e (place.cell_at-push k.cells c b.offset (place.cell_of_object k.cells b.offset p))
+      | inr e ↦ rw e refl
+    ]
+placed_other (k ∷ (x ∷ ks)) c b o =
+    elim (cases_Bool (eqb k.number b.chunk)) [
+      | inl e ↦ rw e refl
+      | inr e ↦ let p = rw e at o in rw e (placed_other (x ∷ ks) c b p)
+    ]
+
+opened_other : (laid spare : List Content) (b : Addr) → IsObject (cell_of laid b).mark → cell_of (open_next laid spare).laid b ≡ cell_of laid b
+opened_other laid [] b o = refl
+opened_other laid (k ∷ ks) b o = extent.in_first laid (k ∷ []) b (object_number laid b o)
+
+opened_at : (y : Laying) (t : Bool) (b : Addr) → IsObject (cell_of y.laid b).mark → cell_of (cond t (open_next y.laid y.spare) y).laid b ≡ cell_of y.laid b
+opened_at y true b o = opened_other y.laid y.spare b o
+opened_at y false b o = refl
+
+one_other : (y : Laying) (c : Cell) (b : Addr) → IsObject (cell_of y.laid b).mark → cell_of (laid_one y c).laid b ≡ cell_of y.laid b
+one_other y c b o =
+    let e = opened_at y (nat_lt (room_in y.laid) (size_of c)) b o in
+    placed_other (opened y (size_of c)).laid c b (subst (λ (d : Cell). IsObject d.mark) (sym e) o) ∙ e
+
+pub all_other : (y : Laying) (h : List Content) (xs : List Addr) (b : Addr) → IsObject (cell_of y.laid b).mark → cell_of (laid_all y h xs).laid b ≡ cell_of y.laid b
+all_other y h [] b o = refl
+all_other y h (a ∷ xs) b o =
+    let e = one_other y (cell_of h a) b o in
+    all_other (laid_one y (cell_of h a)) h xs b (subst (λ (d : Cell). IsObject d.mark) (sym e) o) ∙ e
+
+numbers_once : (y : Laying) (c : Cell) → Distinct (numbers y.laid ++ numbers y.spare) → Distinct (numbers (opened y (size_of c)).laid)
+numbers_once y c d = nums.distinct_left (numbers (opened y (size_of c)).laid) (numbers (opened y (size_of c)).spare) (subst Distinct (sym (nums.opened_numbers y (nat_lt (room_in y.laid) (size_of c)))) d)
+
+one_numbers : (y : Laying) (c : Cell) → Distinct (numbers y.laid ++ numbers y.spare) → Distinct (numbers (laid_one y c).laid ++ numbers (laid_one y c).spare)
+one_numbers y c d =
+    subst Distinct (sym (ap (λ (ns : List ℕ). ns ++ numbers (opened y (size_of c)).spare) (nums.numbers_placed (opened y (size_of c)).laid c) ∙ nums.opened_numbers y (nat_lt (room_in y.laid) (size_of c)))) d
+
+-- what was moved is read at its new place
+pub relocated : (y : Laying) (h : List Content) (xs : List Addr) → Distinct (numbers y.laid ++ numbers y.spare) → HaveRoom y h xs → ((a : Addr) → In xs a → IsObject (cell_of h a).mark)
+    → (m : Addr × Addr) → In (relocations y h xs) m → cell_of (laid_all y h xs).laid m.1 ≡ cell_of h m.0
+relocated y h [] d room o m i = absurd i
+relocated y h (a ∷ xs) d room o m (inl e) =
+    let c = cell_of h a in
+    let there : cell_of (laid_one y c).laid (laid_at y (size_of c)) ≡ c = placed_there (opened y (size_of c)).laid c (some_room (opened y (size_of c)).laid c room.0.0) (numbers_once y c d) in
+    subst (λ (p : Addr × Addr). cell_of (laid_all (laid_one y c) h xs).laid p.1 ≡ cell_of h p.0) e
+    (all_other (laid_one y c) h xs (laid_at y (size_of c)) (subst (λ (z : Cell). IsObject z.mark) (sym there) (o a (inl refl))) ∙ there)
+relocated y h (a ∷ xs) d room o m (inr i) = relocated (laid_one y (cell_of h a)) h xs (one_numbers y (cell_of h a) d) room.1 (λ b j. o b (inr j)) m i
+
+moved_in : (y : Laying) (h : List Content) (xs : List Addr) (m : Addr × Addr) → In (relocations y h xs) m → In xs m.0
+moved_in y h [] m i = absurd i
+moved_in y h (a ∷ xs) m (inl e) = inl (ap (λ (p : Addr × Addr). p.0) e)
+moved_in y h (a ∷ xs) m (inr i) = inr (moved_in (laid_one y (cell_of h a)) h xs m i)
+
+pub moved_from : (y : Laying) (h : List Content) (xs : List Addr) (m : Addr × Addr) → In (relocations y h xs) m → In xs m.0
+moved_from y h xs m i = moved_in y h xs m i
+
+-- ---- with references led
+
+led_cell : (f : Option Addr → Option Addr) (cs : List Cell) (at : ℕ) → cell_at (map (led f) cs) at ≡ led f (cell_at cs at)
+led_cell f [] at = refl
+led_cell f (c ∷ cs) zero = refl
+led_cell f (c ∷ cs) (suc n) =
+    elim (cases_lt (suc n) (size_of c)) [
+      | inl above ↦ rw (size_led f c, lt-leb (size_of c) (suc n) above) refl
+      | inr within ↦ rw (size_led f c, le-leb (size_of c) (suc n) within) (led_cell f cs (suc n - size_of c))
+    ]
+
+pub led_there : (f : Option Addr → Option Addr) (ks : List Content) (a : Addr) → cell_of (map (led_chunk f) ks) a ≡ led f (cell_of ks a)
+led_there f [] a = refl
+led_there f (k ∷ ks) a =
+    elim (cases_Bool (eqb k.number a.chunk)) [
+      | inl e ↦ rw e (led_cell f k.cells a.offset)
+      | inr e ↦ rw e (led_there f ks a)
+    ]
