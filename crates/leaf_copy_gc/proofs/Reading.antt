@@ -1,16 +1,27 @@
 -- What is read at a new address.
-use Rattle.std.proofs.Common.{◌≡◌, ℕ, zero, suc, ◌+◌, ◌-◌, ◌<◌, ◌≤◌, Bool, true, false, cond, List, [], ◌∷◌, ◌++◌, length, map, refl, sym, ap, ◌∙◌, subst, arith, inl, inr, Option, eqb}
-use Rattle.std.specs.Prelude.{nat_lt}
-use Rattle.std.proofs.lemmas.Bool.{cases_Bool, cases_lt, le-leb, lt-leb}
+use Rattle.std.proofs.Common.{◌≡◌, ℕ, zero, suc, ◌+◌, ◌*◌, ◌/◌, ◌-◌, Contains, ◌<◌, ◌≤◌, Bool, true, false, cond, List, [], ◌∷◌, ◌++◌, length, map, refl, sym, ap, ◌∙◌, subst, arith, inl, inr, Option, eqb}
+use Rattle.std.specs.Prelude.{nat_lt, reverse}
+use Rattle.std.proofs.lemmas.List.{length-reverse}
+use Rattle.std.proofs.lemmas.Bool.{cases_Bool, cases_lt, le-leb, lt-leb, leb-true}
 use Rattle.object_layout.specs.declared.word.Addr.{Addr}
-use Rattle.object_layout.specs.Cell.{Cell, IsObject, no_cell, size_of}
+use Rattle.object_layout.specs.Cell.{Born, Cell, IsBorn, IsObject, no_cell, size_of}
 use Rattle.object_layout.specs.Content.{Content}
 use Rattle.object_layout.specs.Place.{cell_at, words_in, IsCellAt}
 use Rattle.object_layout.specs.Chunks.{cell_of}
 use Rattle.object_layout.proofs.PlaceLemmas as place
 use Rattle.object_layout.proofs.ChunkLaws as laws
-use Rattle.listed.proofs.Members.{In, in_append_left}
-use Rattle.leaf_copy_gc.specs.Laid.{Laying, HasRoom, HaveRoom, laid_all, laid_at, laid_one, next_place, opened, open_next, placed, relocations, room_in}
+use Rattle.listed.proofs.Members.{In, in_from_contains}
+use Rattle.alloc_path.specs.Heap.{Heap}
+use Rattle.leaf_copy_gc.specs.declared.lists.Survivor.{Survivor}
+use Rattle.leaf_copy_gc.specs.Survivors.{IsLive, olds}
+use Rattle.leaf_copy_gc.specs.Exchanged.{reserved_of}
+use Rattle.leaf_copy_gc.specs.Collected.{AreSurvivors, collected, kept_of, laid_of, moves_of, redirection}
+use Rattle.leaf_copy_gc.specs.Laws.{CanTake, MovedAreRead}
+use Rattle.leaf_copy_gc.proofs.ListLemmas.{read_in}
+use Rattle.leaf_copy_gc.proofs.Moves as moves
+use Rattle.leaf_copy_gc.proofs.Naming.{in_unmap}
+use Rattle.leaf_copy_gc.proofs.Rooms as rooms
+use Rattle.leaf_copy_gc.specs.Laid.{Laying, HasRoom, HaveRoom, before, is_small, small_words, smalls, laid_all, laid_at, laid_one, next_place, opened, open_next, placed, relocations, room_in}
 use Rattle.leaf_copy_gc.specs.Redirected.{led, led_chunk}
 use Rattle.leaf_copy_gc.proofs.FollowLemmas.{size_led}
 use Rattle.leaf_copy_gc.proofs.LastChunk.{some_room}
@@ -116,3 +127,40 @@ led_there f (k ∷ ks) a =
       | inl e ↦ rw e (led_cell f k.cells a.offset)
       | inr e ↦ rw e (led_there f ks a)
     ]
+
+-- ---- the law
+
+module _ (h : Heap) (from : List (Option Addr)) (ss : List Survivor) (news : List Content) (s : AreSurvivors h.chunks from ss) (t : CanTake h.chunks news) where
+  lives : (a : Addr) → In (olds ss) a → IsLive h.chunks a
+  lives a i =
+      let u = in_unmap ss a i in
+      subst (IsLive h.chunks) u.1.1 (subst IsBorn (sym (read_in (λ (x : Survivor). (cell_of h.chunks x.old).mark ≡ Born x.birth) ss u.0 u.1.0 s.names)) tt)
+
+  small : (a : Addr) → In (smalls h.chunks (olds ss)) a → IsLive h.chunks a × (is_small h.chunks a ≡ true)
+  small a i = let p = moves.in_smalls h.chunks (olds ss) a i in (lives a p.0, p.1)
+
+  room : HaveRoom (before (reverse news)) h.chunks (smalls h.chunks (olds ss))
+  room =
+      let n = (small_words h.chunks + 1023) / 1024 in
+      let most = rooms.sizes_most h.chunks (smalls h.chunks (olds ss)) (moves.once_smalls h.chunks (olds ss) s.once) small in
+      let up : small_words h.chunks ≤ 1024 * ((small_words h.chunks + 1023) / 1024) = omega arith in
+      let enough = t.enough in
+      rooms.enough_room h.chunks ((small_words h.chunks + 1023) / 1024) (reverse news) (smalls h.chunks (olds ss)) (nums.new_reverse news t.new) (omega arith) (omega (arith, length-reverse news))
+      (λ a i. leb-true (size_of (cell_of h.chunks a)) 1024 (small a i).1)
+
+  once_news : Distinct (numbers (reverse news))
+  once_news = nums.distinct_reverse news (nums.distinct_right (numbers h.chunks) (numbers news) (subst Distinct (nums.numbers_append h.chunks news) (nums.apart_distinct (h.chunks ++ news) t.apart)))
+
+  pub moved_read : (old new : Addr) → Contains (moves_of h.chunks ss (reverse news)) (old, new) → cell_of (collected h ss (reverse news)).chunks new ≡ led (redirection h.chunks ss (reverse news)) (cell_of h.chunks old)
+  moved_read old new c =
+      let xs = smalls h.chunks (olds ss) in
+      let i = in_from_contains (moves_of h.chunks ss (reverse news)) (old, new) c in
+      let there : cell_of (laid_all (before (reverse news)) h.chunks xs).laid new ≡ cell_of h.chunks old = relocated (before (reverse news)) h.chunks xs once_news room (λ a j. laws.born_object h.chunks a (small a j).0) (old, new) i in
+      let object : IsObject (cell_of h.chunks old).mark = laws.born_object h.chunks old (small old (moved_from (before (reverse news)) h.chunks xs (old, new) i)).0 in
+      let read : cell_of (laid_of h ss (reverse news)) new ≡ led (redirection h.chunks ss (reverse news)) (cell_of h.chunks old) =
+      led_there (redirection h.chunks ss (reverse news)) (laid_all (before (reverse news)) h.chunks xs).laid new ∙ ap (led (redirection h.chunks ss (reverse news))) there in
+      extent.in_first (laid_of h ss (reverse news)) (kept_of h ss (reverse news) ++ reserved_of h.chunks h.reserved) new
+      (object_number (laid_of h ss (reverse news)) new (subst (λ (d : Cell). IsObject d.mark) (sym read) object)) ∙ read
+
+pub moved_are_read : MovedAreRead
+moved_are_read h from ss news s t old new c = moved_read h from ss news s t old new c

@@ -6,3 +6,4 @@ pub mod Redirected
 pub mod Exchanged
 pub mod Collected
 pub mod Lists
+pub mod Laws

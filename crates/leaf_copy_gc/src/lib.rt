@@ -6,9 +6,11 @@ mod copying;
 mod discovery;
 mod evacuation;
 mod exchange;
+mod laws;
 mod lists;
 mod redirect;
 mod reserving;
 
 pub use collection::copy;
+pub use laws::moved_are_read;
 pub use lists::{Moved, Survivor, ToChunks};
