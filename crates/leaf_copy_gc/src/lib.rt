@@ -14,3 +14,6 @@ mod reserving;
 pub use collection::copy;
 pub use laws::moved_are_read;
 pub use lists::{Moved, Survivor, ToChunks};
+
+#[cfg(test)]
+mod tests;
