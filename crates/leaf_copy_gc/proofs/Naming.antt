@@ -230,7 +230,7 @@ module _ (h : List Content) (ss : List Survivor) (f : Option Addr → Option Add
         ∙ (extent.in_first (map (marked_chunk ss f) (filter (keeps ss) (unreserved h r))) (reserved_of h r) a (subst (λ (ns : List ℕ). In ns a.chunk) (sym marked_numbers) there)
         ∙ extent.mapped_there (marked_chunk ss f) (λ k. refl) (filter (keeps ss) (unreserved h r)) k kept_once i a q)
 
-    goal_kept : cell_of Goal a ≡ cell_at (led_chunk f k).cells a.offset
+    pub goal_kept : cell_of Goal a ≡ cell_at (led_chunk f k).cells a.offset
     goal_kept =
         extent.in_second laid (map (led_chunk f) (filter (keeps ss) (unreserved h r)) ++ reserved_of h r) a out
         ∙ (extent.in_first (map (led_chunk f) (filter (keeps ss) (unreserved h r))) (reserved_of h r) a (subst (λ (ns : List ℕ). In ns a.chunk) (sym led_numbers) there)

@@ -1,32 +1,37 @@
 -- What is read at a new address.
-use Rattle.std.proofs.Common.{◌≡◌, ℕ, zero, suc, ◌+◌, ◌*◌, ◌/◌, ◌-◌, Contains, ◌<◌, ◌≤◌, Bool, true, false, cond, List, [], ◌∷◌, ◌++◌, length, map, refl, sym, ap, ◌∙◌, subst, arith, inl, inr, Option, eqb}
-use Rattle.std.specs.Prelude.{nat_lt, reverse}
+use Rattle.std.proofs.Common.{◌≡◌, ℕ, zero, suc, ◌+◌, ◌*◌, ◌/◌, ◌-◌, Contains, ◌<◌, ◌≤◌, Bool, true, false, cond, List, [], ◌∷◌, ◌++◌, length, map, refl, sym, ap, ◌∙◌, subst, arith, inl, inr, ◌⊎◌, Option, Some, None, eqb}
+use Rattle.std.specs.Prelude.{nat_lt, nat_le, not, remove, reverse, ◌&&◌}
+use Rattle.std.specs.List.{list_any}
 use Rattle.std.proofs.lemmas.List.{length-reverse}
-use Rattle.std.proofs.lemmas.Bool.{cases_Bool, cases_lt, le-leb, lt-leb, leb-true}
+use Rattle.std.proofs.lemmas.Bool.{cases_Bool, cases_lt, le-leb, lt-leb, leb-true, false≢true}
 use Rattle.object_layout.specs.declared.word.Addr.{Addr}
 use Rattle.object_layout.specs.Cell.{Born, Cell, IsBorn, IsObject, no_cell, size_of}
 use Rattle.object_layout.specs.Content.{Content}
 use Rattle.object_layout.specs.Place.{cell_at, words_in, IsCellAt}
-use Rattle.object_layout.specs.Chunks.{cell_of}
+use Rattle.object_layout.specs.Chunks.{cell_of, chunk_at}
 use Rattle.object_layout.proofs.PlaceLemmas as place
 use Rattle.object_layout.proofs.ChunkLaws as laws
-use Rattle.listed.proofs.Members.{In, in_from_contains}
-use Rattle.alloc_path.specs.Heap.{Heap}
+use Rattle.listed.proofs.Members.{In, in_append_left, in_from_contains, in_kept}
+use Rattle.alloc_path.specs.Heap.{Heap, IsReserved}
 use Rattle.leaf_copy_gc.specs.declared.lists.Survivor.{Survivor}
 use Rattle.leaf_copy_gc.specs.Survivors.{IsLive, olds}
-use Rattle.leaf_copy_gc.specs.Exchanged.{reserved_of}
-use Rattle.leaf_copy_gc.specs.Collected.{AreSurvivors, collected, kept_of, laid_of, moves_of, redirection}
-use Rattle.leaf_copy_gc.specs.Laws.{CanTake, MovedAreRead}
+use Rattle.leaf_copy_gc.specs.Exchanged.{reserved_of, unreserved}
+use Rattle.leaf_copy_gc.specs.Collected.{AreSurvivors, AreTidy, IsTidy, collected, keeps, kept_of, laid_of, moves_of, redirection}
+use Rattle.leaf_copy_gc.specs.Laws.{CanTake, LargeAreRead, MovedAreRead}
 use Rattle.leaf_copy_gc.proofs.ListLemmas.{read_in}
 use Rattle.leaf_copy_gc.proofs.Moves as moves
 use Rattle.leaf_copy_gc.proofs.Naming.{in_unmap}
+use Rattle.leaf_copy_gc.proofs.Naming as naming
+use Rattle.leaf_copy_gc.proofs.Rebuilt as rebuilt
+use Rattle.leaf_copy_gc.proofs.Rebuilt.{NoneThere, first_of}
+use Rattle.remembered_set.specs.Moved.{same_address}
 use Rattle.leaf_copy_gc.proofs.Rooms as rooms
 use Rattle.leaf_copy_gc.specs.Laid.{Laying, HasRoom, HaveRoom, before, is_small, small_words, smalls, laid_all, laid_at, laid_one, next_place, opened, open_next, placed, relocations, room_in}
 use Rattle.leaf_copy_gc.specs.Redirected.{led, led_chunk}
 use Rattle.leaf_copy_gc.proofs.FollowLemmas.{size_led}
 use Rattle.leaf_copy_gc.proofs.LastChunk.{some_room}
 use Rattle.leaf_copy_gc.proofs.Numbers as nums
-use Rattle.leaf_copy_gc.proofs.Numbers.{numbers, Distinct}
+use Rattle.leaf_copy_gc.proofs.Numbers.{numbers, Distinct, Within}
 use Rattle.leaf_copy_gc.proofs.Extent as extent
 
 -- what has an object has its number
@@ -164,3 +169,90 @@ module _ (h : Heap) (from : List (Option Addr)) (ss : List Survivor) (news : Lis
 
 pub moved_are_read : MovedAreRead
 moved_are_read h from ss news s t old new c = moved_read h from ss news s t old new c
+
+-- ---- large survivors
+
+removed_or_at : (ks : List Content) (i : ℕ) (k : Content) → In ks k → In (remove ks i) k ⊎ (k ≡ chunk_at ks i)
+removed_or_at [] i k j = absurd j
+removed_or_at (x ∷ ks) zero k (inl e) = inr (sym e)
+removed_or_at (x ∷ ks) zero k (inr j) = inl j
+removed_or_at (x ∷ ks) (suc i) k (inl e) = inl (inl e)
+removed_or_at (x ∷ ks) (suc i) k (inr j) = elim (removed_or_at ks i k j) [ inl z ↦ inl (inr z) | inr z ↦ inr z ]
+
+-- a chunk with an object is not the reserved one
+unreserved_in : (ks : List Content) (o : Option ℕ) → IsReserved ks o → (k : Content) → In ks k → (k.cells ≡ [] → ⊥) → In (unreserved ks o) k
+unreserved_in ks None w k j n = j
+unreserved_in ks (Some i) w k j n = elim (removed_or_at ks i k j) [
+  | inl z ↦ z
+  | inr z ↦ absurd (n (ap (λ (x : Content). x.cells) z ∙ w.1.1))
+]
+
+within_of : (ks : List Content) (o : Option ℕ) → IsReserved ks o → Within ks o
+within_of ks None w = tt
+within_of ks (Some i) w = w.0
+
+none_of : (ks : List Content) (o : Option ℕ) → IsReserved ks o → NoneThere ks o
+none_of ks None w = tt
+none_of ks (Some i) w = w.1.1
+
+module _ (h : Heap) (from : List (Option Addr)) (ss : List Survivor) (news : List Content) (s : AreSurvivors h.chunks from ss) (t : CanTake h.chunks news)
+    (tidy : AreTidy h.chunks) (reserved : IsReserved h.chunks h.reserved) where
+  all_once : Distinct (numbers h.chunks ++ numbers news)
+  all_once = subst Distinct (nums.numbers_append h.chunks news) (nums.apart_distinct (h.chunks ++ news) t.apart)
+
+  once_h : Distinct (numbers h.chunks)
+  once_h = nums.distinct_left (numbers h.chunks) (numbers news) all_once
+
+  laid_numbers : numbers (laid_of h ss (reverse news)) ≡ numbers (laid_all (before (reverse news)) h.chunks (smalls h.chunks (olds ss))).laid
+  laid_numbers = nums.numbers_of_map (led_chunk (redirection h.chunks ss (reverse news))) (λ k. refl) (laid_all (before (reverse news)) h.chunks (smalls h.chunks (olds ss))).laid
+
+  laid_parts : numbers (laid_all (before (reverse news)) h.chunks (smalls h.chunks (olds ss))).laid ++ numbers (laid_all (before (reverse news)) h.chunks (smalls h.chunks (olds ss))).spare ≡ numbers (reverse news)
+  laid_parts = nums.laid_numbers (before (reverse news)) h.chunks (smalls h.chunks (olds ss))
+
+  laid_once : Distinct (numbers (laid_of h ss (reverse news)))
+  laid_once = subst Distinct (sym laid_numbers) (nums.distinct_left (numbers (laid_all (before (reverse news)) h.chunks (smalls h.chunks (olds ss))).laid) (numbers (laid_all (before (reverse news)) h.chunks (smalls h.chunks (olds ss))).spare)
+      (subst Distinct (sym laid_parts) (nums.distinct_reverse news (nums.distinct_right (numbers h.chunks) (numbers news) all_once))))
+
+  laid_apart : (n : ℕ) → In (numbers (laid_of h ss (reverse news))) n → In (numbers h.chunks) n → ⊥
+  laid_apart n i j =
+      let k = subst (λ (ns : List ℕ). In ns n) laid_parts (in_append_left (numbers (laid_all (before (reverse news)) h.chunks (smalls h.chunks (olds ss))).laid) (numbers (laid_all (before (reverse news)) h.chunks (smalls h.chunks (olds ss))).spare) n (subst (λ (ns : List ℕ). In ns n) laid_numbers i)) in
+      nums.distinct_apart_parts (numbers h.chunks) (numbers news) all_once n j (nums.in_reverse news n k)
+
+  module _ (a : Addr) (i : In (olds ss) a) (big : is_small h.chunks a ≡ false) where
+    live : IsLive h.chunks a
+    live =
+        let u = in_unmap ss a i in
+        subst (IsLive h.chunks) u.1.1 (subst IsBorn (sym (read_in (λ (x : Survivor). (cell_of h.chunks x.old).mark ≡ Born x.birth) ss u.0 u.1.0 s.names)) tt)
+
+    own : (k : Content) × (In h.chunks k × (k.number ≡ a.chunk))
+    own = extent.chunk_in h.chunks a.chunk (object_number h.chunks a (laws.born_object h.chunks a live))
+
+    pub large_read : cell_of (collected h ss (reverse news)).chunks a ≡ led (redirection h.chunks ss (reverse news)) (cell_of h.chunks a)
+    large_read = in_its own.0 own.1.0 own.1.1
+      where
+        in_its : (k : Content) → In h.chunks k → k.number ≡ a.chunk → cell_of (collected h ss (reverse news)).chunks a ≡ led (redirection h.chunks ss (reverse news)) (cell_of h.chunks a)
+        in_its k j q =
+            let f = redirection h.chunks ss (reverse news) in
+            let there : cell_of h.chunks a ≡ cell_at k.cells a.offset = extent.chunk_there h.chunks k once_h j a q in
+            let born : IsBorn (cell_at k.cells a.offset).mark = subst (λ (c : Cell). IsBorn c.mark) there live in
+            let begins : IsCellAt k.cells a.offset = place.cell_of_object k.cells a.offset (place.object_when_born k.cells a.offset born) in
+            let above : 1024 < size_of (cell_of h.chunks a) = elim (cases_lt 1024 (size_of (cell_of h.chunks a))) [ inl b ↦ b | inr b ↦ absurd (false≢true (sym big ∙ le-leb (size_of (cell_of h.chunks a)) 1024 b)) ] in
+            let one = place.All-cell_at (λ (c : Cell). 1024 < size_of c → length k.cells ≡ 1) k.cells a.offset begins (read_in IsTidy h.chunks k j tidy).alone (subst (λ (c : Cell). 1024 < size_of c) there above) in
+            let alone = rebuilt.one_cell k.cells one in
+            let first : a ≡ first_of k = at_first k q alone born a.offset refl in
+            let big' : nat_le (size_of (cell_at k.cells 0)) 1024 ≡ false = ap (λ (c : Cell). nat_le (size_of c) 1024) (sym (there ∙ ap (λ (o : ℕ). cell_at k.cells o) (ap (λ (x : Addr). x.offset) first))) ∙ big in
+            let kept : keeps ss k ≡ true = ap (λ (b : Bool). not b && list_any (λ (x : Survivor). same_address x.old (first_of k)) ss) big' ∙ rebuilt.any_here ss (first_of k) (subst (In (olds ss)) first i) in
+            let full : k.cells ≡ [] → ⊥ = λ e. let n = ap (λ (cs : List Cell). length cs) e in absurd (omega arith) in
+            let stays = in_kept (keeps ss) (unreserved h.chunks h.reserved) k (unreserved_in h.chunks h.reserved reserved k j full) kept in
+            let out = λ (z : In (numbers (laid_of h ss (reverse news))) a.chunk). laid_apart a.chunk z (object_number h.chunks a (laws.born_object h.chunks a live)) in
+            naming.goal_kept h.chunks ss f h.reserved (laid_of h ss (reverse news)) tidy once_h s.once s.names laid_apart laid_once (within_of h.chunks h.reserved reserved) (none_of h.chunks h.reserved reserved) a out k stays q
+            ∙ (led_cell f k.cells a.offset ∙ ap (led f) (sym there))
+          where
+            at_first : (k : Content) → k.number ≡ a.chunk → k.cells ≡ cell_at k.cells 0 ∷ [] → IsBorn (cell_at k.cells a.offset).mark → (o : ℕ) → o ≡ a.offset → a ≡ first_of k
+            at_first k q alone born zero z = λ e. record { chunk = sym q e; offset = sym z e }
+            at_first k q alone born (suc n) z =
+                let none : cell_at k.cells a.offset ≡ no_cell = ap (λ (o : ℕ). cell_at k.cells o) (sym z) ∙ (ap (λ (cs : List Cell). cell_at cs (suc n)) alone ∙ extent.alone_cell (cell_at k.cells 0) n) in
+                let dead = subst (λ (c : Cell). IsBorn c.mark) none born in absurd dead
+
+pub large_are_read : LargeAreRead
+large_are_read h from ss news s t tidy reserved a c big = large_read h from ss news s t tidy reserved a (in_from_contains (olds ss) a c) big
