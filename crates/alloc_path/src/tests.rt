@@ -101,9 +101,7 @@ fn chunks_of_large_objects(rt: HostRuntime) -> Result<(), Fail> {
     heap.add(Chunk::new(rt.alloc(), 7, 2)?)?;
     assert_eq!(rt; heap.room(), 0);
     assert_eq!(rt; heap.place(of_numbers(2047))?, None);
-    assert_eq!(rt; heap.reserved(), Some(0));
     assert_eq!(rt; heap.place(of_numbers(1023))?, Some(FIRST));
-    assert_eq!(rt; heap.reserved(), None);
     assert_eq!(rt; heap.place(of_numbers(1023))?, None);
     assert_eq!(rt; (heap.since(), heap.words()), (1025, 1025));
     let mut largest = LeafHeap::new(rt.alloc());

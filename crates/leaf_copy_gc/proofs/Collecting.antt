@@ -1,18 +1,17 @@
 -- From the old chunks as they are left to the heap as it is to be.
-use Rattle.std.proofs.Common.{◌≡◌, ℕ, ◌+◌, ◌<◌, ◌≤◌, List, [], ◌∷◌, ◌++◌, length, map, filter, fold, refl, sym, ap, ◌∙◌, subst, arith, inl, inr, Option, Some, None, Contains, ◌↔◌}
+use Rattle.std.proofs.Common.{◌≡◌, ℕ, ◌+◌, ◌<◌, List, [], ◌++◌, length, map, filter, fold, refl, sym, ap, ◌∙◌, subst, arith, Option, Some, None}
 use Rattle.std.specs.Prelude.{reverse}
 use Rattle.std.proofs.lemmas.List.{length-map, reverse-reverse}
-use Rattle.object_layout.specs.declared.word.Addr.{Addr}
 use Rattle.object_layout.specs.Content.{Content}
 use Rattle.object_layout.specs.Chunks.{chunk_at}
 use Rattle.alloc_path.specs.Heap.{AreApart, Heap, IsReserved, IsCurrent, exchanged, with_places}
-use Rattle.listed.proofs.Members.{In, in_append_left, contains_from_in}
+use Rattle.listed.proofs.Members.{In, in_append_left}
 use Rattle.leaf_copy_gc.specs.declared.lists.Survivor.{Survivor}
 use Rattle.leaf_copy_gc.specs.Survivors.{olds, with_chunks, Once, HaveNames}
-use Rattle.leaf_copy_gc.specs.Laid.{before, laid_all, smalls, AreNew}
+use Rattle.leaf_copy_gc.specs.Laid.{before, smalls, AreNew}
 use Rattle.leaf_copy_gc.specs.Redirected.{led_chunk}
 use Rattle.leaf_copy_gc.specs.Exchanged.{emptied, goes, stays, unreserved, reserved_of, reserved_place, named, last_place, CanName}
-use Rattle.leaf_copy_gc.specs.Collected.{AreAlike, AreTidy, IsLeft, keeps, leaves, laying_of, redirection}
+use Rattle.leaf_copy_gc.specs.Collected.{AreTidy, IsLeft, keeps, leaves, laying_of, redirection}
 use Rattle.leaf_copy_gc.proofs.Numbers as nums
 use Rattle.leaf_copy_gc.proofs.Numbers.{numbers, Distinct, Within}
 use Rattle.leaf_copy_gc.proofs.Rebuilt as rebuilt

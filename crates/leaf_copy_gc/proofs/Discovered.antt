@@ -1,16 +1,16 @@
 -- What a search finds is what survives.
-use Rattle.std.proofs.Common.{◌≡◌, ℕ, zero, suc, ◌+◌, ◌<◌, ◌≤◌, List, [], ◌∷◌, ◌++◌, length, get_or, take, fold, refl, sym, ap, ◌∙◌, subst, arith, inl, inr, Option, Some, None, Contains, ◌↔◌, length-append, All, map}
+use Rattle.std.proofs.Common.{◌≡◌, ℕ, suc, ◌+◌, ◌<◌, ◌≤◌, List, [], ◌∷◌, ◌++◌, length, get_or, take, fold, refl, sym, ap, ◌∙◌, subst, arith, inl, inr, Option, Some, None, Contains, ◌↔◌, length-append, All, map}
 use Rattle.std.proofs.lemmas.List.{append_assoc, append-nil, take_more, take_all, get_or_append_left, take-append-le}
 use Rattle.object_layout.specs.declared.word.Addr.{Addr}
 use Rattle.object_layout.specs.declared.word.Birth.{Birth}
-use Rattle.object_layout.specs.Cell.{Cell, Mark, Born, Moved, IsBorn, IsObject}
+use Rattle.object_layout.specs.Cell.{Cell, Born, IsBorn, IsObject}
 use Rattle.object_layout.proofs.ChunkLaws as laws
 use Rattle.object_layout.specs.Content.{Content}
 use Rattle.object_layout.specs.Chunks.{cell_of}
 use Rattle.listed.proofs.Members.{In, in_append_left, in_append_right, in_append_cases, contains_from_in, in_from_contains}
 use Rattle.walks.proofs.Reached.{reached_within}
 use Rattle.leaf_copy_gc.specs.declared.lists.Survivor.{Survivor}
-use Rattle.leaf_copy_gc.specs.Survivors.{IsLive, olds, old_of, IsSurvivor, Starts, Leads, Once, IsSound, IsClosed, HaveNames}
+use Rattle.leaf_copy_gc.specs.Survivors.{IsLive, olds, old_of, IsSurvivor, Starts, Leads, Once, IsSound, IsClosed}
 use Rattle.leaf_copy_gc.specs.Search.{found_in, all_found, Search, visited, visited_at, birth_in, IsTarget}
 use Rattle.leaf_copy_gc.proofs.Puts as puts
 use Rattle.leaf_copy_gc.proofs.FoundLemmas as marks

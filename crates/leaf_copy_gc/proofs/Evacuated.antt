@@ -1,5 +1,5 @@
 -- The old heap, once the survivors are copied and all references are led.
-use Rattle.std.proofs.Common.{◌≡◌, ℕ, ◌+◌, ◌<◌, ◌≤◌, Bool, true, false, cond, List, [], ◌∷◌, ◌++◌, length, map, fold, refl, sym, ap, ◌∙◌, subst, arith, inl, inr, Option, Contains, ◌↔◌, All, take, drop}
+use Rattle.std.proofs.Common.{◌≡◌, ℕ, ◌+◌, ◌<◌, ◌≤◌, Bool, true, false, cond, List, [], ◌∷◌, ◌++◌, length, fold, refl, sym, ap, ◌∙◌, subst, arith, inl, inr, Option, Contains, ◌↔◌, All, take, drop}
 use Rattle.std.specs.Prelude.{nat_le}
 use Rattle.std.specs.List.Sorted.{IsPermutation}
 use Rattle.std.proofs.lemmas.List.{take_all, drop_all, append-nil}
@@ -7,10 +7,9 @@ use Rattle.std.specs.List.{sum_by}
 use Rattle.std.proofs.lemmas.List.Sums.{sum_by-cons}
 use Rattle.std.proofs.lemmas.List.Sorted.{IsPermutation-map, IsPermutation-sym, Contains-permutation, sum_by-IsPermutation}
 use Rattle.object_layout.specs.declared.word.Addr.{Addr}
-use Rattle.object_layout.specs.Cell.{Cell, Born, Moved, IsObject, size_of, with_mark}
+use Rattle.object_layout.specs.Cell.{Cell, Moved, IsObject, size_of, with_mark}
 use Rattle.object_layout.specs.Content.{Content}
-use Rattle.object_layout.specs.Chunks.{cell_of, put_object}
-use Rattle.object_layout.proofs.ChunkLaws as laws
+use Rattle.object_layout.specs.Chunks.{cell_of}
 use Rattle.remembered_set.specs.Moved.{same_address}
 use Rattle.listed.proofs.Members.{In, in_from_contains, contains_from_in}
 use Rattle.leaf_copy_gc.specs.declared.lists.Survivor.{Survivor}

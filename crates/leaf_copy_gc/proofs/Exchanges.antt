@@ -1,5 +1,5 @@
 -- The chunks that a heap keeps, and those that it gives back.
-use Rattle.std.proofs.Common.{◌≡◌, ℕ, zero, suc, ◌+◌, ◌<◌, ◌≤◌, List, [], ◌∷◌, ◌++◌, length, get_or, take, refl, sym, ap, ◌∙◌, arith}
+use Rattle.std.proofs.Common.{◌≡◌, ℕ, zero, suc, ◌+◌, ◌<◌, List, [], ◌∷◌, length, get_or, take, ap, arith}
 use Rattle.object_layout.specs.Content.{Content}
 use Rattle.alloc_path.specs.Heap.{units}
 use Rattle.leaf_copy_gc.specs.Exchanged.{counted32, unit_count}

@@ -4,14 +4,14 @@ use Rattle.std.proofs.lemmas.Bool.{cases_Bool, le-leb}
 use Rattle.std.proofs.lemmas.List.{length-map}
 use Rattle.std.proofs.lemmas.List.Elements.{All-head, All-tail}
 use Rattle.object_layout.specs.declared.word.Addr.{Addr}
-use Rattle.object_layout.specs.Cell.{Cell, IsObject, moved_to, size_of, with_ref}
+use Rattle.object_layout.specs.Cell.{Cell, IsObject, size_of, with_ref}
 use Rattle.object_layout.specs.Content.{Content}
 use Rattle.object_layout.specs.Place.{cell_at, object_at, put_cell, words_in, IsCellAt, IsObjectAt}
-use Rattle.object_layout.specs.Chunks.{cell_of, object_of, place_of, put_object}
+use Rattle.object_layout.specs.Chunks.{cell_of, object_of, put_object}
 use Rattle.object_layout.proofs.PlaceLemmas as place
 use Rattle.object_layout.proofs.ChunkLaws as laws
 use Rattle.leaf_copy_gc.specs.Search.{IsTarget}
-use Rattle.leaf_copy_gc.specs.Redirected.{led, followed, followed_ref, HasTargets}
+use Rattle.leaf_copy_gc.specs.Redirected.{led, followed, followed_ref}
 use Rattle.leaf_copy_gc.proofs.Upto as upto
 use Rattle.leaf_copy_gc.proofs.Upto.{led_upto}
 use Rattle.leaf_copy_gc.proofs.Puts as puts

@@ -1,13 +1,13 @@
 -- A heap with some objects marked as found.
-use Rattle.std.proofs.Common.{◌≡◌, ℕ, ◌<◌, ◌≤◌, List, [], ◌∷◌, ◌++◌, length, refl, sym, ap, ◌∙◌, subst, arith, inl, inr, Option, Some, None, get_or, All, fold}
+use Rattle.std.proofs.Common.{◌≡◌, ℕ, List, [], ◌∷◌, ◌++◌, length, refl, sym, ap, ◌∙◌, subst, arith, inl, inr, Option, Some, None, get_or, All, fold}
 use Rattle.object_layout.specs.declared.word.Addr.{Addr}
 use Rattle.object_layout.specs.declared.word.Birth.{Birth}
 use Rattle.object_layout.specs.Cell.{Cell, Mark, Born, Moved, Hole, IsBorn, IsObject, moved_to, with_mark}
 use Rattle.object_layout.specs.Content.{Content}
-use Rattle.object_layout.specs.Chunks.{cell_of, place_of, put_object}
+use Rattle.object_layout.specs.Chunks.{cell_of, place_of}
 use Rattle.object_layout.proofs.ChunkLaws as laws
 use Rattle.listed.proofs.Members.{In}
-use Rattle.leaf_copy_gc.specs.Survivors.{IsLive, IsSound, live_count}
+use Rattle.leaf_copy_gc.specs.Survivors.{IsLive, IsSound}
 use Rattle.leaf_copy_gc.specs.Search.{found_in, all_found, birth_in, visited, visited_at, IsTarget, Search}
 use Rattle.leaf_copy_gc.proofs.Puts as puts
 

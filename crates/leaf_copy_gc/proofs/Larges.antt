@@ -1,12 +1,12 @@
 -- The references of the large survivors, led one object after another; and what keeps the shape of a heap.
-use Rattle.std.proofs.Common.{◌≡◌, ℕ, zero, suc, ◌+◌, ◌-◌, ◌<◌, ◌≤◌, Bool, true, false, cond, List, [], ◌∷◌, length, map, fold, refl, sym, ap, ◌∙◌, subst, arith, inl, inr, eqb, Option, All, get_or}
+use Rattle.std.proofs.Common.{◌≡◌, ℕ, zero, suc, ◌-◌, Bool, true, false, cond, List, [], ◌∷◌, map, fold, refl, sym, ap, ◌∙◌, subst, inl, inr, eqb, Option, get_or}
 use Rattle.std.specs.Prelude.{nat_le}
 use Rattle.std.proofs.lemmas.Bool.{cases_Bool, false≢true, le-leb, lt-leb, cases_lt}
 use Rattle.object_layout.specs.declared.word.Addr.{Addr}
 use Rattle.object_layout.specs.Cell.{Cell, IsObject, size_of}
 use Rattle.object_layout.specs.Content.{Content}
 use Rattle.object_layout.specs.Place.{cell_at, put_cell}
-use Rattle.object_layout.specs.Chunks.{cell_of, put_object, with_cell}
+use Rattle.object_layout.specs.Chunks.{cell_of, put_object}
 use Rattle.object_layout.proofs.ChunkLaws as laws
 use Rattle.listed.proofs.Members.{In, contains_from_in}
 use Rattle.leaf_copy_gc.specs.declared.lists.Survivor.{Survivor}

@@ -1,26 +1,24 @@
 -- References of the survivors, and where they are led.
 use Rattle.std.proofs.Common.{◌≡◌, ℕ, suc, ◌+◌, ◌*◌, ◌/◌, ◌<◌, ◌≤◌, Bool, true, false, cond, List, [], ◌∷◌, ◌++◌, length, get_or, map, fold, refl, sym, ap, ◌∙◌, subst, arith, inl, inr, Option, Some, None, Contains, ◌↔◌, All}
-use Rattle.std.specs.Prelude.{nat_lt, nat_le, unwrap_or}
-use Rattle.std.proofs.lemmas.Bool.{cases_Bool, cases_lt, lt-ltb, le-ltb, le-leb, leb-true, false≢true}
+use Rattle.std.specs.Prelude.{nat_lt, unwrap_or}
+use Rattle.std.proofs.lemmas.Bool.{cases_lt, lt-ltb, le-ltb, leb-true, false≢true}
 use Rattle.std.proofs.lemmas.List.Elements.{All-cons, All-head, All-tail}
 use Rattle.object_layout.specs.declared.word.Addr.{Addr}
-use Rattle.object_layout.specs.Cell.{Cell, Born, Moved, IsBorn, IsObject, moved_to, size_of, with_mark}
+use Rattle.object_layout.specs.Cell.{Cell, Born, Moved, IsObject, moved_to, size_of, with_mark}
 use Rattle.object_layout.specs.Content.{Content}
-use Rattle.object_layout.specs.Chunks.{cell_of, place_of, put_object}
+use Rattle.object_layout.specs.Chunks.{cell_of, place_of}
 use Rattle.object_layout.proofs.ChunkLaws as laws
-use Rattle.remembered_set.specs.Moved.{new_of}
 use Rattle.listed.proofs.Members.{In, in_from_contains, contains_from_in}
 use Rattle.leaf_copy_gc.specs.declared.lists.Survivor.{Survivor}
 use Rattle.leaf_copy_gc.specs.Survivors.{IsLive, IsClosed, IsSound, IsSurvivor, olds, old_of, Once, HaveNames}
 use Rattle.leaf_copy_gc.specs.Search.{all_found, IsTarget}
 use Rattle.leaf_copy_gc.specs.Laid.{Laying, is_small, smalls, laid_all, laid_one, opened, open_next, placed, room_in, relocations, before, AreNew, HaveRoom, small_words}
 use Rattle.leaf_copy_gc.specs.Copying.{Copying, copied, copied_one, IsReady}
-use Rattle.leaf_copy_gc.specs.Redirected.{followed, followed_ref, followed_at, followed_large, new_address, redirected, led, led_chunk, HasTargets, CanFollow}
-use Rattle.leaf_copy_gc.proofs.ListLemmas.{in_map, in_read, read_in, all_from}
+use Rattle.leaf_copy_gc.specs.Redirected.{followed, followed_ref, new_address, redirected, led, led_chunk, HasTargets}
+use Rattle.leaf_copy_gc.proofs.ListLemmas.{in_map, in_read, read_in}
 use Rattle.leaf_copy_gc.proofs.Puts as puts
 use Rattle.leaf_copy_gc.proofs.FoundLemmas as marks
 use Rattle.leaf_copy_gc.proofs.Discovered.{survivor_live}
-use Rattle.leaf_copy_gc.proofs.FollowLemmas as follows
 use Rattle.leaf_copy_gc.proofs.Moves as moves
 use Rattle.leaf_copy_gc.proofs.Moves.{AreAs, small_ones}
 use Rattle.leaf_copy_gc.proofs.Rooms as rooms

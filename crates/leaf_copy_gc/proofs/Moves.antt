@@ -1,11 +1,11 @@
 -- What the copying comes to.
-use Rattle.std.proofs.Common.{◌≡◌, ℕ, ◌+◌, ◌<◌, ◌≤◌, Bool, true, false, cond, List, [], ◌∷◌, ◌++◌, length, filter, fold, refl, sym, ap, ◌∙◌, subst, arith, inl, inr, eqb, eqb-true, eq-eqb, Option, Some, None}
+use Rattle.std.proofs.Common.{◌≡◌, ℕ, Bool, true, false, cond, List, [], ◌∷◌, ◌++◌, length, filter, fold, refl, sym, ap, ◌∙◌, subst, arith, inl, inr, eqb, eqb-true, eq-eqb, Option, Some, None}
 use Rattle.std.specs.Prelude.{nat_le}
-use Rattle.std.proofs.lemmas.Bool.{cases_Bool, cases_lt, and_parts, and_from, lt-ltb, le-ltb, false≢true}
+use Rattle.std.proofs.lemmas.Bool.{cases_Bool, and_parts, and_from, false≢true}
 use Rattle.std.proofs.lemmas.List.{append_assoc, append-nil}
 use Rattle.object_layout.specs.declared.word.Addr.{Addr}
 use Rattle.object_layout.specs.declared.word.Birth.{Birth}
-use Rattle.object_layout.specs.Cell.{Cell, Mark, Born, Moved, Hole, IsBorn, IsObject, moved_to, size_of, with_mark}
+use Rattle.object_layout.specs.Cell.{Cell, Mark, Born, Moved, IsBorn, IsObject, moved_to, size_of, with_mark}
 use Rattle.object_layout.specs.Content.{Content}
 use Rattle.object_layout.specs.Chunks.{cell_of, place_of, put_object}
 use Rattle.object_layout.proofs.ChunkLaws as laws
@@ -16,7 +16,7 @@ use Rattle.leaf_copy_gc.specs.Survivors.{IsLive, olds, old_of, Once}
 use Rattle.leaf_copy_gc.specs.Search.{all_found, found_in, IsTarget}
 use Rattle.leaf_copy_gc.specs.Laid.{Laying, is_small, smalls, laid_one, laid_at, relocations, laid_all, HasRoom, HaveRoom}
 use Rattle.leaf_copy_gc.specs.Copying.{Copying, copied, copied_one, survivor_cell, IsReady}
-use Rattle.leaf_copy_gc.specs.Redirected.{followed, followed_ref, new_address, redirected}
+use Rattle.leaf_copy_gc.specs.Redirected.{new_address}
 use Rattle.leaf_copy_gc.proofs.ListLemmas.{in_map}
 use Rattle.leaf_copy_gc.proofs.Puts as puts
 use Rattle.leaf_copy_gc.proofs.FoundLemmas as marks

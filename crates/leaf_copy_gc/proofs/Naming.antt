@@ -1,8 +1,8 @@
 -- Large survivors bear their names again, and the heap is what it is to be.
-use Rattle.std.proofs.Common.{◌≡◌, ℕ, zero, suc, ◌+◌, ◌-◌, ◌<◌, ◌≤◌, Bool, true, false, cond, List, [], ◌∷◌, ◌++◌, length, map, filter, fold, refl, sym, ap, ◌∙◌, subst, arith, inl, inr, ◌⊎◌, Option, Some, None, Contains, is_some}
-use Rattle.std.specs.Prelude.{nat_le, remove, not, ◌&&◌}
+use Rattle.std.proofs.Common.{◌≡◌, ℕ, zero, suc, ◌<◌, ◌≤◌, Bool, true, false, cond, List, [], ◌∷◌, ◌++◌, length, map, filter, fold, refl, sym, ap, ◌∙◌, subst, arith, inl, inr, ◌⊎◌, Option, Some, None, is_some}
+use Rattle.std.specs.Prelude.{nat_le, remove, not}
 use Rattle.std.specs.List.{list_any}
-use Rattle.std.proofs.lemmas.Bool.{cases_Bool, cases_lt, false≢true, and_parts, le-leb, lt-ltb, le-ltb}
+use Rattle.std.proofs.lemmas.Bool.{cases_lt, false≢true, and_parts, le-leb, lt-ltb}
 use Rattle.object_layout.specs.declared.word.Addr.{Addr}
 use Rattle.object_layout.specs.declared.word.Birth.{Birth}
 use Rattle.object_layout.specs.Cell.{Cell, Mark, Born, Moved, IsBorn, IsObject, no_cell, size_of, with_mark}
@@ -12,7 +12,7 @@ use Rattle.object_layout.specs.Chunks.{cell_of, chunk_at, place_of, place_in, pu
 use Rattle.object_layout.proofs.ChunkLaws as laws
 use Rattle.remembered_set.specs.Moved.{same_address}
 use Rattle.alloc_path.proofs.HeapLemmas.{none_there}
-use Rattle.listed.proofs.Members.{In, contains_from_in, in_from_contains, in_from_kept, in_append_cases}
+use Rattle.listed.proofs.Members.{In, contains_from_in, in_from_kept, in_append_cases}
 use Rattle.leaf_copy_gc.specs.declared.lists.Survivor.{Survivor}
 use Rattle.leaf_copy_gc.specs.Survivors.{IsLive, olds, old_of, Once, HaveNames}
 use Rattle.leaf_copy_gc.specs.Redirected.{led, led_chunk}
@@ -20,7 +20,6 @@ use Rattle.leaf_copy_gc.specs.Exchanged.{unreserved, reserved_of, named, CanName
 use Rattle.leaf_copy_gc.specs.Collected.{AreAlike, AreTidy, IsTidy, keeps}
 use Rattle.leaf_copy_gc.proofs.ListLemmas.{in_map, read_in}
 use Rattle.leaf_copy_gc.proofs.Puts as puts
-use Rattle.leaf_copy_gc.proofs.Moves as moves
 use Rattle.leaf_copy_gc.proofs.Larges as larges
 use Rattle.leaf_copy_gc.proofs.Numbers as nums
 use Rattle.leaf_copy_gc.proofs.Numbers.{numbers, Distinct, Within}

@@ -1,5 +1,5 @@
 -- The numbers of chunks, each once.
-use Rattle.std.proofs.Common.{◌≡◌, ℕ, zero, suc, ◌+◌, ◌<◌, ◌≤◌, Bool, true, false, cond, List, [], ◌∷◌, ◌++◌, length, get_or, take, drop, map, filter, refl, sym, ap, ◌∙◌, subst, arith, inl, inr, ◌⊎◌, Option, Some, None}
+use Rattle.std.proofs.Common.{◌≡◌, ℕ, zero, suc, ◌<◌, Bool, true, false, cond, List, [], ◌∷◌, ◌++◌, length, map, filter, refl, sym, ap, ◌∙◌, subst, arith, inl, inr, Option, Some, None}
 use Rattle.std.specs.Prelude.{remove, nat_lt, reverse}
 use Rattle.std.proofs.lemmas.List.{reverse-append}
 use Rattle.object_layout.specs.declared.word.Addr.{Addr}
@@ -9,7 +9,7 @@ use Rattle.object_layout.specs.Chunks.{chunk_at, cell_of}
 use Rattle.alloc_path.specs.Heap.{AreApart, IsFresh, IsCurrent}
 use Rattle.alloc_path.proofs.HeapLemmas.{fresh_cons, fresh_head, fresh_tail}
 use Rattle.listed.proofs.Members.{In, in_append_left, in_append_right, in_append_cases}
-use Rattle.leaf_copy_gc.specs.Laid.{Laying, AreNew, before, laid_all, laid_one, opened, open_next, placed, room_in}
+use Rattle.leaf_copy_gc.specs.Laid.{Laying, AreNew, laid_all, laid_one, opened, open_next, placed, room_in}
 use Rattle.leaf_copy_gc.specs.Exchanged.{last_place, reserved_of, unreserved}
 use Rattle.leaf_copy_gc.specs.Collected.{AreAlike}
 

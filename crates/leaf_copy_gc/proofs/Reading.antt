@@ -7,7 +7,7 @@ use Rattle.std.proofs.lemmas.Bool.{cases_Bool, cases_lt, le-leb, lt-leb, leb-tru
 use Rattle.object_layout.specs.declared.word.Addr.{Addr}
 use Rattle.object_layout.specs.Cell.{Born, Cell, IsBorn, IsObject, no_cell, size_of}
 use Rattle.object_layout.specs.Content.{Content}
-use Rattle.object_layout.specs.Place.{cell_at, words_in, IsCellAt}
+use Rattle.object_layout.specs.Place.{cell_at, IsCellAt}
 use Rattle.object_layout.specs.Chunks.{cell_of, chunk_at}
 use Rattle.object_layout.proofs.PlaceLemmas as place
 use Rattle.object_layout.proofs.ChunkLaws as laws
@@ -26,7 +26,7 @@ use Rattle.leaf_copy_gc.proofs.Rebuilt as rebuilt
 use Rattle.leaf_copy_gc.proofs.Rebuilt.{NoneThere, first_of}
 use Rattle.remembered_set.specs.Moved.{same_address}
 use Rattle.leaf_copy_gc.proofs.Rooms as rooms
-use Rattle.leaf_copy_gc.specs.Laid.{Laying, HasRoom, HaveRoom, before, is_small, small_words, smalls, laid_all, laid_at, laid_one, next_place, opened, open_next, placed, relocations, room_in}
+use Rattle.leaf_copy_gc.specs.Laid.{Laying, HaveRoom, before, is_small, small_words, smalls, laid_all, laid_at, laid_one, next_place, opened, open_next, placed, relocations, room_in}
 use Rattle.leaf_copy_gc.specs.Redirected.{led, led_chunk}
 use Rattle.leaf_copy_gc.proofs.FollowLemmas.{size_led}
 use Rattle.leaf_copy_gc.proofs.LastChunk.{some_room}

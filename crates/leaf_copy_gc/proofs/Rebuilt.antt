@@ -1,30 +1,24 @@
 -- The chunks that stay: those of large survivors, as they were but for their references.
-use Rattle.std.proofs.Common.{◌≡◌, ℕ, zero, suc, ◌+◌, ◌-◌, ◌<◌, ◌≤◌, Bool, true, false, cond, List, [], ◌∷◌, ◌++◌, length, map, filter, fold, refl, sym, ap, ◌∙◌, subst, arith, inl, inr, ◌⊎◌, eqb, Option, Some, None, Contains, All, is_some}
+use Rattle.std.proofs.Common.{◌≡◌, ℕ, zero, suc, ◌<◌, Bool, true, false, cond, List, [], ◌∷◌, length, map, filter, refl, sym, ap, ◌∙◌, subst, arith, inl, inr, Option, Some, None, Contains, All, is_some}
 use Rattle.std.specs.Prelude.{nat_le, remove, not, ◌&&◌}
 use Rattle.std.specs.List.{list_any}
-use Rattle.std.proofs.lemmas.Bool.{cases_Bool, cases_lt, false≢true, leb-true, le-leb, lt-leb, lt-ltb, le-ltb}
+use Rattle.std.proofs.lemmas.Bool.{cases_Bool, cases_lt, false≢true, le-leb}
 use Rattle.std.proofs.lemmas.List.Elements.{All-head, All-tail}
 use Rattle.object_layout.specs.declared.word.Addr.{Addr}
-use Rattle.object_layout.specs.declared.word.Birth.{Birth}
-use Rattle.object_layout.specs.Cell.{Cell, Mark, Born, Moved, IsBorn, IsObject, moved_to, no_cell, size_of, with_mark}
+use Rattle.object_layout.specs.Cell.{Cell, Moved, moved_to, size_of, with_mark}
 use Rattle.object_layout.specs.Content.{Content}
 use Rattle.object_layout.specs.Place.{cell_at}
-use Rattle.object_layout.specs.Chunks.{cell_of, chunk_at, place_of, place_in, put_object}
-use Rattle.object_layout.proofs.ChunkLaws as laws
+use Rattle.object_layout.specs.Chunks.{cell_of, chunk_at}
 use Rattle.remembered_set.specs.Moved.{same_address}
 use Rattle.listed.proofs.Members.{In, contains_from_in, in_from_contains}
 use Rattle.leaf_copy_gc.specs.declared.lists.Survivor.{Survivor}
-use Rattle.leaf_copy_gc.specs.Survivors.{IsLive, olds, old_of, Once, HaveNames}
+use Rattle.leaf_copy_gc.specs.Survivors.{olds}
 use Rattle.leaf_copy_gc.specs.Laid.{is_small}
-use Rattle.leaf_copy_gc.specs.Redirected.{led, led_chunk}
-use Rattle.leaf_copy_gc.specs.Exchanged.{emptied, goes, stays, unreserved, reserved_of, named, CanName}
-use Rattle.leaf_copy_gc.specs.Collected.{AreAlike, AreTidy, IsLeft, IsTidy, keeps, leaves}
-use Rattle.leaf_copy_gc.proofs.ListLemmas.{in_map, read_in}
+use Rattle.leaf_copy_gc.specs.Redirected.{led}
+use Rattle.leaf_copy_gc.specs.Exchanged.{emptied, goes, stays, unreserved, reserved_of}
+use Rattle.leaf_copy_gc.specs.Collected.{AreAlike, AreTidy, IsTidy, keeps, leaves}
 use Rattle.leaf_copy_gc.proofs.Puts as puts
 use Rattle.leaf_copy_gc.proofs.Moves as moves
-use Rattle.leaf_copy_gc.proofs.Larges as larges
-use Rattle.leaf_copy_gc.proofs.FollowLemmas as follows
-use Rattle.leaf_copy_gc.proofs.Numbers as numbers
 use Rattle.leaf_copy_gc.proofs.Numbers.{numbers, Distinct}
 use Rattle.leaf_copy_gc.proofs.Extent as extent
 

@@ -1,5 +1,5 @@
 -- What a collection makes of a heap.
-use Rattle.std.specs.Prelude.{◌≡◌, ℕ, ◌+◌, ◌<◌, ◌↔◌, ◌&&◌, Bool, false, List, [], ◌∷◌, ◌++◌, Option, None, All, Contains, filter, length, map, nat_le, not, reverse}
+use Rattle.std.specs.Prelude.{◌≡◌, ◌+◌, ◌<◌, ◌↔◌, ◌&&◌, Bool, false, List, [], ◌∷◌, ◌++◌, Option, None, All, Contains, filter, length, map, nat_le, not, reverse}
 use Rattle.std.specs.List.{list_any}
 use Rattle.std.specs.List.Sorted.{IsSorted}
 use Rattle.object_layout.specs.declared.word.Addr.{Addr}

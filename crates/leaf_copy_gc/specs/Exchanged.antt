@@ -1,6 +1,5 @@
 -- Which chunks a heap keeps, and which it gives back.
-use Rattle.std.specs.Prelude.{◌≡◌, true, ℕ, ◌+◌, ◌-◌, ◌^◌, Bool, List, [], ◌∷◌, ◌++◌, ◌&&◌, Option, Some, None, fold, filter, is_some, length, min, nat_le, nat_lt, not, remove, if◌then◌else◌}
-use Rattle.object_layout.specs.declared.word.Addr.{Addr}
+use Rattle.std.specs.Prelude.{◌≡◌, true, ℕ, ◌+◌, ◌-◌, ◌^◌, Bool, List, [], ◌∷◌, ◌&&◌, Option, Some, None, is_some, length, min, nat_le, not, remove, if◌then◌else◌}
 use Rattle.object_layout.specs.Cell.{Born, Cell, IsObject, moved_to, size_of, with_mark}
 use Rattle.object_layout.specs.Content.{Content}
 use Rattle.object_layout.specs.Place.{cell_at}

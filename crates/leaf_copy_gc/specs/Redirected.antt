@@ -1,5 +1,5 @@
 -- References led to where their objects are now.
-use Rattle.std.specs.Prelude.{ℕ, List, [], ◌∷◌, Option, Some, None, map, nat_lt, if◌then◌else◌, All, length, fold, unwrap_or}
+use Rattle.std.specs.Prelude.{List, [], ◌∷◌, Option, Some, None, map, nat_lt, if◌then◌else◌, All, length, unwrap_or}
 use Rattle.object_layout.specs.declared.word.Addr.{Addr}
 use Rattle.object_layout.specs.Cell.{Cell, IsObject, moved_to}
 use Rattle.object_layout.specs.Content.{Content}

@@ -1,13 +1,12 @@
 -- The objects of a heap that a collection keeps.
-use Rattle.std.specs.Prelude.{◌≡◌, ℕ, ◌+◌, ◌<◌, List, [], ◌∷◌, ◌++◌, Option, Some, None, Contains, fold, map, length, All}
+use Rattle.std.specs.Prelude.{◌≡◌, ℕ, ◌+◌, ◌<◌, List, [], ◌∷◌, ◌++◌, Option, Some, None, Contains, map, length, All}
 use Rattle.std.specs.List.{flat_map}
 use Rattle.std.specs.Ordering.{nat_cmp, ordering_then}
 use Rattle.std.specs.declared.cmp.Ordering.{Ordering}
 use Rattle.object_layout.specs.declared.word.Addr.{Addr}
-use Rattle.object_layout.specs.declared.word.Birth.{Birth}
-use Rattle.object_layout.specs.Cell.{Born, Cell, Hole, IsBorn, Mark, Moved, moved_to, with_mark}
+use Rattle.object_layout.specs.Cell.{Born, Cell, Hole, IsBorn, Mark, Moved}
 use Rattle.object_layout.specs.Content.{Content}
-use Rattle.object_layout.specs.Chunks.{cell_of, place_of, put_object}
+use Rattle.object_layout.specs.Chunks.{cell_of, place_of}
 use Rattle.alloc_path.specs.Heap.{Heap}
 use Rattle.task_frames.specs.declared.frames.Frame.{Frame}
 use Rattle.task_frames.specs.Stack.{Stack, frames_of}

@@ -49,22 +49,6 @@ fn registers_of_each(rt: HostRuntime) -> Result<(), Fail> {
     Ok(())
 }
 
-#[test]
-fn all_references_of_one(rt: HostRuntime) -> Result<(), Fail> {
-    let mut frames = started(&rt);
-    assert!(rt; frames.push(8).is_ok());
-    let at = Some(Addr {
-        chunk: 3,
-        offset: 9,
-    });
-    frames.set_references_in(0, &[at; 16]);
-    assert_eq!(rt; frames.reference(15), NOWHERE);
-    assert_eq!(rt; frames.references_in(0), [at; 16]);
-    frames.pop();
-    assert_eq!(rt; frames.reference(15), at);
-    Ok(())
-}
-
 fn crosses<T: Send>(value: T) -> T {
     value
 }

@@ -1,11 +1,10 @@
-use Rattle.std.proofs.Common.{◌≡◌, ℕ, ◌+◌, ◌++◌, ◌∷◌, [], List, length, map, fold, filter, reverse, refl, sym, ap, ◌∙◌, subst, arith, Option, Some, None}
+use Rattle.std.proofs.Common.{◌≡◌, ℕ, List, length, fold, reverse, refl, sym, ap, ◌∙◌, subst, arith, Option}
 use Rattle.object_layout.specs.declared.word.Addr.{Addr}
 use Rattle.object_layout.specs.Content.{Content}
-use Rattle.alloc_path.specs.Heap.{Heap, AreApart, IsReserved, IsCurrent, with_places, exchanged}
+use Rattle.alloc_path.specs.Heap.{Heap}
 use Rattle.leaf_copy_gc.specs.declared.lists.Survivor.{Survivor}
 use Rattle.leaf_copy_gc.specs.Survivors.{olds, outside, with_chunks}
-use Rattle.leaf_copy_gc.specs.Exchanged.{counted32, emptied, goes, stays, unreserved, reserved_of, reserved_place, last_place, named, unit_count, CanName}
-use Rattle.leaf_copy_gc.specs.Collected.{collected, laid_of, kept_of, back_of, moves_of, laying_of}
+use Rattle.leaf_copy_gc.specs.Exchanged.{counted32, named, unit_count, CanName}
 use Rattle.leaf_copy_gc.proofs.Collecting as collecting
 use Rattle.leaf_copy_gc.proofs.Numbers as nums
 use Rattle.leaf_copy_gc.proofs.Order as orders

@@ -1,4 +1,4 @@
-use Rattle.std.proofs.Common.{◌≡◌, ◌<◌, ◌-◌, [], ◌∷◌, ◌++◌, length, set, get_or, arith, refl, sym, ap, ◌∙◌, subst, List}
+use Rattle.std.proofs.Common.{◌-◌, [], ◌∷◌, ◌++◌, length, set, arith, sym, ap, ◌∙◌, subst, List}
 use Rattle.object_layout.specs.declared.word.Addr.{Addr}
 use Rattle.object_layout.specs.Cell.{Cell, Born, Moved, IsObject, size_of, with_mark}
 use Rattle.object_layout.specs.Chunks.{cell_of, put_object}

@@ -1,7 +1,7 @@
-use Rattle.std.proofs.Common.{◌≡◌, ◌+◌, ◌<◌, [], List, length, sym, ap, ◌∙◌, subst, arith, map, fold}
+use Rattle.std.proofs.Common.{◌+◌, ◌<◌, List, length, sym, ap, ◌∙◌, subst, arith, fold}
 use Rattle.task_frames.specs.Stack.{frames_of}
 use Rattle.leaf_copy_gc.specs.declared.lists.Survivor.{Survivor}
-use Rattle.leaf_copy_gc.specs.Survivors.{as_reference, held_by, outside, with_chunks}
+use Rattle.leaf_copy_gc.specs.Survivors.{held_by, outside, with_chunks}
 use Rattle.leaf_copy_gc.specs.Search.{Search, visited}
 use Rattle.leaf_copy_gc.proofs.Discovered as founds
 use Rattle.leaf_copy_gc.proofs.Discovered.{Going}

@@ -1,6 +1,5 @@
-use Rattle.std.proofs.Common.{◌≡◌, List, None, Option, get_or, sym, ap, ◌∙◌, arith}
+use Rattle.std.proofs.Common.{None, Option, get_or, sym, ap, ◌∙◌, arith}
 use Rattle.object_layout.specs.declared.word.Addr.{Addr}
-use Rattle.object_layout.specs.Content.{Content}
 use Rattle.leaf_copy_gc.specs.Search.{Search, visited}
 use Rattle.leaf_copy_gc.specs.Survivors.{with_chunks}
 use Rattle.leaf_copy_gc.proofs.FoundLemmas as founds

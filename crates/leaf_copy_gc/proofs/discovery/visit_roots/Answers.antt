@@ -1,4 +1,4 @@
-use Rattle.std.proofs.Common.{◌≡◌, List, Some, Option, get_or, map, sym, ap, ◌∙◌, arith}
+use Rattle.std.proofs.Common.{Some, Option, get_or, map, sym, ap, ◌∙◌, arith}
 use Rattle.object_layout.specs.declared.word.Addr.{Addr}
 use Rattle.leaf_copy_gc.specs.Survivors.{as_reference, with_chunks}
 use Rattle.leaf_copy_gc.specs.Search.{Search, visited, IsTarget}

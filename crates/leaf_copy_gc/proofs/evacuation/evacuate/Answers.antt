@@ -1,4 +1,4 @@
-use Rattle.std.proofs.Common.{◌≡◌, [], List, length, map, fold, reverse, refl, sym, ap, ◌∙◌, subst, arith, All, Option}
+use Rattle.std.proofs.Common.{◌≡◌, List, length, map, fold, reverse, sym, ap, ◌∙◌, subst, arith, All, Option}
 use Rattle.std.proofs.lemmas.List.{length-reverse}
 use Rattle.std.proofs.lemmas.List.Sorted.{All-permutation}
 use Rattle.object_layout.specs.declared.word.Addr.{Addr}
@@ -6,14 +6,13 @@ use Rattle.object_layout.specs.Cell.{Born}
 use Rattle.object_layout.specs.Chunks.{cell_of}
 use Rattle.object_layout.specs.Content.{Content}
 use Rattle.alloc_path.specs.Heap.{Heap}
-use Rattle.task_frames.specs.declared.frames.Frame.{Frame}
 use Rattle.task_frames.specs.Stack.{frames_of}
 use Rattle.leaf_copy_gc.specs.declared.lists.Survivor.{Survivor}
 use Rattle.leaf_copy_gc.specs.Survivors.{as_reference, held_by, olds, outside, IsSurvivor, HaveNames}
 use Rattle.leaf_copy_gc.specs.Search.{IsTarget}
 use Rattle.leaf_copy_gc.specs.Laid.{Laying, before, relocations, smalls}
 use Rattle.leaf_copy_gc.specs.Copying.{Copying, copied, IsReady}
-use Rattle.leaf_copy_gc.specs.Redirected.{followed_ref, followed_large, led_chunk, redirected, CanFollow, HasTargets}
+use Rattle.leaf_copy_gc.specs.Redirected.{followed_ref, followed_large, led_chunk, CanFollow, HasTargets}
 use Rattle.leaf_copy_gc.specs.Collected.{redirection, IsLeft}
 use Rattle.leaf_copy_gc.proofs.Evacuated as evacuated
 use Rattle.leaf_copy_gc.proofs.FrameLemmas as frames

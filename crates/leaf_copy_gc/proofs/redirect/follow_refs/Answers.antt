@@ -1,4 +1,4 @@
-use Rattle.std.proofs.Common.{◌<◌, length, ap, ◌∙◌, subst, sym, arith}
+use Rattle.std.proofs.Common.{◌<◌, length, ap, arith}
 use Rattle.object_layout.specs.declared.word.Header.{Header}
 use Rattle.object_layout.specs.Cell.{Cell}
 use Rattle.object_layout.specs.Content.{Content}
