@@ -41,7 +41,8 @@ pub fn within(
         return Ok(Listed::new(alloc));
     }
     explore(alloc, &mut search, machine, heaps, t)?;
-    met_in(alloc, heap, &search.unmet)
+    let names = met_in(alloc, heap, &search.unmet)?;
+    Ok(names)
 }
 
 // Meets all that is reached within the task's heap.
