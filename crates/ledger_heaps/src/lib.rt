@@ -12,7 +12,7 @@ mod sizes;
 mod sweeping;
 
 pub use collection::{collect, Collected};
-pub use joined::merge;
+pub use joined::{fresh, join, merge};
 pub use placed::{place, put_last};
 pub use reachable::within;
 pub use sizes::{take_of, units, units_in, words_at, words_in, words_sum};
