@@ -15,5 +15,5 @@ pub use collection::{collect, Collected};
 pub use joined::{fresh, join, merge};
 pub use placed::{place, put_last};
 pub use reachable::within;
-pub use sizes::{take_of, units, units_in, words_at, words_in, words_sum};
+pub use sizes::{is_countable, take_of, units, units_in, words_at, words_in, words_sum};
 pub use sweeping::{sweep, Swept};
