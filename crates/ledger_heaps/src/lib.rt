@@ -1,0 +1,24 @@
+// The accounts of heaps, computed over plain data: sizes, allocations, joins, what is reached within a heap, and what a
+// leaf collection and a sweep leave.
+#![tactic(auto)]
+
+mod collection;
+mod joined;
+mod names;
+mod owners;
+mod placed;
+mod reachable;
+mod search;
+mod sizes;
+mod sweeping;
+
+pub use collection::{collect, Collected};
+pub use joined::{fresh, join, merge};
+pub use owners::are_owned;
+pub use placed::{place, put_last};
+pub use reachable::within;
+pub use sizes::{is_countable, take_of, units, units_in, words_at, words_in, words_sum};
+pub use sweeping::{sweep, Swept};
+
+#[cfg(test)]
+mod tests;
