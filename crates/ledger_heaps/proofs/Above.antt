@@ -1,15 +1,15 @@
 -- The tasks above a task, and what their heaps' objects refer to.
-use Rattle.std.proofs.Common.{◌≡◌, ℕ, zero, suc, ◌==◌, ◌&&◌, ◌||◌, Bool, true, false, cond, not, Option, Some, None, List, [], ◌∷◌, slice_get, filter, ◌⊎◌, inl, inr, refl, ap, sym, subst, ◌∙◌, eqb, eqb-true, eq-eqb, ne_eqb}
+use Rattle.std.proofs.Common.{◌≡◌, ℕ, zero, suc, ◌==◌, Bool, true, false, cond, not, Option, Some, None, List, [], ◌∷◌, slice_get, filter, ◌⊎◌, inl, inr, refl, ap, sym, subst, ◌∙◌, eqb, eqb-true, eq-eqb}
 use Rattle.std.specs.List.{flat_map}
-use Rattle.std.proofs.lemmas.Bool.{and_parts, and_from, or_cases, or_left, or_right, false≢true, cases_eq}
-use Rattle.listed.proofs.Members.{In, in_from_contains, contains_from_in, in_flat, flat_in, in_kept, in_from_kept, got_in}
+use Rattle.std.proofs.lemmas.Bool.{and_parts, and_from, or_cases, or_left, or_right, false≢true}
+use Rattle.listed.proofs.Members.{In, contains_from_in, in_flat, flat_in, in_kept, in_from_kept, got_in}
 use Rattle.hh_model.specs.declared.data.Name.{Name}
 use Rattle.hh_model.specs.declared.data.State.{State}
 use Rattle.hh_model.specs.Names.{refs_at}
 use Rattle.hh_model.specs.Step.{owner_of, is_on_path, parents, path_by, through}
 use Rattle.run_ledger.specs.declared.data.Heap.{Heap}
 use Rattle.run_ledger.specs.Reachable.{holds_name}
-use Rattle.run_ledger.specs.Heaps.{held, held_in, is_above, or_fresh}
+use Rattle.run_ledger.specs.Heaps.{held, is_above}
 use Rattle.run_ledger.proofs.Members.{in_from_holds, holds_from_in}
 use Rattle.run_ledger.proofs.Sound.{in_held, held_keeps, names_of}
 use Rattle.ledger_heaps.specs.Accounts.{accounts, AreOwned}

@@ -1,10 +1,10 @@
 -- The heaps of a join, written in place.
-use Rattle.std.proofs.Common.{◌≡◌, ℕ, zero, suc, ◌+◌, ◌<◌, List, [], ◌∷◌, Option, Some, None, slice_get, slice_set, refl, ap, sym, ◌∙◌, arith}
+use Rattle.std.proofs.Common.{◌≡◌, ℕ, zero, suc, ◌+◌, ◌<◌, List, [], ◌∷◌, Option, Some, slice_get, slice_set, refl, ap, sym, ◌∙◌, arith}
 use Rattle.std.proofs.lemmas.List.{set-set}
 use Rattle.listed.proofs.Members.{got_other}
 use Rattle.run_ledger.specs.declared.data.Heap.{Heap}
 use Rattle.run_ledger.specs.declared.data.Ledger.{Ledger}
-use Rattle.run_ledger.specs.Heaps.{emptied, fresh, heap_of, merged, or_fresh, with_heap_at}
+use Rattle.run_ledger.specs.Heaps.{emptied, heap_of, merged, or_fresh, with_heap_at}
 use Rattle.run_ledger.specs.Steps.{join_heaps}
 use Rattle.ledger_heaps.specs.Accounts.{since_at}
 use Rattle.ledger_heaps.proofs.Lists.{set_again}
@@ -38,7 +38,7 @@ module _ (heaps : List Heap) (p a : ℕ) (order : p < a) (hole gap own left righ
       → slice_set (slice_set (slice_set (slice_set (slice_set heaps a hole) (a + 1) gap) p m) a l) (a + 1) r ≡ slice_set (slice_set (slice_set heaps p m) a l) (a + 1) r
   written m l r =
       let into : slice_set (slice_set (slice_set heaps a hole) (a + 1) gap) p m ≡ slice_set (slice_set (slice_set heaps p m) a hole) (a + 1) gap =
-          set_swap (slice_set heaps a hole) (a + 1) p gap m (λ e. omega arith) ∙ ap (λ hs. slice_set hs (a + 1) gap) (set_swap heaps a p hole m (λ e. omega arith)) in
+      set_swap (slice_set heaps a hole) (a + 1) p gap m (λ e. omega arith) ∙ ap (λ hs. slice_set hs (a + 1) gap) (set_swap heaps a p hole m (λ e. omega arith)) in
       let H = slice_set heaps p m in
       ap (λ hs. slice_set (slice_set hs a l) (a + 1) r) into
       ∙ ap (λ hs. slice_set hs (a + 1) r) (set_swap (slice_set H a hole) (a + 1) a gap l (λ e. omega arith) ∙ ap (λ hs. slice_set hs (a + 1) gap) (set-set H a hole l))
@@ -75,7 +75,7 @@ module _ (heaps : List Heap) (p a : ℕ) (order : p < a) (hole gap own left righ
         let K : List Heap = slice_set H a (emptied left) in
         let l1 : slice_get H a ≡ Some left = got_other heaps p a (merged own left right) (λ q. omega arith) ∙ at_left in
         let r1 : slice_get K (a + 1) ≡ Some right =
-            got_other H a (a + 1) (emptied left) (λ q. omega arith) ∙ (got_other heaps p (a + 1) (merged own left right) (λ q. omega arith) ∙ right_at) in
+        got_other H a (a + 1) (emptied left) (λ q. omega arith) ∙ (got_other heaps p (a + 1) (merged own left right) (λ q. omega arith) ∙ right_at) in
         ap (λ (k : Ledger). with_heap_at (with_heap_at k a emptied (slice_get k.heaps a)) (a + 1) emptied (slice_get (with_heap_at k a emptied (slice_get k.heaps a)).heaps (a + 1))) first
         ∙ ap (λ (k : Ledger). with_heap_at k (a + 1) emptied (slice_get k.heaps (a + 1))) (emptied_at H a left l1)
         ∙ emptied_at K (a + 1) right r1

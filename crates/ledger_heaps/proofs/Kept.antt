@@ -1,10 +1,10 @@
 -- What is kept weighs no more.
-use Rattle.std.proofs.Common.{◌≡◌, ◌≤◌, ◌+◌, ℕ, List, [], ◌∷◌, filter, subst, sym, length, map, ap, ◌∙◌, arith, ◌<◌, ◌^◌}
+use Rattle.std.proofs.Common.{◌≡◌, ◌≤◌, ◌+◌, List, [], ◌∷◌, subst, sym, length, map, ap, arith}
 use Rattle.hh_model.specs.declared.data.Name.{Name}
 use Rattle.hh_model.specs.declared.data.State.{State}
 use Rattle.run_ledger.specs.declared.data.Heap.{Heap}
 use Rattle.run_ledger.specs.Reachable.{holds_name}
-use Rattle.run_ledger.specs.Heaps.{collected, in_snapshot, laid_onto, large_survivors, small_survivors, units, units_sum, without_empty, words_at, words_in, words_sum}
+use Rattle.run_ledger.specs.Heaps.{collected, in_snapshot, large_survivors, small_survivors, units, units_sum, without_empty, words_at, words_in, words_sum}
 use Rattle.run_ledger.proofs.Weights.{kept_weight, survivors_weight, weight_parts}
 use Rattle.run_ledger.proofs.Held.{laid_flat}
 use Rattle.run_ledger.proofs.Reached.{length_kept}

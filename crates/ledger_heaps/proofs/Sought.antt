@@ -7,7 +7,7 @@ use Rattle.hh_model.specs.declared.data.Name.{Name}
 use Rattle.hh_model.specs.declared.data.Object.{Object}
 use Rattle.hh_model.specs.Names.{refs_at}
 use Rattle.walks.proofs.Reached.{reached_within}
-use Rattle.run_ledger.specs.Reachable.{holds_name, is_name, reached, reached_by, StartsWithin, LeadsWithin, IsReachedWithin}
+use Rattle.run_ledger.specs.Reachable.{holds_name, is_name, reached, reached_by, StartsWithin, LeadsWithin}
 use Rattle.run_ledger.proofs.Members.{in_from_holds, holds_from_in, is_name_itself, same_from_is_name}
 use Rattle.run_ledger.proofs.Reached.{reached_root, reached_more, reached_is_walks}
 use Rattle.ledger_heaps.specs.Search.{Meets}
@@ -102,9 +102,9 @@ module _ (store : List (List Object)) (names roots : List Name) where
     waits_now n h = elim (or_cases (holds_name front n) (u n && holds_name (refs_at store name) n) (sym (met.waiting n) ∙ h)) [
       | inl e ↦ let r = S.waits n (front_waits n e) in (r.0, stays n r.1)
       | inr e ↦ (
-          S.inside n (left_of (u n) (holds_name (refs_at store name) n) e),
-          gone n (right_of (u n) (holds_name (refs_at store name) n) e),
-        )
+        S.inside n (left_of (u n) (holds_name (refs_at store name) n) e),
+        gone n (right_of (u n) (holds_name (refs_at store name) n) e),
+      )
     ]
 
     sound_now : (n : Name) → holds_name names n ≡ true → v n ≡ false → holds_name (reached store names roots) n ≡ true

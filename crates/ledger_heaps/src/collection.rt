@@ -179,11 +179,7 @@ fn lay(
 }
 
 // Adds a name in a list of its own.
-fn push_list(
-    alloc: Global,
-    chunks: &mut Listed<Listed<Name>>,
-    name: Name,
-) -> Result<(), AllocError>
+fn push_list(alloc: Global, chunks: &mut Listed<Listed<Name>>, name: Name) -> Result<(), AllocError>
     ensures { OnOk result (chunks.new ≡ chunks.old ++ (name ∷ []) ∷ []) }
 {
     let mut names = Listed::new(alloc);

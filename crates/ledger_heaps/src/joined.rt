@@ -78,7 +78,12 @@ pub fn join(
 {
     let mut first = mem::replace(heaps.at_mut(left as usize), fresh(alloc));
     let mut second = mem::replace(heaps.at_mut(left as usize + 1), fresh(alloc));
-    let merged = merge(alloc, heaps.at_mut(parent as usize), &mut first, &mut second);
+    let merged = merge(
+        alloc,
+        heaps.at_mut(parent as usize),
+        &mut first,
+        &mut second,
+    );
     heaps.set(left as usize, first);
     heaps.set(left as usize + 1, second);
     merged?;
@@ -127,12 +132,7 @@ fn gather_chunks(
     *back = Listed::from_vec(all);
 }
 
-fn gather_names(
-    alloc: Global,
-    front: Vec<Name>,
-    middle: &mut Listed<Name>,
-    back: &mut Listed<Name>,
-)
+fn gather_names(alloc: Global, front: Vec<Name>, middle: &mut Listed<Name>, back: &mut Listed<Name>)
     requires { vec_len front + length middle.old + length back.old ≤ vec_capacity front }
     ensures all { back.new ≡ front.items ++ middle.old ++ back.old }
     ensures none { middle.new ≡ [] }

@@ -12,13 +12,10 @@ mod search;
 mod sizes;
 mod sweeping;
 
-pub use collection::{collect, Collected};
+pub use collection::{Collected, collect};
 pub use joined::{fresh, join, merge};
 pub use owners::are_owned;
 pub use placed::{place, put_last};
 pub use reachable::within;
 pub use sizes::{is_countable, take_of, units, units_in, words_at, words_in, words_sum};
-pub use sweeping::{sweep, Swept};
-
-#[cfg(test)]
-mod tests;
+pub use sweeping::{Swept, sweep};

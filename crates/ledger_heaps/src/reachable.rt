@@ -168,11 +168,7 @@ fn follow_heap(
 }
 
 // The names of a heap that were met, in order.
-fn met_in(
-    alloc: Global,
-    heap: &Heap,
-    unmet: &HashSet<Name>,
-) -> Result<Listed<Name>, AllocError>
+fn met_in(alloc: Global, heap: &Heap, unmet: &HashSet<Name>) -> Result<Listed<Name>, AllocError>
     ensures { IfOk result (λ names. names ≡ filter (λ n. not (contains is_name unmet.now n)) (held_in heap.now)) }
 {
     let mut met = Listed::new(alloc);
@@ -184,11 +180,7 @@ fn met_in(
 }
 
 // Adds those of some names that aren't in a table.
-fn add_met(
-    met: &mut Listed<Name>,
-    names: &[Name],
-    unmet: &HashSet<Name>,
-) -> Result<(), AllocError>
+fn add_met(met: &mut Listed<Name>, names: &[Name], unmet: &HashSet<Name>) -> Result<(), AllocError>
     ensures { OnOk result (met.new ≡ met.old ++ filter (λ n. not (contains is_name unmet.now n)) names.now) }
 {
     for name in names {

@@ -22,7 +22,10 @@ pub fn words_sum(machine: &State, names: &[Name]) -> u64
     requires { words_sum machine.now names.now < 2 ^ 62 }
     ensures { result ≡ words_sum machine.now names.now }
 {
-    names.iter().map(|name| words_at(machine, *name) as u64).sum()
+    names
+        .iter()
+        .map(|name| words_at(machine, *name) as u64)
+        .sum()
 }
 
 /// How many units hold so many words.

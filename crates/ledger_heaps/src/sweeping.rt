@@ -49,7 +49,10 @@ pub fn sweep(alloc: Global, machine: &State, heap: &Heap) -> Result<Swept, Alloc
     ensures number { IfOk result (λ parts. parts.given ≡ sweep_number machine.now heap.now) }
 {
     let snapshot = table_of(alloc, heap.snapshot.as_slice())?;
-    let Cleared { chunks, is_last_empty } = clear(alloc, heap, &snapshot)?;
+    let Cleared {
+        chunks,
+        is_last_empty,
+    } = clear(alloc, heap, &snapshot)?;
     let large = large_kept(alloc, heap, &snapshot)?;
     let room = if is_last_empty { 0 } else { heap.room };
     let dropped = units_sum(machine, heap.large.as_slice()) - units_sum(machine, large.as_slice());

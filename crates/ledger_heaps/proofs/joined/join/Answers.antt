@@ -1,6 +1,5 @@
 use Rattle.std.proofs.Common.{◌≡◌, ◌∙◌, ◌+◌, ◌<◌, ◌^◌, List, Result, Ok, Err, OnErr, slice_set, ap, sym, subst, rules}
 use Rattle.run_ledger.specs.declared.data.Heap.{Heap}
-use Rattle.run_ledger.specs.declared.data.Ledger.{Ledger}
 use Rattle.ledger_heaps.proofs.Joins.{join_since, join_done, join_undone}
 use Rattle.ledger_heaps.proofs.joined.join.Goals as goal
 
@@ -11,7 +10,7 @@ on_err (Err e) P h = h
 pub merge-merged-requires : goal.merge-merged-requires
 merge-merged-requires c =
     let e = join_since c.args.heaps.now c.args.parent c.args.left c.requires.order c.replace-first.new.dest c.replace-second.new.dest
-        c.at_mut-3.result.now c.replace-first.result c.replace-second.result (search rules) (search rules) c.at_mut-3.ensures.value in
+    c.at_mut-3.result.now c.replace-first.result c.replace-second.result (search rules) (search rules) c.at_mut-3.ensures.value in
     subst (λ k. k < 2 ^ 64) (sym e) c.requires.since
 
 pub returns-in_err-merged-clause-err : goal.returns-in_err-merged-clause-err

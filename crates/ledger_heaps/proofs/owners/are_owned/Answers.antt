@@ -1,4 +1,4 @@
-use Rattle.std.proofs.Common.{◌≡◌, ◌∙◌, ◌<◌, Bool, true, false, IsTrue, refl, Option, Some, List, ap, sym, subst, length, get_or, slice_get, arith, rules}
+use Rattle.std.proofs.Common.{◌∙◌, ◌<◌, refl, Option, List, ap, sym, length, get_or, arith, rules}
 use Rattle.std.proofs.lemmas.Bool.{false≢true}
 use Rattle.run_ledger.specs.declared.data.Heap.{Heap}
 use Rattle.run_ledger.specs.Heaps.{held_in, or_fresh}

@@ -1,4 +1,4 @@
-use Rattle.std.proofs.Common.{◌≡◌, ◌==◌, true, drop}
+use Rattle.std.proofs.Common.{◌≡◌, ◌==◌, drop}
 use Rattle.std.specs.List.{flat_map, list_all}
 use Rattle.hh_model.specs.Step.{owner_of}
 use Rattle.run_ledger.specs.Heaps.{small_in}

@@ -1,7 +1,6 @@
-use Rattle.std.proofs.Common.{◌≡◌, ◌∙◌, ◌++◌, ◌∷◌, [], List, subst, rules}
+use Rattle.std.proofs.Common.{◌≡◌, ◌++◌, ◌∷◌, [], List, subst, rules}
 use Rattle.std.specs.HashSet.{contains}
 use Rattle.hh_model.specs.declared.data.Name.{Name}
-use Rattle.hh_model.specs.Names.{refs_at}
 use Rattle.run_ledger.specs.Reachable.{is_name}
 use Rattle.run_ledger.specs.Heaps.{heap_of, held_in, roots_of}
 use Rattle.ledger_heaps.specs.Accounts.{accounts}

@@ -1,4 +1,4 @@
-use Rattle.std.proofs.Common.{◌≡◌, refl}
+use Rattle.std.proofs.Common.{refl}
 use Rattle.std.specs.List.{flat_map}
 use Rattle.ledger_heaps.specs.Search.{refs_in}
 use Rattle.ledger_heaps.proofs.Meets.{more_met, flat_append, flat_one}

@@ -1,11 +1,9 @@
-use Rattle.std.proofs.Common.{◌≡◌, ◌∙◌, ap, subst, filter, List}
+use Rattle.std.proofs.Common.{◌≡◌, ◌∙◌, ap, filter, List}
 use Rattle.std.specs.List.{flat_map}
-use Rattle.hh_model.specs.declared.data.Name.{Name}
 use Rattle.hh_model.specs.Names.{refs_at}
 use Rattle.hh_model.specs.Step.{owner_of}
-use Rattle.run_ledger.specs.Reachable.{holds_name, is_name}
+use Rattle.run_ledger.specs.Reachable.{holds_name}
 use Rattle.run_ledger.specs.Heaps.{held, is_above}
-use Rattle.std.specs.HashSet.{contains}
 use Rattle.ledger_heaps.specs.Accounts.{accounts}
 use Rattle.ledger_heaps.specs.Search.{ancestors, refs_in}
 use Rattle.ledger_heaps.proofs.Above.{above_same}

@@ -1,7 +1,4 @@
-use Rattle.std.proofs.Common.{rules, ◌≡◌, ◌∙◌, ◌+◌, ◌++◌, ◌∷◌, [], List, Bool, not, ap, sym, drop, map, length}
-use Rattle.std.specs.HashSet.{contains}
-use Rattle.hh_model.specs.declared.data.Name.{Name}
-use Rattle.run_ledger.specs.Reachable.{is_name}
+use Rattle.std.proofs.Common.{rules, ◌≡◌, ◌∙◌, ◌+◌, ◌++◌, ◌∷◌, not, ap, sym, drop, map}
 use Rattle.run_ledger.specs.Heaps.{in_snapshot, is_empty, without_empty}
 use Rattle.ledger_heaps.proofs.Cleared.{chunks_more, ends_empty, filled_more, not_not, snapshot_kept}
 use Rattle.ledger_heaps.proofs.sweeping.clear.Goals as goal

@@ -1,6 +1,6 @@
-use Rattle.std.proofs.Common.{◌≡◌, ◌+◌, List, [], ◌∷◌, get_or, length, refl, rules, arith, ◌∙◌}
+use Rattle.std.proofs.Common.{refl, ◌∙◌}
 use Rattle.std.specs.List.{flat_map}
-use Rattle.hh_model.specs.Names.{named, refs_at, registers}
+use Rattle.hh_model.specs.Names.{refs_at}
 use Rattle.ledger_heaps.proofs.Meets.{more_met, flat_append, flat_one}
 use Rattle.ledger_heaps.proofs.search.Search.follow_all.Goals as goal
 

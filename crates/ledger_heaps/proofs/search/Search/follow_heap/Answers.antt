@@ -1,6 +1,6 @@
-use Rattle.std.proofs.Common.{◌≡◌, ◌+◌, List, [], ◌∷◌, get_or, length, ap, refl, rules, arith, ◌∙◌}
+use Rattle.std.proofs.Common.{get_or, ap, rules, ◌∙◌}
 use Rattle.std.specs.List.{flat_map}
-use Rattle.hh_model.specs.Names.{named, refs_at, registers}
+use Rattle.hh_model.specs.Names.{refs_at}
 use Rattle.ledger_heaps.proofs.Meets.{more_met, twice, twice_append, twice_one}
 use Rattle.ledger_heaps.proofs.search.Search.follow_heap.Goals as goal
 

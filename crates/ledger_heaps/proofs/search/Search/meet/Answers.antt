@@ -1,4 +1,4 @@
-use Rattle.std.proofs.Common.{◌≡◌, ◌∙◌, sym, rules}
+use Rattle.std.proofs.Common.{◌∙◌, sym}
 use Rattle.std.specs.HashSet.{contains}
 use Rattle.run_ledger.specs.Reachable.{is_name}
 use Rattle.ledger_heaps.proofs.Meets.{met_one}

@@ -1,6 +1,5 @@
-use Rattle.std.proofs.Common.{◌≡◌, ◌+◌, List, [], ◌∷◌, get_or, length, refl, rules, arith, ◌∙◌}
-use Rattle.std.specs.List.{flat_map}
-use Rattle.hh_model.specs.Names.{named, refs_at, registers}
+use Rattle.std.proofs.Common.{refl, ◌∙◌}
+use Rattle.hh_model.specs.Names.{named, registers}
 use Rattle.ledger_heaps.proofs.Meets.{more_met, registers_append, registers_one}
 use Rattle.ledger_heaps.proofs.search.Search.meet_frames.Goals as goal
 

@@ -1,7 +1,6 @@
 use Rattle.std.proofs.Common.{◌≡◌, ◌+◌, length, take}
-use Rattle.std.specs.List.{flat_map}
 use Rattle.std.specs.HashSet.{contains, hash_set_len}
-use Rattle.hh_model.specs.Names.{named, refs_at, registers}
+use Rattle.hh_model.specs.Names.{registers}
 use Rattle.run_ledger.specs.Reachable.{is_name}
 use Rattle.ledger_heaps.specs.Search.{Meets}
 use Rattle.ledger_heaps.proofs.search.Search.meet_frames.Given as goal
