@@ -1,0 +1,12 @@
+// What the words of a call ask for.
+#![tactic(auto)]
+
+mod command;
+mod line;
+mod read;
+
+pub use line::{CommandLine, FileName, Options};
+
+
+
+
