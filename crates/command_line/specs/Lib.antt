@@ -1,3 +1,4 @@
 pub mod App
 pub mod Adds
 pub mod CommandLine
+pub mod Values

@@ -10,7 +10,7 @@ use clap::{Arg, ArgAction, Command};
 use std::alloc::{AllocError, Global};
 
 // A file's name, which may be left out.
-fn file(alloc: Global) -> Arg<'static>
+fn file<'w>(alloc: Global) -> Arg<'w>
     ensures rule { rule_of result ≡ file }
     ensures own { result.global ≡ false }
 {
@@ -18,7 +18,7 @@ fn file(alloc: Global) -> Arg<'static>
 }
 
 // A number that has to be given.
-fn number(alloc: Global, id: &'static str, least: u64, most: u64) -> Arg<'static>
+fn number<'w>(alloc: Global, id: &'w str, least: u64, most: u64) -> Arg<'w>
     ensures rule { rule_of result ≡ number id.entry.now least most }
     ensures own { result.global ≡ false }
 {
@@ -28,13 +28,13 @@ fn number(alloc: Global, id: &'static str, least: u64, most: u64) -> Arg<'static
 }
 
 // A number that has a default.
-fn option(
+fn option<'w>(
     alloc: Global,
-    name: &'static str,
+    name: &'w str,
     least: u64,
     most: u64,
-    default: &'static str,
-) -> Arg<'static>
+    default: &'w str,
+) -> Arg<'w>
     ensures rule { rule_of result ≡ option name.entry.now least most default.entry.now }
     ensures own { result.global ≡ false }
 {
@@ -45,7 +45,7 @@ fn option(
 }
 
 // A flag.
-fn flag(alloc: Global, name: &'static str) -> Arg<'static>
+fn flag<'w>(alloc: Global, name: &'w str) -> Arg<'w>
     ensures rule { rule_of result ≡ flag name.entry.now }
     ensures own { result.global ≡ false }
 {
@@ -54,19 +54,19 @@ fn flag(alloc: Global, name: &'static str) -> Arg<'static>
         .action(ArgAction::SetTrue)
 }
 
-fn check(alloc: Global) -> Result<Command<'static>, AllocError>
+fn check<'w>(alloc: Global) -> Result<Command<'w>, AllocError>
     ensures { IfOk result (IsShaped check) }
 {
     Command::new(alloc, "check").arg(file(alloc))
 }
 
-fn run(alloc: Global) -> Result<Command<'static>, AllocError>
+fn run<'w>(alloc: Global) -> Result<Command<'w>, AllocError>
     ensures { IfOk result (IsShaped run) }
 {
     Command::new(alloc, "run").arg(file(alloc))
 }
 
-fn model(alloc: Global) -> Result<Command<'static>, AllocError>
+fn model<'w>(alloc: Global) -> Result<Command<'w>, AllocError>
     ensures { IfOk result (IsShaped model) }
 {
     Command::new(alloc, "model")
@@ -80,7 +80,7 @@ fn model(alloc: Global) -> Result<Command<'static>, AllocError>
         .arg(flag(alloc, "trace"))
 }
 
-fn make(alloc: Global) -> Result<Command<'static>, AllocError>
+fn make<'w>(alloc: Global) -> Result<Command<'w>, AllocError>
     ensures { IfOk result (IsShaped make) }
 {
     Command::new(alloc, "make")
@@ -89,7 +89,7 @@ fn make(alloc: Global) -> Result<Command<'static>, AllocError>
 }
 
 /// The command with its four subcommands.
-pub(crate) fn command(alloc: Global) -> Result<Command<'static>, AllocError>
+pub(crate) fn command<'w>(alloc: Global) -> Result<Command<'w>, AllocError>
     ensures { IfOk result (λ c. app_of c ≡ app) }
 {
     Command::new(alloc, "hheap")

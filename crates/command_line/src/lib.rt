@@ -6,7 +6,4 @@ mod line;
 mod read;
 
 pub use line::{CommandLine, FileName, Options};
-
-
-
-
+pub use read::read_command_line;
