@@ -1,5 +1,5 @@
 -- Which values the matches of a command have.
-use Rattle.std.specs.Prelude.{◌≡◌, ◌⊎◌, ℕ, List, Some, codes}
+use Rattle.std.specs.Prelude.{◌≡◌, ◌⊎◌, ℕ, List, Option, Some, None, ⊤, codes}
 use Rattle.clap.specs.Words.{IsUnsignedIn, Row, Text, one_of}
 
 -- the argument gives a number from `least` to `most`
@@ -29,3 +29,8 @@ pub record HasSeedAndSize (rows : List Row) : Type 0 where
 pub record FitsCommand (name : Text) (rows : List Row) : Type 0 where
   pub model : name ≡ codes "model" → HasOptions rows
   pub make : name ≡ codes "make" → HasSeedAndSize rows
+
+-- the same of the command that was met, if one was
+abbrev pub FitsFound : Option (Text × List Row) → Type 0
+FitsFound None = ⊤
+FitsFound (Some p) = FitsCommand p.0 p.1

@@ -1,11 +1,11 @@
 // Reads a command line.
 
-ghost use Rattle.std.specs.Prelude.{◌≡◌, ◌≤◌, IfOk, map, is_some, string_bytes};
-ghost use Rattle.clap.specs.Words.{found_of, rows_of, fault_of};
+ghost use Rattle.std.specs.Prelude.{◌≡◌, ◌≢◌, IfOk, None, map, is_some, option_and_then, string_bytes};
+ghost use Rattle.clap.specs.Words.{found_of, rows_of, fault_of, subcommand_rows_of};
 ghost use Rattle.clap.specs.Walk.{is_empty};
 ghost use Rattle.command_line.specs.App.{app};
 ghost use Rattle.command_line.specs.CommandLine.{HasSize, asked, command_line, file_in, flag_in, number_in, options_in};
-ghost use Rattle.command_line.specs.Values.{FitsCommand, HasFlag, HasNumber, HasOptions};
+ghost use Rattle.command_line.specs.Values.{FitsCommand, FitsFound, HasFlag, HasNumber, HasOptions};
 
 use crate::command::command;
 use crate::line::{CommandLine, FileName, Options};
@@ -82,6 +82,27 @@ fn asked<'w>(name: &str, matches: &ArgMatches<'w>) -> Option<CommandLine<'w>>
     }
 }
 
+// What the command that was met asks for.
+fn found<'w>(matches: &ArgMatches<'w>) -> Option<CommandLine<'w>>
+    requires { FitsFound (subcommand_rows_of matches.now) }
+    ensures { result ≡ option_and_then (λ p. asked p.0 p.1) (subcommand_rows_of matches.now) }
+{
+    match matches.subcommand() {
+        Some((name, inner)) => asked(name, inner),
+        None => None,
+    }
+}
+
+// The answer to words that aren't taken, or to want of memory.
+fn refused<'w>(kind: ErrorKind) -> Result<Option<CommandLine<'w>>, AllocError>
+    ensures { IfOk result (λ c. (c ≡ None) × (kind ≢ ErrorKind.OutOfMemory)) }
+{
+    match kind {
+        ErrorKind::OutOfMemory => Err(AllocError),
+        _ => Ok(None),
+    }
+}
+
 /// What the words after the program's name ask for; None where they are no command line.
 pub fn read_command_line<'w>(
     alloc: Global,
@@ -92,13 +113,7 @@ pub fn read_command_line<'w>(
     ensures size { IfOk result HasSize }
 {
     match command(alloc)?.try_get_matches_from(words) {
-        Ok(matches) => match matches.subcommand() {
-            Some((name, inner)) => Ok(asked(name, inner)),
-            None => Ok(None),
-        },
-        Err(error) => match error.kind() {
-            ErrorKind::OutOfMemory => Err(AllocError),
-            _ => Ok(None),
-        },
+        Ok(matches) => Ok(found(&matches)),
+        Err(error) => refused(error.kind()),
     }
 }

@@ -4,7 +4,7 @@ use Rattle.std.specs.Str.Parse.{ExplainsUnsignedError, HasUnsignedDigitsIfOk, Pa
 use Rattle.clap.specs.Words.{Text, found_of, rows_of}
 use Rattle.clap.proofs.WalkLemmas.{one_text-rows}
 use Rattle.command_line.proofs.Numbers.{number_read}
-use Rattle.command_line.proofs.Rows.{each}
+use Rattle.command_line.proofs.Taken.{is_good}
 use Rattle.command_line.proofs.read.number.Goals as goal
 
 pub returns : goal.returns
