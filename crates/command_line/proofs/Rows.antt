@@ -48,7 +48,7 @@ found P p (y ∷ ys) x h e = go (p y) refl (found P p ys x h.1) e
 
 -- ---- kinds
 
-abbrev is_none : Kinds → Bool
+abbrev pub is_none : Kinds → Bool
 is_none [] = true
 is_none (k ∷ ks) = false
 

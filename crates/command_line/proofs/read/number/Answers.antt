@@ -5,6 +5,7 @@ use Rattle.clap.specs.Words.{Text, found_of, rows_of}
 use Rattle.clap.proofs.WalkLemmas.{one_text-rows}
 use Rattle.command_line.proofs.Numbers.{number_read}
 use Rattle.command_line.proofs.Taken.{is_good}
+use Rattle.command_line.proofs.Ranges.{wider}
 use Rattle.command_line.proofs.read.number.Goals as goal
 
 pub returns : goal.returns
