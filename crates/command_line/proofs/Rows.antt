@@ -59,7 +59,7 @@ none_of (k ∷ ks) b e = absurd (true≢false (sym (ap is_none e)))
 some_kind : (k : ErrorKind) (ks : Kinds) → k ∷ ks ≡ [] → ⊥
 some_kind k ks e = true≢false (sym (ap is_none e))
 
-never_zero : (n : ℕ) → (suc n == 0) ≡ false
+pub never_zero : (n : ℕ) → (suc n == 0) ≡ false
 never_zero n = grind arith
 
 passes : (b : Bool) (k : ErrorKind) → cond b [] (k ∷ []) ≡ [] → b ≡ true

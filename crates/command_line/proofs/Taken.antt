@@ -1,24 +1,26 @@
 -- What the words of a command line without a fault have.
-use Rattle.std.proofs.Common.{◌≡◌, ◌∙◌, ◌<◌, ◌≤◌, ◌&&◌, ◌||◌, ◌⊎◌, ℕ, Bool, cond, codes, true, false, not, refl, sym, ap, subst, arith, inl, inr, List, [], ◌∷◌, Option, Some, None, is_some, true≢false}
+use Rattle.std.proofs.Common.{◌≡◌, ◌∙◌, ◌<◌, ◌≤◌, ◌&&◌, ◌||◌, ◌⊎◌, ℕ, Bool, cond, codes, true, false, not, refl, sym, ap, subst, arith, inl, inr, List, [], ◌∷◌, length, Option, Some, None, is_some, true≢false}
 use Rattle.std.specs.Prelude.{⊤, find, option_map, option_and_then}
 use Rattle.std.specs.List.{list_any}
 use Rattle.std.specs.Option.{option_map_or}
 use Rattle.std.specs.Str.{bytes_eq}
 use Rattle.std.specs.Str.Parse.{digits_value, without_leading_plus}
 use Rattle.std.proofs.lemmas.Slice.Eq.{bytes_eq-Decides}
-use Rattle.clap.specs.Walk.{Row, Rule, Text, answers_to, finished, nothing_held, one_of, has_row, rows_after, settled, stop_after, walk}
+use Rattle.clap.specs.Walk.{Row, Rule, Text, answers_to, finished, is_empty, nothing_held, one_of, has_row, rows_after, settled, stop_after, walk}
 use Rattle.clap.specs.Simple.{App, Shape, argument_words, built, entered, is_simple, label_of, names_of, rows_at, subcommand_of}
 use Rattle.clap.specs.Takes.{is_given}
-use Rattle.clap.specs.Kinds.{Kinds, check_kinds}
+use Rattle.clap.specs.Kinds.{IsAmong, Kinds, check_kinds}
 use Rattle.clap.specs.Faults.{check_fault, entered_fault, fault_of, is_simple_and_free, level_fault}
 use Rattle.clap.specs.declared.builder.value_parser.ValueParser.TheVariants as vp
+use Rattle.clap.specs.declared.error.kind.ErrorKind.{ErrorKind}
 use Rattle.clap.specs.declared.error.kind.ErrorKind.TheVariants as kind
 use Rattle.clap.proofs.ValueTestLemmas.{accepts-Accepts}
 use Rattle.clap.specs.ValueTests.{accepts}
 use Rattle.command_line.specs.App.{app}
 use Rattle.command_line.specs.CommandLine.{HasSize, asked, command_line, number_in}
+use Rattle.command_line.specs.declared.line.CommandLine.{CommandLine}
 use Rattle.command_line.specs.Values.{FitsCommand, FitsFound, HasFlag, HasNumber, HasOptions, HasSeedAndSize}
-use Rattle.command_line.proofs.Rows.{IsPassed, IsPlain, Passes, default_row, each, found, given_row, level_passed, none_of, text_in}
+use Rattle.command_line.proofs.Rows.{IsPassed, IsPlain, Passes, default_row, each, found, given_row, level_passed, never_zero, none_of, text_in}
 
 abbrev whole : App
 whole = built app
@@ -203,3 +205,22 @@ taken words e =
     check_met : (b : Bool) → check_fault whole.top (finished whole.top.rules (walk whole.top.rules (names_of whole) nothing_held words).held) b ≡ [] → b ≡ true
     check_met true f = refl
     check_met false f = absurd (true≢false (sym (ap Rattle.command_line.proofs.Rows.is_none f)))
+
+-- ---- the answer
+
+abbrev pub asked_at : Option (Text × List Row) → Option CommandLine
+asked_at = option_and_then (λ p. asked p.0 p.1)
+
+pub line_of : (words : List Text) → fault_of app words ≡ [] → asked_at (subcommand_of app words) ≡ command_line words
+line_of words e = ap (λ (k : Kinds). cond (is_empty k) (asked_at (subcommand_of app words)) None) (sym e)
+
+among : (k : ErrorKind) (ks : Kinds) → IsAmong k ks → is_empty ks ≡ false
+among k [] h = absurd h
+among k (x ∷ xs) h = never_zero (length xs)
+
+pub no_line : (words : List Text) (k : ErrorKind) → (k ≡ kind.OutOfMemory → ⊥) → (k ≡ kind.OutOfMemory) ⊎ IsAmong k (fault_of app words)
+    → (None ≡ command_line words) × (false ≡ is_empty (fault_of app words))
+no_line words k other (inl is) = absurd (other is)
+no_line words k other (inr h) =
+    let some : is_empty (fault_of app words) ≡ false = among k (fault_of app words) h in
+    (ap (λ b. cond b (asked_at (subcommand_of app words)) None) (sym some), sym some)
