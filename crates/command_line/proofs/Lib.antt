@@ -1,3 +1,4 @@
+mod Literal
 mod Numbers
 mod Ranges
 mod Rows

@@ -1,4 +1,5 @@
 pub mod App
 pub mod Adds
 pub mod CommandLine
+pub mod Examples
 pub mod Values

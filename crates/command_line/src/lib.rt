@@ -2,8 +2,13 @@
 #![tactic(auto)]
 
 mod command;
+mod laws;
 mod line;
 mod read;
 
+pub use laws::words_are_read;
 pub use line::{CommandLine, FileName, Options};
 pub use read::read_command_line;
+
+#[cfg(test)]
+mod tests;
