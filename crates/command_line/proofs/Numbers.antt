@@ -1,7 +1,7 @@
 -- A number in its range is read as it is written.
-use Rattle.std.proofs.Common.{◌≡◌, ◌∙◌, ◌≤◌, ◌<◌, ◌^◌, ap, sym, Some, None, Option, Result, Ok, Err, arith, ℕ, List}
+use Rattle.std.proofs.Common.{◌≡◌, Some, None, Option, Result, Ok, Err, arith, ℕ}
 use Rattle.std.specs.Prelude.{unwrap_or}
-use Rattle.std.specs.Str.Parse.{ExplainsUnsignedError, HasUnsignedDigitsIfOk, ParsesUnsigned, digits_value, without_leading_plus}
+use Rattle.std.specs.Str.Parse.{ParsesUnsigned, digits_value, without_leading_plus}
 use Rattle.clap.specs.Words.{IsUnsignedIn, ReadsOne, Text}
 
 pub number_read : {E : Type 0} (gives : Text → Result ℕ E → Type 0) (t : Text) (o : Option ℕ) → ReadsOne gives t o

@@ -1,11 +1,11 @@
 -- Numbers of matches in their ranges.
-use Rattle.std.proofs.Common.{◌≡◌, ◌∙◌, ◌≤◌, ◌<◌, ℕ, Bool, cond, codes, true, false, refl, sym, ap, subst, arith, List, Option, Some, None}
+use Rattle.std.proofs.Common.{◌≡◌, ◌≤◌, ℕ, Bool, cond, codes, true, false, refl, ap, arith, List, Option, Some, None}
 use Rattle.std.specs.Prelude.{⊤}
 use Rattle.std.specs.Option.{option_map_or}
 use Rattle.std.specs.Str.{bytes_eq}
 use Rattle.std.specs.Str.Parse.{digits_value, without_leading_plus}
 use Rattle.std.proofs.lemmas.Slice.Eq.{bytes_eq-Decides}
-use Rattle.clap.specs.Words.{Row, Text, one_of}
+use Rattle.clap.specs.Words.{Row, Text}
 use Rattle.run_trace.specs.Settings.{AreLimits}
 use Rattle.command_line.specs.CommandLine.{HasSize, asked, file_in, number_in, options_in}
 use Rattle.command_line.specs.Values.{FitsCommand, FitsFound, HasNumber, HasOptions}

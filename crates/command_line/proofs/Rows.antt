@@ -1,5 +1,5 @@
 -- Where a level of a parse has no fault, each value of its matches passed the parser of its argument.
-use Rattle.std.proofs.Common.{◌≡◌, ◌∙◌, ◌<◌, ◌≤◌, ◌+◌, ◌++◌, ◌&&◌, ◌||◌, ◌⊎◌, ◌==◌, ℕ, Bool, cond, true, false, not, zero, suc, refl, sym, ap, subst, arith, inl, inr, List, [], ◌∷◌, length, drop, Option, Some, None, is_some, nat_lt, true≢false}
+use Rattle.std.proofs.Common.{◌≡◌, ◌∙◌, ◌<◌, ◌+◌, ◌++◌, ◌&&◌, ◌||◌, ◌⊎◌, ◌==◌, ℕ, Bool, cond, true, false, not, zero, suc, refl, sym, ap, subst, arith, inl, inr, List, [], ◌∷◌, length, drop, Option, Some, None, is_some, nat_lt, true≢false}
 use Rattle.std.specs.Prelude.{⊤, unwrap_or, find, fold, slice_get, encode_utf8, option_and_then}
 use Rattle.std.specs.List.{list_any}
 use Rattle.std.specs.Option.{option_map_or}
@@ -15,7 +15,6 @@ use Rattle.clap.specs.Takes.{is_given, value_passes}
 use Rattle.clap.specs.Kinds.{Kinds, check_kinds, or_else, range_kinds, value_kinds}
 use Rattle.clap.specs.Faults.{action_fault, check_fault, default_fault, defaults_fault, bundle_fault, bundle_step_fault, flag_word_fault, flags_fault, given_default_fault, level_fault, long_fault, option_fault, other_fault, positional_fault, react_fault, set_fault, settle_fault, short_fault, step_fault, stray_fault, turn_fault, use_fault, values_fault, walk_fault, word_fault}
 use Rattle.clap.specs.Values.{refused_kind}
-use Rattle.clap.specs.ValueTests.{accepts}
 use Rattle.clap.specs.Facts.{parser_of_value}
 use Rattle.clap.specs.declared.builder.action.ArgAction.{ArgAction}
 use Rattle.clap.specs.declared.builder.action.ArgAction.TheVariants.{Set, SetTrue}
@@ -105,12 +104,14 @@ module _ (c : List Rule) where
   more_passed id s vs v r e h =
       let same : id ≡ r.id = sym ((bytes_eq-Decides r.id id).0 e) in
       let long : length (r.values ++ vs) ≡ length r.values + length vs = length-append r.values vs in
-      let some : 0 < length r.values = h.filled in
-      (record {
-        values = each_joined (Passes r.id) r.values vs h.values (subst (λ (t : Text). each (Passes t) vs) same v);
-        filled = omega (arith, long, some);
-        reading = h.reading;
-      }, tt)
+      let some : 0 < length r.values = h.filled in (
+        record {
+          values = each_joined (Passes r.id) r.values vs h.values (subst (λ (t : Text). each (Passes t) vs) same v);
+          filled = omega (arith, long, some);
+          reading = h.reading;
+        },
+        tt,
+      )
 
   with_passed : (id : Text) (how : Reading) (s : ValueSource) (vs : List Text) → each (Passes id) vs → 0 < length vs → how ≡ AsWritten → (rows : List Row) → each IsPassed rows
       → each IsPassed (with_values id how s vs rows)
@@ -139,7 +140,7 @@ module _ (c : List Rule) where
       let parts = none_of (range_kinds (unwrap_or_range a.range).start_inclusive (most_values a) (length raw)) _ e in
       let vs = values_or_missing a raw in
       let go : set_fault again a vs rows ≡ [] → each IsPassed (with_values a.id (reading_by a) CommandLine vs (without a.id rows)) =
-          λ f. with_passed a.id (reading_by a) CommandLine vs (passed a p vs (none_of _ (values_fault a vs) f).1) (some_value a p raw parts.0) p.reads (without a.id rows) (without_passed a.id rows h) in
+      λ f. with_passed a.id (reading_by a) CommandLine vs (passed a p vs (none_of _ (values_fault a vs) f).1) (some_value a p raw parts.0) p.reads (without a.id rows) (without_passed a.id rows h) in
       elim p.sets [
         | inl is ↦ subst (λ (x : ArgAction). each IsPassed (used_as x a.id (reading_by a) vs rows)) (sym is) (go (ap (λ (x : ArgAction). action_fault x again a vs rows) (sym is) ∙ parts.1))
         | inr is ↦ subst (λ (x : ArgAction). each IsPassed (used_as x a.id (reading_by a) vs rows)) (sym is) (go (ap (λ (x : ArgAction). action_fault x again a vs rows) (sym is) ∙ parts.1))

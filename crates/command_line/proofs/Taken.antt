@@ -1,15 +1,13 @@
 -- What the words of a command line without a fault have.
 use Rattle.std.proofs.Common.{◌≡◌, ◌∙◌, ◌<◌, ◌≤◌, ◌&&◌, ◌||◌, ◌⊎◌, ℕ, Bool, cond, codes, true, false, not, refl, sym, ap, subst, arith, inl, inr, List, [], ◌∷◌, length, Option, Some, None, is_some, true≢false}
-use Rattle.std.specs.Prelude.{⊤, find, option_map, option_and_then}
-use Rattle.std.specs.List.{list_any}
+use Rattle.std.specs.Prelude.{find, option_map, option_and_then}
 use Rattle.std.specs.Option.{option_map_or}
 use Rattle.std.specs.Str.{bytes_eq}
-use Rattle.std.specs.Str.Parse.{digits_value, without_leading_plus}
 use Rattle.std.proofs.lemmas.Slice.Eq.{bytes_eq-Decides}
-use Rattle.clap.specs.Walk.{Row, Rule, Text, answers_to, finished, is_empty, nothing_held, one_of, has_row, rows_after, settled, stop_after, walk}
-use Rattle.clap.specs.Simple.{App, Shape, argument_words, built, entered, is_simple, label_of, names_of, rows_at, subcommand_of}
+use Rattle.clap.specs.Walk.{Row, Text, answers_to, finished, is_empty, nothing_held, one_of, has_row, rows_after, settled, stop_after, walk}
+use Rattle.clap.specs.Simple.{App, Shape, built, entered, is_simple, label_of, names_of, rows_at, subcommand_of}
 use Rattle.clap.specs.Takes.{is_given}
-use Rattle.clap.specs.Kinds.{IsAmong, Kinds, check_kinds}
+use Rattle.clap.specs.Kinds.{IsAmong, Kinds}
 use Rattle.clap.specs.Faults.{check_fault, entered_fault, fault_of, is_simple_and_free, level_fault}
 use Rattle.clap.specs.declared.builder.value_parser.ValueParser.TheVariants as vp
 use Rattle.clap.specs.declared.error.kind.ErrorKind.{ErrorKind}
@@ -17,9 +15,9 @@ use Rattle.clap.specs.declared.error.kind.ErrorKind.TheVariants as kind
 use Rattle.clap.proofs.ValueTestLemmas.{accepts-Accepts}
 use Rattle.clap.specs.ValueTests.{accepts}
 use Rattle.command_line.specs.App.{app}
-use Rattle.command_line.specs.CommandLine.{HasSize, asked, command_line, number_in}
+use Rattle.command_line.specs.CommandLine.{asked, command_line}
 use Rattle.command_line.specs.declared.line.CommandLine.{CommandLine}
-use Rattle.command_line.specs.Values.{FitsCommand, FitsFound, HasFlag, HasNumber, HasOptions, HasSeedAndSize}
+use Rattle.command_line.specs.Values.{FitsCommand, FitsFound, HasFlag, HasNumber}
 use Rattle.command_line.proofs.Rows.{IsPassed, IsPlain, Passes, default_row, each, found, given_row, level_passed, never_zero, none_of, text_in}
 
 abbrev whole : App
@@ -59,15 +57,28 @@ plain_run : EachPlain run_shape
 plain_run = (record { own = refl; sets = inl refl; reads = refl; filled = refl }, tt)
 
 plain_model : EachPlain model_shape
-plain_model =
-    (record { own = refl; sets = inl refl; reads = refl; filled = refl },
-    (record { own = refl; sets = inl refl; reads = refl; filled = refl },
-    (record { own = refl; sets = inl refl; reads = refl; filled = refl },
-    (record { own = refl; sets = inl refl; reads = refl; filled = refl },
-    (record { own = refl; sets = inl refl; reads = refl; filled = refl },
-    (record { own = refl; sets = inl refl; reads = refl; filled = refl },
-    (record { own = refl; sets = inr refl; reads = refl; filled = refl },
-    (record { own = refl; sets = inr refl; reads = refl; filled = refl }, tt))))))))
+plain_model = (
+  record { own = refl; sets = inl refl; reads = refl; filled = refl },
+  (
+    record { own = refl; sets = inl refl; reads = refl; filled = refl },
+    (
+      record { own = refl; sets = inl refl; reads = refl; filled = refl },
+      (
+        record { own = refl; sets = inl refl; reads = refl; filled = refl },
+        (
+          record { own = refl; sets = inl refl; reads = refl; filled = refl },
+          (
+            record { own = refl; sets = inl refl; reads = refl; filled = refl },
+            (
+              record { own = refl; sets = inr refl; reads = refl; filled = refl },
+              (record { own = refl; sets = inr refl; reads = refl; filled = refl }, tt),
+            ),
+          ),
+        ),
+      ),
+    ),
+  ),
+)
 
 plain_make : EachPlain make_shape
 plain_make = (record { own = refl; sets = inl refl; reads = refl; filled = refl }, (record { own = refl; sets = inl refl; reads = refl; filled = refl }, tt))

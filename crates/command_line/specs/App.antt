@@ -1,5 +1,5 @@
 -- The command line, as the parser's definition of a simple command speaks of it.
-use Rattle.std.specs.Prelude.{ℕ, List, [], ◌∷◌, Some, codes, true, false}
+use Rattle.std.specs.Prelude.{ℕ, [], ◌∷◌, Some, codes, true, false}
 use Rattle.clap.specs.Words.{App, Rule, Shape, Text, new_rule}
 use Rattle.clap.specs.Simple.{new_shape}
 use Rattle.clap.specs.declared.builder.action.ArgAction.TheVariants.{SetTrue}

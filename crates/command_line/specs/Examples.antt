@@ -1,5 +1,5 @@
 -- What some words ask for.
-use Rattle.std.specs.Prelude.{◌≡◌, List, [], ◌∷◌, Option, Some, None, codes, true, false}
+use Rattle.std.specs.Prelude.{◌≡◌, List, [], ◌∷◌, Some, None, codes, true, false}
 use Rattle.clap.specs.Words.{Text}
 use Rattle.run_trace.specs.Settings.{usual_limits}
 use Rattle.command_line.specs.CommandLine.{command_line}

@@ -28,13 +28,7 @@ fn number<'w>(alloc: Global, id: &'w str, least: u64, most: u64) -> Arg<'w>
 }
 
 // A number that has a default.
-fn option<'w>(
-    alloc: Global,
-    name: &'w str,
-    least: u64,
-    most: u64,
-    default: &'w str,
-) -> Arg<'w>
+fn option<'w>(alloc: Global, name: &'w str, least: u64, most: u64, default: &'w str) -> Arg<'w>
     ensures rule { rule_of result ≡ option name.entry.now least most default.entry.now }
     ensures own { result.global ≡ false }
 {
@@ -49,9 +43,7 @@ fn flag<'w>(alloc: Global, name: &'w str) -> Arg<'w>
     ensures rule { rule_of result ≡ flag name.entry.now }
     ensures own { result.global ≡ false }
 {
-    Arg::new(alloc, name)
-        .long(name)
-        .action(ArgAction::SetTrue)
+    Arg::new(alloc, name).long(name).action(ArgAction::SetTrue)
 }
 
 fn check<'w>(alloc: Global) -> Result<Command<'w>, AllocError>

@@ -8,5 +8,4 @@ pub fn words_are_read()
     ensures options { OptionsAreRead }
     ensures numbers { NumbersAreRead }
     ensures others { OthersAreRefused }
-{
-}
+{}

@@ -47,14 +47,21 @@ pub struct Options {
 #[derive(Drop)]
 pub enum CommandLine<'w> {
     /// Reads a program.
-    Check { file: Option<FileName<'w>> },
+    Check {
+        file: Option<FileName<'w>>,
+    },
     /// Runs a program.
-    Run { file: Option<FileName<'w>> },
+    Run {
+        file: Option<FileName<'w>>,
+    },
     /// Runs a program with its trace on the definitions alone.
     Model {
         file: Option<FileName<'w>>,
         options: Options,
     },
     /// Writes the program of this seed and this size, which is 1 to 1,000.
-    Make { seed: u32, size: u32 },
+    Make {
+        seed: u32,
+        size: u32,
+    },
 }

@@ -14,10 +14,7 @@ static TAKEN: [(&str, &str); 24] = [
     ("make|1|1", "make 1 1"),
     ("make|0|1000", "make 0 1000"),
     ("make|4294967295|+007", "make 4294967295 7"),
-    (
-        "model",
-        "model None 1 1000000 4096 4096 8192 false false",
-    ),
+    ("model", "model None 1 1000000 4096 4096 8192 false false"),
     (
         "model|a.hh|--report",
         "model Some(\"a.hh\") 1 1000000 4096 4096 8192 true false",
@@ -139,9 +136,17 @@ fn shown(alloc: Global, line: &CommandLine) -> Result<String, AllocError> {
         CommandLine::Make { seed, size } => format!(in alloc; "make {} {}", *seed, *size),
         CommandLine::Model { file, options } => {
             let settings = options.settings;
-            format!(in alloc; "model {:?} {} {} {} {} {} {} {}",
-                name(file), settings.workers(), settings.fuel(), settings.chunks(), settings.leaf(),
-                settings.inner(), options.report, options.trace)
+            format!(in alloc;
+                "model {:?} {} {} {} {} {} {} {}",
+                name(file),
+                settings.workers(),
+                settings.fuel(),
+                settings.chunks(),
+                settings.leaf(),
+                settings.inner(),
+                options.report,
+                options.trace
+            )
         }
     }
 }

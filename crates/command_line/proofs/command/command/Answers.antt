@@ -1,8 +1,6 @@
 use Rattle.std.proofs.Common.{rules, ◌≡◌, ◌∙◌, ap, IfOk, false, codes}
 use Rattle.std.proofs.lemmas.Result.{IfOk-weaker}
 use Rattle.clap.specs.Words.{App, app_of, with_subcommand}
-use Rattle.clap.specs.Simple.{app_of_fields, new_app}
-use Rattle.command_line.specs.Adds.{IsShaped}
 use Rattle.command_line.specs.App.{app, check, run, model, make}
 use Rattle.command_line.proofs.command.command.Goals as goal
 

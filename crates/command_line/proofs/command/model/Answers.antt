@@ -1,8 +1,6 @@
-use Rattle.std.proofs.Common.{rules, ◌≡◌, ◌∙◌, ap, ap₂, IfOk, false, ◌||◌}
+use Rattle.std.proofs.Common.{◌∙◌, ap, ap₂, ◌||◌}
 use Rattle.std.proofs.lemmas.Result.{IfOk-weaker}
-use Rattle.clap.specs.Words.{App, app_of, rule_of, with_rule, with_subcommand}
-use Rattle.command_line.specs.Adds.{IsShaped}
-use Rattle.command_line.specs.App.{model}
+use Rattle.clap.specs.Words.{App, app_of, with_rule, with_subcommand}
 use Rattle.command_line.proofs.command.model.Goals as goal
 
 -- src/command.rt:69:1
@@ -23,6 +21,6 @@ returns c =
     let s6 = c.in_ok-arg-6.ensures.shape c.option-5.ensures.own ∙ ap₂ with_rule s5 c.option-5.ensures.rule in
     let s7 = c.in_ok-arg-7.ensures.shape c.flag.ensures.own ∙ ap₂ with_rule s6 c.flag.ensures.rule in
     IfOk-weaker c.arg-8.result _ _ (λ m h.
-        let g8 = h.globals ∙ ap₂ ◌||◌ g7 c.flag-2.ensures.own in
-        let s8 = h.shape c.flag-2.ensures.own ∙ ap₂ with_rule s7 c.flag-2.ensures.rule in
-        λ old new adds. adds.shape g8 ∙ ap (λ (a : App). with_subcommand (app_of old) a.top) s8) c.arg-8.ensures
+    let g8 = h.globals ∙ ap₂ ◌||◌ g7 c.flag-2.ensures.own in
+    let s8 = h.shape c.flag-2.ensures.own ∙ ap₂ with_rule s7 c.flag-2.ensures.rule in
+    λ old new adds. adds.shape g8 ∙ ap (λ (a : App). with_subcommand (app_of old) a.top) s8) c.arg-8.ensures

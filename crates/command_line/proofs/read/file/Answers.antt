@@ -1,5 +1,5 @@
-use Rattle.std.proofs.Common.{◌≡◌, ◌∙◌, codes, sym, ap, option_map, Some, None, List, ℕ, Option}
-use Rattle.clap.specs.Words.{found_of, first_of, first_value, rows_of}
+use Rattle.std.proofs.Common.{◌∙◌, codes, ap, Some}
+use Rattle.clap.specs.Words.{found_of}
 use Rattle.clap.proofs.WalkLemmas.{first_value-rows}
 use Rattle.command_line.proofs.read.file.Goals as goal
 

@@ -1,8 +1,6 @@
-use Rattle.std.proofs.Common.{◌≡◌, ◌∙◌, codes, sym, ap, Some, inl, inr, true, false}
-use Rattle.clap.specs.Words.{found_of, rows_of}
+use Rattle.std.proofs.Common.{◌∙◌, inl, inr}
+use Rattle.clap.specs.Words.{found_of}
 use Rattle.clap.proofs.WalkLemmas.{one_text-rows}
-use Rattle.command_line.specs.CommandLine.{flag_in}
-use Rattle.command_line.specs.Values.{HasFlag}
 use Rattle.command_line.proofs.read.flag.Goals as goal
 
 pub returns : goal.returns
