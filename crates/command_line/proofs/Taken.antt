@@ -20,7 +20,7 @@ use Rattle.command_line.specs.declared.line.CommandLine.{CommandLine}
 use Rattle.command_line.specs.Values.{FitsCommand, FitsFound, HasFlag, HasNumber}
 use Rattle.command_line.proofs.Rows.{IsPassed, IsPlain, Passes, default_row, each, found, given_row, level_passed, never_zero, none_of, text_in}
 
-abbrev whole : App
+abbrev pub whole : App
 whole = built app
 
 pub is_good : is_simple_and_free app ≡ true
@@ -30,21 +30,21 @@ pub is_plain_app : is_simple app ≡ true
 is_plain_app = refl
 
 -- the built subcommands
-abbrev nth : ℕ → List Shape → Shape
+abbrev pub nth : ℕ → List Shape → Shape
 nth n [] = app.top
 nth Rattle.std.proofs.Common.zero (s ∷ ss) = s
 nth (Rattle.std.proofs.Common.suc n) (s ∷ ss) = nth n ss
 
-abbrev check_shape : Shape
+abbrev pub check_shape : Shape
 check_shape = nth 0 whole.subs
 
-abbrev run_shape : Shape
+abbrev pub run_shape : Shape
 run_shape = nth 1 whole.subs
 
 abbrev model_shape : Shape
 model_shape = nth 2 whole.subs
 
-abbrev make_shape : Shape
+abbrev pub make_shape : Shape
 make_shape = nth 3 whole.subs
 
 abbrev EachPlain : Shape → Type 0
