@@ -1,0 +1,6 @@
+mod Literal
+mod Numbers
+mod Operands
+mod Ranges
+mod Rows
+mod Taken

@@ -1,0 +1,144 @@
+-- Words that don't begin with a hyphen go to positional arguments.
+use Rattle.std.proofs.Common.{◌≡◌, ◌∙◌, ◌&&◌, ◌==◌, ℕ, Bool, cond, codes, true, false, refl, sym, ap, ap₂, subst, List, [], ◌∷◌, Option, Some, None, true≢false}
+use Rattle.std.specs.Prelude.{fold, option_and_then, is_some, not}
+use Rattle.std.specs.Option.{option_map_or}
+use Rattle.std.specs.Str.{bytes_eq}
+use Rattle.clap.specs.Lexer.{long_of, long_of_rest, short_of, short_of_rest, strip_byte}
+use Rattle.clap.specs.Walk.{Held, Row, Rule, Step, Text, Walk, after_step, arg_by_index, finished, idle, is_empty, long_or_other, nothing_held, rows_after, settled, short_or_plain, to_positional, trailing, value, walk, walk_from, walked, word_met}
+use Rattle.clap.specs.Simple.{Shape}
+use Rattle.clap.specs.Kinds.{Kinds, or_else}
+use Rattle.clap.specs.Faults.{check_fault, defaults_fault, fault_of, flag_word_fault, level_fault, positional_fault, settle_fault, step_fault, stray_fault, turn_fault, use_fault, walk_fault, word_fault}
+use Rattle.clap.specs.ValueTests.{is_unsigned_in}
+use Rattle.clap.specs.declared.error.kind.ErrorKind.TheVariants as kind
+use Rattle.clap.proofs.OnLiterals.{clap_on_literals}
+use Rattle.command_line.specs.App.{app}
+use Rattle.command_line.specs.CommandLine.{asked, command_line}
+use Rattle.command_line.specs.Operands.{IsOperand, OperandsMake, OperandsNameFiles}
+use Rattle.command_line.proofs.Taken.{asked_at, check_shape, make_shape, run_shape}
+
+no_dashes : (word : Text) → IsOperand word → bytes_eq word (45 ∷ 45 ∷ []) ≡ false
+no_dashes word h = go (bytes_eq word (45 ∷ 45 ∷ [])) refl
+  where
+    go : (b : Bool) → bytes_eq word (45 ∷ 45 ∷ []) ≡ b → b ≡ false
+    go false e = refl
+    go true e =
+        let is : word ≡ 45 ∷ 45 ∷ [] = (Rattle.std.proofs.lemmas.Slice.Eq.bytes_eq-Decides word (45 ∷ 45 ∷ [])).0 e in
+        absurd (true≢false (ap is_some (ap (strip_byte 45) (sym is) ∙ h)))
+
+no_long : (word : Text) → IsOperand word → long_of word ≡ None
+no_long word h = ap (λ (o : Option Text). option_and_then long_of_rest (option_and_then (strip_byte 45) o)) h
+
+no_short : (word : Text) → IsOperand word → short_of word ≡ None
+no_short word h = ap (λ (o : Option Text). option_and_then short_of_rest o) h
+
+-- the walk between two words, where nothing waits
+abbrev at : Held → ℕ → Walk
+at h position = record { held = h; waiting = idle; position = position; is_trailing = false; stopped = None }
+
+module _ (s : Shape) (word : Text) (operand : IsOperand word) where
+  met_is : (h : Held) (position : ℕ) → word_met s.rules [] false idle position word h ≡ (h, value)
+  met_is h position =
+      let first : word_met s.rules [] false idle position word h ≡ long_or_other s.rules idle word None h =
+      ap₂ (λ (b : Bool) (l : Option (Text × Option Text)). cond b (h, trailing position) (long_or_other s.rules idle word l h)) (no_dashes word operand) (no_long word operand) in
+      first ∙ ap (λ (o : Option Text). short_or_plain s.rules idle word o h) (no_short word operand)
+
+  walked_is : (h : Held) (position : ℕ) → walked s.rules [] (at h position) word ≡ to_positional s.rules (arg_by_index s.rules position) word (at h position) h
+  unfolding walked
+  walked_is h position = ap (λ (m : Held × Step). after_step s.rules word (at h position) m.0 m.1) (met_is h position)
+
+  turn_is : (h : Held) (position : ℕ) → turn_fault s [] (at h position) word
+      ≡ option_map_or (λ a. positional_fault s.rules s.args_override_self a h) (arg_by_index s.rules position) (stray_fault s)
+  turn_is h position =
+      let none : word_fault s [] false idle word h ≡ [] =
+      ap₂ (λ (b : Bool) (l : Option (Text × Option Text)). cond b [] (flag_word_fault s.rules s.args_override_self l word h)) (no_dashes word operand) (no_long word operand)
+      ∙ ap (λ (o : Option Text). option_map_or (λ flags. Rattle.clap.specs.Faults.bundle_fault s.rules s.args_override_self flags h) o []) (no_short word operand) in
+      ap₂ (λ (k : Kinds) (m : Held × Step). or_else k (step_fault s position m.0 m.1)) none (met_is h position)
+
+-- one level, by its walk
+abbrev level : Shape → Kinds → Walk → Kinds
+level s walk_kinds w = or_else walk_kinds
+    (or_else (settle_fault s.rules s.args_override_self w.held)
+    (or_else (defaults_fault (settled s.rules w.held).rows s.rules) (check_fault s (finished s.rules w.held) false)))
+
+-- a command's line, by the faults of its own level and its matches
+abbrev line_by : Text → Kinds → List Row → Option Rattle.command_line.specs.declared.line.CommandLine.CommandLine
+line_by name kinds rows = cond (is_empty (or_else kinds [])) (asked name rows) None
+
+module _ (s : Shape) (file : Text) (operand : IsOperand file) where
+  file_level : level_fault s [] nothing_held (file ∷ []) false []
+      ≡ level s (or_else (option_map_or (λ a. positional_fault s.rules s.args_override_self a nothing_held) (arg_by_index s.rules 1) (stray_fault s)) [])
+      (to_positional s.rules (arg_by_index s.rules 1) file (at nothing_held 1) nothing_held)
+  unfolding walk_fault
+  file_level = ap₂ (λ (k : Kinds) (w : Walk). level s (or_else k []) w) (turn_is s file operand nothing_held 1) (walked_is s file operand nothing_held 1)
+
+  file_rows : rows_after s.rules [] (file ∷ []) ≡ finished s.rules (to_positional s.rules (arg_by_index s.rules 1) file (at nothing_held 1) nothing_held).held
+  file_rows = ap (λ (w : Walk). finished s.rules w.held) (walked_is s file operand nothing_held 1)
+
+line_of_check : (file : Text) → command_line (codes "check" ∷ file ∷ []) ≡ line_by (codes "check") (level_fault check_shape [] nothing_held (file ∷ []) false []) (rows_after check_shape.rules [] (file ∷ []))
+unfolding clap_on_literals
+line_of_check file = refl
+
+line_of_run : (file : Text) → command_line (codes "run" ∷ file ∷ []) ≡ line_by (codes "run") (level_fault run_shape [] nothing_held (file ∷ []) false []) (rows_after run_shape.rules [] (file ∷ []))
+unfolding clap_on_literals
+line_of_run file = refl
+
+pub files_named : OperandsNameFiles
+unfolding defaults_fault
+files_named file h = (
+  line_of_check file ∙ ap₂ (line_by (codes "check")) (file_level check_shape file h) (file_rows check_shape file h),
+  line_of_run file ∙ ap₂ (line_by (codes "run")) (file_level run_shape file h) (file_rows run_shape file h),
+)
+
+-- ---- `make`
+
+module _ (seed size : Text) (h1 : IsOperand seed) (h2 : IsOperand size) where
+  -- the seed waits to be used
+  abbrev seed_held : Held
+  seed_held = (to_positional make_shape.rules (arg_by_index make_shape.rules 1) seed (at nothing_held 1) nothing_held).held
+
+  abbrev size_walk : Walk
+  size_walk = to_positional make_shape.rules (arg_by_index make_shape.rules 2) size (at seed_held 2) seed_held
+
+  abbrev turn_at : ℕ → Held → Kinds
+  turn_at position h = option_map_or (λ a. positional_fault make_shape.rules false a h) (arg_by_index make_shape.rules position) (stray_fault make_shape)
+
+  make_level : level_fault make_shape [] nothing_held (seed ∷ size ∷ []) false [] ≡ level make_shape (or_else (turn_at 1 nothing_held) (or_else (turn_at 2 seed_held) [])) size_walk
+  unfolding walk_fault
+  make_level =
+      ap₂ (λ (k : Kinds) (w : Walk). level make_shape (or_else k (or_else (turn_fault make_shape [] w size) [])) (walked make_shape.rules [] w size))
+      (turn_is make_shape seed h1 nothing_held 1) (walked_is make_shape seed h1 nothing_held 1)
+      ∙ ap₂ (λ (k : Kinds) (w : Walk). level make_shape (or_else (turn_at 1 nothing_held) (or_else k [])) w) (turn_is make_shape size h2 seed_held 2) (walked_is make_shape size h2 seed_held 2)
+
+  make_rows : rows_after make_shape.rules [] (seed ∷ size ∷ []) ≡ finished make_shape.rules size_walk.held
+  make_rows =
+      ap (λ (w : Walk). finished make_shape.rules (walked make_shape.rules [] w size).held) (walked_is make_shape seed h1 nothing_held 1)
+      ∙ ap (λ (w : Walk). finished make_shape.rules w.held) (walked_is make_shape size h2 seed_held 2)
+
+abbrev value_kinds_by : Bool → Kinds
+value_kinds_by b = or_else (cond b [] (kind.ValueValidation ∷ [])) []
+
+abbrev both_kinds : Bool → Bool → Kinds
+both_kinds a b = or_else (or_else (value_kinds_by a) []) (or_else (value_kinds_by b) [])
+
+values_level : (seed size : Text) (h1 : IsOperand seed) (h2 : IsOperand size)
+    → level make_shape (or_else (turn_at seed size h1 h2 1 nothing_held) (or_else (turn_at seed size h1 h2 2 (seed_held seed size h1 h2)) [])) (size_walk seed size h1 h2)
+    ≡ both_kinds (is_unsigned_in 0 4294967295 seed) (is_unsigned_in 1 1000 size)
+unfolding defaults_fault
+values_level seed size h1 h2 = refl
+
+line_of_make : (seed size : Text) → command_line (codes "make" ∷ seed ∷ size ∷ [])
+    ≡ line_by (codes "make") (level_fault make_shape [] nothing_held (seed ∷ size ∷ []) false []) (rows_after make_shape.rules [] (seed ∷ size ∷ []))
+unfolding clap_on_literals
+line_of_make seed size = refl
+
+by_both : {X : Type 0} (a b : Bool) (x : Option X) → cond (is_empty (or_else (both_kinds a b) [])) x None ≡ cond (a && b) x None
+by_both true true x = refl
+by_both true false x = refl
+by_both false true x = refl
+by_both false false x = refl
+
+pub numbers_made : OperandsMake
+numbers_made seed size h1 h2 =
+    line_of_make seed size
+    ∙ ap₂ (line_by (codes "make")) (make_level seed size h1 h2 ∙ values_level seed size h1 h2) (make_rows seed size h1 h2)
+    ∙ by_both (is_unsigned_in 0 4294967295 seed) (is_unsigned_in 1 1000 size) _

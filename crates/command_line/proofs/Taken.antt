@@ -1,0 +1,237 @@
+-- What the words of a command line without a fault have.
+use Rattle.std.proofs.Common.{◌≡◌, ◌∙◌, ◌<◌, ◌≤◌, ◌&&◌, ◌||◌, ◌⊎◌, ℕ, Bool, cond, codes, true, false, not, refl, sym, ap, subst, arith, inl, inr, List, [], ◌∷◌, length, Option, Some, None, is_some, true≢false}
+use Rattle.std.specs.Prelude.{find, option_map, option_and_then}
+use Rattle.std.specs.Option.{option_map_or}
+use Rattle.std.specs.Str.{bytes_eq}
+use Rattle.std.proofs.lemmas.Slice.Eq.{bytes_eq-Decides}
+use Rattle.clap.specs.Walk.{Row, Text, answers_to, finished, is_empty, nothing_held, one_of, has_row, rows_after, settled, stop_after, walk}
+use Rattle.clap.specs.Simple.{App, Shape, built, entered, is_simple, label_of, names_of, rows_at, subcommand_of}
+use Rattle.clap.specs.Takes.{is_given}
+use Rattle.clap.specs.Kinds.{IsAmong, Kinds}
+use Rattle.clap.specs.Faults.{check_fault, entered_fault, fault_of, is_simple_and_free, level_fault}
+use Rattle.clap.specs.declared.builder.value_parser.ValueParser.TheVariants as vp
+use Rattle.clap.specs.declared.error.kind.ErrorKind.{ErrorKind}
+use Rattle.clap.specs.declared.error.kind.ErrorKind.TheVariants as kind
+use Rattle.clap.proofs.ValueTestLemmas.{accepts-Accepts}
+use Rattle.clap.specs.ValueTests.{accepts}
+use Rattle.command_line.specs.App.{app}
+use Rattle.command_line.specs.CommandLine.{asked, command_line}
+use Rattle.command_line.specs.declared.line.CommandLine.{CommandLine}
+use Rattle.command_line.specs.Values.{FitsCommand, FitsFound, HasFlag, HasNumber}
+use Rattle.command_line.proofs.Rows.{IsPassed, IsPlain, Passes, default_row, each, found, given_row, level_passed, never_zero, none_of, text_in}
+
+abbrev pub whole : App
+whole = built app
+
+pub is_good : is_simple_and_free app ≡ true
+is_good = refl
+
+pub is_plain_app : is_simple app ≡ true
+is_plain_app = refl
+
+-- the built subcommands
+abbrev pub nth : ℕ → List Shape → Shape
+nth n [] = app.top
+nth Rattle.std.proofs.Common.zero (s ∷ ss) = s
+nth (Rattle.std.proofs.Common.suc n) (s ∷ ss) = nth n ss
+
+abbrev pub check_shape : Shape
+check_shape = nth 0 whole.subs
+
+abbrev pub run_shape : Shape
+run_shape = nth 1 whole.subs
+
+abbrev model_shape : Shape
+model_shape = nth 2 whole.subs
+
+abbrev pub make_shape : Shape
+make_shape = nth 3 whole.subs
+
+abbrev EachPlain : Shape → Type 0
+EachPlain s = each (IsPlain s.rules) s.rules
+
+plain_check : EachPlain check_shape
+plain_check = (record { own = refl; sets = inl refl; reads = refl; filled = refl }, tt)
+
+plain_run : EachPlain run_shape
+plain_run = (record { own = refl; sets = inl refl; reads = refl; filled = refl }, tt)
+
+plain_model : EachPlain model_shape
+plain_model = (
+  record { own = refl; sets = inl refl; reads = refl; filled = refl },
+  (
+    record { own = refl; sets = inl refl; reads = refl; filled = refl },
+    (
+      record { own = refl; sets = inl refl; reads = refl; filled = refl },
+      (
+        record { own = refl; sets = inl refl; reads = refl; filled = refl },
+        (
+          record { own = refl; sets = inl refl; reads = refl; filled = refl },
+          (
+            record { own = refl; sets = inl refl; reads = refl; filled = refl },
+            (
+              record { own = refl; sets = inr refl; reads = refl; filled = refl },
+              (record { own = refl; sets = inr refl; reads = refl; filled = refl }, tt),
+            ),
+          ),
+        ),
+      ),
+    ),
+  ),
+)
+
+plain_make : EachPlain make_shape
+plain_make = (record { own = refl; sets = inl refl; reads = refl; filled = refl }, (record { own = refl; sets = inl refl; reads = refl; filled = refl }, tt))
+
+-- ---- one level
+
+abbrev PassedRows : Shape → List Row → Type 0
+PassedRows s rows = each (IsPassed s.rules) rows
+
+number_has : (s : Shape) (rows : List Row) (id : Text) (least most : ℕ) → PassedRows s rows → ((t : Text) → Passes s.rules id t → accepts false (vp.Unsigned least most) t ≡ true)
+    → has_row id rows ≡ true → HasNumber id least most rows
+number_has s rows id least most h is has =
+    let t = text_in id s.rules rows h has in
+    (t.0, t.1, accepts-Accepts false (vp.Unsigned least most) t.0 (is t.0 t.2))
+
+flag_has : (s : Shape) (rows : List Row) (id : Text) → PassedRows s rows → ((t : Text) → Passes s.rules id t → (bytes_eq t (codes "true") || bytes_eq t (codes "false")) ≡ true)
+    → has_row id rows ≡ true → HasFlag id rows
+flag_has s rows id h is has =
+    let t = text_in id s.rules rows h has in
+    go t.0 t.1 (bytes_eq t.0 (codes "true")) refl (is t.0 t.2)
+  where
+    go : (t : Text) → one_of id rows ≡ Some t → (b : Bool) → bytes_eq t (codes "true") ≡ b → (b || bytes_eq t (codes "false")) ≡ true → HasFlag id rows
+    go t at true e f = inl (at ∙ ap Some ((bytes_eq-Decides t (codes "true")).0 e))
+    go t at false e f = inr (at ∙ ap Some ((bytes_eq-Decides t (codes "false")).0 f))
+
+record Fits (s : Shape) (words : List Text) : Type 0 where
+  fits : FitsCommand s.name (rows_after s.rules [] words)
+  is_asked : is_some (asked s.name (rows_after s.rules [] words)) ≡ true
+
+abbrev FitsAll : Shape → Type 0
+FitsAll s = (words : List Text) → level_fault s [] nothing_held words false [] ≡ [] → Fits s words
+
+other_name : (a b : Text) → bytes_eq b b ≡ true → bytes_eq a b ≡ false → a ≡ b → ⊥
+other_name a b same other e = true≢false (sym same ∙ ap (λ t. bytes_eq t b) (sym e) ∙ other)
+
+fits_check : FitsAll check_shape
+fits_check words e = record {
+  fits = record {
+    model = λ n. absurd (other_name (codes "check") (codes "model") refl refl n);
+    make = λ n. absurd (other_name (codes "check") (codes "make") refl refl n);
+  };
+  is_asked = refl;
+}
+
+fits_run : FitsAll run_shape
+fits_run words e = record {
+  fits = record {
+    model = λ n. absurd (other_name (codes "run") (codes "model") refl refl n);
+    make = λ n. absurd (other_name (codes "run") (codes "make") refl refl n);
+  };
+  is_asked = refl;
+}
+
+fits_model : FitsAll model_shape
+fits_model words e =
+    let s = model_shape in
+    let held = (walk s.rules [] nothing_held words).held in
+    let rows = rows_after s.rules [] words in
+    let h = (level_passed s plain_model [] nothing_held words false [] tt e).0 in
+    let start = (settled s.rules held).rows in
+    record {
+      fits = record {
+        model = λ n. record {
+          workers = number_has s rows (codes "workers") 1 64 h (λ t p. p _ refl) (default_row (codes "workers") s.rules refl start);
+          fuel = number_has s rows (codes "fuel") 1 1000000000 h (λ t p. p _ refl) (default_row (codes "fuel") s.rules refl start);
+          chunks = number_has s rows (codes "chunks") 2 65536 h (λ t p. p _ refl) (default_row (codes "chunks") s.rules refl start);
+          leaf = number_has s rows (codes "leaf") 16 1000000 h (λ t p. p _ refl) (default_row (codes "leaf") s.rules refl start);
+          inner = number_has s rows (codes "inner") 16 1000000 h (λ t p. p _ refl) (default_row (codes "inner") s.rules refl start);
+          report = flag_has s rows (codes "report") h (λ t p. p _ refl) (default_row (codes "report") s.rules refl start);
+          trace = flag_has s rows (codes "trace") h (λ t p. p _ refl) (default_row (codes "trace") s.rules refl start);
+        };
+        make = λ n. absurd (other_name (codes "model") (codes "make") refl refl n);
+      };
+      is_asked = refl;
+    }
+
+-- both are given where neither is missing
+both_given : (a b : Bool) → cond (not a || (not b || false)) (kind.MissingRequiredArgument ∷ []) [] ≡ [] → (a ≡ true) × (b ≡ true)
+both_given true true e = (refl, refl)
+both_given true false e = absurd (none_kind e)
+  where
+    none_kind : kind.MissingRequiredArgument ∷ [] ≡ [] → ⊥
+    none_kind f = true≢false (sym (ap Rattle.command_line.proofs.Rows.is_none f))
+both_given false b e = absurd (none_kind e)
+  where
+    none_kind : kind.MissingRequiredArgument ∷ [] ≡ [] → ⊥
+    none_kind f = true≢false (sym (ap Rattle.command_line.proofs.Rows.is_none f))
+
+fits_make : FitsAll make_shape
+fits_make words e =
+    let s = make_shape in
+    let rows = rows_after s.rules [] words in
+    let passed = level_passed s plain_make [] nothing_held words false [] tt e in
+    let given = both_given (is_given (codes "SEED") rows) (is_given (codes "SIZE") rows) passed.2 in
+    record {
+      fits = record {
+        model = λ n. absurd (other_name (codes "make") (codes "model") refl refl n);
+        make = λ n. record {
+          seed = number_has s rows (codes "SEED") 0 4294967295 passed.0 (λ t p. p _ refl) (given_row (codes "SEED") rows given.0);
+          size = number_has s rows (codes "SIZE") 1 1000 passed.0 (λ t p. p _ refl) (given_row (codes "SIZE") rows given.1);
+        };
+      };
+      is_asked = refl;
+    }
+
+-- ---- the whole
+
+abbrev IsFound : Option (Text × List Row) → Type 0
+IsFound o = FitsFound o × (is_some o ≡ true → is_some (option_and_then (λ p. asked p.0 p.1) o) ≡ true)
+
+entered_fits : (a : App) → each FitsAll a.subs → (stop : Option (Text × List Text)) → entered_fault a stop ≡ [] → IsFound (entered a stop)
+entered_fits a h None e = (tt, λ s. s)
+entered_fits a h (Some p) e = go (find (λ s. answers_to p.0 (label_of s)) a.subs) refl e
+  where
+    go : (o : Option Shape) → find (λ s. answers_to p.0 (label_of s)) a.subs ≡ o → option_map_or (λ s. level_fault s [] nothing_held p.1 false []) o [] ≡ []
+        → IsFound (option_map (λ s. rows_at s p.1) o)
+    go None at f = (tt, λ s. s)
+    go (Some s) at f =
+        let fit = (found FitsAll (λ x. answers_to p.0 (label_of x)) a.subs s h at).0 p.1 f in
+        (fit.fits, λ _. fit.is_asked)
+
+pub record IsTaken (words : List Text) : Type 0 where
+  pub fits : FitsFound (subcommand_of app words)
+  pub met : is_some (subcommand_of app words) ≡ true
+  pub is_asked : is_some (option_and_then (λ p. asked p.0 p.1) (subcommand_of app words)) ≡ true
+
+pub taken : (words : List Text) → fault_of app words ≡ [] → IsTaken words
+taken words e =
+    let stop = stop_after whole.top.rules (names_of whole) words in
+    let level = level_passed whole.top tt (names_of whole) nothing_held words (is_some (entered whole stop)) (entered_fault whole stop) tt e in
+    let all = entered_fits whole (fits_check, (fits_run, (fits_model, (fits_make, tt)))) stop level.1 in
+    let some = check_met (is_some (entered whole stop)) level.2 in
+    record { fits = all.0; met = some; is_asked = all.1 some }
+  where
+    check_met : (b : Bool) → check_fault whole.top (finished whole.top.rules (walk whole.top.rules (names_of whole) nothing_held words).held) b ≡ [] → b ≡ true
+    check_met true f = refl
+    check_met false f = absurd (true≢false (sym (ap Rattle.command_line.proofs.Rows.is_none f)))
+
+-- ---- the answer
+
+abbrev pub asked_at : Option (Text × List Row) → Option CommandLine
+asked_at = option_and_then (λ p. asked p.0 p.1)
+
+pub line_of : (words : List Text) → fault_of app words ≡ [] → asked_at (subcommand_of app words) ≡ command_line words
+line_of words e = ap (λ (k : Kinds). cond (is_empty k) (asked_at (subcommand_of app words)) None) (sym e)
+
+among : (k : ErrorKind) (ks : Kinds) → IsAmong k ks → is_empty ks ≡ false
+among k [] h = absurd h
+among k (x ∷ xs) h = never_zero (length xs)
+
+pub no_line : (words : List Text) (k : ErrorKind) → (k ≡ kind.OutOfMemory → ⊥) → (k ≡ kind.OutOfMemory) ⊎ IsAmong k (fault_of app words)
+    → (None ≡ command_line words) × (false ≡ is_empty (fault_of app words))
+no_line words k other (inl is) = absurd (other is)
+no_line words k other (inr h) =
+    let some : is_empty (fault_of app words) ≡ false = among k (fault_of app words) h in
+    (ap (λ b. cond b (asked_at (subcommand_of app words)) None) (sym some), sym some)

@@ -1,0 +1,12 @@
+use Rattle.std.proofs.Common.{◌∙◌, inl, inr}
+use Rattle.clap.specs.Words.{found_of}
+use Rattle.clap.proofs.WalkLemmas.{one_text-rows}
+use Rattle.command_line.proofs.read.flag.Goals as goal
+
+pub returns : goal.returns
+returns c =
+    let f = found_of c.args.matches.now in
+    elim c.requires [
+      | inl e ↦ rw e (c.get_flag.ensures.value (one_text-rows f c.args.id.now ∙ e))
+      | inr e ↦ rw e (c.get_flag.ensures.other (one_text-rows f c.args.id.now ∙ e))
+    ]

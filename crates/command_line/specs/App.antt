@@ -1,0 +1,64 @@
+-- The command line, as the parser's definition of a simple command speaks of it.
+use Rattle.std.specs.Prelude.{ℕ, [], ◌∷◌, Some, codes, true, false}
+use Rattle.clap.specs.Words.{App, Rule, Shape, Text, new_rule}
+use Rattle.clap.specs.Simple.{new_shape}
+use Rattle.clap.specs.declared.builder.action.ArgAction.TheVariants.{SetTrue}
+use Rattle.clap.specs.declared.builder.value_parser.ValueParser.TheVariants.{Unsigned}
+
+-- FILE, any text, which may be left out
+abbrev pub file : Rule
+file = new_rule (codes "FILE")
+
+-- a number from `least` to `most` that has to be given
+abbrev pub number : Text → ℕ → ℕ → Rule
+number id least most = record (new_rule id) { required = true; parser = Some (Unsigned least most) }
+
+-- `--name N`, a number from `least` to `most`, with its default
+abbrev pub option : Text → ℕ → ℕ → Text → Rule
+option name least most default = record (new_rule name) {
+  long = Some name;
+  parser = Some (Unsigned least most);
+  defaults = default ∷ [];
+}
+
+-- `--name`
+abbrev pub flag : Text → Rule
+flag name = record (new_rule name) { long = Some name; action = Some SetTrue }
+
+abbrev pub check : Shape
+check = record (new_shape (codes "check")) { rules = file ∷ [] }
+
+abbrev pub run : Shape
+run = record (new_shape (codes "run")) { rules = file ∷ [] }
+
+abbrev pub model : Shape
+model = record (new_shape (codes "model")) {
+  rules = file
+      ∷ option (codes "workers") 1 64 (codes "1")
+      ∷ option (codes "fuel") 1 1000000000 (codes "1000000")
+      ∷ option (codes "chunks") 2 65536 (codes "4096")
+      ∷ option (codes "leaf") 16 1000000 (codes "4096")
+      ∷ option (codes "inner") 16 1000000 (codes "8192")
+      ∷ flag (codes "report")
+      ∷ flag (codes "trace")
+      ∷ [];
+}
+
+abbrev pub make : Shape
+make = record (new_shape (codes "make")) {
+  rules = number (codes "SEED") 0 4294967295 ∷ number (codes "SIZE") 1 1000 ∷ [];
+}
+
+-- one of the four commands, and no words of help or of the version
+abbrev pub app : App
+app = record {
+  top = record (new_shape (codes "hheap")) {
+    is_leaf = false;
+    no_binary_name = true;
+    disable_help_flag = true;
+    disable_help_subcommand = true;
+    disable_version_flag = true;
+    subcommand_required = true;
+  };
+  subs = check ∷ run ∷ model ∷ make ∷ [];
+}

@@ -1,0 +1,62 @@
+-- What a command line asks for: the command and the values that the parser's definition of a simple command gives
+-- for it. What that definition takes is taken, and what it refuses is no command line: `+5` and `007` are numbers, a
+-- sign `-` makes none; any word that it takes for a text names a file, also the empty one; repeated options and flags,
+-- values of flags, abbreviations, options before the command and all calls for help or the version are refused.
+use Rattle.std.specs.Prelude.{◌≤◌, ℕ, Bool, false, List, Option, Some, None, ⊤, codes, option_and_then, if◌then◌else◌}
+use Rattle.std.specs.Option.{option_map_or}
+use Rattle.std.specs.Str.{bytes_eq}
+use Rattle.std.specs.Str.Parse.{digits_value, without_leading_plus}
+use Rattle.clap.specs.Words.{Row, Text, fault_of, first_of, one_of, subcommand_of}
+use Rattle.clap.specs.Walk.{is_empty}
+use Rattle.run_trace.specs.declared.settings.Version.TheVariants.{Two}
+use Rattle.command_line.specs.App.{app}
+use Rattle.command_line.specs.declared.line.CommandLine.{CommandLine}
+use Rattle.command_line.specs.declared.line.CommandLine.TheVariants.{Check, Run, Model, Make}
+use Rattle.command_line.specs.declared.line.Options.{Options}
+
+-- the file that is named, if one is
+abbrev pub file_in : List Row → Option Text
+file_in = first_of (codes "FILE")
+
+-- the number that an argument gives
+abbrev pub number_in : Text → List Row → ℕ
+number_in id rows = option_map_or (λ t. digits_value 10 (without_leading_plus t)) (one_of id rows) 0
+
+-- the flag is set
+abbrev pub flag_in : Text → List Row → Bool
+flag_in id rows = option_map_or (λ t. bytes_eq t (codes "true")) (one_of id rows) false
+
+abbrev pub options_in : List Row → Options
+options_in rows = record {
+  settings = record {
+    version = Two;
+    workers = number_in (codes "workers") rows;
+    fuel = number_in (codes "fuel") rows;
+    chunks = number_in (codes "chunks") rows;
+    leaf = number_in (codes "leaf") rows;
+    inner = number_in (codes "inner") rows;
+  };
+  report = flag_in (codes "report") rows;
+  trace = flag_in (codes "trace") rows;
+}
+
+-- what a command asks for, by its name and its matches
+abbrev pub asked : Text → List Row → Option CommandLine
+asked name rows =
+    if bytes_eq name (codes "check") then Some (Check (file_in rows))
+    else (if bytes_eq name (codes "run") then Some (Run (file_in rows))
+    else (if bytes_eq name (codes "model") then Some (Model (file_in rows) (options_in rows))
+    else (if bytes_eq name (codes "make")
+    then Some (Make (number_in (codes "SEED") rows) (number_in (codes "SIZE") rows))
+    else None)))
+
+-- what the words after the program's name ask for; None where they are no command line
+abbrev pub command_line : List Text → Option CommandLine
+command_line words =
+    if is_empty (fault_of app words) then option_and_then (λ p. asked p.0 p.1) (subcommand_of app words)
+    else None
+
+-- the size of a program to be made is 1 to 1,000
+abbrev pub HasSize : Option CommandLine → Type 0
+HasSize (Some (Make seed size)) = (1 ≤ size) × (size ≤ 1000)
+HasSize _ = ⊤

@@ -1,0 +1,55 @@
+-- What some words ask for.
+use Rattle.std.specs.Prelude.{◌≡◌, List, [], ◌∷◌, Some, None, codes, true, false}
+use Rattle.clap.specs.Words.{Text}
+use Rattle.run_trace.specs.Settings.{usual_limits}
+use Rattle.command_line.specs.CommandLine.{command_line}
+use Rattle.command_line.specs.declared.line.CommandLine.{CommandLine}
+use Rattle.command_line.specs.declared.line.CommandLine.TheVariants.{Check, Run, Model, Make}
+
+-- the words ask for this
+abbrev pub AskFor : List Text → CommandLine → Type 0
+AskFor words line = command_line words ≡ Some line
+
+-- the words are no command line
+abbrev pub AreRefused : List Text → Type 0
+AreRefused words = command_line words ≡ None
+
+-- a file may be left out, and an empty word is a name
+abbrev pub FilesAreNamed : Type 0
+FilesAreNamed =
+    AskFor (codes "check" ∷ []) (Check None)
+    × AskFor (codes "check" ∷ codes "a.hh" ∷ []) (Check (Some (codes "a.hh")))
+    × AskFor (codes "run" ∷ [] ∷ []) (Run (Some []))
+    × AskFor (codes "run" ∷ codes "--" ∷ codes "-V" ∷ []) (Run (Some (codes "-V")))
+
+abbrev pub OptionsAreRead : Type 0
+OptionsAreRead =
+    AskFor (codes "model" ∷ []) (Model None (record { settings = usual_limits; report = false; trace = false }))
+    × AskFor (codes "model" ∷ codes "a.hh" ∷ codes "--report" ∷ [])
+    (Model (Some (codes "a.hh")) (record { settings = usual_limits; report = true; trace = false }))
+    × AskFor (codes "model" ∷ codes "--workers" ∷ codes "64" ∷ codes "--inner=16" ∷ codes "--trace" ∷ [])
+    (Model None (record { settings = record usual_limits { workers = 64; inner = 16 }; report = false; trace = true }))
+
+abbrev pub NumbersAreRead : Type 0
+NumbersAreRead =
+    AskFor (codes "make" ∷ codes "4294967295" ∷ codes "1000" ∷ []) (Make 4294967295 1000)
+    × AskFor (codes "make" ∷ codes "+5" ∷ codes "007" ∷ []) (Make 5 7)
+    × AreRefused (codes "make" ∷ codes "4294967296" ∷ codes "1" ∷ [])
+    × AreRefused (codes "make" ∷ codes "1" ∷ codes "1001" ∷ [])
+    × AreRefused (codes "model" ∷ codes "--workers" ∷ codes "65" ∷ [])
+    × AreRefused (codes "model" ∷ codes "--fuel" ∷ codes "0" ∷ [])
+
+abbrev pub OthersAreRefused : Type 0
+OthersAreRefused =
+    AreRefused []
+    × AreRefused (codes "walk" ∷ [])
+    × AreRefused (codes "help" ∷ [])
+    × AreRefused (codes "--help" ∷ [])
+    × AreRefused (codes "-V" ∷ [])
+    × AreRefused (codes "check" ∷ codes "-h" ∷ [])
+    × AreRefused (codes "run" ∷ codes "--report" ∷ [])
+    × AreRefused (codes "--report" ∷ codes "model" ∷ [])
+    × AreRefused (codes "model" ∷ codes "--rep" ∷ [])
+    × AreRefused (codes "model" ∷ codes "--report=true" ∷ [])
+    × AreRefused (codes "model" ∷ codes "--report" ∷ codes "--report" ∷ [])
+    × AreRefused (codes "model" ∷ codes "--leaf=64" ∷ codes "--leaf=64" ∷ [])

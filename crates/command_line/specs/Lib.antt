@@ -1,0 +1,6 @@
+pub mod App
+pub mod Adds
+pub mod CommandLine
+pub mod Examples
+pub mod Operands
+pub mod Values

@@ -1,0 +1,26 @@
+-- What files and numbers ask for.
+use Rattle.std.specs.Prelude.{◌≡◌, ◌&&◌, List, [], ◌∷◌, Some, None, codes, if◌then◌else◌}
+use Rattle.std.specs.Str.Parse.{digits_value, without_leading_plus}
+use Rattle.clap.specs.Lexer.{strip_byte}
+use Rattle.clap.specs.ValueTests.{is_unsigned_in}
+use Rattle.clap.specs.Words.{Text}
+use Rattle.command_line.specs.CommandLine.{command_line}
+use Rattle.command_line.specs.declared.line.CommandLine.TheVariants.{Check, Run, Make}
+
+-- the word doesn't begin with a hyphen (45)
+abbrev pub IsOperand : Text → Type 0
+IsOperand word = strip_byte 45 word ≡ None
+
+-- such a word behind `check` or `run` names the file
+abbrev pub OperandsNameFiles : Type 0
+OperandsNameFiles = (file : Text) → IsOperand file
+    → (command_line (codes "check" ∷ file ∷ []) ≡ Some (Check (Some file)))
+    × (command_line (codes "run" ∷ file ∷ []) ≡ Some (Run (Some file)))
+
+-- two such words behind `make` ask for a program exactly where both are numbers in their ranges
+abbrev pub OperandsMake : Type 0
+OperandsMake = (seed size : Text) → IsOperand seed → IsOperand size
+    → command_line (codes "make" ∷ seed ∷ size ∷ [])
+    ≡ (if is_unsigned_in 0 4294967295 seed && is_unsigned_in 1 1000 size
+    then Some (Make (digits_value 10 (without_leading_plus seed)) (digits_value 10 (without_leading_plus size)))
+    else None)

@@ -1,0 +1,36 @@
+-- Which values the matches of a command have.
+use Rattle.std.specs.Prelude.{◌≡◌, ◌⊎◌, ℕ, List, Option, Some, None, ⊤, codes}
+use Rattle.clap.specs.Words.{IsUnsignedIn, Row, Text, one_of}
+
+-- the argument gives a number from `least` to `most`
+abbrev pub HasNumber : Text → ℕ → ℕ → List Row → Type 0
+HasNumber id least most rows = (t : Text) × (one_of id rows ≡ Some t) × IsUnsignedIn least most t
+
+-- the flag is set or isn't
+abbrev pub HasFlag : Text → List Row → Type 0
+HasFlag id rows = (one_of id rows ≡ Some (codes "true")) ⊎ (one_of id rows ≡ Some (codes "false"))
+
+-- the matches of `model` have all numbers in their ranges
+pub record HasOptions (rows : List Row) : Type 0 where
+  pub workers : HasNumber (codes "workers") 1 64 rows
+  pub fuel : HasNumber (codes "fuel") 1 1000000000 rows
+  pub chunks : HasNumber (codes "chunks") 2 65536 rows
+  pub leaf : HasNumber (codes "leaf") 16 1000000 rows
+  pub inner : HasNumber (codes "inner") 16 1000000 rows
+  pub report : HasFlag (codes "report") rows
+  pub trace : HasFlag (codes "trace") rows
+
+-- the matches of `make` have both
+pub record HasSeedAndSize (rows : List Row) : Type 0 where
+  pub seed : HasNumber (codes "SEED") 0 4294967295 rows
+  pub size : HasNumber (codes "SIZE") 1 1000 rows
+
+-- the matches of a command, by its name
+pub record FitsCommand (name : Text) (rows : List Row) : Type 0 where
+  pub model : name ≡ codes "model" → HasOptions rows
+  pub make : name ≡ codes "make" → HasSeedAndSize rows
+
+-- the same of the command that was met, if one was
+abbrev pub FitsFound : Option (Text × List Row) → Type 0
+FitsFound None = ⊤
+FitsFound (Some p) = FitsCommand p.0 p.1

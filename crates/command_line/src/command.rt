@@ -1,0 +1,97 @@
+// The command, as the parser of command lines wants it.
+
+ghost use Rattle.std.specs.Prelude.{◌≡◌, IfOk, false};
+ghost use Rattle.clap.specs.Words.{app_of, rule_of};
+ghost use Rattle.command_line.specs.Adds.{IsShaped};
+ghost use Rattle.command_line.specs.App.{app, check, run, model, make, file, number, option, flag};
+
+use clap::builder::ValueParser;
+use clap::{Arg, ArgAction, Command};
+use std::alloc::{AllocError, Global};
+
+// A file's name, which may be left out.
+fn file<'w>(alloc: Global) -> Arg<'w>
+    ensures rule { rule_of result ≡ file }
+    ensures own { result.global ≡ false }
+{
+    Arg::new(alloc, "FILE")
+}
+
+// A number that has to be given.
+fn number<'w>(alloc: Global, id: &'w str, least: u64, most: u64) -> Arg<'w>
+    ensures rule { rule_of result ≡ number id.entry.now least most }
+    ensures own { result.global ≡ false }
+{
+    Arg::new(alloc, id)
+        .required(true)
+        .value_parser(ValueParser::unsigned(least, most))
+}
+
+// A number that has a default.
+fn option<'w>(alloc: Global, name: &'w str, least: u64, most: u64, default: &'w str) -> Arg<'w>
+    ensures rule { rule_of result ≡ option name.entry.now least most default.entry.now }
+    ensures own { result.global ≡ false }
+{
+    Arg::new(alloc, name)
+        .long(name)
+        .value_parser(ValueParser::unsigned(least, most))
+        .default_value(default)
+}
+
+// A flag.
+fn flag<'w>(alloc: Global, name: &'w str) -> Arg<'w>
+    ensures rule { rule_of result ≡ flag name.entry.now }
+    ensures own { result.global ≡ false }
+{
+    Arg::new(alloc, name).long(name).action(ArgAction::SetTrue)
+}
+
+fn check<'w>(alloc: Global) -> Result<Command<'w>, AllocError>
+    ensures { IfOk result (IsShaped check) }
+{
+    Command::new(alloc, "check").arg(file(alloc))
+}
+
+fn run<'w>(alloc: Global) -> Result<Command<'w>, AllocError>
+    ensures { IfOk result (IsShaped run) }
+{
+    Command::new(alloc, "run").arg(file(alloc))
+}
+
+fn model<'w>(alloc: Global) -> Result<Command<'w>, AllocError>
+    ensures { IfOk result (IsShaped model) }
+{
+    Command::new(alloc, "model")
+        .arg(file(alloc))?
+        .arg(option(alloc, "workers", 1, 64, "1"))?
+        .arg(option(alloc, "fuel", 1, 1_000_000_000, "1000000"))?
+        .arg(option(alloc, "chunks", 2, 65_536, "4096"))?
+        .arg(option(alloc, "leaf", 16, 1_000_000, "4096"))?
+        .arg(option(alloc, "inner", 16, 1_000_000, "8192"))?
+        .arg(flag(alloc, "report"))?
+        .arg(flag(alloc, "trace"))
+}
+
+fn make<'w>(alloc: Global) -> Result<Command<'w>, AllocError>
+    ensures { IfOk result (IsShaped make) }
+{
+    Command::new(alloc, "make")
+        .arg(number(alloc, "SEED", 0, 4_294_967_295))?
+        .arg(number(alloc, "SIZE", 1, 1000))
+}
+
+/// The command with its four subcommands.
+pub(crate) fn command<'w>(alloc: Global) -> Result<Command<'w>, AllocError>
+    ensures { IfOk result (λ c. app_of c ≡ app) }
+{
+    Command::new(alloc, "hheap")
+        .no_binary_name(true)
+        .disable_help_flag(true)
+        .disable_help_subcommand(true)
+        .disable_version_flag(true)
+        .subcommand_required(true)
+        .subcommand(check(alloc)?)?
+        .subcommand(run(alloc)?)?
+        .subcommand(model(alloc)?)?
+        .subcommand(make(alloc)?)
+}

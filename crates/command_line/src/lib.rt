@@ -1,0 +1,14 @@
+// What the words of a call ask for.
+#![tactic(auto)]
+
+mod command;
+mod laws;
+mod line;
+mod read;
+
+pub use laws::{operands_are_read, words_are_read};
+pub use line::{CommandLine, FileName, Options};
+pub use read::read_command_line;
+
+#[cfg(test)]
+mod tests;

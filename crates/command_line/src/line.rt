@@ -1,0 +1,67 @@
+// What a command line asks for.
+
+ghost use Rattle.std.specs.Prelude.{◌≡◌};
+
+use run_trace::Settings;
+use std::marker::Model;
+
+/// The name of a file, as a word of the command line gives it.
+#[derive(Drop)]
+pub struct FileName<'w> {
+    text: &'w str,
+}
+
+impl<'w> Model for FileName<'w> {
+    ghost use Rattle.std.specs.Prelude.{ℕ, List};
+
+    ghost Value = { List ℕ };
+
+    ghost view = { λ n. n.text.now };
+}
+
+impl<'w> FileName<'w> {
+    pub(crate) fn new(text: &'w str) -> FileName<'w>
+        ensures { result ≡ text.entry.now }
+    {
+        FileName { text }
+    }
+
+    pub fn as_str(&self) -> &'w str
+        ensures { result.now ≡ self.now }
+    {
+        self.text
+    }
+}
+
+/// How a program is to be run, and what is written beside its outputs.
+#[derive(Clone, Copy)]
+pub struct Options {
+    pub settings: Settings,
+    /// The report is asked for.
+    pub report: bool,
+    /// The trace is asked for.
+    pub trace: bool,
+}
+
+/// A command with its values. A file that is left out stands for standard input.
+#[derive(Drop)]
+pub enum CommandLine<'w> {
+    /// Reads a program.
+    Check {
+        file: Option<FileName<'w>>,
+    },
+    /// Runs a program.
+    Run {
+        file: Option<FileName<'w>>,
+    },
+    /// Runs a program with its trace on the definitions alone.
+    Model {
+        file: Option<FileName<'w>>,
+        options: Options,
+    },
+    /// Writes the program of this seed and this size, which is 1 to 1,000.
+    Make {
+        seed: u32,
+        size: u32,
+    },
+}
