@@ -1,0 +1,124 @@
+// A marking: what it has found so far, and which of that is marked.
+
+ghost use Rattle.std.specs.Prelude.{◌≡◌, ℕ, ◌+◌, ◌-◌, ◌<◌, ◌≤◌, [], All, Contains, IfOk, Some, length, take};
+ghost use Rattle.object_layout.specs.declared.word.Addr.{Addr};
+ghost use Rattle.inner_mark_gc.specs.Snapshot.{IsClosed, IsHeld, IsInSnapshot, IsSince, IsSound, Leads, object_count, objects_in, Fork};
+ghost use Rattle.inner_mark_gc.specs.Marks.{marked_of, noted, Finds, HasRoom, IsMarking};
+
+use alloc_path::LeafHeap;
+use object_layout::{Addr, Chunk, is_object_at, next_at};
+use std::alloc::{AllocError, Global};
+use std::collections::HashSet;
+use std::marker::Model;
+
+/// The objects of a heap that were found so far. The first of them are marked: their references were
+/// followed.
+#[derive(Drop)]
+pub struct Marking {
+    found: Vec<Addr>,
+    known: HashSet<Addr>,
+    marked: usize,
+    followed: usize,
+}
+
+impl Model for Marking {
+    ghost use Rattle.std.specs.Prelude.{◌≡◌, ◌-◌, vec_capacity, vec_len};
+    ghost use Rattle.std.specs.HashSet.{contains, spare};
+    ghost use Rattle.object_layout.specs.declared.word.Addr.{Addr};
+    ghost use Rattle.inner_mark_gc.specs.Marks.{has_address, same_address, Marks};
+
+    ghost Value = { Marks };
+
+    ghost view = { λ m. record { found = m.found.items; marked = m.marked; followed = m.followed; slots = vec_capacity m.found - vec_len m.found; spare = spare m.known } };
+
+    ghost invariant = { λ m. (a : Addr) → contains same_address m.known a ≡ has_address m.found.items a };
+}
+
+impl Marking {
+    // Puts an address among those found, unless it is there.
+    fn note(&mut self, address: Addr)
+        requires slots { 0 < self.old.slots }
+        requires spare { 0 < self.old.spare }
+        ensures found { self.new.found ≡ noted self.old.found address }
+        ensures marked { self.new.marked ≡ self.old.marked }
+        ensures followed { self.new.followed ≡ self.old.followed }
+        ensures slots { length self.old.found + self.old.slots ≤ length self.new.found + self.new.slots }
+        ensures spare { length self.old.found + self.old.spare ≤ length self.new.found + self.new.spare }
+    {
+        if !self.known.contains(&address) {
+            let _ = self.known.insert(address);
+            self.found.push_reserved(address);
+        }
+    }
+
+    // Finds what a reference leads to, if it leads into the heap.
+    fn visit(&mut self, heap: &LeafHeap, reference: Option<Addr>)
+        requires sound { IsSound heap.now.chunks reference }
+        requires room { HasRoom heap.now.chunks self.old }
+        ensures finds { Finds (λ a. IsHeld heap.now.chunks a × (reference ≡ Some a)) self.old self.new }
+        ensures room { HasRoom heap.now.chunks self.new }
+    {
+        if let Some(address) = reference {
+            if heap.owns(address) {
+                self.note(address);
+            }
+        }
+    }
+
+    // Finds what the references of an object lead to.
+    fn visit_refs(&mut self, heap: &LeafHeap, object: Addr)
+        requires object { IsHeld heap.now.chunks object }
+        requires closed { IsClosed heap.now.chunks }
+        requires room { HasRoom heap.now.chunks self.old }
+        ensures finds { Finds (Leads heap.now.chunks object) self.old self.new }
+        ensures room { HasRoom heap.now.chunks self.new }
+    {
+        for field in 0..heap.own_header(object).nrefs {
+            let reference = heap.own_ref(object, field);
+            self.visit(heap, reference);
+        }
+    }
+
+    // Finds these objects.
+    fn visit_all(&mut self, heap: &LeafHeap, objects: &[Addr])
+        requires held { All (IsHeld heap.now.chunks) objects.now }
+        requires room { HasRoom heap.now.chunks self.old }
+        ensures finds { Finds (Contains objects.now) self.old self.new }
+        ensures room { HasRoom heap.now.chunks self.new }
+    {
+        for &object in objects {
+            self.visit(heap, Some(object));
+        }
+    }
+}
+
+// How many objects lie in these chunks; more than can be counted are more than can be reserved for.
+fn count_objects(chunks: &[Chunk]) -> Result<usize, AllocError>
+    ensures { IfOk result (λ n. n ≡ object_count chunks.now) }
+{
+    let mut count = 0usize;
+    for chunk in chunks {
+        let more = count_in_chunk(chunk) as usize;
+        if more > usize::MAX - count {
+            return Err(AllocError);
+        }
+        count += more;
+    }
+    Ok(count)
+}
+
+// How many objects lie in a chunk.
+fn count_in_chunk(chunk: &Chunk) -> u32
+    ensures { result ≡ objects_in chunk.now.cells }
+{
+    let used = chunk.used();
+    let mut at = 0;
+    let mut count = 0;
+    while at < used {
+        if is_object_at(chunk, at) {
+            count += 1;
+        }
+        at = next_at(chunk, at);
+    }
+    count
+}
