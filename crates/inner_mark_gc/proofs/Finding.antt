@@ -1,7 +1,7 @@
 -- What is found, step by step.
 use Rattle.std.proofs.Common.{◌≡◌, ℕ, zero, suc, ◌+◌, ◌<◌, ◌≤◌, List, [], ◌∷◌, ◌++◌, length, get_or, take, refl, sym, ap, ◌∙◌, subst, arith, ◌⊎◌, inl, inr, Contains, All, Option, Some, None, slice_get}
-use Rattle.std.proofs.lemmas.List.{append-nil, append_assoc, take_all}
-use Rattle.std.proofs.Common.{Bool, true, false, nat_lt}
+use Rattle.std.proofs.lemmas.List.{append-nil, append_assoc, take_all, length-drop}
+use Rattle.std.proofs.Common.{Bool, true, false, nat_lt, drop, ◌-◌}
 use Rattle.std.specs.Prelude.{is_some, if◌then◌else◌}
 use Rattle.std.proofs.lemmas.Bool.{false≢true}
 use Rattle.std.proofs.lemmas.Option.{slice_get-get_or}
@@ -178,3 +178,24 @@ finds_more_at H xs k d old mid new l f g =
       marked = g.marked;
       followed = g.followed;
     }
+
+-- the same between markings that differ in their counts alone
+pub finds_counted : (P Q : Addr → Type 0) (old mid old2 new : Marks) → ((a : Addr) → P a → Q a) → ((a : Addr) → Q a → P a) → Finds P old mid → old2.found ≡ old.found → new.found ≡ mid.found
+    → new.marked ≡ old2.marked → new.followed ≡ old2.followed → Finds Q old2 new
+finds_counted P Q old mid old2 new to back f e n m k = record {
+  grown = (f.grown.0, n ∙ (f.grown.1 ∙ ap (λ (xs : List Addr). xs ++ f.grown.0) (sym e)));
+  each = λ a c. elim (f.each a (subst (λ (xs : List Addr). Contains xs a) n c)) [ inl j ↦ inl (subst (λ (xs : List Addr). Contains xs a) (sym e) j) | inr p ↦ inr (to a p) ];
+  all = λ a q. subst (λ (xs : List Addr). Contains xs a) (sym n) (f.all a (back a q));
+  marked = m;
+  followed = k;
+}
+
+pub read_any : {X : Type 0} (xs : List X) (k : ℕ) (d e : X) → k < length xs → get_or xs k d ≡ get_or xs k e
+read_any [] k d e l = absurd (omega arith)
+read_any (x ∷ xs) zero d e l = refl
+read_any (x ∷ xs) (suc k) d e l = read_any xs k d e (omega arith)
+
+pub rest_is : (xs : List Addr) (n m : ℕ) → n ≡ m → take (length xs - n) (drop n xs) ≡ drop m xs
+rest_is xs n m e =
+    let l : length (drop n xs) ≡ length xs - n = length-drop n xs in
+    take_all (length xs - n) (drop n xs) (omega arith) ∙ ap (λ (k : ℕ). drop k xs) e

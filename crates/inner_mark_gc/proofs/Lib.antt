@@ -1,3 +1,4 @@
 pub mod Addresses
 pub mod Counting
 pub mod Finding
+pub mod Marked

@@ -49,16 +49,22 @@ pub record Finds (more : Addr → Type 0) (old new : Marks) : Type 0 where
   pub marked : new.marked ≡ old.marked
   pub followed : new.followed ≡ old.followed
 
--- a marking of the snapshot: it has found objects of the snapshot, each once, all roots among them and
--- what was kept and followed; and what the objects marked referred to at the fork was found, or is
--- kept and will be followed
-pub record IsMarking (f : Fork) (kept : List Addr) (m : Marks) : Type 0 where
-  pub each : (a : Addr) → Contains m.found a → IsInSnapshot f kept a
-  pub once : Once m.found
+-- what a marking has found lies in this heap, with places for the rest; those marked are among the
+-- found, and no more of the kept references are followed than there are
+pub record IsOf (h : List Content) (kept : List Addr) (m : Marks) : Type 0 where
+  pub room : HasRoom h m
   pub marked : m.marked ≤ length m.found
   pub followed : m.followed ≤ length kept
+
+-- it marks the snapshot: what it has found is of the snapshot, all roots are found, and what was kept
+-- and is followed; and what the marked objects referred to at the fork is found, or was kept and is
+-- still to be followed
+pub record IsMarking (f : Fork) (kept : List Addr) (m : Marks) : Type 0 where
+  pub each : (a : Addr) → Contains m.found a → IsInSnapshot f kept a
   pub roots_found : (a : Addr) → Contains f.roots a → Contains m.found a
   pub kept_found : (a : Addr) → Contains (take m.followed kept) a → Contains m.found a
   pub led : (b a : Addr) → Contains (marked_of m) b → Leads f.heap b a → Contains m.found a ⊎ Contains (drop m.followed kept) a
-  pub slots : object_count f.heap < length m.found + m.slots
-  pub spare : object_count f.heap < length m.found + m.spare
+
+-- the whole snapshot is marked
+abbrev pub IsAllMarked : Fork → List Addr → Marks → Type 0
+IsAllMarked f kept m = (a : Addr) → IsInSnapshot f kept a → Contains (marked_of m) a

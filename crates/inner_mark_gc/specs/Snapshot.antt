@@ -58,8 +58,5 @@ object_count (k ∷ ks) = objects_in k.cells + object_count ks
 -- written leads to objects of the snapshot, and what was overwritten was kept
 pub record IsSince (f : Fork) (kept : List Addr) (h : List Content) : Type 0 where
   pub objects : (a : Addr) → IsHeld f.heap a ↔ IsHeld h a
-  pub count : object_count h ≡ object_count f.heap
-  pub closed : IsClosed h
-  pub kept_there : All (IsHeld h) kept
   pub written : (b a : Addr) → IsInSnapshot f kept b → Leads h b a → IsInSnapshot f kept a
   pub overwritten : (b a : Addr) → Leads f.heap b a → Contains (refs_of h b) (Some a) ⊎ Contains kept a

@@ -1,9 +1,9 @@
 // A marking: what it has found so far, and which of that is marked.
 
-ghost use Rattle.std.specs.Prelude.{◌≡◌, ℕ, ◌+◌, ◌-◌, ◌<◌, ◌≤◌, [], All, Contains, IfOk, Some, length, take};
+ghost use Rattle.std.specs.Prelude.{◌≡◌, ℕ, ◌+◌, ◌-◌, ◌<◌, ◌≤◌, ◌↔◌, [], List, All, Contains, IfOk, Some, length, drop, slice_index_or, take};
 ghost use Rattle.object_layout.specs.declared.word.Addr.{Addr};
-ghost use Rattle.inner_mark_gc.specs.Snapshot.{IsClosed, IsHeld, IsInSnapshot, IsSince, IsSound, Leads, object_count, objects_in, Fork};
-ghost use Rattle.inner_mark_gc.specs.Marks.{marked_of, noted, Finds, HasRoom, IsMarking};
+ghost use Rattle.inner_mark_gc.specs.Snapshot.{IsClosed, IsHeld, IsSince, IsSound, Leads, object_count, objects_in, Fork};
+ghost use Rattle.inner_mark_gc.specs.Marks.{marked_of, noted, Finds, HasRoom, IsAllMarked, IsMarking, IsOf};
 
 use alloc_path::LeafHeap;
 use object_layout::{Addr, Chunk, is_object_at, next_at};
@@ -35,6 +35,74 @@ impl Model for Marking {
 }
 
 impl Marking {
+    /// A marking of a heap, which has found the roots, and marked nothing. It reserves for every object
+    /// of the heap.
+    pub fn begin(alloc: Global, heap: &LeafHeap, roots: &[Addr]) -> Result<Marking, AllocError>
+        requires { All (IsHeld heap.now.chunks) roots.now }
+        ensures none { IfOk result (λ m. m.marked ≡ 0) }
+        ensures own { IfOk result (λ m. (kept : List Addr) → IsOf heap.now.chunks kept m) }
+        ensures marking { IfOk result (λ m. (f : Fork) (kept : List Addr) → f.roots ≡ roots.now → ((a : Addr) → IsHeld f.heap a ↔ IsHeld heap.now.chunks a) → IsMarking f kept m) }
+    {
+        let mut marking = Marking {
+            found: Vec::new(alloc),
+            known: HashSet::new(alloc),
+            marked: 0,
+            followed: 0,
+        };
+        let places = places_for(heap.chunks())?;
+        marking.found.reserve(places)?;
+        marking.known.reserve(places)?;
+        marking.visit_all(heap, roots);
+        Ok(marking)
+    }
+
+    /// Marks so many objects that weren't marked before, or those that are left, and says how many.
+    /// These are objects that the roots and the kept references lead to through the heap as it was
+    /// at the fork. It costs what the objects marked refer to, and what was kept since the last call.
+    pub fn some(&mut self, heap: &LeafHeap, kept: &[Addr], n: u32) -> u32
+        requires closed { IsClosed heap.now.chunks }
+        requires kept { All (IsHeld heap.now.chunks) kept.now }
+        requires own { IsOf heap.now.chunks kept.now self.old }
+        ensures own { IsOf heap.now.chunks kept.now self.new }
+        ensures before { take self.old.marked self.new.found ≡ marked_of self.old }
+        ensures count { self.new.marked ≡ self.old.marked + result }
+        ensures most { result ≤ n }
+        ensures marking { (f : Fork) → IsSince f kept.now heap.now.chunks → IsMarking f kept.now self.old → IsMarking f kept.now self.new }
+        ensures left { (f : Fork) → IsSince f kept.now heap.now.chunks → IsMarking f kept.now self.old → result < n → IsAllMarked f kept.now self.new }
+    {
+        self.follow(heap, kept);
+        let mut count = 0;
+        while count < n && self.marked < self.found.len() {
+            self.mark_next(heap);
+            count += 1;
+        }
+        count
+    }
+
+    // Finds what was kept since the last call.
+    fn follow(&mut self, heap: &LeafHeap, kept: &[Addr])
+        requires kept { All (IsHeld heap.now.chunks) kept.now }
+        requires own { IsOf heap.now.chunks kept.now self.old }
+        ensures own { IsOf heap.now.chunks kept.now self.new }
+        ensures finds { Finds (Contains (drop self.old.followed kept.now)) (record self.old { followed = length kept.now }) self.new }
+    {
+        self.visit_all(heap, &kept[self.followed..]);
+        self.followed = kept.len();
+    }
+
+    // Marks the next object: finds what it refers to.
+    fn mark_next(&mut self, heap: &LeafHeap)
+        requires closed { IsClosed heap.now.chunks }
+        requires next { self.old.marked < length self.old.found }
+        requires room { HasRoom heap.now.chunks self.old }
+        ensures room { HasRoom heap.now.chunks self.new }
+        ensures finds { (none : Addr) → Finds (Leads heap.now.chunks (slice_index_or self.old.found self.old.marked none)) (record self.old { marked = self.old.marked + 1 }) self.new }
+    {
+        let object = self.found[self.marked];
+        self.visit_refs(heap, object);
+        self.marked += 1;
+    }
+
     // Puts an address among those found, unless it is there.
     fn note(&mut self, address: Addr)
         requires slots { 0 < self.old.slots }
@@ -92,11 +160,12 @@ impl Marking {
     }
 }
 
-// How many objects lie in these chunks; more than can be counted are more than can be reserved for.
-fn count_objects(chunks: &[Chunk]) -> Result<usize, AllocError>
-    ensures { IfOk result (λ n. n ≡ object_count chunks.now) }
+// One place more than objects lie in these chunks; more than can be counted are more than can be
+// reserved.
+fn places_for(chunks: &[Chunk]) -> Result<usize, AllocError>
+    ensures { IfOk result (λ n. n ≡ object_count chunks.now + 1) }
 {
-    let mut count = 0usize;
+    let mut count = 1usize;
     for chunk in chunks {
         let more = count_in_chunk(chunk) as usize;
         if more > usize::MAX - count {

@@ -1,6 +1,6 @@
 use Rattle.std.proofs.Common.{arith}
 use Rattle.inner_mark_gc.proofs.Counting as counting
-use Rattle.inner_mark_gc.proofs.marking.count_objects.Goals as goal
+use Rattle.inner_mark_gc.proofs.marking.places_for.Goals as goal
 
 pub loop-chunk-preserved : goal.loop-chunk-preserved
 loop-chunk-preserved c =
