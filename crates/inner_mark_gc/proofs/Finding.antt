@@ -1,5 +1,5 @@
 -- What is found, step by step.
-use Rattle.std.proofs.Common.{◌≡◌, ℕ, zero, suc, ◌+◌, ◌<◌, ◌≤◌, List, [], ◌∷◌, ◌++◌, length, get_or, take, refl, sym, ap, ◌∙◌, subst, arith, ◌⊎◌, inl, inr, Contains, All, Option, Some, None, slice_get}
+use Rattle.std.proofs.Common.{◌≡◌, ℕ, zero, suc, ◌+◌, ◌<◌, ◌≤◌, List, [], ◌∷◌, ◌++◌, length, get_or, take, refl, sym, ap, ◌∙◌, subst, arith, ◌⊎◌, inl, inr, Contains, All, Some, None, slice_get}
 use Rattle.std.proofs.lemmas.List.{append-nil, append_assoc, take_all, length-drop}
 use Rattle.std.proofs.Common.{Bool, true, false, nat_lt, drop, ◌-◌}
 use Rattle.std.specs.Prelude.{is_some, if◌then◌else◌}
@@ -9,9 +9,9 @@ use Rattle.object_layout.specs.Chunks.{place_in, place_of}
 use Rattle.object_layout.proofs.ChunkLaws as laws
 use Rattle.object_layout.specs.declared.word.Addr.{Addr}
 use Rattle.object_layout.specs.Content.{Content}
-use Rattle.listed.proofs.Members.{In, in_append_left, contains_from_in, in_from_contains, got_in}
+use Rattle.listed.proofs.Members.{In, in_append_left, contains_from_in, in_from_contains}
 use Rattle.inner_mark_gc.specs.Marks.{Finds, HasRoom, Marks, Once, noted}
-use Rattle.inner_mark_gc.specs.Snapshot.{IsHeld, IsSound, Leads, object_count, refs_of}
+use Rattle.inner_mark_gc.specs.Snapshot.{IsHeld, IsSound, object_count}
 use Rattle.inner_mark_gc.proofs.Addresses.{noted_is}
 use Rattle.inner_mark_gc.proofs.Counting.{found_within}
 
@@ -199,3 +199,17 @@ pub rest_is : (xs : List Addr) (n m : ℕ) → n ≡ m → take (length xs - n) 
 rest_is xs n m e =
     let l : length (drop n xs) ≡ length xs - n = length-drop n xs in
     take_all (length xs - n) (drop n xs) (omega arith) ∙ ap (λ (k : ℕ). drop k xs) e
+
+in_read : {X : Type 0} (ys : List X) (k : ℕ) (d : X) → k < length ys → In ys (get_or ys k d)
+in_read [] k d l = absurd (omega arith)
+in_read (y ∷ ys) zero d l = inl refl
+in_read (y ∷ ys) (suc k) d l = inr (in_read ys k d (omega arith))
+
+pub all_from : {X : Type 0} (P : X → Type 0) (xs : List X) → ((x : X) → In xs x → P x) → All P xs
+all_from P xs h = λ k d l. h (get_or xs k d) (in_read xs k d l)
+
+pub all_more : (P : Addr → Type 0) (xs : List Addr) (k : ℕ) (d : Addr) → k < length xs → All P (take k xs) → P (get_or xs k d) → All P (take (k + 1) xs)
+all_more P xs k d l all p = all_from P (take (k + 1) xs) (λ x i. elim (in_take_more xs k (get_or xs k d) x (slice_get-get_or xs k d l) i) [
+  | inl j ↦ held_in P (take k xs) x all (contains_from_in (take k xs) x j)
+  | inr e ↦ subst P e p
+])

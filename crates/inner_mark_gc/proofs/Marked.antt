@@ -1,13 +1,12 @@
 -- A marking marks the snapshot.
-use Rattle.std.proofs.Common.{◌≡◌, ℕ, zero, suc, ◌+◌, ◌<◌, ◌≤◌, List, [], ◌∷◌, ◌++◌, length, get_or, take, drop, refl, sym, ap, ◌∙◌, subst, arith, ◌⊎◌, inl, inr, Contains, All, Option, Some, None, slice_get}
+use Rattle.std.proofs.Common.{◌≡◌, ℕ, zero, suc, ◌+◌, ◌<◌, ◌≤◌, List, [], ◌∷◌, ◌++◌, length, take, drop, sym, ap, ◌∙◌, subst, arith, ◌⊎◌, inl, inr, Contains, All, Some, slice_get}
 use Rattle.std.specs.Prelude.{◌↔◌}
-use Rattle.std.proofs.lemmas.List.{append-nil, append_assoc, take_all, take-append-le, drop_all, length-append}
-use Rattle.std.proofs.lemmas.Option.{slice_get-get_or}
+use Rattle.std.proofs.lemmas.List.{take_all, take-append-le, drop_all, length-append}
 use Rattle.object_layout.specs.declared.word.Addr.{Addr}
 use Rattle.object_layout.specs.Content.{Content}
 use Rattle.listed.proofs.Members.{In, in_append_left, in_append_right, in_append_cases, contains_from_in, in_from_contains}
-use Rattle.walks.proofs.Reached.{reached_start, reached_more, reached_within}
-use Rattle.inner_mark_gc.specs.Marks.{Finds, HasRoom, IsAllMarked, IsMarking, IsOf, Marks, Once, marked_of}
+use Rattle.walks.proofs.Reached.{reached_start, reached_within}
+use Rattle.inner_mark_gc.specs.Marks.{Finds, IsAllMarked, IsMarking, IsOf, Marks, marked_of}
 use Rattle.inner_mark_gc.specs.Snapshot.{Fork, IsHeld, IsInSnapshot, IsSince, Leads, Starts, refs_of}
 use Rattle.inner_mark_gc.proofs.Addresses.{once_within}
 use Rattle.inner_mark_gc.proofs.Finding.{got_in_take, held_in, in_take_more, still_found}
@@ -20,7 +19,7 @@ in_take_or_drop (suc n) [] x i = absurd i
 in_take_or_drop (suc n) (y ∷ ys) x (inl e) = inl (inl e)
 in_take_or_drop (suc n) (y ∷ ys) x (inr i) = elim (in_take_or_drop n ys x i) [ inl j ↦ inl (inr j) | inr j ↦ inr j ]
 
-in_drop : {X : Type 0} (n : ℕ) (xs : List X) (x : X) → In (drop n xs) x → In xs x
+pub in_drop : {X : Type 0} (n : ℕ) (xs : List X) (x : X) → In (drop n xs) x → In xs x
 in_drop zero xs x i = i
 in_drop (suc n) [] x i = absurd i
 in_drop (suc n) (y ∷ ys) x i = inr (in_drop n ys x i)

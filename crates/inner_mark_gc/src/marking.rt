@@ -1,9 +1,9 @@
 // A marking: what it has found so far, and which of that is marked.
 
-ghost use Rattle.std.specs.Prelude.{◌≡◌, ℕ, ◌+◌, ◌-◌, ◌<◌, ◌≤◌, ◌↔◌, [], List, All, Contains, IfOk, Some, length, drop, slice_index_or, take};
+ghost use Rattle.std.specs.Prelude.{◌≡◌, ℕ, ◌+◌, ◌-◌, ◌<◌, ◌≤◌, ◌↔◌, [], List, All, Contains, IfOk, IsTrue, Some, length, drop, slice_index_or, take, true};
 ghost use Rattle.object_layout.specs.declared.word.Addr.{Addr};
 ghost use Rattle.inner_mark_gc.specs.Snapshot.{IsClosed, IsHeld, IsSince, IsSound, Leads, object_count, objects_in, Fork};
-ghost use Rattle.inner_mark_gc.specs.Marks.{marked_of, noted, Finds, HasRoom, IsAllMarked, IsMarking, IsOf};
+ghost use Rattle.inner_mark_gc.specs.Marks.{has_address, marked_of, noted, Finds, HasRoom, IsAllMarked, IsMarking, IsOf};
 
 use alloc_path::LeafHeap;
 use object_layout::{Addr, Chunk, is_object_at, next_at};
@@ -77,6 +77,29 @@ impl Marking {
             count += 1;
         }
         count
+    }
+
+    /// Whether nothing of the snapshot is left to mark. It takes as long as what was kept since the
+    /// last call of `some`.
+    pub fn ready(&self, heap: &LeafHeap, kept: &[Addr]) -> bool
+        requires kept { All (IsHeld heap.now.chunks) kept.now }
+        requires own { IsOf heap.now.chunks kept.now self.now }
+        ensures { (f : Fork) → IsSince f kept.now heap.now.chunks → IsMarking f kept.now self.now → (IsTrue result ↔ IsAllMarked f kept.now self.now) }
+    {
+        let _ = heap;
+        self.marked == self.found.len() && self.has_all(&kept[self.followed..])
+    }
+
+    // Whether all these objects are found.
+    fn has_all(&self, objects: &[Addr]) -> bool
+        ensures { IsTrue result ↔ All (λ a. has_address self.now.found a ≡ true) objects.now }
+    {
+        for object in objects {
+            if !self.known.contains(object) {
+                return false;
+            }
+        }
+        true
     }
 
     // Finds what was kept since the last call.

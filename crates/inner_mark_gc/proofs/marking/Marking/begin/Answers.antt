@@ -1,4 +1,4 @@
-use Rattle.std.proofs.Common.{◌≡◌, [], length, sym, ap, ◌∙◌, arith}
+use Rattle.std.proofs.Common.{◌∙◌}
 use Rattle.inner_mark_gc.proofs.Marked as marked
 use Rattle.inner_mark_gc.proofs.marking.Marking.begin.Goals as goal
 

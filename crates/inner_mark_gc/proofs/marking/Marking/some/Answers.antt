@@ -1,7 +1,7 @@
-use Rattle.std.proofs.Common.{◌≡◌, ◌+◌, ◌<◌, ◌≤◌, ◌++◌, Contains, length, take, drop, get_or, refl, sym, ap, ◌∙◌, subst, arith, rules, vec_len}
+use Rattle.std.proofs.Common.{◌≡◌, ◌+◌, ◌<◌, ◌≤◌, length, sym, ap, ◌∙◌, subst, arith, rules, vec_len}
 use Rattle.std.proofs.lemmas.Option.{slice_get-get_or}
 use Rattle.object_layout.specs.declared.word.Addr.{Addr}
-use Rattle.inner_mark_gc.specs.Marks.{Marks, IsOf}
+use Rattle.inner_mark_gc.specs.Marks.{Marks}
 use Rattle.inner_mark_gc.proofs.Marked as marked
 use Rattle.inner_mark_gc.proofs.marking.Marking.some.Goals as goal
 

@@ -1,7 +1,4 @@
-use Rattle.std.proofs.Common.{◌≡◌, ◌<◌, ◌≤◌, Option, Some, length, sym, ap, ◌∙◌, subst, arith}
-use Rattle.object_layout.specs.declared.word.Addr.{Addr}
-use Rattle.object_layout.specs.Chunks.{place_of}
-use Rattle.object_layout.proofs.ChunkLaws as laws
+use Rattle.std.proofs.Common.{◌≡◌, Some, sym, ◌∙◌, subst}
 use Rattle.inner_mark_gc.specs.Snapshot.{IsHeld, IsSound}
 use Rattle.inner_mark_gc.proofs.Finding as finding
 use Rattle.inner_mark_gc.proofs.marking.Marking.visit.Goals as goal

@@ -1,9 +1,8 @@
-use Rattle.std.proofs.Common.{◌≡◌, Some, Contains, All, get_or, sym, ap, ◌∙◌, arith}
+use Rattle.std.proofs.Common.{Contains, arith}
 use Rattle.object_layout.specs.declared.word.Addr.{Addr}
 use Rattle.inner_mark_gc.specs.Snapshot.{IsHeld}
 use Rattle.inner_mark_gc.proofs.Finding as finding
 use Rattle.inner_mark_gc.proofs.marking.Marking.visit_all.Goals as goal
-
 
 abbrev none : Addr
 none = record { chunk = 0; offset = 0 }

@@ -1,4 +1,4 @@
-use Rattle.std.proofs.Common.{◌≡◌, take, Contains}
+use Rattle.std.proofs.Common.{take, Contains}
 use Rattle.inner_mark_gc.specs.Marks.{Finds, HasRoom}
 use Rattle.inner_mark_gc.specs.Snapshot.{IsHeld}
 use Rattle.inner_mark_gc.proofs.marking.Marking.visit_all.Given as goal

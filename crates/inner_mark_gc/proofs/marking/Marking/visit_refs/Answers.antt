@@ -1,10 +1,9 @@
-use Rattle.std.proofs.Common.{◌≡◌, ◌<◌, ◌≤◌, Option, Some, Contains, length, sym, ap, ◌∙◌, arith}
+use Rattle.std.proofs.Common.{◌≡◌, ◌≤◌, Some, length, ap, arith}
 use Rattle.object_layout.specs.declared.word.Addr.{Addr}
 use Rattle.object_layout.specs.declared.word.Header.{Header}
 use Rattle.inner_mark_gc.specs.Snapshot.{IsHeld, Leads, refs_of}
 use Rattle.inner_mark_gc.proofs.Finding as finding
 use Rattle.inner_mark_gc.proofs.marking.Marking.visit_refs.Goals as goal
-
 
 pub loop-field-preserved : goal.loop-field-preserved
 loop-field-preserved c = record {

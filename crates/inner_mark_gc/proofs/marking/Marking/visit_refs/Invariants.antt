@@ -1,4 +1,4 @@
-use Rattle.std.proofs.Common.{◌≡◌, take, Some, Contains}
+use Rattle.std.proofs.Common.{take, Some, Contains}
 use Rattle.inner_mark_gc.specs.Marks.{Finds, HasRoom}
 use Rattle.inner_mark_gc.specs.Snapshot.{IsHeld, refs_of}
 use Rattle.inner_mark_gc.proofs.marking.Marking.visit_refs.Given as goal
