@@ -2,3 +2,4 @@ pub mod Addresses
 pub mod Counting
 pub mod Finding
 pub mod Marked
+pub mod GoingOn
