@@ -5,3 +5,5 @@
 mod heaps;
 #[cfg(test)]
 mod tests;
+#[cfg(test)]
+mod writes;

@@ -1,0 +1,215 @@
+-- What is found, step by step.
+use Rattle.std.proofs.Common.{◌≡◌, ℕ, zero, suc, ◌+◌, ◌<◌, ◌≤◌, List, [], ◌∷◌, ◌++◌, length, get_or, take, refl, sym, ap, ◌∙◌, subst, arith, ◌⊎◌, inl, inr, Contains, All, Some, None, slice_get}
+use Rattle.std.proofs.lemmas.List.{append-nil, append_assoc, take_all, length-drop}
+use Rattle.std.proofs.Common.{Bool, true, false, nat_lt, drop, ◌-◌}
+use Rattle.std.specs.Prelude.{is_some, if◌then◌else◌}
+use Rattle.std.proofs.lemmas.Bool.{false≢true}
+use Rattle.std.proofs.lemmas.Option.{slice_get-get_or}
+use Rattle.object_layout.specs.Chunks.{place_in, place_of}
+use Rattle.object_layout.proofs.ChunkLaws as laws
+use Rattle.object_layout.specs.declared.word.Addr.{Addr}
+use Rattle.object_layout.specs.Content.{Content}
+use Rattle.listed.proofs.Members.{In, in_append_left, contains_from_in, in_from_contains}
+use Rattle.inner_mark_gc.specs.Marks.{Finds, HasRoom, Marks, Once, noted}
+use Rattle.inner_mark_gc.specs.Snapshot.{IsHeld, IsSound, object_count}
+use Rattle.inner_mark_gc.proofs.Addresses.{noted_is}
+use Rattle.inner_mark_gc.proofs.Counting.{found_within}
+
+pub found_few : (h : List Content) (m : Marks) → HasRoom h m → length m.found ≤ object_count h
+found_few h m r = found_within h m.found r.once (λ a i. r.each a (contains_from_in m.found a i))
+
+pub has_slot : (h : List Content) (m : Marks) → HasRoom h m → 0 < m.slots
+has_slot h m r =
+    let few : length m.found ≤ object_count h = found_few h m r in
+    let s : object_count h < length m.found + m.slots = r.slots in
+    omega arith
+
+pub has_spare : (h : List Content) (m : Marks) → HasRoom h m → 0 < m.spare
+has_spare h m r =
+    let few : length m.found ≤ object_count h = found_few h m r in
+    let s : object_count h < length m.found + m.spare = r.spare in
+    omega arith
+
+module _ (P : Addr → Type 0) (m : Marks) where
+  -- nothing more is there, or it is found already
+  pub finds_none : ((a : Addr) → P a → Contains m.found a) → Finds P m m
+  finds_none n = record {
+    grown = ([], sym (append-nil m.found));
+    each = λ a i. inl i;
+    all = n;
+    marked = refl;
+    followed = refl;
+  }
+
+-- one object noted
+pub finds_noted : (P : Addr → Type 0) (old new : Marks) (a : Addr) → P a → ((x : Addr) → P x → a ≡ x) → new.found ≡ noted old.found a → new.marked ≡ old.marked → new.followed ≡ old.followed → Finds P old new
+finds_noted P old new a p only e m f =
+    let n = noted_is old.found a in
+    record {
+      grown = (n.grown.0, e ∙ n.grown.1);
+      each = λ x i. elim (n.each x (subst (λ (xs : List Addr). In xs x) e (in_from_contains new.found x i))) [
+        | inl j ↦ inl (contains_from_in old.found x j)
+        | inr s ↦ inr (subst P s p)
+      ];
+      all = λ x q. subst (λ (y : Addr). Contains new.found y) (only x q) (contains_from_in new.found a (subst (λ (xs : List Addr). In xs a) (sym e) n.there));
+      marked = m;
+      followed = f;
+    }
+
+pub room_noted : (h : List Content) (old new : Marks) (a : Addr) → HasRoom h old → IsHeld h a → new.found ≡ noted old.found a
+    → length old.found + old.slots ≤ length new.found + new.slots → length old.found + old.spare ≤ length new.found + new.spare → HasRoom h new
+room_noted h old new a r held e s p =
+    let n = noted_is old.found a in
+    let slots : object_count h < length old.found + old.slots = r.slots in
+    let spare : object_count h < length old.found + old.spare = r.spare in
+    record {
+      each = λ x i. elim (n.each x (subst (λ (xs : List Addr). In xs x) e (in_from_contains new.found x i))) [
+        | inl j ↦ r.each x (contains_from_in old.found x j)
+        | inr f ↦ subst (IsHeld h) f held
+      ];
+      once = subst Once (sym e) (n.once r.once);
+      slots = omega arith;
+      spare = omega arith;
+    }
+
+pub still_found : (P : Addr → Type 0) (old new : Marks) → Finds P old new → (a : Addr) → Contains old.found a → Contains new.found a
+still_found P old new f a c = contains_from_in new.found a (subst (λ (xs : List Addr). In xs a) (sym f.grown.1) (in_append_left old.found f.grown.0 a (in_from_contains old.found a c)))
+
+-- one after the other
+pub finds_both : (P Q R : Addr → Type 0) (old mid new : Marks) → Finds P old mid → Finds Q mid new
+    → ((a : Addr) → R a → P a ⊎ Q a) → ((a : Addr) → P a → R a) → ((a : Addr) → Q a → R a) → Finds R old new
+finds_both P Q R old mid new f g split left right = record {
+  grown = (f.grown.0 ++ g.grown.0, g.grown.1 ∙ (ap (λ (xs : List Addr). xs ++ g.grown.0) f.grown.1 ∙ append_assoc old.found f.grown.0 g.grown.0));
+  each = λ a i. elim (g.each a i) [
+    | inl j ↦ elim (f.each a j) [ inl k ↦ inl k | inr p ↦ inr (left a p) ]
+    | inr q ↦ inr (right a q)
+  ];
+  all = λ a r. elim (split a r) [ inl p ↦ still_found Q mid new g a (f.all a p) | inr q ↦ g.all a q ];
+  marked = g.marked ∙ f.marked;
+  followed = g.followed ∙ f.followed;
+}
+
+-- ---- the first so many of a list
+
+pub in_take_more : {X : Type 0} (xs : List X) (k : ℕ) (x y : X) → slice_get xs k ≡ Some x → In (take (k + 1) xs) y → In (take k xs) y ⊎ (x ≡ y)
+in_take_more [] k x y e i = absurd cc
+in_take_more (z ∷ zs) zero x y e (inl f) = let g : z ≡ x = cc in inr (sym g ∙ f)
+in_take_more (z ∷ zs) zero x y e (inr j) = absurd j
+in_take_more (z ∷ zs) (suc k) x y e i = let n : suc k + 1 ≡ suc (k + 1) = omega arith in go (in_take_more zs k x y e) (subst (λ (m : ℕ). In (take m (z ∷ zs)) y) n i)
+  where
+    go : (In (take (k + 1) zs) y → In (take k zs) y ⊎ (x ≡ y)) → In (z ∷ take (k + 1) zs) y → In (z ∷ take k zs) y ⊎ (x ≡ y)
+    go rest (inl f) = inl (inl f)
+    go rest (inr j) = elim (rest j) [ inl h ↦ inl (inr h) | inr f ↦ inr f ]
+
+pub take_more_in : {X : Type 0} (xs : List X) (k : ℕ) (y : X) → In (take k xs) y → In (take (k + 1) xs) y
+take_more_in [] zero y i = absurd i
+take_more_in [] (suc k) y i = absurd i
+take_more_in (z ∷ zs) zero y i = absurd i
+take_more_in (z ∷ zs) (suc k) y i = let n : suc k + 1 ≡ suc (k + 1) = omega arith in rw n (go (take_more_in zs k y) i)
+  where
+    go : (In (take k zs) y → In (take (k + 1) zs) y) → In (z ∷ take k zs) y → In (z ∷ take (k + 1) zs) y
+    go rest (inl f) = inl f
+    go rest (inr j) = inr (rest j)
+
+pub got_in_take : {X : Type 0} (xs : List X) (k : ℕ) (x : X) → slice_get xs k ≡ Some x → In (take (k + 1) xs) x
+got_in_take [] k x e = absurd cc
+got_in_take (z ∷ zs) zero x e = inl cc
+got_in_take (z ∷ zs) (suc k) x e = let n : suc k + 1 ≡ suc (k + 1) = omega arith in rw n (inr (got_in_take zs k x e))
+
+-- one element more of a list whose elements are found
+pub finds_more : {X : Type 0} (H : Addr → Type 0) (of : Addr → X) (xs : List X) (k : ℕ) (x : X) (old mid new : Marks) → slice_get xs k ≡ Some x
+    → Finds (λ a. H a × Contains (take k xs) (of a)) old mid → Finds (λ a. H a × (x ≡ of a)) mid new
+    → Finds (λ a. H a × Contains (take (k + 1) xs) (of a)) old new
+finds_more {X} H of xs k x old mid new e f g =
+    finds_both (λ a. H a × Contains (take k xs) (of a)) (λ a. H a × (x ≡ of a)) (λ a. H a × Contains (take (k + 1) xs) (of a)) old mid new f g
+    (λ a r. elim (in_take_more xs k x (of a) e (in_from_contains (take (k + 1) xs) (of a) r.1)) [
+      | inl i ↦ inl (r.0, contains_from_in (take k xs) (of a) i)
+      | inr s ↦ inr (r.0, s)
+    ])
+    (λ a p. (p.0, contains_from_in (take (k + 1) xs) (of a) (take_more_in xs k (of a) (in_from_contains (take k xs) (of a) p.1))))
+    (λ a q. (q.0, contains_from_in (take (k + 1) xs) (of a) (subst (λ (y : X). In (take (k + 1) xs) y) q.1 (got_in_take xs k x e))))
+
+-- all of a list
+pub finds_list : {X : Type 0} (H P : Addr → Type 0) (of : Addr → X) (xs : List X) (k : ℕ) (old new : Marks) → length xs ≤ k
+    → ((a : Addr) → P a → H a × Contains xs (of a)) → ((a : Addr) → H a × Contains xs (of a) → P a)
+    → Finds (λ a. H a × Contains (take k xs) (of a)) old new → Finds P old new
+finds_list {X} H P of xs k old new l to back f =
+    let all : take k xs ≡ xs = take_all k xs l in
+    record {
+      grown = f.grown;
+      each = λ a i. elim (f.each a i) [ inl j ↦ inl j | inr q ↦ inr (back a (q.0, subst (λ (ys : List X). Contains ys (of a)) all q.1)) ];
+      all = λ a p. f.all a ((to a p).0, subst (λ (ys : List X). Contains ys (of a)) (sym all) (to a p).1);
+      marked = f.marked;
+      followed = f.followed;
+    }
+
+-- ---- addresses of the heap
+
+pub some_same : {a b : Addr} → Some a ≡ Some b → a ≡ b
+some_same e = cc
+
+owned_by : (ks : List Content) (n : ℕ) (b : Bool) → nat_lt (place_of ks n) (length ks) ≡ b → is_some (if b then Some (place_of ks n) else None) ≡ true → place_of ks n < length ks
+owned_by ks n true e o = grind arith
+owned_by ks n false e o = absurd (false≢true o)
+
+pub owned_held : (ks : List Content) (a : Addr) → IsSound ks (Some a) → is_some (place_in ks a.chunk) ≡ true → IsHeld ks a
+owned_held ks a sound o = sound (owned_by ks a.chunk (nat_lt (place_of ks a.chunk) (length ks)) refl o)
+
+not_by : (ks : List Content) (n : ℕ) (b : Bool) → nat_lt (place_of ks n) (length ks) ≡ b → is_some (if b then Some (place_of ks n) else None) ≡ false → place_of ks n < length ks → ⊥
+not_by ks n true e o l = false≢true (sym o)
+not_by ks n false e o l = grind arith
+
+pub not_owned : (ks : List Content) (a : Addr) → is_some (place_in ks a.chunk) ≡ false → IsHeld ks a → ⊥
+not_owned ks a o h = not_by ks a.chunk (nat_lt (place_of ks a.chunk) (length ks)) refl o (laws.chunk_of_object ks a h)
+
+pub held_in : (P : Addr → Type 0) (xs : List Addr) (a : Addr) → All P xs → Contains xs a → P a
+held_in P xs a all c = subst P c.2 (all c.0 a c.1)
+
+-- one object more of a list of objects
+pub finds_more_at : (H : Addr → Type 0) (xs : List Addr) (k : ℕ) (d : Addr) (old mid new : Marks) → k < length xs
+    → Finds (λ a. H a × Contains (take k xs) a) old mid → Finds (λ a. H a × (Some (get_or xs k d) ≡ Some a)) mid new
+    → Finds (λ a. H a × Contains (take (k + 1) xs) a) old new
+finds_more_at H xs k d old mid new l f g =
+    finds_more H (λ (a : Addr). a) xs k (get_or xs k d) old mid new (slice_get-get_or xs k d l) f
+    record {
+      grown = g.grown;
+      each = λ a i. elim (g.each a i) [ inl j ↦ inl j | inr q ↦ inr (q.0, some_same q.1) ];
+      all = λ a q. g.all a (q.0, ap (λ (x : Addr). Some x) q.1);
+      marked = g.marked;
+      followed = g.followed;
+    }
+
+-- the same between markings that differ in their counts alone
+pub finds_counted : (P Q : Addr → Type 0) (old mid old2 new : Marks) → ((a : Addr) → P a → Q a) → ((a : Addr) → Q a → P a) → Finds P old mid → old2.found ≡ old.found → new.found ≡ mid.found
+    → new.marked ≡ old2.marked → new.followed ≡ old2.followed → Finds Q old2 new
+finds_counted P Q old mid old2 new to back f e n m k = record {
+  grown = (f.grown.0, n ∙ (f.grown.1 ∙ ap (λ (xs : List Addr). xs ++ f.grown.0) (sym e)));
+  each = λ a c. elim (f.each a (subst (λ (xs : List Addr). Contains xs a) n c)) [ inl j ↦ inl (subst (λ (xs : List Addr). Contains xs a) (sym e) j) | inr p ↦ inr (to a p) ];
+  all = λ a q. subst (λ (xs : List Addr). Contains xs a) (sym n) (f.all a (back a q));
+  marked = m;
+  followed = k;
+}
+
+pub read_any : {X : Type 0} (xs : List X) (k : ℕ) (d e : X) → k < length xs → get_or xs k d ≡ get_or xs k e
+read_any [] k d e l = absurd (omega arith)
+read_any (x ∷ xs) zero d e l = refl
+read_any (x ∷ xs) (suc k) d e l = read_any xs k d e (omega arith)
+
+pub rest_is : (xs : List Addr) (n m : ℕ) → n ≡ m → take (length xs - n) (drop n xs) ≡ drop m xs
+rest_is xs n m e =
+    let l : length (drop n xs) ≡ length xs - n = length-drop n xs in
+    take_all (length xs - n) (drop n xs) (omega arith) ∙ ap (λ (k : ℕ). drop k xs) e
+
+in_read : {X : Type 0} (ys : List X) (k : ℕ) (d : X) → k < length ys → In ys (get_or ys k d)
+in_read [] k d l = absurd (omega arith)
+in_read (y ∷ ys) zero d l = inl refl
+in_read (y ∷ ys) (suc k) d l = inr (in_read ys k d (omega arith))
+
+pub all_from : {X : Type 0} (P : X → Type 0) (xs : List X) → ((x : X) → In xs x → P x) → All P xs
+all_from P xs h = λ k d l. h (get_or xs k d) (in_read xs k d l)
+
+pub all_more : (P : Addr → Type 0) (xs : List Addr) (k : ℕ) (d : Addr) → k < length xs → All P (take k xs) → P (get_or xs k d) → All P (take (k + 1) xs)
+all_more P xs k d l all p = all_from P (take (k + 1) xs) (λ x i. elim (in_take_more xs k (get_or xs k d) x (slice_get-get_or xs k d l) i) [
+  | inl j ↦ held_in P (take k xs) x all (contains_from_in (take k xs) x j)
+  | inr e ↦ subst P e p
+])

@@ -1,0 +1,75 @@
+-- A marking between two calls.
+use Rattle.std.proofs.Common.{◌≡◌, ℕ, zero, suc, ◌+◌, ◌<◌, ◌≤◌, List, [], ◌∷◌, ◌++◌, length, drop, subst, arith, inl, inr, Contains, length-append}
+use Rattle.std.proofs.lemmas.List.{take-append-le}
+use Rattle.object_layout.specs.declared.word.Addr.{Addr}
+use Rattle.listed.proofs.Members.{In, in_append_left, in_append_cases, contains_from_in, in_from_contains}
+use Rattle.walks.proofs.Reached.{reached_start, reached_more, reached_within}
+use Rattle.inner_mark_gc.specs.Laws.{MarkingGoesOn, MarkingStaysOf, SnapshotIsOfRoots}
+use Rattle.inner_mark_gc.specs.Snapshot.{Fork, IsInSnapshot, Leads, Starts, object_count}
+
+-- more starts lead to more
+more_starts : (f : Fork) (kept others : List Addr) → ((a : Addr) → Starts f kept a → Starts f others a) → (a : Addr) → IsInSnapshot f kept a → IsInSnapshot f others a
+more_starts f kept others h a w =
+    reached_within (Starts f kept) (Leads f.heap) (IsInSnapshot f others)
+    (λ x s. reached_start (Starts f others) (Leads f.heap) x (h x s))
+    (λ b x r g. reached_more (Starts f others) (Leads f.heap) b x r g)
+    a w
+
+in_snapshot_more : (f : Fork) (kept more : List Addr) (a : Addr) → IsInSnapshot f kept a → IsInSnapshot f (kept ++ more) a
+in_snapshot_more f kept more = more_starts f kept (kept ++ more)
+    (λ a s. (
+      s.0,
+      contains_from_in (f.roots ++ (kept ++ more)) a (elim (in_append_cases f.roots kept a (in_from_contains (f.roots ++ kept) a s.1)) [
+        | inl i ↦ in_append_left f.roots (kept ++ more) a i
+        | inr i ↦ in_right f.roots (kept ++ more) a (in_append_left kept more a i)
+      ]),
+    ))
+  where
+    in_right : (xs ys : List Addr) (a : Addr) → In ys a → In (xs ++ ys) a
+    in_right [] ys a i = i
+    in_right (x ∷ xs) ys a i = inr (in_right xs ys a i)
+
+in_drop_more : (n : ℕ) (xs ys : List Addr) (a : Addr) → In (drop n xs) a → In (drop n (xs ++ ys)) a
+in_drop_more zero xs ys a i = in_append_left xs ys a i
+in_drop_more (suc n) [] ys a i = absurd i
+in_drop_more (suc n) (x ∷ xs) ys a i = in_drop_more n xs ys a i
+
+pub snapshot_is_of_roots : SnapshotIsOfRoots
+snapshot_is_of_roots f kept all a = (
+  (λ w. reached_within (Starts f kept) (Leads f.heap) (IsInSnapshot f [])
+      (λ x s. elim (in_append_cases f.roots kept x (in_from_contains (f.roots ++ kept) x s.1)) [
+        | inl r ↦ reached_start (Starts f []) (Leads f.heap) x (s.0, contains_from_in (f.roots ++ []) x (in_append_left f.roots [] x r))
+        | inr k ↦ all x (contains_from_in kept x k)
+      ])
+      (λ b x r g. reached_more (Starts f []) (Leads f.heap) b x r g)
+      a w),
+  (λ w. in_snapshot_more f [] kept a w),
+)
+
+pub marking_goes_on : MarkingGoesOn
+marking_goes_on f kept more m l is = record {
+  each = λ a c. in_snapshot_more f kept more a (is.each a c);
+  roots_found = is.roots_found;
+  kept_found = λ a c. is.kept_found a (subst (λ (xs : List Addr). Contains xs a) (take-append-le m.followed kept more l) c);
+  led = λ b a c g. elim (is.led b a c g) [
+    | inl i ↦ inl i
+    | inr d ↦ inr (contains_from_in (drop m.followed (kept ++ more)) a (in_drop_more m.followed kept more a (in_from_contains (drop m.followed kept) a d)))
+  ];
+}
+
+pub marking_stays_of : MarkingStaysOf
+marking_stays_of g h kept more m held count of =
+    let slots : object_count g < length m.found + m.slots = of.room.slots in
+    let spare : object_count g < length m.found + m.spare = of.room.spare in
+    let sum : length (kept ++ more) ≡ length kept + length more = length-append kept more in
+    let few : m.followed ≤ length kept = of.followed in
+    record {
+      room = record {
+        each = λ a c. held a (of.room.each a c);
+        once = of.room.once;
+        slots = omega arith;
+        spare = omega arith;
+      };
+      marked = of.marked;
+      followed = omega arith;
+    }

@@ -1,0 +1,5 @@
+pub mod Addresses
+pub mod Counting
+pub mod Finding
+pub mod Marked
+pub mod GoingOn

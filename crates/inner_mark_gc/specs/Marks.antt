@@ -1,0 +1,70 @@
+-- What a marking has found and marked.
+use Rattle.std.specs.Prelude.{◌≡◌, ◌⊎◌, ℕ, ◌+◌, ◌<◌, ◌≤◌, Bool, List, [], ◌∷◌, ◌++◌, ◌==◌, ◌&&◌, if◌then◌else◌, Contains, length, take, drop}
+use Rattle.std.specs.List.{list_any}
+use Rattle.object_layout.specs.declared.word.Addr.{Addr}
+use Rattle.object_layout.specs.Content.{Content}
+use Rattle.inner_mark_gc.specs.Snapshot.{Fork, IsHeld, IsInSnapshot, Leads, object_count}
+
+-- the objects that were found, in the order in which they were found; how many of the first of them
+-- are marked, and how many of the references that were kept are followed; and for how many objects
+-- more the list and its table have places
+pub record Marks : Type 0 where
+  pub found : List Addr
+  pub marked : ℕ
+  pub followed : ℕ
+  pub slots : ℕ
+  pub spare : ℕ
+
+abbrev pub same_address : Addr → Addr → Bool
+same_address a b = a.chunk == b.chunk && a.offset == b.offset
+
+abbrev pub has_address : List Addr → Addr → Bool
+has_address xs a = list_any (same_address a) xs
+
+-- the addresses with one more, if it isn't there yet
+abbrev pub noted : List Addr → Addr → List Addr
+noted xs a = if has_address xs a then xs else xs ++ a ∷ []
+
+-- no address stands here twice
+abbrev pub Once : List Addr → Type 0
+Once [] = Unit {0}
+Once (x ∷ xs) = (Contains xs x → ⊥) × Once xs
+
+-- the objects that are marked
+abbrev pub marked_of : Marks → List Addr
+marked_of m = take m.marked m.found
+
+-- the objects found lie in the heap, each stands once, and there are places for all others
+pub record HasRoom (h : List Content) (m : Marks) : Type 0 where
+  pub each : (a : Addr) → Contains m.found a → IsHeld h a
+  pub once : Once m.found
+  pub slots : object_count h < length m.found + m.slots
+  pub spare : object_count h < length m.found + m.spare
+
+-- so many more were found, and these are all
+pub record Finds (more : Addr → Type 0) (old new : Marks) : Type 0 where
+  pub grown : (rest : List Addr) × (new.found ≡ old.found ++ rest)
+  pub each : (a : Addr) → Contains new.found a → Contains old.found a ⊎ more a
+  pub all : (a : Addr) → more a → Contains new.found a
+  pub marked : new.marked ≡ old.marked
+  pub followed : new.followed ≡ old.followed
+
+-- what a marking has found lies in this heap, with places for the rest; those marked are among the
+-- found, and no more of the kept references are followed than there are
+pub record IsOf (h : List Content) (kept : List Addr) (m : Marks) : Type 0 where
+  pub room : HasRoom h m
+  pub marked : m.marked ≤ length m.found
+  pub followed : m.followed ≤ length kept
+
+-- it marks the snapshot: what it has found is of the snapshot, all roots are found, and what was kept
+-- and is followed; and what the marked objects referred to at the fork is found, or was kept and is
+-- still to be followed
+pub record IsMarking (f : Fork) (kept : List Addr) (m : Marks) : Type 0 where
+  pub each : (a : Addr) → Contains m.found a → IsInSnapshot f kept a
+  pub roots_found : (a : Addr) → Contains f.roots a → Contains m.found a
+  pub kept_found : (a : Addr) → Contains (take m.followed kept) a → Contains m.found a
+  pub led : (b a : Addr) → Contains (marked_of m) b → Leads f.heap b a → Contains m.found a ⊎ Contains (drop m.followed kept) a
+
+-- the whole snapshot is marked
+abbrev pub IsAllMarked : Fork → List Addr → Marks → Type 0
+IsAllMarked f kept m = (a : Addr) → IsInSnapshot f kept a → Contains (marked_of m) a

@@ -1,0 +1,216 @@
+// A marking: what it has found so far, and which of that is marked.
+
+ghost use Rattle.std.specs.Prelude.{◌≡◌, ℕ, ◌+◌, ◌-◌, ◌<◌, ◌≤◌, ◌↔◌, [], List, All, Contains, IfOk, IsTrue, Some, length, drop, slice_index_or, take, true};
+ghost use Rattle.object_layout.specs.declared.word.Addr.{Addr};
+ghost use Rattle.inner_mark_gc.specs.Snapshot.{IsClosed, IsHeld, IsSince, IsSound, Leads, object_count, objects_in, Fork};
+ghost use Rattle.inner_mark_gc.specs.Marks.{has_address, marked_of, noted, Finds, HasRoom, IsAllMarked, IsMarking, IsOf};
+
+use alloc_path::LeafHeap;
+use object_layout::{Addr, Chunk, is_object_at, next_at};
+use std::alloc::{AllocError, Global};
+use std::collections::HashSet;
+use std::marker::Model;
+
+/// The objects of a heap that were found so far. The first of them are marked: their references were
+/// followed.
+#[derive(Drop)]
+pub struct Marking {
+    found: Vec<Addr>,
+    known: HashSet<Addr>,
+    marked: usize,
+    followed: usize,
+}
+
+impl Model for Marking {
+    ghost use Rattle.std.specs.Prelude.{◌≡◌, ◌-◌, vec_capacity, vec_len};
+    ghost use Rattle.std.specs.HashSet.{contains, spare};
+    ghost use Rattle.object_layout.specs.declared.word.Addr.{Addr};
+    ghost use Rattle.inner_mark_gc.specs.Marks.{has_address, same_address, Marks};
+
+    ghost Value = { Marks };
+
+    ghost view = { λ m. record { found = m.found.items; marked = m.marked; followed = m.followed; slots = vec_capacity m.found - vec_len m.found; spare = spare m.known } };
+
+    ghost invariant = { λ m. (a : Addr) → contains same_address m.known a ≡ has_address m.found.items a };
+}
+
+impl Marking {
+    /// A marking of a heap, which has found the roots, and marked nothing. It reserves for every object
+    /// of the heap.
+    pub fn begin(alloc: Global, heap: &LeafHeap, roots: &[Addr]) -> Result<Marking, AllocError>
+        requires { All (IsHeld heap.now.chunks) roots.now }
+        ensures none { IfOk result (λ m. m.marked ≡ 0) }
+        ensures own { IfOk result (λ m. (kept : List Addr) → IsOf heap.now.chunks kept m) }
+        ensures marking { IfOk result (λ m. (f : Fork) (kept : List Addr) → f.roots ≡ roots.now → ((a : Addr) → IsHeld f.heap a ↔ IsHeld heap.now.chunks a) → IsMarking f kept m) }
+    {
+        let mut marking = Marking {
+            found: Vec::new(alloc),
+            known: HashSet::new(alloc),
+            marked: 0,
+            followed: 0,
+        };
+        let places = places_for(heap.chunks())?;
+        marking.found.reserve(places)?;
+        marking.known.reserve(places)?;
+        marking.visit_all(heap, roots);
+        Ok(marking)
+    }
+
+    /// Marks so many objects that weren't marked before, or those that are left, and says how many.
+    /// These are objects that the roots and the kept references lead to through the heap as it was
+    /// at the fork. It costs what the objects marked refer to, and what was kept since the last call.
+    pub fn some(&mut self, heap: &LeafHeap, kept: &[Addr], n: u32) -> u32
+        requires closed { IsClosed heap.now.chunks }
+        requires kept { All (IsHeld heap.now.chunks) kept.now }
+        requires own { IsOf heap.now.chunks kept.now self.old }
+        ensures own { IsOf heap.now.chunks kept.now self.new }
+        ensures before { take self.old.marked self.new.found ≡ marked_of self.old }
+        ensures count { self.new.marked ≡ self.old.marked + result }
+        ensures most { result ≤ n }
+        ensures marking { (f : Fork) → IsSince f kept.now heap.now.chunks → IsMarking f kept.now self.old → IsMarking f kept.now self.new }
+        ensures left { (f : Fork) → IsSince f kept.now heap.now.chunks → IsMarking f kept.now self.old → result < n → IsAllMarked f kept.now self.new }
+    {
+        self.follow(heap, kept);
+        let mut count = 0;
+        while count < n && self.marked < self.found.len() {
+            self.mark_next(heap);
+            count += 1;
+        }
+        count
+    }
+
+    /// Whether nothing of the snapshot is left to mark. It takes as long as what was kept since the
+    /// last call of `some`.
+    pub fn ready(&self, heap: &LeafHeap, kept: &[Addr]) -> bool
+        requires kept { All (IsHeld heap.now.chunks) kept.now }
+        requires own { IsOf heap.now.chunks kept.now self.now }
+        ensures { (f : Fork) → IsSince f kept.now heap.now.chunks → IsMarking f kept.now self.now → (IsTrue result ↔ IsAllMarked f kept.now self.now) }
+    {
+        let _ = heap;
+        self.marked == self.found.len() && self.has_all(&kept[self.followed..])
+    }
+
+    // Whether all these objects are found.
+    fn has_all(&self, objects: &[Addr]) -> bool
+        ensures { IsTrue result ↔ All (λ a. has_address self.now.found a ≡ true) objects.now }
+    {
+        for object in objects {
+            if !self.known.contains(object) {
+                return false;
+            }
+        }
+        true
+    }
+
+    // Finds what was kept since the last call.
+    fn follow(&mut self, heap: &LeafHeap, kept: &[Addr])
+        requires kept { All (IsHeld heap.now.chunks) kept.now }
+        requires own { IsOf heap.now.chunks kept.now self.old }
+        ensures own { IsOf heap.now.chunks kept.now self.new }
+        ensures finds { Finds (Contains (drop self.old.followed kept.now)) (record self.old { followed = length kept.now }) self.new }
+    {
+        self.visit_all(heap, &kept[self.followed..]);
+        self.followed = kept.len();
+    }
+
+    // Marks the next object: finds what it refers to.
+    fn mark_next(&mut self, heap: &LeafHeap)
+        requires closed { IsClosed heap.now.chunks }
+        requires next { self.old.marked < length self.old.found }
+        requires room { HasRoom heap.now.chunks self.old }
+        ensures room { HasRoom heap.now.chunks self.new }
+        ensures finds { (none : Addr) → Finds (Leads heap.now.chunks (slice_index_or self.old.found self.old.marked none)) (record self.old { marked = self.old.marked + 1 }) self.new }
+    {
+        let object = self.found[self.marked];
+        self.visit_refs(heap, object);
+        self.marked += 1;
+    }
+
+    // Puts an address among those found, unless it is there.
+    fn note(&mut self, address: Addr)
+        requires slots { 0 < self.old.slots }
+        requires spare { 0 < self.old.spare }
+        ensures found { self.new.found ≡ noted self.old.found address }
+        ensures marked { self.new.marked ≡ self.old.marked }
+        ensures followed { self.new.followed ≡ self.old.followed }
+        ensures slots { length self.old.found + self.old.slots ≤ length self.new.found + self.new.slots }
+        ensures spare { length self.old.found + self.old.spare ≤ length self.new.found + self.new.spare }
+    {
+        if !self.known.contains(&address) {
+            let _ = self.known.insert(address);
+            self.found.push_reserved(address);
+        }
+    }
+
+    // Finds what a reference leads to, if it leads into the heap.
+    fn visit(&mut self, heap: &LeafHeap, reference: Option<Addr>)
+        requires sound { IsSound heap.now.chunks reference }
+        requires room { HasRoom heap.now.chunks self.old }
+        ensures finds { Finds (λ a. IsHeld heap.now.chunks a × (reference ≡ Some a)) self.old self.new }
+        ensures room { HasRoom heap.now.chunks self.new }
+    {
+        if let Some(address) = reference {
+            if heap.owns(address) {
+                self.note(address);
+            }
+        }
+    }
+
+    // Finds what the references of an object lead to.
+    fn visit_refs(&mut self, heap: &LeafHeap, object: Addr)
+        requires object { IsHeld heap.now.chunks object }
+        requires closed { IsClosed heap.now.chunks }
+        requires room { HasRoom heap.now.chunks self.old }
+        ensures finds { Finds (Leads heap.now.chunks object) self.old self.new }
+        ensures room { HasRoom heap.now.chunks self.new }
+    {
+        for field in 0..heap.own_header(object).nrefs {
+            let reference = heap.own_ref(object, field);
+            self.visit(heap, reference);
+        }
+    }
+
+    // Finds these objects.
+    fn visit_all(&mut self, heap: &LeafHeap, objects: &[Addr])
+        requires held { All (IsHeld heap.now.chunks) objects.now }
+        requires room { HasRoom heap.now.chunks self.old }
+        ensures finds { Finds (Contains objects.now) self.old self.new }
+        ensures room { HasRoom heap.now.chunks self.new }
+    {
+        for &object in objects {
+            self.visit(heap, Some(object));
+        }
+    }
+}
+
+// One place more than objects lie in these chunks; more than can be counted are more than can be
+// reserved.
+fn places_for(chunks: &[Chunk]) -> Result<usize, AllocError>
+    ensures { IfOk result (λ n. n ≡ object_count chunks.now + 1) }
+{
+    let mut count = 1usize;
+    for chunk in chunks {
+        let more = count_in_chunk(chunk) as usize;
+        if more > usize::MAX - count {
+            return Err(AllocError);
+        }
+        count += more;
+    }
+    Ok(count)
+}
+
+// How many objects lie in a chunk.
+fn count_in_chunk(chunk: &Chunk) -> u32
+    ensures { result ≡ objects_in chunk.now.cells }
+{
+    let used = chunk.used();
+    let mut at = 0;
+    let mut count = 0;
+    while at < used {
+        if is_object_at(chunk, at) {
+            count += 1;
+        }
+        at = next_at(chunk, at);
+    }
+    count
+}

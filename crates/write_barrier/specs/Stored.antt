@@ -1,0 +1,63 @@
+-- What a write of a reference does to the sets of the heaps.
+use Rattle.std.specs.Prelude.{◌≡◌, ℕ, ◌<◌, Bool, false, List, ◌++◌, ◌==◌, ◌&&◌, if◌then◌else◌, not, Option, Some, None, IsSome, option_map, option_to_list, slice_get}
+use Rattle.object_layout.specs.declared.word.Addr.{Addr}
+use Rattle.heap_tree.specs.Node.{Node, is_on_path}
+use Rattle.chunk_pool.specs.Chunks.{Chunks, held_at, owner_of}
+use Rattle.remembered_set.specs.declared.remembered.Source.{Source}
+use Rattle.remembered_set.specs.Sources.{noted}
+use Rattle.write_barrier.specs.declared.sets.SetOf.{SetOf}
+
+-- what the set of a heap holds: the fields that were seen to point down into the heap, the
+-- overwritten references that are kept for its marking, and whether it keeps such
+pub record Content : Type 0 where
+  pub sources : List Source
+  pub kept : List Addr
+  pub keeps : Bool
+
+abbrev pub content_of : SetOf → Content
+content_of s = record { sources = s.remembered.sources; kept = s.kept.items; keeps = s.keeps }
+
+-- what the set of a task's heap holds; None where there is no such set
+abbrev pub content_at : List SetOf → ℕ → Option Content
+content_at sets t = option_map content_of (slice_get sets t)
+
+-- the heap that a reference points into, if it isn't nil: that of the owner of its chunk
+abbrev pub heap_of : Chunks → Option Addr → Option ℕ
+heap_of pool None = None
+heap_of pool (Some a) = owner_of pool a.chunk
+
+-- a reference, if it isn't nil, points into a chunk in use, whose owner was made
+abbrev pub IsOwned : ℕ → Chunks → Option Addr → Type 0
+IsOwned made pool None = Unit {0}
+IsOwned made pool (Some a) = IsSome (held_at pool a.chunk) × ((o : ℕ) → owner_of pool a.chunk ≡ Some o → o < made)
+
+-- whether this is the heap of task t
+abbrev pub is_of : Option ℕ → ℕ → Bool
+is_of None t = false
+is_of (Some heap) t = heap == t
+
+-- whether a reference from an object of the one heap into the other points down: the one's task is
+-- a proper ancestor of the other's
+abbrev pub is_down : List Node → Option ℕ → Option ℕ → Bool
+is_down nodes None into = false
+is_down nodes (Some from) None = false
+is_down nodes (Some from) (Some into) = is_on_path nodes from into && not (from == into)
+
+-- the heap in whose set a reference that is written into an object is noted
+abbrev pub noted_in : List Node → Chunks → Addr → Option Addr → Option ℕ
+noted_in nodes pool object value =
+    if is_down nodes (heap_of pool (Some object)) (heap_of pool value) then heap_of pool value else None
+
+-- the set of task t once a down-pointer into a heap was noted: the source stands in that heap's set, once
+abbrev pub with_source : Option ℕ → Source → ℕ → Content → Content
+with_source into source t c = if is_of into t then record c { sources = noted c.sources source } else c
+
+-- the set of task t once a reference into a heap was overwritten: it is kept for that heap while
+-- that keeps
+abbrev pub with_kept : Option ℕ → Option Addr → ℕ → Content → Content
+with_kept heap overwritten t c = if is_of heap t && c.keeps then record c { kept = c.kept ++ option_to_list overwritten } else c
+
+-- the set of task t once a reference was written into a field in place of another one
+abbrev pub content_after : List Node → Chunks → Source → Option Addr → Option Addr → ℕ → Content → Content
+content_after nodes pool source overwritten value t c =
+    with_kept (heap_of pool overwritten) overwritten t (with_source (noted_in nodes pool source.object value) source t c)

@@ -1,0 +1,8 @@
+// The work at a write of a reference: what the heaps remember and keep for their collections.
+#![tactic(auto)]
+
+mod barrier;
+mod sets;
+
+pub use barrier::store;
+pub use sets::SetOf;
