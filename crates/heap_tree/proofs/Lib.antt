@@ -1,4 +1,6 @@
 pub mod ListLemmas
 pub mod WalkLemmas
+pub mod RankLemmas
+pub mod CostLemmas
 pub mod GrowLemmas
 pub mod TreeLemmas

@@ -1,10 +1,12 @@
 // What the tree keeps of each task, and the climb along its links.
 
-ghost use Rattle.std.specs.Prelude.{◌≡◌, ◌-◌, ◌<◌, ◌≤◌, length, vec_len, vec_capacity, slice_get, slice_set, IfSome, Some};
+ghost use Rattle.std.specs.Prelude.{◌≡◌, ◌+◌, ◌-◌, ◌*◌, ◌^◌, ◌<◌, ◌≤◌, ℕ, length, vec_len, vec_capacity, slice_get, slice_set, IfSome, Some};
 ghost use Rattle.heap_tree.specs.Walk.{ancestor};
-ghost use Rattle.heap_tree.specs.Links.{parent_at, depth_at, jump_at, IsLinked, next_jump};
+ghost use Rattle.heap_tree.specs.Links.{parent_at, depth_at, jump_at, IsLinked, next_jump, IsNextLink};
 
+use crate::count::LinkCount;
 use crate::state::State;
+use std::sync::ledger::Ledger;
 
 /// A task in the tree: beside the link to its parent it keeps one to an ancestor farther up.
 ///
@@ -52,8 +54,8 @@ pub fn jump_below(entries: &[Entry], t: u32) -> u32
     }
 }
 
-// One link up: the far one where it doesn't lead past the depth, else the one to the parent.
-fn step_up(entries: &[Entry], at: u32, depth: u32) -> u32
+// Follows one link up: the far one where it doesn't lead past the depth, else the one to the parent.
+fn step_up<L: Ledger>(entries: &[Entry], at: u32, depth: u32, links: &mut LinkCount<L>) -> u32
     requires linked { IsLinked entries.now }
     requires made { at < length entries.now }
     requires deeper { depth < depth_at entries.now at }
@@ -61,7 +63,10 @@ fn step_up(entries: &[Entry], at: u32, depth: u32) -> u32
     ensures not_past { depth ≤ depth_at entries.now result }
     ensures higher { depth_at entries.now result < depth_at entries.now at }
     ensures up { ancestor (parent_at entries.now) (depth_at entries.now at - depth_at entries.now result) at ≡ Some result }
+    ensures next { IsNextLink (parent_at entries.now) (depth_at entries.now) (jump_at entries.now) depth at result }
+    ensures counted { links.new ≡ links.old + 1 }
 {
+    links.tick();
     let here = entry_at(entries, at);
     let far = entry_at(entries, here.jump);
     if far.depth >= depth {
@@ -73,18 +78,21 @@ fn step_up(entries: &[Entry], at: u32, depth: u32) -> u32
     }
 }
 
-/// The task at a depth on the path from `t` to the root.
-pub fn climb(entries: &[Entry], t: u32, depth: u32) -> u32
+/// The task at a depth on the path from `t` to the root. It follows at most three links for each binary digit
+/// of the depth of `t`.
+pub fn climb<L: Ledger>(entries: &[Entry], t: u32, depth: u32, links: &mut LinkCount<L>) -> u32
     requires linked { IsLinked entries.now }
     requires made { t < length entries.now }
     requires within { depth ≤ depth_at entries.now t }
     ensures made { result < length entries.now }
     ensures there { depth_at entries.now result ≡ depth }
     ensures up { ancestor (parent_at entries.now) (depth_at entries.now t - depth) t ≡ Some result }
+    ensures counted { links.old ≤ links.new }
+    ensures cost { (digits : ℕ) → depth_at entries.now t < 2 ^ digits → links.new ≤ links.old + 3 * digits }
 {
     let mut at = t;
     while entry_at(entries, at).depth > depth {
-        at = step_up(entries, at, depth);
+        at = step_up(entries, at, depth, links);
     }
     at
 }

@@ -1,13 +1,15 @@
 // The tree: its tasks by number, forks, and paths.
 
-ghost use Rattle.std.specs.Prelude.{◌≡◌, ◌+◌, ◌-◌, ◌^◌, ◌<◌, ◌≤◌, ◌↔◌, ◌∷◌, [], ◌++◌, length, vec_len, vec_capacity, slice_get, slice_set, IfSome, IfOk, OnOk, OnErr, IsTrue, Some, None, true};
+ghost use Rattle.std.specs.Prelude.{◌≡◌, ◌+◌, ◌-◌, ◌*◌, ◌^◌, ℕ, ◌<◌, ◌≤◌, ◌↔◌, ◌∷◌, [], ◌++◌, length, vec_len, vec_capacity, slice_get, slice_set, IfSome, IfOk, OnOk, OnErr, IsTrue, Some, None, true};
 ghost use Rattle.heap_tree.specs.Walk.{ancestor, IsUpFrom};
 ghost use Rattle.heap_tree.specs.Node.{root_node, parent_of, state_of, depth_of, is_on_path, with_state, forked, IsTree};
 
+use crate::count::LinkCount;
 use crate::links::{Entry, change_state, climb, entry_at, jump_below};
 use crate::state::State;
 use std::alloc::{AllocError, Global};
-use std::marker::Model;
+use std::marker::{Brand, Model};
+use std::sync::ledger::{Blank, Ledger};
 
 /// The tasks made so far, each with its parent and its state. The root is task 0.
 #[derive(Drop)]
@@ -116,7 +118,8 @@ impl Tree {
         entry_at(&self.entries, t).depth
     }
 
-    /// The task at a depth on the path from `t` to the root.
+    /// The task at a depth on the path from `t` to the root. It follows no more links than `path_counted`
+    /// counts.
     pub fn path(&self, t: u32, at_depth: u32) -> u32
         requires made { t < length self.now }
         requires within { at_depth ≤ depth_of self.now t }
@@ -124,18 +127,74 @@ impl Tree {
         ensures there { depth_of self.now result ≡ at_depth }
         ensures made { result < length self.now }
     {
-        climb(&self.entries, t, at_depth)
+        path_from::<Brand>(self, t, at_depth, Blank::new(1))
     }
 
-    /// Whether `owner` is `reader` or stands above it.
+    /// The task at a depth on the path from `t` to the root, and the links that were followed: at most three
+    /// for each binary digit of the depth of `t`.
+    pub fn path_counted<L: Ledger>(&self, t: u32, at_depth: u32, links: &mut LinkCount<L>) -> u32
+        requires made { t < length self.now }
+        requires within { at_depth ≤ depth_of self.now t }
+        ensures up { ancestor (parent_of self.now) (depth_of self.now t - at_depth) t ≡ Some result }
+        ensures there { depth_of self.now result ≡ at_depth }
+        ensures made { result < length self.now }
+        ensures counted { links.old ≤ links.new }
+        ensures cost { (digits : ℕ) → depth_of self.now t < 2 ^ digits → links.new ≤ links.old + 3 * digits }
+    {
+        climb(&self.entries, t, at_depth, links)
+    }
+
+    /// Whether `owner` is `reader` or stands above it. It follows no more links than `on_path_counted` counts.
     pub fn on_path(&self, reader: u32, owner: u32) -> bool
         requires reader { reader < length self.now }
         requires owner { owner < length self.now }
         ensures value { result ≡ is_on_path self.now owner reader }
         ensures walk { IsTrue result ↔ IsUpFrom (parent_of self.now) reader owner }
     {
+        on_path_from::<Brand>(self, reader, owner, Blank::new(1))
+    }
+
+    /// Whether `owner` is `reader` or stands above it, and the links that were followed: at most three for each
+    /// binary digit of the reader's depth.
+    pub fn on_path_counted<L: Ledger>(&self, reader: u32, owner: u32, links: &mut LinkCount<L>) -> bool
+        requires reader { reader < length self.now }
+        requires owner { owner < length self.now }
+        ensures value { result ≡ is_on_path self.now owner reader }
+        ensures walk { IsTrue result ↔ IsUpFrom (parent_of self.now) reader owner }
+        ensures counted { links.old ≤ links.new }
+        ensures cost { (digits : ℕ) → depth_of self.now reader < 2 ^ digits → links.new ≤ links.old + 3 * digits }
+    {
         let depth = entry_at(&self.entries, owner).depth;
         depth <= entry_at(&self.entries, reader).depth
-            && climb(&self.entries, reader, depth) == owner
+            && climb(&self.entries, reader, depth, links) == owner
     }
+}
+
+// `path_counted` from a new count, which is let go.
+fn path_from<L: Ledger>(tree: &Tree, t: u32, at_depth: u32, blank: Blank) -> u32
+    requires name { blank.name ≡ L.name }
+    requires parts { blank.parts ≡ L.parts }
+    requires some { 0 < blank.parts }
+    requires made { t < length tree.now }
+    requires within { at_depth ≤ depth_of tree.now t }
+    ensures up { ancestor (parent_of tree.now) (depth_of tree.now t - at_depth) t ≡ Some result }
+    ensures there { depth_of tree.now result ≡ at_depth }
+    ensures made { result < length tree.now }
+{
+    let mut links = LinkCount::<L>::new(blank);
+    tree.path_counted(t, at_depth, &mut links)
+}
+
+// `on_path_counted` from a new count, which is let go.
+fn on_path_from<L: Ledger>(tree: &Tree, reader: u32, owner: u32, blank: Blank) -> bool
+    requires name { blank.name ≡ L.name }
+    requires parts { blank.parts ≡ L.parts }
+    requires some { 0 < blank.parts }
+    requires reader { reader < length tree.now }
+    requires owner { owner < length tree.now }
+    ensures value { result ≡ is_on_path tree.now owner reader }
+    ensures walk { IsTrue result ↔ IsUpFrom (parent_of tree.now) reader owner }
+{
+    let mut links = LinkCount::<L>::new(blank);
+    tree.on_path_counted(reader, owner, &mut links)
 }

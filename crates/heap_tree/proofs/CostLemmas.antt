@@ -1,0 +1,124 @@
+-- How many links a climb follows.
+use Rattle.std.proofs.Common.{◌≡◌, ℕ, zero, suc, ◌+◌, ◌-◌, ◌*◌, ◌^◌, ◌<◌, ◌≤◌, Option, Some, None, ◌⊎◌, inl, inr, refl, sym, ap, subst, ◌∙◌, arith}
+use Rattle.std.proofs.lemmas.Bool.{cases_lt}
+use Rattle.std.proofs.lemmas.Option.{same_Some}
+use Rattle.heap_tree.specs.Links.{AreLinked, HasRank, IsNextLink, span}
+use Rattle.heap_tree.proofs.RankLemmas.{rank_span, exponent_upto, exponent_below, some_power}
+
+-- a climb to the depth follows at most so many links
+abbrev pub Within : (ℕ → Option ℕ) → (ℕ → ℕ) → (ℕ → ℕ) → ℕ → ℕ → ℕ → Type 0
+Within par dep jmp least zero t = dep t ≤ least
+Within par dep jmp least (suc more) t = (dep t ≤ least) ⊎ ((up : ℕ) → IsNextLink par dep jmp least t up → Within par dep jmp least more up)
+
+-- the link that is followed is one of them
+pub within_next : (par : ℕ → Option ℕ) (dep jmp : ℕ → ℕ) (least m t up : ℕ) → least < dep t → IsNextLink par dep jmp least t up → Within par dep jmp least m t → (k : ℕ) × (suc k ≡ m) × Within par dep jmp least k up
+within_next par dep jmp least zero t up lt next le = absurd (omega arith)
+within_next par dep jmp least (suc m) t up lt next w =
+    elim w [
+      | inl le ↦ absurd (omega arith)
+      | inr go ↦ (m, refl, go up next)
+    ]
+
+module _ (n : ℕ) (par : ℕ → Option ℕ) (dep jmp : ℕ → ℕ) (links : AreLinked n par dep jmp) (least : ℕ) where
+  there : (m t : ℕ) → dep t ≤ least → Within par dep jmp least m t
+  there zero t le = le
+  there (suc m) t le = inl le
+
+  by_far : (m t : ℕ) → least ≤ dep (jmp t) → Within par dep jmp least m (jmp t) → Within par dep jmp least (suc m) t
+  by_far m t le w =
+      inr (λ up next. elim next [
+        | inl far ↦ subst (Within par dep jmp least m) (sym far.1) w
+        | inr near ↦ let lt : dep (jmp t) < least = near.0 in absurd (omega arith)
+      ])
+
+  by_parent : (m t p : ℕ) → dep (jmp t) < least → par t ≡ Some p → Within par dep jmp least m p → Within par dep jmp least (suc m) t
+  by_parent m t p lt e w =
+      inr (λ up next. elim next [
+        | inl far ↦ let le : least ≤ dep (jmp t) = far.0 in absurd (omega arith)
+        | inr near ↦ subst (Within par dep jmp least m) (same_Some p up (sym e ∙ near.1)) w
+      ])
+
+  -- below the end of a far link two links a rank lead there, and one more
+  inside : (rank t : ℕ) → HasRank par jmp rank t → dep (jmp t) ≤ least → (m : ℕ) → 2 * rank + 1 ≤ m → Within par dep jmp least m t
+  inside rank t has le zero big = absurd (omega arith)
+  inside zero t has le (suc m) big =
+      let d : dep t ≡ dep (jmp t) + 1 = links.deeper t (jmp t) has in
+      elim (cases_lt least (dep t)) [
+        | inl lt ↦ by_far m t (omega arith) (there m (jmp t) le)
+        | inr ge ↦ there (suc m) t ge
+      ]
+  inside (suc rank) t has le (suc zero) big = absurd (omega arith)
+  inside (suc rank) t has le (suc (suc m)) big =
+      let p = has.0 in
+      let ends : dep (jmp t) ≡ dep (jmp (jmp p)) = ap dep has.4 in
+      elim (cases_lt (dep (jmp t)) least) [
+        | inr ge ↦ by_far (suc m) t ge (there (suc m) (jmp t) le)
+        | inl lt ↦ by_parent (suc m) t p lt has.1 (elim (cases_lt least (dep (jmp p))) [
+          | inl far ↦ by_far m p (omega arith) (inside rank (jmp p) has.3 (omega arith) m (omega arith))
+          | inr near ↦ inside rank p has.2 near (suc m) (omega arith)
+        ])
+      ]
+
+  module _ (digits fuel rank t : ℕ) (made : t < n) (deep : dep t < 2 ^ digits) (has : HasRank par jmp rank t) (longer : 0 < dep (jmp t) → span dep jmp t < span dep jmp (jmp t)) where
+    low_rank : suc rank ≤ digits
+    low_rank =
+        let s : dep t + 1 ≡ dep (jmp t) + 2 ^ suc rank = rank_span n par dep jmp links rank t has in
+        exponent_upto (suc rank) digits (omega arith)
+
+    -- the far link leads to one of a higher rank
+    over : least < dep (jmp t) → (m : ℕ) → 3 * digits ≤ m + rank + 2 → digits ≤ rank + suc fuel
+        → ((rank' more : ℕ) → jmp t < n → dep (jmp t) < 2 ^ digits → HasRank par jmp rank' (jmp t)
+          → (0 < dep (jmp (jmp t)) → span dep jmp (jmp t) < span dep jmp (jmp (jmp t))) → digits ≤ rank' + fuel → 3 * digits ≤ more + rank' + 2 → Within par dep jmp least more (jmp t))
+        → Within par dep jmp least m t
+    over lt zero big enough go = let l : suc rank ≤ digits = low_rank in absurd (omega arith)
+    over lt (suc m) big enough go =
+        let low : jmp t ≤ t = links.jump_low t made in
+        let above : jmp t < n = omega arith in
+        let next = links.ranked (jmp t) above (omega arith) in
+        let s : dep t + 1 ≡ dep (jmp t) + 2 ^ suc rank = rank_span n par dep jmp links rank t has in
+        let s' : dep (jmp t) + 1 ≡ dep (jmp (jmp t)) + 2 ^ suc next.0 = rank_span n par dep jmp links next.0 (jmp t) next.1 in
+        let more : dep t - dep (jmp t) < dep (jmp t) - dep (jmp (jmp t)) = longer (omega arith) in
+        let some : 1 ≤ 2 ^ suc rank = some_power (suc rank) in
+        let higher : suc rank < suc next.0 = exponent_below (suc rank) (suc next.0) (omega arith) in
+        by_far m t (omega arith) (go next.0 m above (omega arith) next.1 (links.longer t made) (omega arith) (omega arith))
+
+  -- where each far link is longer than the one before, each that is followed gains a rank
+  outside : (digits fuel rank t : ℕ) → t < n → dep t < 2 ^ digits → HasRank par jmp rank t
+      → (0 < dep (jmp t) → span dep jmp t < span dep jmp (jmp t)) → digits ≤ rank + fuel → (m : ℕ) → 3 * digits ≤ m + rank + 2 → Within par dep jmp least m t
+  outside digits zero rank t made deep has longer enough m big =
+      let l : suc rank ≤ digits = low_rank digits zero rank t made deep has longer in
+      absurd (omega arith)
+  outside digits (suc fuel) rank t made deep has longer enough m big =
+      let l : suc rank ≤ digits = low_rank digits fuel rank t made deep has longer in
+      elim (cases_lt least (dep (jmp t))) [
+        | inr ge ↦ inside rank t has ge m (omega arith)
+        | inl lt ↦ over digits fuel rank t made deep has longer lt m big enough
+            (λ rank' more above deep' has' longer' enough' big'. outside digits fuel rank' (jmp t) above deep' has' longer' enough' more big')
+      ]
+
+  -- the first far link may be as long as the second
+  from_first : (digits rank t : ℕ) → t < n → dep t < 2 ^ digits → HasRank par jmp rank t → (m : ℕ) → 3 * digits ≡ m → Within par dep jmp least m t
+  from_first digits rank t made deep has zero is =
+      let s : dep t + 1 ≡ dep (jmp t) + 2 ^ suc rank = rank_span n par dep jmp links rank t has in
+      let l : suc rank ≤ digits = exponent_upto (suc rank) digits (omega arith) in
+      absurd (omega arith)
+  from_first digits rank t made deep has (suc m) is =
+      let s : dep t + 1 ≡ dep (jmp t) + 2 ^ suc rank = rank_span n par dep jmp links rank t has in
+      let l : suc rank ≤ digits = exponent_upto (suc rank) digits (omega arith) in
+      let some : 1 ≤ 2 ^ suc rank = some_power (suc rank) in
+      elim (cases_lt least (dep (jmp t))) [
+        | inr ge ↦ inside rank t has ge (suc m) (omega arith)
+        | inl lt ↦
+            let low : jmp t ≤ t = links.jump_low t made in
+            let above : jmp t < n = omega arith in
+            let next = links.ranked (jmp t) above (omega arith) in
+            by_far m t (omega arith) (outside digits digits next.0 (jmp t) above (omega arith) next.1 (links.longer t made) (omega arith) m (omega arith))
+      ]
+
+  -- three links for each binary digit of the depth
+  pub few_links : (digits t : ℕ) → t < n → dep t < 2 ^ digits → Within par dep jmp least (3 * digits) t
+  few_links digits t made deep =
+      elim (cases_lt 0 (dep t)) [
+        | inl lt ↦ let r = links.ranked t made lt in from_first digits r.0 t made deep r.1 (3 * digits) refl
+        | inr flat ↦ there (3 * digits) t (omega arith)
+      ]
