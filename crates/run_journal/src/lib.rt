@@ -1,0 +1,6 @@
+// Journals replayed: the accounts that are kept entry by entry, what a journal comes to, and what is written of it.
+#![tactic(auto)]
+
+mod texts;
+
+pub use texts::{end_status, end_text, refused_text, report_text};
