@@ -1,0 +1,113 @@
+// What a join changes of the accounts of three heaps.
+
+ghost use Rattle.std.specs.Prelude.{◌≡◌, ◌+◌, ◌<◌, ◌≤◌, ◌^◌, ◌++◌, [], length, IfOk, OnOk, OnErr, vec_len, vec_capacity};
+ghost use Rattle.run_ledger.specs.Heaps.{merged, emptied};
+
+use hh_model::Name;
+use listed::Listed;
+use run_ledger::Heap;
+use std::alloc::{AllocError, Global};
+use std::mem;
+
+/// The children of a task join it: its heap gets all that theirs hold, the left child's names first, then the right one's,
+/// then its own; theirs hold nothing any more. Want of memory changes nothing.
+pub fn merge(
+    alloc: Global,
+    parent: &mut Heap,
+    left: &mut Heap,
+    right: &mut Heap,
+) -> Result<(), AllocError>
+    requires { parent.old.since + left.old.since + right.old.since < 2 ^ 64 }
+    ensures parent { OnOk result (parent.new ≡ merged parent.old left.old right.old) }
+    ensures left { OnOk result (left.new ≡ emptied left.old) }
+    ensures right { OnOk result (right.new ≡ emptied right.old) }
+    ensures parent_kept { OnErr result (parent.new ≡ parent.old) }
+    ensures left_kept { OnErr result (left.new ≡ left.old) }
+    ensures right_kept { OnErr result (right.new ≡ right.old) }
+{
+    let mut chunks = mem::replace(&mut left.chunks, Listed::new(alloc)).into_vec();
+    let mut large = mem::replace(&mut left.large, Listed::new(alloc)).into_vec();
+    if let Err(error) = make_room(&mut chunks, &mut large, parent, right) {
+        left.chunks = Listed::from_vec(chunks);
+        left.large = Listed::from_vec(large);
+        return Err(error);
+    }
+    gather_chunks(alloc, chunks, &mut right.chunks, &mut parent.chunks);
+    gather_names(alloc, large, &mut right.large, &mut parent.large);
+    parent.since = parent.since + left.since + right.since;
+    parent.marked = None;
+    retire(left);
+    retire(right);
+    Ok(())
+}
+
+// Makes room in the left child's lists for the names of the other two heaps.
+fn make_room(
+    chunks: &mut Vec<Listed<Name>>,
+    large: &mut Vec<Name>,
+    parent: &Heap,
+    right: &Heap,
+) -> Result<(), AllocError>
+    ensures chunks { chunks.new.items ≡ chunks.old.items }
+    ensures large { large.new.items ≡ large.old.items }
+    ensures chunk_room { OnOk result (vec_len chunks.new + length right.now.chunks + length parent.now.chunks ≤ vec_capacity chunks.new) }
+    ensures large_room { OnOk result (vec_len large.new + length right.now.large + length parent.now.large ≤ vec_capacity large.new) }
+{
+    chunks.reserve(both(right.chunks.len(), parent.chunks.len())?)?;
+    large.reserve(both(right.large.len(), parent.large.len())?)
+}
+
+// So many places more than memory has are want of memory.
+fn both(first: usize, second: usize) -> Result<usize, AllocError>
+    ensures { IfOk result (λ count. count ≡ first + second) }
+{
+    first.checked_add(second).ok_or(AllocError)
+}
+
+// Puts the lists of the first two in front of the last one's, in which there is room for all.
+fn gather_chunks(
+    alloc: Global,
+    front: Vec<Listed<Name>>,
+    middle: &mut Listed<Listed<Name>>,
+    back: &mut Listed<Listed<Name>>,
+)
+    requires { vec_len front + length middle.old + length back.old ≤ vec_capacity front }
+    ensures all { back.new ≡ front.items ++ middle.old ++ back.old }
+    ensures none { middle.new ≡ [] }
+{
+    let mut all = front;
+    let mut own = mem::replace(back, Listed::new(alloc)).into_vec();
+    let mut others = mem::replace(middle, Listed::new(alloc)).into_vec();
+    let _others_fit = all.append(&mut others);
+    let _own_fit = all.append(&mut own);
+    *back = Listed::from_vec(all);
+}
+
+fn gather_names(
+    alloc: Global,
+    front: Vec<Name>,
+    middle: &mut Listed<Name>,
+    back: &mut Listed<Name>,
+)
+    requires { vec_len front + length middle.old + length back.old ≤ vec_capacity front }
+    ensures all { back.new ≡ front.items ++ middle.old ++ back.old }
+    ensures none { middle.new ≡ [] }
+{
+    let mut all = front;
+    let mut own = mem::replace(back, Listed::new(alloc)).into_vec();
+    let mut others = mem::replace(middle, Listed::new(alloc)).into_vec();
+    let _others_fit = all.append(&mut others);
+    let _own_fit = all.append(&mut own);
+    *back = Listed::from_vec(all);
+}
+
+// The account of a child that has joined, whose names were taken.
+fn retire(heap: &mut Heap)
+    requires chunks { heap.old.chunks ≡ [] }
+    requires large { heap.old.large ≡ [] }
+    ensures { heap.new ≡ emptied heap.old }
+{
+    heap.since = 0;
+    heap.room = 0;
+    heap.worker = None;
+}

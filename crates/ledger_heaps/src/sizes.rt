@@ -1,0 +1,82 @@
+// Words, and the chunks in use, in units of 1,024 words.
+
+ghost use Rattle.std.specs.Prelude.{◌≡◌, ◌+◌, ◌<◌, ◌^◌};
+ghost use Rattle.run_ledger.specs.Heaps.{words_at, words_sum, units_sum, units, words_in, units_in, take_of, small_in};
+
+use hh_model::{Name, State};
+use run_ledger::Heap;
+
+/// The words of a name's object, 0 where there is none.
+pub fn words_at(machine: &State, name: Name) -> usize
+    ensures value { result ≡ words_at machine.now name }
+    ensures bound { result < 2 ^ 62 }
+{
+    match machine.object(name) {
+        None => 0,
+        Some(object) => 2 + object.refs.as_slice().len() + object.ints.as_slice().len(),
+    }
+}
+
+/// The words of some names' objects together.
+pub fn words_sum(machine: &State, names: &[Name]) -> u64
+    requires { words_sum machine.now names.now < 2 ^ 62 }
+    ensures { result ≡ words_sum machine.now names.now }
+{
+    names.iter().map(|name| words_at(machine, *name) as u64).sum()
+}
+
+/// How many units hold so many words.
+pub fn units(words: u64) -> u64
+    requires { words < 2 ^ 63 }
+    ensures { result ≡ units words }
+{
+    (words + 1023) / 1024
+}
+
+fn units_sum(machine: &State, names: &[Name]) -> u64
+    requires { units_sum machine.now names.now < 2 ^ 62 }
+    ensures { result ≡ units_sum machine.now names.now }
+{
+    names
+        .iter()
+        .map(|name| units(words_at(machine, *name) as u64))
+        .sum()
+}
+
+/// The words of all that a heap holds.
+pub fn words_in(machine: &State, heap: &Heap) -> u64
+    requires { words_in machine.now heap.now < 2 ^ 62 }
+    ensures { result ≡ words_in machine.now heap.now }
+{
+    small_words(machine, heap) + words_sum(machine, heap.large.as_slice())
+}
+
+fn small_words(machine: &State, heap: &Heap) -> u64
+    requires { words_sum machine.now (small_in heap.now) < 2 ^ 62 }
+    ensures { result ≡ words_sum machine.now (small_in heap.now) }
+{
+    let mut words = 0;
+    for names in heap.chunks.as_slice() {
+        words += words_sum(machine, names.as_slice());
+    }
+    words
+}
+
+/// The chunks in use for a heap, in units.
+pub fn units_in(machine: &State, heap: &Heap) -> u64
+    requires { units_in machine.now heap.now < 2 ^ 62 }
+    ensures { result ≡ units_in machine.now heap.now }
+{
+    heap.chunks.len() as u64
+        + units_sum(machine, heap.large.as_slice())
+        + heap.reserved as u64
+        + heap.begun.unwrap_or(0) as u64
+}
+
+/// How many chunks a leaf collection of a heap takes.
+pub fn take_of(machine: &State, heap: &Heap) -> u64
+    requires { words_in machine.now heap.now < 2 ^ 62 }
+    ensures { result ≡ take_of machine.now heap.now }
+{
+    2 * units(small_words(machine, heap)).max(1) - 1
+}
