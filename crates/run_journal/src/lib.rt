@@ -1,6 +1,7 @@
 // Journals replayed: the accounts that are kept entry by entry, what a journal comes to, and what is written of it.
 #![tactic(auto)]
 
+mod accounts;
 mod texts;
 
 pub use texts::{end_status, end_text, refused_text, report_text};
