@@ -1,10 +1,15 @@
 -- What contracts see of accounts that are kept entry by entry.
-use Rattle.std.specs.Prelude.{◌≡◌, ℕ, ◌<◌, ◌^◌, Option, Some, length, sum_by}
+use Rattle.std.specs.Prelude.{◌≡◌, ℕ, ◌<◌, ◌^◌, ◌&&◌, not, Bool, false, Option, Some, None, length, slice_get, sum_by}
 use Rattle.run_trace.specs.Settings.{Limits}
 use Rattle.hh_lang.specs.Form.{ProgramText}
+use Rattle.hh_lang.specs.declared.program.Line.{Line}
+use Rattle.hh_model.specs.declared.data.Task.{Task}
+use Rattle.hh_model.specs.declared.data.State.{State}
+use Rattle.hh_model.specs.Step.{fetched}
 use Rattle.run_ledger.specs.declared.data.Ledger.{Ledger}
 use Rattle.run_ledger.specs.declared.data.Heap.{Heap}
 use Rattle.run_ledger.specs.Heaps.{heap_of, words_in, units_in, in_use}
+use Rattle.run_ledger.specs.Steps.{touched, is_open, owns}
 
 -- the program, the limits and the accounts, and how many steps the machine has taken
 pub record Standing : Type 0 where
@@ -19,5 +24,18 @@ pub record Steady (l : Ledger) : Type 0 where
   pub heaps : length l.heaps < 2 ^ 31
   pub words : (t : ℕ) → words_in l.machine (heap_of l t) < 2 ^ 61
   pub units : (t : ℕ) → units_in l.machine (heap_of l t) < 2 ^ 61
-  pub in_use : in_use l < 2 ^ 61
+  pub in_use : in_use l < 2 ^ 20
   pub since : sum_by (λ h. h.since) l.heaps < 2 ^ 62
+
+-- the next step of a running task is no output, no fork and no end of the task, and reads or writes no object that another
+-- task owns
+abbrev pub is_own_line : State → ℕ → Task → Option Line → Bool
+is_own_line m t x None = false
+is_own_line m t x (Some line) = not (is_open x line.instr) && owns m.tasks t (touched x.top line.instr)
+
+abbrev pub is_own_by : ProgramText → State → ℕ → Option Task → Bool
+is_own_by p m t None = false
+is_own_by p m t (Some x) = is_own_line m t x (fetched p x.top)
+
+abbrev pub is_own : ProgramText → State → ℕ → Bool
+is_own p m t = is_own_by p m t (slice_get m.tasks t)

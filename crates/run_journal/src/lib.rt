@@ -2,6 +2,8 @@
 #![tactic(auto)]
 
 mod accounts;
+mod causes;
+mod private;
 mod texts;
 
 pub use texts::{end_status, end_text, refused_text, report_text};
