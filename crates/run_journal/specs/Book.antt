@@ -11,21 +11,20 @@ use Rattle.run_ledger.specs.declared.data.Heap.{Heap}
 use Rattle.run_ledger.specs.Heaps.{heap_of, words_in, units_in, in_use}
 use Rattle.run_ledger.specs.Steps.{touched, is_open, owns}
 
--- the program, the limits and the accounts, and how many steps the machine has taken
+-- the program, the limits and the accounts
 pub record Standing : Type 0 where
   pub program : ProgramText
   pub limits : Limits
   pub ledger : Ledger
-  pub taken : ℕ
 
 -- the counts of accounts fit their types; the accounts of every legal journal are so
 pub record Steady (l : Ledger) : Type 0 where
   pub steps : l.steps < 2 ^ 30
   pub heaps : length l.heaps < 2 ^ 31
   pub words : (t : ℕ) → words_in l.machine (heap_of l t) < 2 ^ 61
-  pub units : (t : ℕ) → units_in l.machine (heap_of l t) < 2 ^ 61
+  pub units : (t : ℕ) → units_in l.machine (heap_of l t) < 2 ^ 20
   pub in_use : in_use l < 2 ^ 20
-  pub since : sum_by (λ h. h.since) l.heaps < 2 ^ 62
+  pub since : (t : ℕ) → (heap_of l t).since < 2 ^ 61
 
 -- the next step of a running task is no output, no fork and no end of the task, and reads or writes no object that another
 -- task owns

@@ -31,6 +31,7 @@ pub(crate) struct Accounts<'p> {
 
 impl<'p> Model for Accounts<'p> {
     ghost use Rattle.run_journal.specs.Book.{Standing};
+    ghost use Rattle.std.specs.Prelude.{◌≤◌};
 
     ghost Value = { Standing };
 
@@ -38,8 +39,9 @@ impl<'p> Model for Accounts<'p> {
       program = a.program.now;
       limits = a.limits;
       ledger = record { machine = a.machine.state; heaps = a.heaps; steps = a.steps; end = a.end };
-      taken = a.machine.steps;
     } };
+
+    ghost invariant = { λ a. a.machine.steps ≤ a.steps };
 }
 
 /// A heap that holds nothing.
@@ -85,7 +87,7 @@ impl<'p> Accounts<'p> {
         program: &'p Program,
         limits: Settings,
     ) -> Result<Accounts<'p>, AllocError>
-        ensures { IfOk result (λ a. a ≡ record { program = program.entry.now; limits = limits; ledger = opening program.entry.now limits; taken = 0 }) }
+        ensures { IfOk result (λ a. a ≡ record { program = program.entry.now; limits = limits; ledger = opening program.entry.now limits }) }
     {
         let machine = Machine::start(alloc, program, limits.version().field_limit())?;
         let mut heaps = Listed::new(alloc);

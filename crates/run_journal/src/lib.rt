@@ -3,6 +3,7 @@
 
 mod accounts;
 mod causes;
+mod changes;
 mod private;
 mod texts;
 
