@@ -116,7 +116,7 @@ steps_are_bounded p s journal legal = bound_from p s journal (opening p s) legal
 
 -- ALLOCATIONS
 
-asked_bounds : (s : Limits) (h : Heap) (o : Option ℕ) (w : ℕ) → o ≡ Some w → (on_asked o (λ v. nat_le s.leaf h.since) || on_asked o (lacks_room h)) ≡ false → (h.since < s.leaf) × (lacks_room h w ≡ false)
+pub asked_bounds : (s : Limits) (h : Heap) (o : Option ℕ) (w : ℕ) → o ≡ Some w → (on_asked o (λ v. nat_le s.leaf h.since) || on_asked o (lacks_room h)) ≡ false → (h.since < s.leaf) × (lacks_room h w ≡ false)
 asked_bounds s h o w e f = by (nat_le s.leaf h.since) (lacks_room h w) refl (subst (λ (v : Option ℕ). (on_asked v (λ u. nat_le s.leaf h.since) || on_asked v (lacks_room h)) ≡ false) e f)
   where
     by : (a b : Bool) → nat_le s.leaf h.since ≡ a → (a || b) ≡ false → (h.since < s.leaf) × (b ≡ false)
@@ -124,7 +124,7 @@ asked_bounds s h o w e f = by (nat_le s.leaf h.since) (lacks_room h w) refl (sub
     by false b is g = (leb-false s.leaf h.since is, g)
 
 module _ (p : ProgramText) (s : Limits) (t : ℕ) where
-  stands_by : (l : Ledger) (k : ℕ) (a b : Bool) (rest : ℕ) → suc k ≤ cond a 0 (cond b (suc rest) 1) → (a ≡ false) × ((b ≡ true) × (k ≤ rest)) ⊎ (a ≡ false) × (k ≡ 0)
+  pub stands_by : (l : Ledger) (k : ℕ) (a b : Bool) (rest : ℕ) → suc k ≤ cond a 0 (cond b (suc rest) 1) → (a ≡ false) × ((b ≡ true) × (k ≤ rest)) ⊎ (a ≡ false) × (k ≡ 0)
   stands_by l k true b rest h = absurd (omega arith)
   stands_by l k false true rest h = inl (refl, (refl, omega arith))
   stands_by l k false false rest h = inr (refl, omega arith)

@@ -1,5 +1,5 @@
 -- What a step adds to the store: nothing, or the one object that it asks words for; and objects keep their words.
-use Rattle.std.proofs.Common.{◌≡◌, ℕ, ℤ, zero, suc, pos, ◌+◌, ◌-◌, ◌==◌, ◌<◌, ◌≤◌, Bool, true, false, cond, Option, Some, None, List, [], ◌∷◌, ◌++◌, length, slice_get, slice_set, replicate, take, ◌⊎◌, inl, inr, refl, ap, ap₂, sym, subst, ◌∙◌, arith, is_some, length-set, nat_lt}
+use Rattle.std.proofs.Common.{◌≡◌, ℕ, ℤ, zero, suc, pos, ◌+◌, ◌-◌, ◌==◌, ◌<◌, ◌≤◌, Bool, true, false, cond, Option, Some, None, List, [], ◌∷◌, ◌++◌, length, slice_get, slice_set, replicate, take, ◌⊎◌, inl, inr, refl, ap, ap₂, sym, subst, ◌∙◌, arith, is_some, nat_lt}
 use Rattle.std.proofs.lemmas.Bool.{false≢true}
 use Rattle.std.proofs.lemmas.Option.{same_Some}
 use Rattle.listed.proofs.Members.{got_same, got_back, got_within}
@@ -15,11 +15,11 @@ use Rattle.hh_model.specs.declared.data.Trap.{Trap}
 use Rattle.hh_model.specs.declared.data.Trap.TheVariants.{Nil, Range, Frozen, Div, Size, Depth}
 use Rattle.hh_model.specs.declared.data.End.TheVariants.{Trapped}
 use Rattle.hh_model.specs.declared.data.State.{State}
-use Rattle.hh_model.specs.Effect.{Effect, Goes, Prints, Calls, Forks, Returns, Traps, Stops, Setting, effect, made, row_of, object_at, put_object, counts_in, int_in, ref_in, or_trap, with_object, unless_frozen, read_effect, calculated, place_in, flat, same_name, onward}
+use Rattle.hh_model.specs.Effect.{Effect, Goes, Prints, Calls, Forks, Returns, Traps, Stops, Setting, effect, made, row_of, object_at, put_object, counts_in, int_in, ref_in, or_trap, with_object, read_effect, calculated, place_in, flat, same_name, onward}
 use Rattle.hh_model.specs.Names.{words_asked, words_for}
 use Rattle.hh_model.specs.Precedence.{precedes}
 use Rattle.hh_model.specs.Store.{IsStored}
-use Rattle.hh_model.specs.Step.{setting, fetched, step, follow, called, forked, returned, returned_to, last_return, child_ended, child_ended_by, last_of, kept_by, result_of, sibling, is_left, or_same, join_of, ended_by, can_step, is_running, asked, asked_line, frame_limit, depth_limit}
+use Rattle.hh_model.specs.Step.{setting, fetched, step, follow, called, returned, returned_to, last_return, child_ended_by, last_of, kept_by, result_of, sibling, is_left, or_same, join_of, ended_by, can_step, is_running, asked, asked_line, frame_limit, depth_limit}
 use Rattle.hh_model.proofs.Stores.{put_cases, made_cases}
 use Rattle.hh_model.proofs.Carried.{next_name}
 use Rattle.hh_model.proofs.Kept.{Kept, empty_rows}
@@ -95,11 +95,15 @@ module _ (s : Setting) (f : Frame) (store : List (List Object)) where
 
   newm : (d : ℕ) (o : Option (ℕ × ℕ)) → Makes s store (words_for o) (or_trap Size o (λ n. made s f store d (record { strand = s.strand; mutable = true; refs = replicate n.0 None; ints = replicate n.1 (pos 0) })))
   newm d None = refl
-  newm d (Some n) = inr (2 + n.0 + n.1, refl, record {
-    new = record { strand = s.strand; mutable = true; refs = replicate n.0 None; ints = replicate n.1 (pos 0) };
-    size = omega (arith, length_same {A = Option Name} n.0 None, length_same n.1 (pos 0));
-    is = refl;
-  })
+  newm d (Some n) = inr (
+    2 + n.0 + n.1,
+    refl,
+    record {
+      new = record { strand = s.strand; mutable = true; refs = replicate n.0 None; ints = replicate n.1 (pos 0) };
+      size = omega (arith, length_same {A = Option Name} n.0 None, length_same n.1 (pos 0));
+      is = refl;
+    },
+  )
 
   makes : (instr : Instr) → Makes s store (words_asked s.field_limit f instr) (effect s f store instr)
   makes (Set d k) = same
@@ -111,11 +115,15 @@ module _ (s : Setting) (f : Frame) (store : List (List Object)) where
   makes (Jmp to) = same
   makes (Jz a to) = same
   makes (Newm d a b) = newm d (counts_in s.field_limit (int_in f a) (int_in f b))
-  makes (Pack d r i) = inr (2 + r + i, refl, record {
-    new = record { strand = s.strand; mutable = false; refs = take r f.refs; ints = take i f.ints };
-    size = omega (arith, length_take r f.refs, length_take i f.ints);
-    is = refl;
-  })
+  makes (Pack d r i) = inr (
+    2 + r + i,
+    refl,
+    record {
+      new = record { strand = s.strand; mutable = false; refs = take r f.refs; ints = take i f.ints };
+      size = omega (arith, length_take r f.refs, length_take i f.ints);
+      is = refl;
+    },
+  )
   makes (Getr d o k) = object (ref_in f o) _ (λ n x is. trap Range (place_in (length x.refs) (int_in f k)) _ (λ at. reads d (flat (slice_get x.refs at))))
   makes (Geti d o k) = object (ref_in f o) _ (λ n x is. trap Range (place_in (length x.ints) (int_in f k)) _ (λ at. same))
   makes (Putr o k v) = object (ref_in f o) _ (λ n x is. trap Range (place_in (length x.refs) (int_in f k)) _ (λ at. writable x.mutable _ (put n x _ is)))

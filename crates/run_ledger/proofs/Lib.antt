@@ -10,3 +10,10 @@ pub mod Cuts
 pub mod Bounds
 pub mod Grown
 pub mod Weights
+pub mod Stocks
+pub mod Drops
+pub mod Laid
+pub mod Booked
+pub mod Space
+pub mod Within
+pub mod Paced

@@ -163,7 +163,7 @@ module _ (p : ProgramText) (l : Ledger) (S : SoundLedger l) (t : ℕ) (x : Task)
 
   -- all is kept, the task collects nothing, and the heaps have changed so
   abbrev pub Good : Ledger → Type 0
-  Good k = SoundLedger k × (collecting (slice_get k.heaps t) ≡ false) × Moves t b.heaps k.heaps
+  Good k = SoundLedger k × (collecting (slice_get k.heaps t) ≡ false) × Moves t l.machine.tasks b.heaps k.heaps
 
   -- what a state after the step owes
   abbrev Owes : State → Type 0
@@ -391,8 +391,7 @@ module _ (p : ProgramText) (l : Ledger) (S : SoundLedger l) (t : ℕ) (x : Task)
 
     fork_case : Owes mf
     fork_case K D C sp =
-        subst Good (sym (ap (settled a t) going ∙ (ap (moved_to a t) (grown_at tasks t x y cl cr is) ∙ ap (with_heap_at (record a { heaps = heaps2 }) t (forked_heap (within a t))) at2)))
-        (
+        subst Good (sym (ap (settled a t) going ∙ (ap (moved_to a t) (grown_at tasks t x y cl cr is) ∙ ap (with_heap_at (record a { heaps = heaps2 }) t (forked_heap (within a t))) at2))) (
           fork_sound K D C sp,
           ap collecting at3 ∙ (ap collecting (sym hb.1) ∙ (A.still ∙ idle)),
           inr (inr (inl (record { heap = hb.0; names = within a t; at = hb.1; is = refl }))),
@@ -600,6 +599,17 @@ module _ (p : ProgramText) (l : Ledger) (S : SoundLedger l) (t : ℕ) (x : Task)
         false_if true e = absurd (both_ways (waits xp.status) (running_tells xp.status e).1 waits_p)
         false_if false e = e
 
+    idle_heap : (q : ℕ) (z : Task) (h : Heap) → slice_get tasks q ≡ Some z → slice_get b.heaps q ≡ Some h → (q ≡ t) ⊎ (runs z.status ≡ false) → is_some h.begun ≡ false
+    idle_heap q z h e at why = by (is_some h.begun) refl
+      where
+        ends_at : (q ≡ t) ⊎ (runs z.status ≡ false) → collecting (slice_get b.heaps q) ≡ true → ⊥
+        ends_at (inl same) c' = (idle1 q c').0 same
+        ends_at (inr no_run) c' = both_ways (runs z.status) no_run (ap is_running (sym e) ∙ S.running q (idle1 q c').1)
+
+        by : (v : Bool) → is_some h.begun ≡ v → is_some h.begun ≡ false
+        by false e' = e'
+        by true e' = absurd (ends_at why (ap collecting at ∙ e'))
+
     collects4 : (u : ℕ) → collecting (slice_get j4 u) ≡ true → Other u × (collecting (slice_get l.heaps u) ≡ true)
     collects4 u q = elim (which u) [
       | inl e ↦ absurd (both_ways (collecting (slice_get b.heaps parent))
@@ -669,7 +679,22 @@ module _ (p : ProgramText) (l : Ledger) (S : SoundLedger l) (t : ℕ) (x : Task)
     join_case K D C sp = subst Good (sym (finish_join ∙ heaps_join)) (
       join_sound K D C sp,
       stops (collecting (slice_get j4 t)) refl,
-      inr (inr (inr (record { parent = parent; child = c; own = hp; left = hl; right = hr; under = under; at_parent = e_p; at_left = e_l; at_right = e_r; is = refl }))),
+      inr (inr (inr (record {
+        parent = parent;
+        child = c;
+        own = hp;
+        left = hl;
+        right = hr;
+        under = under;
+        waits = wp tasks l.machine.edges c parent xl xr xp rl rr il ir ip pl left dl dr wl wr S.kept.tree;
+        idle_parent = idle_heap parent xp hp ip e_p (inr stops_p);
+        idle_left = idle_heap c xl hl il e_l (elim side [ inl s ↦ inl (sym s.0) | inr s ↦ inr s.3 ]);
+        idle_right = idle_heap (c + 1) xr hr ir e_r (elim side [ inl s ↦ inr s.3 | inr s ↦ inl (sym s.0) ]);
+        at_parent = e_p;
+        at_left = e_l;
+        at_right = e_r;
+        is = refl;
+      }))),
     )
       where
         stops : (v : Bool) → collecting (slice_get j4 t) ≡ v → collecting (slice_get j4 t) ≡ false
@@ -720,22 +745,32 @@ can_tells m t h = goes_tells m.end (is_running (slice_get m.tasks t)) h
 abbrev pub SoundAt : ℕ → Ledger → Type 0
 SoundAt t l = SoundLedger l × (collecting (slice_get l.heaps t) ≡ false)
 
+-- what a step of such a task leaves
+abbrev pub StepLeaves : ℕ → Ledger → Ledger → Ledger → Type 0
+StepLeaves t l b k = SoundLedger k × (collecting (slice_get k.heaps t) ≡ false) × Moves t l.machine.tasks b.heaps k.heaps
+
+running_at : (ts : List Task) (t : ℕ) (o : Option Task) → slice_get ts t ≡ o → is_running o ≡ true → (x : Task) × (slice_get ts t ≡ Some x) × (is_running (Some x) ≡ true)
+running_at ts t None e h = absurd (false≢true h)
+running_at ts t (Some x) e h = (x, e, h)
+
+pub heap_of_task : (l : Ledger) (t : ℕ) → SoundLedger l → is_running (slice_get l.machine.tasks t) ≡ true → (h : Heap) × (slice_get l.heaps t ≡ Some h)
+heap_of_task l t S run =
+    let x = running_at l.machine.tasks t (slice_get l.machine.tasks t) refl run in
+    heap_there l.machine.tasks l.heaps t S.lengths (got_within l.machine.tasks t x.0 x.1)
+
+pub step_leaves : (p : ProgramText) (l : Ledger) (t : ℕ) → SoundAt t l → can_step l.machine t ≡ true → StepLeaves t l (allocated_in p l t) (stepped_to (allocated_in p l t) t (step p l.machine t))
+step_leaves p l t S can =
+    let tells = can_tells l.machine t can in
+    let x = running_at l.machine.tasks t (slice_get l.machine.tasks t) refl tells.1 in
+    let h = heap_of_task l t S.0 tells.1 in
+    step_sound p l S.0 t x.0 x.1 x.2 S.1 tells.0 (allocated_in p l t) (allots l t h.0 h.1 (asked p l.machine t))
+
 pub task_step_sound : (p : ProgramText) (l : Ledger) (t : ℕ) → SoundAt t l → SoundAt t (task_step p l t)
 task_step_sound p l t S = by (can_step l.machine t) refl
   where
-    task : (o : Option Task) → slice_get l.machine.tasks t ≡ o → is_running o ≡ true → (x : Task) × (slice_get l.machine.tasks t ≡ Some x) × (is_running (Some x) ≡ true)
-    task None e h = absurd (false≢true h)
-    task (Some x) e h = (x, e, h)
-
     by : (v : Bool) → can_step l.machine t ≡ v → SoundAt t (cond v (stepped_to (allocated_in p l t) t (step p l.machine t)) (record l { steps = l.steps + 1 }))
     by false e = S
-    by true e =
-        let can = can_tells l.machine t e in
-        let x = task (slice_get l.machine.tasks t) refl can.1 in
-        let s : SoundLedger l = S.0 in
-        let h = heap_there l.machine.tasks l.heaps t s.lengths (got_within l.machine.tasks t x.0 x.1) in
-        let g = step_sound p l s t x.0 x.1 x.2 S.1 can.0 (allocated_in p l t) (allots l t h.0 h.1 (asked p l.machine t)) in
-        (g.0, g.1)
+    by true e = let g = step_leaves p l t S e in (g.0, g.1)
 
 pub task_steps_sound : (p : ProgramText) (k : ℕ) (l : Ledger) (t : ℕ) → SoundAt t l → SoundAt t (task_steps p l t k)
 task_steps_sound p zero l t S = S

@@ -1,18 +1,19 @@
 -- Sums over the held names, and how each change of the heaps changes them.
-use Rattle.std.proofs.Common.{◌≡◌, ℕ, zero, suc, ◌+◌, ◌-◌, ◌<◌, ◌≤◌, Bool, true, false, cond, Option, Some, None, List, [], ◌∷◌, ◌++◌, map, slice_get, slice_set, nat_le, filter, sum_by, inl, inr, refl, ap, sym, subst, ◌∙◌, arith, append-nil}
+use Rattle.std.proofs.Common.{◌≡◌, ℕ, zero, suc, ◌+◌, ◌-◌, ◌<◌, ◌≤◌, Bool, true, false, cond, Option, Some, None, List, [], ◌∷◌, ◌++◌, map, slice_get, slice_set, filter, sum_by, inl, inr, refl, ap, sym, subst, ◌∙◌, arith, append-nil}
 use Rattle.std.specs.List.{flat_map}
 use Rattle.std.proofs.lemmas.List.Sums.{sum_by-append, sum_by-cons}
 use Rattle.std.proofs.lemmas.List.Concat.{flat_map-append}
-use Rattle.listed.proofs.Members.{In, got_same, got_other, got_front, got_within, got_in}
+use Rattle.listed.proofs.Members.{got_other, got_front, got_within}
 use Rattle.hh_model.specs.declared.data.Name.{Name}
+use Rattle.hh_model.specs.declared.data.Task.{Task}
 use Rattle.hh_model.specs.declared.data.State.{State}
 use Rattle.run_ledger.specs.declared.data.Heap.{Heap}
-use Rattle.run_ledger.specs.Reachable.{is_name, holds_name}
-use Rattle.run_ledger.specs.Heaps.{held_in, small_in, placed, put_last, is_small, merged, emptied, let_go, forked_heap, fresh, chunk_words, words_at, words_sum, collected, laid_onto, by_birth, insert_name, name_le, small_survivors, swept_heap, without_empty, in_snapshot}
+use Rattle.run_ledger.specs.Reachable.{holds_name}
+use Rattle.run_ledger.specs.Heaps.{held_in, small_in, placed, put_last, is_small, merged, emptied, let_go, forked_heap, fresh, collected, by_birth, insert_name, name_le, small_survivors, swept_heap, without_empty, in_snapshot}
 use Rattle.run_ledger.proofs.Held.{laid_flat}
-use Rattle.run_ledger.proofs.Moves.{LetsGo, Forks, Joins, Moves}
+use Rattle.run_ledger.proofs.Moves.{Forks, Joins, Moves}
 
-sum_flat : {A : Type 0} (f : Name → ℕ) (names : A → List Name) (xs : List A) → sum_by f (flat_map names xs) ≡ sum_by (λ x. sum_by f (names x)) xs
+pub sum_flat : {A : Type 0} (f : Name → ℕ) (names : A → List Name) (xs : List A) → sum_by f (flat_map names xs) ≡ sum_by (λ x. sum_by f (names x)) xs
 sum_flat f names [] = refl
 sum_flat f names (x ∷ xs) =
     sum_by-append f (names x) (flat_map names xs) ∙ (ap (λ k. sum_by f (names x) + k) (sum_flat f names xs) ∙ sym (sum_by-cons (λ x. sum_by f (names x)) x xs))
@@ -159,7 +160,7 @@ module _ (g : Heap → ℕ) where
 
   pub total_set : (heaps : List Heap) (t : ℕ) (h h' : Heap) → slice_get heaps t ≡ Some h → total (slice_set heaps t h') + g h ≡ total heaps + g h'
   total_set [] t h h' e = absurd cc
-  total_set (k ∷ heaps) zero h h' e = 
+  total_set (k ∷ heaps) zero h h' e =
       let same : k ≡ h = some_same k h e in
       let q = ap g same in
       let a = sum_by-cons g k heaps in
@@ -192,8 +193,8 @@ module _ (g : Heap → ℕ) where
         let e = ap total f.is in
         omega arith
 
-    joins_total : (heaps heaps' : List Heap) → Joins heaps heaps' → total heaps' ≡ total heaps
-    joins_total heaps heaps' j =
+    joins_total : (tasks : List Task) (heaps heaps' : List Heap) → Joins tasks heaps heaps' → total heaps' ≡ total heaps
+    joins_total tasks heaps heaps' j =
         let h1 : List Heap = slice_set heaps j.parent (merged j.own j.left j.right) in
         let h2 : List Heap = slice_set h1 j.child (emptied j.left) in
         let l1 : slice_get h1 j.child ≡ Some j.left = got_other heaps j.parent j.child (merged j.own j.left j.right) (λ e. let q : j.parent < j.child = j.under in omega arith) ∙ j.at_left in
@@ -206,11 +207,11 @@ module _ (g : Heap → ℕ) where
         let e = ap total j.is in
         omega arith
 
-    pub moves_total : (t : ℕ) (heaps heaps' : List Heap) → Moves t heaps heaps' → total heaps' ≡ total heaps
-    moves_total t heaps heaps' (inl e) = ap total e
-    moves_total t heaps heaps' (inr (inl m)) = let a = total_set heaps t m.heap (let_go m.heap) m.at in let b = A.let_go m.heap in let e = ap total m.is in omega arith
-    moves_total t heaps heaps' (inr (inr (inl f))) = forks_total t heaps heaps' f
-    moves_total t heaps heaps' (inr (inr (inr j))) = joins_total heaps heaps' j
+    pub moves_total : (t : ℕ) (tasks : List Task) (heaps heaps' : List Heap) → Moves t tasks heaps heaps' → total heaps' ≡ total heaps
+    moves_total t tasks heaps heaps' (inl e) = ap total e
+    moves_total t tasks heaps heaps' (inr (inl m)) = let a = total_set heaps t m.heap (let_go m.heap) m.at in let b = A.let_go m.heap in let e = ap total m.is in omega arith
+    moves_total t tasks heaps heaps' (inr (inr (inl f))) = forks_total t heaps heaps' f
+    moves_total t tasks heaps heaps' (inr (inr (inr j))) = joins_total tasks heaps heaps' j
 
 pub weight_additive : (f : Name → ℕ) → Additive (weight f)
 weight_additive f = record {

@@ -35,36 +35,36 @@ held_from w t (h ∷ hs) = if is_held_by h.worker w then Some t else held_from w
 
 -- CAUSES IN THEIR ORDER
 
--- a cause if the test fails, or if it holds; else what comes after it
-abbrev pub unless : Bool → Refused → Option Refused → Option Refused
-unless test cause rest = if test then rest else Some cause
+-- refused for this cause unless the test holds, or if it holds; else what comes after it decides
+abbrev pub refused_unless : Bool → Refused → Option Refused → Option Refused
+refused_unless test cause rest = if test then rest else Some cause
 
-abbrev pub where_it : Bool → Refused → Option Refused → Option Refused
-where_it test cause rest = if test then Some cause else rest
+abbrev pub refused_if : Bool → Refused → Option Refused → Option Refused
+refused_if test cause rest = if test then Some cause else rest
 
-abbrev pub where_holding : Option ℕ → Option Refused → Option Refused
-where_holding None rest = rest
-where_holding (Some t) rest = Some (Holding t)
+abbrev pub refused_holding : Option ℕ → Option Refused → Option Refused
+refused_holding None rest = rest
+refused_holding (Some t) rest = Some (Holding t)
 
 -- a number says what it should
 abbrev pub counted : ℕ → ℕ → Option Refused → Option Refused
-counted said is rest = unless (said == is) (Count said is) rest
+counted said is rest = refused_unless (said == is) (Count said is) rest
 
 -- the worker is at the task t, which isn't amid a leaf collection
 abbrev pub on_running : Ledger → ℕ → ℕ → Option Refused → Option Refused
-on_running l w t rest = unless (is_out l w t) NotOut (where_it (is_some (heap_of l t).begun) Collecting rest)
+on_running l w t rest = refused_unless (is_out l w t) NotOut (refused_if (is_some (heap_of l t).begun) Collecting rest)
 
 -- the task t waits, and its heap wasn't swept since its last fork
 abbrev pub on_waiting : Ledger → ℕ → Option Refused → Option Refused
-on_waiting l t rest = unless (is_waiting (slice_get l.machine.tasks t)) NotWaiting (where_it (heap_of l t).swept Swept rest)
+on_waiting l t rest = refused_unless (is_waiting (slice_get l.machine.tasks t)) NotWaiting (refused_if (heap_of l t).swept Swept rest)
 
 -- its heap is being marked
 abbrev pub on_marking : Ledger → ℕ → Option Refused → Option Refused
-on_marking l t rest = on_waiting l t (unless (is_some (heap_of l t).marked) NotMarking rest)
+on_marking l t rest = on_waiting l t (refused_unless (is_some (heap_of l t).marked) NotMarking rest)
 
 -- a leaf collection of t is due
 abbrev pub on_due : Limits → ProgramText → Ledger → ℕ → Option Refused → Option Refused
-on_due s p l t rest = unless (is_due s p l t) (NotDue (heap_of l t).since) rest
+on_due s p l t rest = refused_unless (is_due s p l t) (NotDue (heap_of l t).since) rest
 
 -- the chunks that are free are enough for a leaf collection of t
 abbrev pub is_pool_enough : Limits → Ledger → ℕ → Bool
@@ -72,7 +72,7 @@ is_pool_enough s l t = nat_le (in_use l + take_of l.machine (heap_of l t)) s.chu
 
 -- only so many of k steps can stand in one entry
 abbrev pub long_at : ℕ → ℕ → Option Refused
-long_at k m = unless (nat_le k m) (Long m) None
+long_at k m = refused_unless (nat_le k m) (Long m) None
 
 -- the numbers that an entry says of the end of a leaf collection, and those that it should say
 abbrev pub ends_as : ℕ × ℕ × ℕ → ℕ × ℕ × ℕ → Option Refused
@@ -80,21 +80,21 @@ ends_as said is = counted said.0 is.0 (counted said.1 is.1 (counted said.2 is.2 
 
 -- why an entry is refused for what it says, or none
 abbrev pub kind_refusal : ProgramText → Limits → Ledger → ℕ → Kind → Option Refused
-kind_refusal p s l w (Took t) = unless (is_ready l t) NotReady (where_holding (held_from w 0 l.heaps) None)
+kind_refusal p s l w (Took t) = refused_unless (is_ready l t) NotReady (refused_holding (held_from w 0 l.heaps) None)
 kind_refusal p s l w (Ran t k) = on_running l w t (long_at k (min most_steps (standing s p l t k)))
 kind_refusal p s l w (Chunk t) =
-    on_running l w t (where_it (is_due s p l t) (Due (heap_of l t).since) (unless (is_in_need p l t) (NotNeeded (heap_of l t).room) None))
-kind_refusal p s l w (Begin t) = on_running l w t (on_due s p l t (unless (is_pool_enough s l t) (PoolShort (in_use l)) None))
+    on_running l w t (refused_if (is_due s p l t) (Due (heap_of l t).since) (refused_unless (is_in_need p l t) (NotNeeded (heap_of l t).room) None))
+kind_refusal p s l w (Begin t) = on_running l w t (on_due s p l t (refused_unless (is_pool_enough s l t) (PoolShort (in_use l)) None))
 kind_refusal p s l w (End t taken given left) =
-    unless (is_out l w t) NotOut (unless (is_some (heap_of l t).begun) NotCollecting (ends_as (taken, given, left) (end_numbers l.machine (heap_of l t))))
-kind_refusal p s l w (PutOff t) = on_running l w t (on_due s p l t (where_it (is_pool_enough s l t) (PoolEnough (in_use l)) None))
+    refused_unless (is_out l w t) NotOut (refused_unless (is_some (heap_of l t).begun) NotCollecting (ends_as (taken, given, left) (end_numbers l.machine (heap_of l t))))
+kind_refusal p s l w (PutOff t) = on_running l w t (on_due s p l t (refused_if (is_pool_enough s l t) (PoolEnough (in_use l)) None))
 kind_refusal p s l w (Mark t) =
-    on_waiting l t (where_it (is_some (heap_of l t).marked) Marking (
-    unless (nat_le s.inner (words_in l.machine (heap_of l t))) (NotDue (words_in l.machine (heap_of l t))) None))
-kind_refusal p s l w (More t n) = on_marking l t (where_it (left_in (heap_of l t) == 0) Marked None)
+    on_waiting l t (refused_if (is_some (heap_of l t).marked) Marking (
+    refused_unless (nat_le s.inner (words_in l.machine (heap_of l t))) (NotDue (words_in l.machine (heap_of l t))) None))
+kind_refusal p s l w (More t n) = on_marking l t (refused_if (left_in (heap_of l t) == 0) Marked None)
 kind_refusal p s l w (Sweep t given) =
-    on_marking l t (unless (left_in (heap_of l t) == 0) (Left (marked_in (heap_of l t))) (counted given (sweep_number l.machine (heap_of l t)) None))
-kind_refusal p s l w Fuel = unless (nat_le s.fuel l.steps) (NotSpent l.steps) None
+    on_marking l t (refused_unless (left_in (heap_of l t) == 0) (Left (marked_in (heap_of l t))) (counted given (sweep_number l.machine (heap_of l t)) None))
+kind_refusal p s l w Fuel = refused_unless (nat_le s.fuel l.steps) (NotSpent l.steps) None
 
 abbrev pub is_fuel : Kind → Bool
 is_fuel Fuel = true
@@ -103,9 +103,9 @@ is_fuel _ = false
 -- the first cause for which an entry is refused, or none
 abbrev pub refusal : ProgramText → Limits → Ledger → Event → Option Refused
 refusal p s l e =
-    where_it (is_some l.end) Over (
-    where_it (nat_le s.fuel l.steps && not (is_fuel e.kind)) (Spent l.steps) (
-    unless (nat_lt e.worker s.workers) NoWorker (
+    refused_if (is_some l.end) Over (
+    refused_if (nat_le s.fuel l.steps && not (is_fuel e.kind)) (Spent l.steps) (
+    refused_unless (nat_lt e.worker s.workers) NoWorker (
     kind_refusal p s l e.worker e.kind)))
 
 -- WHAT AN ENTRY CHANGES

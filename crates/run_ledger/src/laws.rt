@@ -1,6 +1,6 @@
 // The laws of journals, each the clause of a function that does nothing.
 
-ghost use Rattle.run_ledger.specs.Laws.{ReachedIsWalks, MachineIsRun, NothingReachableIsFreed, LegalIsUnrefused, JournalsCanBeCut, FirstRefusedIsFirst, StepsAreBounded, AllocationsAreInBounds};
+ghost use Rattle.run_ledger.specs.Laws.{ReachedIsWalks, MachineIsRun, NothingReachableIsFreed, LegalIsUnrefused, JournalsCanBeCut, FirstRefusedIsFirst, StepsAreBounded, AllocationsAreInBounds, NamesAreHeldOnce, HeldIsUndropped, UseIsBounded, LeafCollectionsAreBounded, SweepsAreBounded, WithinIsOwned, PacedIsMeant};
 
 /// Of some names, those are reached to which walks along references lead, through these names alone.
 pub fn reached_is_walks()
@@ -40,4 +40,39 @@ pub fn steps_are_bounded()
 /// Before each allocation in a legal journal its heap isn't due for a collection, and the object has its place.
 pub fn allocations_are_in_bounds()
     ensures { AllocationsAreInBounds }
+{}
+
+/// After a legal journal each held name is held once, in its owner's heap, and is in the store.
+pub fn names_are_held_once()
+    ensures { NamesAreHeldOnce }
+{}
+
+/// What is held after a legal journal is what was allocated and wasn't dropped by the end of a leaf collection or a sweep.
+pub fn held_is_undropped()
+    ensures { HeldIsUndropped }
+{}
+
+/// In a legal journal the chunks in use never exceed the limit.
+pub fn use_is_bounded()
+    ensures { UseIsBounded }
+{}
+
+/// In a legal journal the end of a leaf collection leaves at most the chunks that it took for the small survivors, each with one.
+pub fn leaf_collections_are_bounded()
+    ensures { LeafCollectionsAreBounded }
+{}
+
+/// In a legal journal a sweep leaves no chunk without a held object.
+pub fn sweeps_are_bounded()
+    ensures { SweepsAreBounded }
+{}
+
+/// After a legal journal what is reached within a heap's held names is what is reached through all that its task owns.
+pub fn within_is_owned()
+    ensures { WithinIsOwned }
+{}
+
+/// The test of paced journals is what is meant by them.
+pub fn paced_is_meant()
+    ensures { PacedIsMeant }
 {}

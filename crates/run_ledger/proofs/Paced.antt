@@ -1,0 +1,47 @@
+-- The test of paced journals is what is meant by them.
+use Rattle.std.proofs.Common.{◌≡◌, ◌||◌, true, List, [], ◌∷◌, ◌++◌, ◌⊎◌, inl, inr, refl, ap, subst}
+use Rattle.std.proofs.lemmas.Bool.{and_parts, and_from, or_cases, or_left, or_right}
+use Rattle.run_trace.specs.Entry.{Event}
+use Rattle.run_trace.specs.Settings.{Limits}
+use Rattle.hh_lang.specs.Form.{ProgramText}
+use Rattle.run_ledger.specs.declared.data.Ledger.{Ledger}
+use Rattle.run_ledger.specs.declared.data.WorkerPace.{WorkerPace}
+use Rattle.run_ledger.specs.Entries.{after, is_fuel}
+use Rattle.run_ledger.specs.Journals.{opening, after_all}
+use Rattle.run_ledger.specs.Pace.{gives, owed, pace_of, pace_after, pace_after_all, pace_opening, is_paced_from}
+use Rattle.run_ledger.specs.Laws.{PacedIsMeant}
+
+module _ (p : ProgramText) (s : Limits) where
+  abbrev Each : Ledger → List WorkerPace → List Event → Type 0
+  Each l pace journal =
+      (before : List Event) (e : Event) (rest : List Event) → journal ≡ before ++ e ∷ rest
+      → (is_fuel e.kind ≡ true) ⊎ (gives (owed s (after_all p s l before) (pace_of (pace_after_all p s l pace before) e.worker)) e.kind ≡ true)
+
+  -- a journal is paced where both parts of a cut are
+  pub cut_paced : (first rest : List Event) (l : Ledger) (pace : List WorkerPace) → is_paced_from p s l pace (first ++ rest) ≡ true
+      → (is_paced_from p s l pace first ≡ true) × (is_paced_from p s (after_all p s l first) (pace_after_all p s l pace first) rest ≡ true)
+  cut_paced [] rest l pace h = (refl, h)
+  cut_paced (e ∷ first) rest l pace h =
+      let now = is_fuel e.kind || gives (owed s l (pace_of pace e.worker)) e.kind in
+      let both = and_parts now (is_paced_from p s (after p s l e) (pace_after (after p s l e) pace e) (first ++ rest)) h in
+      let more = cut_paced first rest (after p s l e) (pace_after (after p s l e) pace e) both.1 in
+      (and_from now (is_paced_from p s (after p s l e) (pace_after (after p s l e) pace e) first) both.0 more.0, more.1)
+
+  each_paced : (journal : List Event) (l : Ledger) (pace : List WorkerPace) → is_paced_from p s l pace journal ≡ true → Each l pace journal
+  each_paced journal l pace h before e rest is =
+      let c = (cut_paced before (e ∷ rest) l pace (subst (λ j. is_paced_from p s l pace j ≡ true) is h)).1 in
+      let l' = after_all p s l before in
+      let pace' = pace_after_all p s l pace before in
+      let now = (and_parts (is_fuel e.kind || gives (owed s l' (pace_of pace' e.worker)) e.kind) (is_paced_from p s (after p s l' e) (pace_after (after p s l' e) pace' e) rest) c).0 in
+      or_cases (is_fuel e.kind) (gives (owed s l' (pace_of pace' e.worker)) e.kind) now
+
+  paced_each : (journal : List Event) (l : Ledger) (pace : List WorkerPace) → Each l pace journal → is_paced_from p s l pace journal ≡ true
+  paced_each [] l pace h = refl
+  paced_each (e ∷ es) l pace h =
+      let rest = is_paced_from p s (after p s l e) (pace_after (after p s l e) pace e) es in
+      let more = paced_each es (after p s l e) (pace_after (after p s l e) pace e) (λ before f after is. h (e ∷ before) f after (ap (λ j. e ∷ j) is)) in
+      let given = gives (owed s l (pace_of pace e.worker)) e.kind in
+      and_from (is_fuel e.kind || given) rest (elim (h [] e es refl) [ inl fuel ↦ or_left (is_fuel e.kind) given fuel | inr g ↦ or_right (is_fuel e.kind) given g ]) more
+
+pub paced_is_meant : PacedIsMeant
+paced_is_meant p s journal = (each_paced p s journal (opening p s) (pace_opening s), paced_each p s journal (opening p s) (pace_opening s))

@@ -1,0 +1,269 @@
+-- Each held name is held once, and is in the store.
+use Rattle.std.proofs.Common.{◌≡◌, ℕ, zero, suc, ◌+◌, ◌<◌, ◌≤◌, Bool, true, false, cond, Option, Some, None, List, [], ◌∷◌, ◌++◌, length, slice_get, slice_set, sum_by, nat_lt, inl, inr, refl, ap, sym, subst, ◌∙◌, arith, is_none}
+use Rattle.std.specs.List.{IsDistinct, AllByRecursion}
+use Rattle.std.proofs.lemmas.Bool.{cases_lt, and_parts}
+use Rattle.std.proofs.lemmas.List.Sums.{sum_by-cons}
+use Rattle.listed.proofs.Members.{In, in_from_contains}
+use Rattle.run_trace.specs.declared.entry.Kind.{Kind}
+use Rattle.run_trace.specs.declared.entry.Kind.TheVariants.{Took, Ran, Chunk, Begin, End as EndOf, PutOff, Mark, More, Sweep, Fuel}
+use Rattle.run_trace.specs.Entry.{Event}
+use Rattle.run_trace.specs.Settings.{Limits, field_limit}
+use Rattle.hh_lang.specs.Form.{ProgramText}
+use Rattle.hh_model.specs.declared.data.Name.{Name}
+use Rattle.hh_model.specs.declared.data.State.{State}
+use Rattle.hh_model.specs.Step.{step, can_step, asked}
+use Rattle.hh_model.specs.Store.{IsStored}
+use Rattle.hh_model.proofs.Carried.{next_name}
+use Rattle.hh_model.proofs.Kept.{Kept}
+use Rattle.hh_model.proofs.Taken.{can_made}
+use Rattle.hh_model.proofs.Counts.{Counted, counted_step, start_counted}
+use Rattle.run_ledger.specs.declared.data.Heap.{Heap}
+use Rattle.run_ledger.specs.declared.data.Ledger.{Ledger}
+use Rattle.run_ledger.specs.declared.data.RunEnd.TheVariants.{Pool}
+use Rattle.run_ledger.specs.Reachable.{is_name}
+use Rattle.run_ledger.specs.Heaps.{held_in, held, heap_at, with_heap, with_heap_at, placed, chunk_words, is_small, in_use, collected, swept_heap, fresh}
+use Rattle.run_ledger.specs.Steps.{allocated_by, allocated_in, stepped_to, task_step, task_steps, on_asked}
+use Rattle.run_ledger.specs.Entries.{refusal, kind_refusal, after_kind, after, chunk_units, with_chunk}
+use Rattle.run_ledger.specs.Journals.{opening, after_all, ledger_of, is_legal_from, is_legal}
+use Rattle.run_ledger.specs.Laws.{NamesAreHeldOnce}
+use Rattle.run_ledger.proofs.Members.{same_from_is_name, is_name_itself}
+use Rattle.run_ledger.proofs.Machine.{stepped_machine}
+use Rattle.run_ledger.proofs.Sound.{Keeps, InHeaps, names_of, SoundLedger, held_keeps}
+use Rattle.run_ledger.proofs.Steps.{SoundAt, StepLeaves, step_leaves, heap_of_task, can_tells, task_step_sound}
+use Rattle.run_ledger.proofs.Grown.{Grown, grown, next_unstored}
+use Rattle.run_ledger.proofs.Weights.{weight, total, total_set, sum_flat, placed_weight, collected_weight, swept_weight, chunk_weight, moves_total, weight_additive}
+use Rattle.run_ledger.proofs.Journals.{out_tells, entry_tells, entry_sound, opening_sound, legal_sound}
+
+-- HOW OFTEN A NAME STANDS IN A LIST
+
+abbrev pub hit : Name → Name → ℕ
+hit n m = cond (is_name m n) 1 0
+
+hit_in_by : (n x : Name) (xs : List Name) (b : Bool) → is_name x n ≡ b → (1 ≤ sum_by (hit n) xs → In xs n) → 1 ≤ cond b 1 0 + sum_by (hit n) xs → In (x ∷ xs) n
+hit_in_by n x xs true e more h = inl (same_from_is_name x n e)
+hit_in_by n x xs false e more h = inr (more (omega arith))
+
+pub hit_in : (n : Name) (xs : List Name) → 1 ≤ sum_by (hit n) xs → In xs n
+hit_in n [] h = absurd (omega arith)
+hit_in n (x ∷ xs) h = hit_in_by n x xs (is_name x n) refl (hit_in n xs) (subst (λ k. 1 ≤ k) (sum_by-cons (hit n) x xs) h)
+
+pub hit_itself : (n : Name) → hit n n ≡ 1
+hit_itself n = ap (λ b. cond b 1 0) (is_name_itself n)
+
+pub in_hit : (n : Name) (xs : List Name) → In xs n → 1 ≤ sum_by (hit n) xs
+in_hit n [] i = elim i [ ]
+in_hit n (x ∷ xs) (inl e) =
+    let a = sum_by-cons (hit n) x xs in
+    let b : hit n x ≡ 1 = ap (hit n) e ∙ hit_itself n in
+    omega arith
+in_hit n (x ∷ xs) (inr i) = let a = sum_by-cons (hit n) x xs in let b = in_hit n xs i in omega arith
+
+pub distinct : (xs : List Name) → ((n : Name) → sum_by (hit n) xs ≤ 1) → IsDistinct is_name xs
+unfolding IsDistinct
+distinct [] h = tt
+distinct (x ∷ xs) h = (
+  apart xs (λ y i. i),
+  distinct xs (λ n. let a = sum_by-cons (hit n) x xs in let b : sum_by (hit n) (x ∷ xs) ≤ 1 = h n in omega arith),
+)
+  where
+    other : (y : Name) → In xs y → (b : Bool) → is_name x y ≡ b → is_name x y ≡ false
+    other y i false e = e
+    other y i true e =
+        let same : x ≡ y = same_from_is_name x y e in
+        let a = sum_by-cons (hit x) x xs in
+        let b : sum_by (hit x) (x ∷ xs) ≤ 1 = h x in
+        let c : 1 ≤ sum_by (hit x) xs = in_hit x xs (subst (In xs) (sym same) i) in
+        let d = hit_itself x in
+        absurd (omega arith)
+
+    apart : (ys : List Name) → ((y : Name) → In ys y → In xs y) → AllByRecursion (λ y. is_name x y ≡ false) ys
+    apart [] sub = tt
+    apart (y ∷ ys) sub = (other y (sub y (inl refl)) (is_name x y) refl, apart ys (λ z i. sub z (inr i)))
+
+-- and in all heaps
+abbrev pub copies : Name → List Heap → ℕ
+copies n heaps = total (weight (hit n)) heaps
+
+keeps_by : (n : Name) (h : Heap) (heaps : List Heap) → (1 ≤ copies n heaps → Keeps heaps n) → 1 ≤ weight (hit n) h + copies n heaps → Keeps (h ∷ heaps) n
+keeps_by n h heaps more le = elim (cases_lt 0 (weight (hit n) h)) [
+  | inl pos ↦ (zero, hit_in n (held_in h) (omega arith))
+  | inr none ↦ let k = more (omega arith) in (suc k.0, k.1)
+]
+
+pub copies_keeps : (n : Name) (heaps : List Heap) → 1 ≤ copies n heaps → Keeps heaps n
+copies_keeps n [] h = absurd (omega arith)
+copies_keeps n (h ∷ heaps) le = keeps_by n h heaps (copies_keeps n heaps) (subst (λ k. 1 ≤ k) (sum_by-cons (weight (hit n)) h heaps) le)
+
+copies_at : (n : Name) (heaps : List Heap) (u : ℕ) → InHeaps heaps u n → 1 ≤ copies n heaps
+copies_at n [] u i = absurd i
+copies_at n (h ∷ heaps) zero i = let a = sum_by-cons (weight (hit n)) h heaps in let b = in_hit n (held_in h) i in omega arith
+copies_at n (h ∷ heaps) (suc u) i = let a = sum_by-cons (weight (hit n)) h heaps in let b = copies_at n heaps u i in omega arith
+
+pub keeps_copies : (n : Name) (heaps : List Heap) → Keeps heaps n → 1 ≤ copies n heaps
+keeps_copies n heaps k = copies_at n heaps k.0 k.1
+
+-- WHAT EVERY LEGAL JOURNAL KEEPS
+
+pub record Stocked (m : State) (heaps : List Heap) : Type 0 where
+  pub counted : (k : ℕ) × Counted k m.tasks m.store
+  pub stored : (n : Name) → Keeps heaps n → IsStored m n
+  pub once : (n : Name) → copies n heaps ≤ 1
+
+abbrev pub StockedLedger : Ledger → Type 0
+StockedLedger l = Stocked l.machine l.heaps
+
+shrunk : (m : State) (heaps heaps' : List Heap) → Stocked m heaps → ((n : Name) → copies n heaps' ≤ copies n heaps) → Stocked m heaps'
+shrunk m heaps heaps' I less = record {
+  counted = I.counted;
+  stored = λ n k. I.stored n (copies_keeps n heaps (let a = keeps_copies n heaps' k in let b = less n in omega arith));
+  once = λ n. (let a = less n in let b = I.once n in omega arith);
+}
+
+pub with_heap_any : (C : Ledger → Type 0) (l : Ledger) (t : ℕ) (f : Heap → Heap) → C l → ((h : Heap) → slice_get l.heaps t ≡ Some h → C (record l { heaps = slice_set l.heaps t (f h) })) → C (with_heap l t f)
+with_heap_any C l t f same each = by (heap_at l t) refl
+  where
+    by : (o : Option Heap) → heap_at l t ≡ o → C (with_heap_at l t f o)
+    by None e = same
+    by (Some h) e = each h e
+
+lighter : (l : Ledger) (t : ℕ) (f : Heap → Heap) → ((h : Heap) (g : Name → ℕ) → weight g (f h) ≤ weight g h) → StockedLedger l → StockedLedger (with_heap l t f)
+lighter l t f less I = with_heap_any StockedLedger l t f I (λ h e. shrunk l.machine l.heaps (slice_set l.heaps t (f h)) I (λ n.
+    let a = total_set (weight (hit n)) l.heaps t h (f h) e in
+    let b = less h (hit n) in
+    omega arith))
+
+same_weight : (h : Heap) (g : Name → ℕ) → weight g h ≤ weight g h
+same_weight h g = omega arith
+
+pub chunk_lighter : (next : Option ℕ) (h : Heap) (g : Name → ℕ) (b : Bool) → weight g (cond b (record h { chunks = h.chunks ++ [] ∷ []; room = chunk_words }) (record h { reserved = chunk_units next })) ≤ weight g h
+chunk_lighter next h g true = let a = chunk_weight g h chunk_words in omega arith
+chunk_lighter next h g false = same_weight h g
+
+-- an allocation
+pub allocated_total : (g : Name → ℕ) (l : Ledger) (t : ℕ) (h : Heap) → slice_get l.heaps t ≡ Some h → (w : ℕ) → total (weight g) (allocated_by l t (Some w)).heaps ≡ total (weight g) l.heaps + g (next_name t l.machine.store)
+allocated_total g l t h e w =
+    ap (λ (k : Ledger). total (weight g) k.heaps) (ap (with_heap_at l t (λ h. placed h (next_name t l.machine.store) w)) e)
+    ∙ (let a = total_set (weight g) l.heaps t h (placed h (next_name t l.machine.store) w) e in
+    let b = placed_weight g h (next_name t l.machine.store) w in
+    omega arith)
+
+module _ (p : ProgramText) (l : Ledger) (t : ℕ) (S : SoundAt t l) (I : StockedLedger l) (can : can_step l.machine t ≡ true) where
+  abbrev m : State
+  m = l.machine
+
+  abbrev b : Ledger
+  b = allocated_in p l t
+
+  abbrev k : Ledger
+  k = stepped_to (allocated_in p l t) t (step p l.machine t)
+
+  heap : (h : Heap) × (slice_get l.heaps t ≡ Some h)
+  heap = heap_of_task l t S.0 (can_tells m t can).1
+
+  K : Kept l.machine
+  K = S.0.kept
+
+  row : t < length l.machine.store
+  row = let a : length l.machine.store ≡ length l.machine.tasks = I.counted.1.rows in let lt : t < length l.machine.tasks = can_made l.machine t can in omega arith
+
+  pub G : Grown p l.machine t
+  G = grown p l.machine t K can row
+
+  pub L : StepLeaves t l b k
+  L = step_leaves p l t S can
+
+  abbrev Allotted : List Heap → Type 0
+  Allotted heaps = ((n : Name) → copies n heaps ≤ 1) × ((n : Name) → 1 ≤ copies n heaps → IsStored (step p m t) n)
+
+  none_held : (n : Name) → next_name t l.machine.store ≡ n → copies n l.heaps ≤ 0
+  none_held n same = elim (cases_lt 0 (copies n l.heaps)) [
+    | inl pos ↦ absurd (next_unstored m t (subst (IsStored m) (sym same) (I.stored n (copies_keeps n l.heaps (omega arith)))))
+    | inr le ↦ le
+  ]
+
+  once_by : (n : Name) (v : Bool) → is_name (next_name t l.machine.store) n ≡ v → copies n l.heaps + cond v 1 0 ≤ 1
+  once_by n true e = let a = none_held n (same_from_is_name (next_name t l.machine.store) n e) in omega arith
+  once_by n false e = let a = I.once n in omega arith
+
+  stored_by : (w : ℕ) → asked p m t ≡ Some w → (n : Name) (v : Bool) → is_name (next_name t l.machine.store) n ≡ v → 1 ≤ copies n l.heaps + cond v 1 0 → IsStored (step p m t) n
+  stored_by w e n true is le = subst (IsStored (step p m t)) (same_from_is_name (next_name t l.machine.store) n is) (G.new w e).0
+  stored_by w e n false is le = G.up n (I.stored n (copies_keeps n l.heaps (omega arith)))
+
+  allotted_by : (o : Option ℕ) → asked p m t ≡ o → Allotted (allocated_by l t o).heaps
+  allotted_by None e = (I.once, λ n le. G.up n (I.stored n (copies_keeps n l.heaps le)))
+  allotted_by (Some w) e = (
+    λ n. subst (λ c. c ≤ 1) (sym (allocated_total (hit n) l t heap.0 heap.1 w)) (once_by n (is_name (next_name t l.machine.store) n) refl),
+    λ n le. stored_by w e n (is_name (next_name t l.machine.store) n) refl (subst (λ c. 1 ≤ c) (allocated_total (hit n) l t heap.0 heap.1 w) le),
+  )
+
+  pub allotted : Allotted b.heaps
+  allotted = allotted_by (asked p m t) refl
+
+  pub same_copies : (n : Name) → copies n k.heaps ≡ copies n b.heaps
+  same_copies n = moves_total (weight (hit n)) (weight_additive (hit n)) t l.machine.tasks b.heaps k.heaps L.2
+
+  pub step_stocked : StockedLedger k
+  step_stocked = subst (λ (s : State). Stocked s k.heaps) (sym (stepped_machine b t (step p m t))) (record {
+    counted = (suc I.counted.0, counted_step p m t K I.counted.0 I.counted.1);
+    stored = λ n q. allotted.1 n (subst (λ c. 1 ≤ c) (same_copies n) (keeps_copies n k.heaps q));
+    once = λ n. subst (λ c. c ≤ 1) (sym (same_copies n)) (allotted.0 n);
+  })
+
+pub task_step_stocked : (p : ProgramText) (l : Ledger) (t : ℕ) → SoundAt t l → StockedLedger l → StockedLedger (task_step p l t)
+task_step_stocked p l t S I = by (can_step l.machine t) refl
+  where
+    by : (v : Bool) → can_step l.machine t ≡ v → StockedLedger (cond v (stepped_to (allocated_in p l t) t (step p l.machine t)) (record l { steps = l.steps + 1 }))
+    by false e = I
+    by true e = step_stocked p l t S I e
+
+pub task_steps_stocked : (p : ProgramText) (k : ℕ) (l : Ledger) (t : ℕ) → SoundAt t l → StockedLedger l → StockedLedger (task_steps p l t k)
+task_steps_stocked p zero l t S I = I
+task_steps_stocked p (suc k) l t S I = task_steps_stocked p k (task_step p l t) t (task_step_sound p l t S) (task_step_stocked p l t S I)
+
+-- ENTRIES
+
+chunk_stocked : (l : Ledger) (t : ℕ) (next : Option ℕ) (full : Bool) (end : Ledger) → StockedLedger end → StockedLedger l → StockedLedger (cond full end (with_heap l t (with_chunk next)))
+chunk_stocked l t next true end E I = E
+chunk_stocked l t next false end E I = lighter l t (with_chunk next) (λ h g. chunk_lighter next h g (on_asked next is_small)) I
+
+pub kind_stocked : (p : ProgramText) (s : Limits) (l : Ledger) (w : ℕ) (kind : Kind) → SoundLedger l → is_none (kind_refusal p s l w kind) ≡ true → StockedLedger l → StockedLedger (after_kind p s l w kind)
+kind_stocked p s l w (Took t) S h I = lighter l t _ (λ h g. same_weight h g) I
+kind_stocked p s l w (Ran t k) S h I = task_steps_stocked p k l t (S, (out_tells l w t _ h).1) I
+kind_stocked p s l w (Chunk t) S h I = chunk_stocked l t (asked p l.machine t) (nat_lt s.chunks (in_use l + chunk_units (asked p l.machine t))) (record l { end = Some (Pool (in_use l)) }) I I
+kind_stocked p s l w (Begin t) S h I = lighter l t _ (λ h g. same_weight h g) I
+kind_stocked p s l w (EndOf t a g n) S h I = lighter l t (collected l.machine) (λ h f. collected_weight f l.machine h) I
+kind_stocked p s l w (PutOff t) S h I = lighter l t _ (λ h g. same_weight h g) I
+kind_stocked p s l w (Mark t) S h I = lighter l t _ (λ h g. same_weight h g) I
+kind_stocked p s l w (More t n) S h I = lighter l t _ (λ h g. same_weight h g) I
+kind_stocked p s l w (Sweep t g) S h I = lighter l t swept_heap (λ h f. swept_weight f h) I
+kind_stocked p s l w Fuel S h I = I
+
+pub journal_stocked : (p : ProgramText) (s : Limits) (journal : List Event) (l : Ledger) → SoundLedger l → StockedLedger l → is_legal_from p s l journal ≡ true → StockedLedger (after_all p s l journal)
+journal_stocked p s [] l S I h = I
+journal_stocked p s (e ∷ es) l S I h =
+    let both = and_parts (is_none (refusal p s l e)) (is_legal_from p s (after p s l e) es) h in
+    journal_stocked p s es (after p s l e) (entry_sound p s l e S both.0) (kind_stocked p s l e.worker e.kind S (entry_tells p s l e both.0).2 I) both.1
+
+pub opening_stocked : (p : ProgramText) (s : Limits) → StockedLedger (opening p s)
+opening_stocked p s = record {
+  counted = (0, start_counted p (field_limit s.version));
+  stored = λ n k. absurd (let a = keeps_copies n (fresh ∷ []) k in omega (arith, nothing n));
+  once = λ n. omega (arith, nothing n);
+}
+  where
+    nothing : (n : Name) → copies n (fresh ∷ []) ≡ 0
+    nothing n = refl
+
+pub legal_stocked : (p : ProgramText) (s : Limits) (journal : List Event) → is_legal p s journal ≡ true → StockedLedger (ledger_of p s journal)
+legal_stocked p s journal legal = journal_stocked p s journal (opening p s) (opening_sound p s) (opening_stocked p s) legal
+
+pub names_are_held_once : NamesAreHeldOnce
+names_are_held_once p s journal legal =
+    let l = ledger_of p s journal in
+    let S = legal_sound p s journal legal in
+    let I = legal_stocked p s journal legal in
+    record {
+      once = distinct (held l) (λ n. subst (λ c. c ≤ 1) (sym (sum_flat (hit n) held_in l.heaps)) (I.once n));
+      owned = λ t n c. (S.owners t n (in_from_contains (names_of (slice_get l.heaps t)) n c)).1;
+      stored = λ n c. I.stored n (held_keeps l n (in_from_contains (held l) n c));
+    }
