@@ -3,6 +3,7 @@
 #![tactic(auto)]
 
 mod joined;
+mod names;
 mod placed;
 mod sizes;
 
