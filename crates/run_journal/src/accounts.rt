@@ -65,7 +65,8 @@ pub(crate) fn fresh_heap(alloc: Global) -> Heap
 
 /// How many units hold so many words.
 pub(crate) fn units_of(words: usize) -> usize
-    ensures { result ≡ units words }
+    ensures value { result ≡ units words }
+    ensures fits { result < 2 ^ 55 }
 {
     let whole = words / 1024;
     if words % 1024 == 0 { whole } else { whole + 1 }

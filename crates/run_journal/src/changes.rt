@@ -1,6 +1,6 @@
 // What an entry changes, but for the steps of tasks.
 
-ghost use Rattle.std.specs.Prelude.{◌≡◌, Option, Some, None, true, OnOk, OnErr};
+ghost use Rattle.std.specs.Prelude.{◌≡◌, Option, Some, None, ◌<◌, ◌^◌, true, OnOk, OnErr};
 ghost use Rattle.run_trace.specs.declared.entry.Kind.TheVariants.{Took, Chunk, Begin, End, PutOff, Mark, More, Sweep, Fuel};
 ghost use Rattle.run_ledger.specs.Entries.{after_kind, chunk_units, is_pool_enough};
 ghost use Rattle.hh_model.specs.Step.{asked};
@@ -46,7 +46,8 @@ impl<'p> Accounts<'p> {
 
     // How many units the chunk has that the task's next step needs.
     fn chunk_units(&self, task: u32) -> usize
-        ensures { result ≡ chunk_units (asked self.now.program self.now.ledger.machine task) }
+        ensures value { result ≡ chunk_units (asked self.now.program self.now.ledger.machine task) }
+        ensures fits { result < 2 ^ 55 }
     {
         match self.asked(task) {
             Some(words) if 1024 < words => units_of(words),
@@ -64,6 +65,7 @@ impl<'p> Accounts<'p> {
         }
     }
 
+    #[tactic(auto, using(ledger_heaps::proofs::Lists::set_again))]
     /// A chunk is asked for: the run ends where too few are free.
     pub(crate) fn chunk(&mut self, worker: u32, task: u32) -> Result<(), AllocError>
         requires { Steady self.old.ledger }
