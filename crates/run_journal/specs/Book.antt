@@ -1,5 +1,5 @@
 -- What contracts see of accounts that are kept entry by entry.
-use Rattle.std.specs.Prelude.{◌≡◌, ℕ, ◌<◌, ◌^◌, ◌&&◌, not, Bool, false, Option, Some, None, length, slice_get, sum_by}
+use Rattle.std.specs.Prelude.{◌≡◌, ℕ, ◌<◌, ◌^◌, ◌&&◌, not, Bool, false, Option, Some, None, List, length, slice_get}
 use Rattle.run_trace.specs.Settings.{Limits}
 use Rattle.hh_lang.specs.Form.{ProgramText}
 use Rattle.hh_lang.specs.declared.program.Line.{Line}
@@ -9,7 +9,7 @@ use Rattle.hh_model.specs.Step.{fetched}
 use Rattle.run_ledger.specs.declared.data.Ledger.{Ledger}
 use Rattle.run_ledger.specs.declared.data.Heap.{Heap}
 use Rattle.run_ledger.specs.Heaps.{heap_of, words_in, units_in, in_use}
-use Rattle.run_ledger.specs.Steps.{touched, is_open, owns}
+use Rattle.run_ledger.specs.Steps.{touched, is_open, owns, join_heaps}
 
 -- the program, the limits and the accounts
 pub record Standing : Type 0 where
@@ -38,3 +38,7 @@ is_own_by p m t (Some x) = is_own_line m t x (fetched p x.top)
 
 abbrev pub is_own : ProgramText → State → ℕ → Bool
 is_own p m t = is_own_by p m t (slice_get m.tasks t)
+
+-- these heaps become those in which the two heaps from the left one on have joined the parent's
+abbrev pub Joins : List Heap → List Heap → ℕ → ℕ → Type 0
+Joins heaps after parent left = (l : Ledger) → l.heaps ≡ heaps → join_heaps l parent left ≡ record l { heaps = after }

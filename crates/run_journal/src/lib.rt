@@ -5,6 +5,7 @@ mod accounts;
 mod causes;
 mod changes;
 mod private;
+mod steps;
 mod texts;
 
 pub use texts::{end_status, end_text, refused_text, report_text};
