@@ -1,1 +1,5 @@
 pub mod Lists
+pub mod Laid
+pub mod Kept
+pub mod Cleared
+pub mod Birth

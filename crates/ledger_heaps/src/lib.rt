@@ -2,11 +2,15 @@
 // leaf collection and a sweep leave.
 #![tactic(auto)]
 
+mod collection;
 mod joined;
 mod names;
 mod placed;
 mod sizes;
+mod sweeping;
 
+pub use collection::{collect, Collected};
 pub use joined::merge;
 pub use placed::{place, put_last};
 pub use sizes::{take_of, units, units_in, words_at, words_in, words_sum};
+pub use sweeping::{sweep, Swept};

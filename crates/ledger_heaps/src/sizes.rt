@@ -33,7 +33,7 @@ pub fn units(words: u64) -> u64
     (words + 1023) / 1024
 }
 
-fn units_sum(machine: &State, names: &[Name]) -> u64
+pub(crate) fn units_sum(machine: &State, names: &[Name]) -> u64
     requires { units_sum machine.now names.now < 2 ^ 62 }
     ensures { result ≡ units_sum machine.now names.now }
 {
