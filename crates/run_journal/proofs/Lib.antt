@@ -1,3 +1,5 @@
 pub mod Joined
 pub mod Lines
 pub mod Machines
+pub mod Standings
+pub mod Stepped

@@ -31,7 +31,7 @@ pub(crate) struct Accounts<'p> {
 
 impl<'p> Model for Accounts<'p> {
     ghost use Rattle.run_journal.specs.Book.{Standing};
-    ghost use Rattle.std.specs.Prelude.{◌≤◌};
+    ghost use Rattle.std.specs.Prelude.{◌≡◌, ◌≤◌};
 
     ghost Value = { Standing };
 
@@ -41,7 +41,7 @@ impl<'p> Model for Accounts<'p> {
       ledger = record { machine = a.machine.state; heaps = a.heaps; steps = a.steps; end = a.end };
     } };
 
-    ghost invariant = { λ a. a.machine.steps ≤ a.steps };
+    ghost invariant = { λ a. (a.machine.steps ≤ a.steps) × (a.machine.program ≡ a.program.now) };
 }
 
 /// A heap that holds nothing.

@@ -5,6 +5,7 @@ mod accounts;
 mod causes;
 mod changes;
 mod private;
+mod ran;
 mod steps;
 mod texts;
 

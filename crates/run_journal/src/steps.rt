@@ -1,13 +1,14 @@
 // The steps of tasks, with what they change of the accounts.
 
 ghost use Rattle.hh_model.specs.Effect.{row_of};
-ghost use Rattle.std.specs.Prelude.{◌≡◌, ℕ, ◌+◌, ◌<◌, ◌^◌, Option, Some, None, false, length, slice_get, slice_set, OnOk};
-ghost use Rattle.run_ledger.specs.Heaps.{heap_of, or_fresh, fresh, with_heap, let_go, merged, emptied};
+ghost use Rattle.std.specs.Prelude.{◌≡◌, ℕ, ◌+◌, ◌<◌, ◌^◌, Option, Some, None, true, false, length, slice_get, slice_set, OnOk, IfOk};
+ghost use Rattle.run_ledger.specs.Heaps.{heap_of, or_fresh, fresh, with_heap, within, let_go, merged, emptied};
 ghost use Rattle.run_ledger.specs.Steps.{allocated_in, allocated_by, is_in_need, task_step, at_fork, at_join, join_heaps, moved_to, settled};
-ghost use Rattle.run_journal.specs.Book.{Steady, Joins};
+ghost use Rattle.hh_model.specs.Step.{step, is_waiting};
+ghost use Rattle.run_journal.specs.Book.{Steady, Forks, Joins, AreOwned};
 
 use crate::accounts::{Accounts, fresh_heap};
-use hh_model::{Machine, Name, Status, StepError};
+use hh_model::{Machine, Name, State, Status};
 use ledger_heaps::{merge, place};
 use listed::Listed;
 use run_ledger::{Heap, RunEnd};
@@ -56,15 +57,118 @@ impl<'p> Accounts<'p> {
         }
     }
 
-    // The parent's heap gets all that its children's hold.
-    fn join(&mut self, parent: u32, left: u32) -> Result<(), AllocError>
-        requires since { (u : ℕ) → (heap_of self.old.ledger u).since < 2 ^ 62 }
-        requires above { parent < left }
-        requires there { left + 1 < length self.old.ledger.heaps }
-        ensures { OnOk result (self.new ≡ record self.old { ledger = join_heaps self.old.ledger parent left }) }
+    // A fork: what is reached within the parent's heap is set down, and the children begin with nothing.
+    fn fork(&mut self, t: u32) -> Result<(), AllocError>
+        requires { AreOwned self.old.ledger.machine.tasks self.old.ledger.heaps }
+        ensures { OnOk result (self.new ≡ record self.old { ledger = at_fork self.old.ledger t }) }
     {
-        join_three(self.alloc, &mut self.heaps, parent, left)
+        let names = reached_within(self.alloc, self.machine.state(), &self.heaps, t)?;
+        fork_heaps(self.alloc, &mut self.heaps, t, names)
     }
+
+    // The parent's heap gets all that its children's hold, of which the task is one.
+    fn join(&mut self, parent: u32, t: u32) -> Result<(), AllocError>
+        requires { (u : ℕ) → (heap_of self.old.ledger u).since < 2 ^ 62 }
+        ensures { OnOk result (self.new ≡ record self.old { ledger = at_join self.old.ledger t (Some parent) }) }
+    {
+        let left = if t % 2 == 1 { t } else { t.saturating_sub(1) };
+        if parent < left && left as usize + 1 < self.heaps.len() {
+            join_three(self.alloc, &mut self.heaps, parent, left)
+        } else {
+            // no run comes here, since children are numbered in pairs after their parent
+            Err(AllocError)
+        }
+    }
+
+    // The task has taken a step, and stands where it stands.
+    fn settle(&mut self, t: u32) -> Result<(), AllocError>
+        requires since { (u : ℕ) → (heap_of self.old.ledger u).since < 2 ^ 62 }
+        requires owned { is_waiting (slice_get self.old.ledger.machine.tasks t) ≡ true → AreOwned self.old.ledger.machine.tasks self.old.ledger.heaps }
+        ensures { OnOk result (self.new ≡ record self.old { ledger = settled self.old.ledger t self.old.ledger.machine.end }) }
+    {
+        if let Some(end) = self.machine.end() {
+            self.end = Some(RunEnd::Machine(end));
+            return Ok(());
+        }
+        let Some(task) = self.machine.state().tasks.get(t as usize) else {
+            return Ok(());
+        };
+        let parent = task.parent;
+        match task.status {
+            Status::Running => Ok(()),
+            Status::Waiting => self.fork(t),
+            Status::Ended(_, _) => {
+                self.let_go(t);
+                Ok(())
+            }
+            Status::Joined => match parent {
+                Some(parent) => self.join(parent, t),
+                None => Ok(()),
+            },
+        }
+    }
+
+    // The machine takes a step that it can take.
+    fn advance(&mut self, t: u32) -> Result<(), AllocError>
+        requires { self.old.ledger.steps < 2 ^ 30 }
+        ensures { OnOk result (self.new ≡ record self.old { ledger = record self.old.ledger { machine = step self.old.program self.old.ledger.machine t; steps = self.old.ledger.steps + 1 } }) }
+    {
+        match self.machine.step(t) {
+            Ok(()) => {
+                self.steps += 1;
+                Ok(())
+            }
+            Err(_) => Err(AllocError),
+        }
+    }
+
+    /// One step of a task, with its accounts.
+    pub(crate) fn step(&mut self, t: u32) -> Result<(), AllocError>
+        requires before { Steady self.old.ledger }
+        requires after { Steady (task_step self.old.program self.old.ledger t) }
+        requires placed { is_in_need self.old.program self.old.ledger t ≡ false }
+        ensures { OnOk result (self.new ≡ record self.old { ledger = task_step self.old.program self.old.ledger t }) }
+    {
+        if !self.machine.state().can_step(t) {
+            self.steps += 1;
+            return Ok(());
+        }
+        self.allocate(t)?;
+        self.advance(t)?;
+        self.settle(t)
+    }
+}
+
+fn reached_within(
+    _alloc: Global,
+    machine: &State,
+    heaps: &Listed<Heap>,
+    _t: u32,
+) -> Result<Listed<Name>, AllocError>
+    requires { AreOwned machine.now.tasks heaps.now }
+    ensures { IfOk result (λ names. names ≡ within (record { machine = machine.now; heaps = heaps.now; steps = 0; end = None }) _t) }
+{
+    Err(AllocError)
+}
+
+// The heap of a task that forks, of which these names are reached, and those of its children.
+fn fork_heaps(
+    alloc: Global,
+    heaps: &mut Listed<Heap>,
+    t: u32,
+    names: Listed<Name>,
+) -> Result<(), AllocError>
+    ensures { OnOk result (Forks heaps.old heaps.new t names) }
+{
+    heaps.push_pair(fresh_heap(alloc), fresh_heap(alloc))?;
+    if (t as usize) < heaps.len() {
+        let heap = heaps.at_mut(t as usize);
+        heap.worker = None;
+        heap.snapshot = names;
+        heap.marked = None;
+        heap.swept = false;
+    }
+    Ok(())
 }
 
 // Takes a heap out, and leaves one that holds nothing.
