@@ -1,5 +1,5 @@
 -- What is kept weighs no more.
-use Rattle.std.proofs.Common.{◌≡◌, ◌≤◌, ◌+◌, List, filter, subst, sym, length, map, ap, ◌∙◌, arith, ◌<◌, ◌^◌}
+use Rattle.std.proofs.Common.{◌≡◌, ◌≤◌, ◌+◌, ℕ, List, [], ◌∷◌, filter, subst, sym, length, map, ap, ◌∙◌, arith, ◌<◌, ◌^◌}
 use Rattle.hh_model.specs.declared.data.Name.{Name}
 use Rattle.hh_model.specs.declared.data.State.{State}
 use Rattle.run_ledger.specs.declared.data.Heap.{Heap}
@@ -11,6 +11,7 @@ use Rattle.run_ledger.proofs.Reached.{length_kept}
 use Rattle.std.proofs.Common.{not}
 use Rattle.run_ledger.specs.Heaps.{is_empty}
 use Rattle.std.proofs.lemmas.List.{length-map}
+use Rattle.std.proofs.lemmas.List.Sums.{sum_by-cons}
 
 pub survivors_units : (m : State) (h : Heap) (ns : List Name) → ns ≡ large_survivors h → units_sum m ns ≤ units_sum m h.large
 survivors_units m h ns e = subst (λ k. units_sum m k ≤ units_sum m h.large) (sym e) (kept_weight (λ n. units (words_at m n)) (holds_name h.survivors) h.large)
@@ -46,3 +47,15 @@ fewer_chunks h lists e =
     let b = length_kept (λ (ns : List Name). not (is_empty ns)) (map (in_snapshot h) h.chunks) in
     let d = length-map h.chunks (in_snapshot h) in
     omega arith
+
+-- a unit has a word at least
+units_below : (m : State) (ns : List Name) → units_sum m ns ≤ words_sum m ns
+units_below m [] = omega arith
+units_below m (n ∷ ns) =
+    let a = sum_by-cons (λ k. units (words_at m k)) n ns in
+    let b = sum_by-cons (words_at m) n ns in
+    let c = units_below m ns in
+    omega arith
+
+pub large_units : (m : State) (h : Heap) → units_sum m h.large ≤ words_in m h
+large_units m h = let a = units_below m h.large in let b = weight_parts (words_at m) h in omega arith

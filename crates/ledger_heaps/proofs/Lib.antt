@@ -1,5 +1,9 @@
 pub mod Lists
 pub mod Laid
+pub mod Meets
+pub mod Joins
+pub mod Above
+pub mod Sought
 pub mod Kept
 pub mod Cleared
 pub mod Birth

@@ -15,3 +15,7 @@ accounts m heaps = record { machine = m; heaps = heaps; steps = 0; end = None }
 -- each name that a heap holds is owned by the heap's task
 abbrev pub AreOwned : List Task → List Heap → Type 0
 AreOwned tasks heaps = (u : ℕ) (n : Name) → Contains (held_in (or_fresh (slice_get heaps u))) n → owner_of tasks n.task ≡ u
+
+-- the words allocated in a task's heap since its last leaf collection
+abbrev pub since_at : List Heap → ℕ → ℕ
+since_at heaps t = (or_fresh (slice_get heaps t)).since

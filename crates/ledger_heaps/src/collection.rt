@@ -1,7 +1,7 @@
 // What a leaf collection leaves of a heap.
 
 ghost use Rattle.std.specs.Prelude.{◌≡◌, ◌+◌, ◌-◌, ◌<◌, ◌^◌, [], ◌∷◌, ◌++◌, IfOk, OnOk, length};
-ghost use Rattle.run_ledger.specs.Heaps.{begun_in, by_birth, collected, end_numbers, lay, laid_onto, room_behind, units_sum, words_in, units_in, small_survivors, large_survivors};
+ghost use Rattle.run_ledger.specs.Heaps.{begun_in, by_birth, collected, end_numbers, lay, laid_onto, room_behind, units_sum, words_in, small_survivors, large_survivors};
 ghost use Rattle.std.specs.HashSet.{contains};
 ghost use Rattle.hh_model.specs.declared.data.Name.{Name};
 ghost use Rattle.run_ledger.specs.Reachable.{holds_name, is_name};
@@ -48,8 +48,7 @@ impl Collected {
 
 /// What the leaf collection that has begun leaves of a heap.
 pub fn collect(alloc: Global, machine: &State, heap: &Heap) -> Result<Collected, AllocError>
-    requires words { words_in machine.now heap.now < 2 ^ 62 }
-    requires units { units_in machine.now heap.now < 2 ^ 62 }
+    requires { words_in machine.now heap.now < 2 ^ 62 }
     ensures heap { IfOk result (λ parts. with_collected heap.now parts ≡ collected machine.now heap.now) }
     ensures numbers { IfOk result (λ parts. (parts.taken, parts.given, parts.left) ≡ end_numbers machine.now heap.now) }
 {
@@ -102,17 +101,17 @@ fn in_order_of_birth(names: Listed<Name>) -> Listed<Name>
     Listed::from_vec(sorted)
 }
 
-#[tactic(auto, using(crate::proofs::Kept::survivors_units))]
+#[tactic(auto, using(crate::proofs::Kept::survivors_units, crate::proofs::Kept::large_units))]
 // The chunks given back, in units: the old ones, the new ones that weren't used, and those of the large objects that were
 // dropped.
 fn given_back(machine: &State, heap: &Heap, large: &Listed<Name>, taken: u64) -> u64
-    requires units { units_in machine.now heap.now < 2 ^ 62 }
+    requires words { words_in machine.now heap.now < 2 ^ 62 }
     requires large { large.now ≡ large_survivors heap.now }
     ensures { result ≡ length heap.now.chunks + (begun_in heap.now - taken) + (units_sum machine.now heap.now.large - units_sum machine.now large.now) }
 {
     let unused = (heap.begun.unwrap_or(0) as u64).saturating_sub(taken);
     let old = units_sum(machine, heap.large.as_slice());
-    heap.chunks.len() as u64 + unused + (old - units_sum(machine, large.as_slice()))
+    heap.chunks.as_slice().len() as u64 + unused + (old - units_sum(machine, large.as_slice()))
 }
 
 #[tactic(auto, using(crate::proofs::Kept::left_words, crate::proofs::Kept::small_bound, crate::proofs::Kept::large_bound))]

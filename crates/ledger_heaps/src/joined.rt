@@ -1,7 +1,10 @@
 // What a join changes of the accounts of three heaps.
 
 ghost use Rattle.std.specs.Prelude.{◌≡◌, ◌+◌, ◌<◌, ◌≤◌, ◌^◌, ◌++◌, [], length, IfOk, OnOk, OnErr, vec_len, vec_capacity};
-ghost use Rattle.run_ledger.specs.Heaps.{merged, emptied};
+ghost use Rattle.run_ledger.specs.declared.data.Ledger.{Ledger};
+ghost use Rattle.run_ledger.specs.Heaps.{emptied, fresh, merged};
+ghost use Rattle.run_ledger.specs.Steps.{join_heaps};
+ghost use Rattle.ledger_heaps.specs.Accounts.{since_at};
 
 use hh_model::Name;
 use listed::Listed;
@@ -38,6 +41,47 @@ pub fn merge(
     parent.marked = None;
     retire(left);
     retire(right);
+    Ok(())
+}
+
+/// The account of a heap that holds nothing.
+pub fn fresh(alloc: Global) -> Heap
+    ensures { result ≡ fresh }
+{
+    Heap {
+        chunks: Listed::new(alloc),
+        large: Listed::new(alloc),
+        reserved: 0,
+        room: 0,
+        since: 0,
+        worker: None,
+        begun: None,
+        survivors: Listed::new(alloc),
+        snapshot: Listed::new(alloc),
+        marked: None,
+        swept: false,
+    }
+}
+
+/// The same among the heaps of all tasks: `left` is the left child, and the right one is the next task.
+pub fn join(
+    alloc: Global,
+    heaps: &mut Listed<Heap>,
+    parent: u32,
+    left: u32,
+) -> Result<(), AllocError>
+    requires order { parent < left }
+    requires there { left + 1 < length heaps.old }
+    requires since { since_at heaps.old parent + since_at heaps.old left + since_at heaps.old (left + 1) < 2 ^ 64 }
+    ensures ok { OnOk result ((l : Ledger) → l.heaps ≡ heaps.old → join_heaps l parent left ≡ record l { heaps = heaps.new }) }
+    ensures err { OnErr result (heaps.new ≡ heaps.old) }
+{
+    let mut first = mem::replace(heaps.at_mut(left as usize), fresh(alloc));
+    let mut second = mem::replace(heaps.at_mut(left as usize + 1), fresh(alloc));
+    let merged = merge(alloc, heaps.at_mut(parent as usize), &mut first, &mut second);
+    heaps.set(left as usize, first);
+    heaps.set(left as usize + 1, second);
+    merged?;
     Ok(())
 }
 

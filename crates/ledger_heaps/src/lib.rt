@@ -6,11 +6,14 @@ mod collection;
 mod joined;
 mod names;
 mod placed;
+mod reachable;
+mod search;
 mod sizes;
 mod sweeping;
 
 pub use collection::{collect, Collected};
-pub use joined::merge;
+pub use joined::{fresh, join, merge};
 pub use placed::{place, put_last};
-pub use sizes::{take_of, units, units_in, words_at, words_in, words_sum};
+pub use reachable::within;
+pub use sizes::{is_countable, take_of, units, units_in, words_at, words_in, words_sum};
 pub use sweeping::{sweep, Swept};

@@ -1,6 +1,6 @@
 // Words, and the chunks in use, in units of 1,024 words.
 
-ghost use Rattle.std.specs.Prelude.{◌≡◌, ◌+◌, ◌<◌, ◌^◌};
+ghost use Rattle.std.specs.Prelude.{◌≡◌, ◌↔◌, ◌+◌, ◌<◌, ◌≤◌, ◌^◌, IsTrue, min};
 ghost use Rattle.run_ledger.specs.Heaps.{words_at, words_sum, units_sum, units, words_in, units_in, take_of, small_in};
 
 use hh_model::{Name, State};
@@ -33,6 +33,7 @@ pub fn units(words: u64) -> u64
     (words + 1023) / 1024
 }
 
+// The units of some large objects' chunks together.
 pub(crate) fn units_sum(machine: &State, names: &[Name]) -> u64
     requires { units_sum machine.now names.now < 2 ^ 62 }
     ensures { result ≡ units_sum machine.now names.now }
@@ -41,6 +42,29 @@ pub(crate) fn units_sum(machine: &State, names: &[Name]) -> u64
         .iter()
         .map(|name| units(words_at(machine, *name) as u64))
         .sum()
+}
+
+/// Whether the words of a heap can be counted, as the calls here ask.
+pub fn is_countable(machine: &State, heap: &Heap) -> bool
+    ensures { IsTrue result ↔ (words_in machine.now heap.now < 2 ^ 62) }
+{
+    let mut words = 0;
+    for names in heap.chunks.as_slice() {
+        words = capped_sum(machine, words, names.as_slice());
+    }
+    capped_sum(machine, words, heap.large.as_slice()) < 1 << 62
+}
+
+// So many words and those of some names' objects, or the cap where there are more.
+fn capped_sum(machine: &State, words: u64, names: &[Name]) -> u64
+    requires { words ≤ 2 ^ 62 }
+    ensures { result ≡ min (words + words_sum machine.now names.now) (2 ^ 62) }
+{
+    let mut sum = words;
+    for name in names {
+        sum = (sum + words_at(machine, *name) as u64).min(1 << 62);
+    }
+    sum
 }
 
 /// The words of all that a heap holds.
@@ -62,12 +86,13 @@ fn small_words(machine: &State, heap: &Heap) -> u64
     words
 }
 
+#[tactic(auto, using(crate::proofs::Kept::large_units))]
 /// The chunks in use for a heap, in units.
 pub fn units_in(machine: &State, heap: &Heap) -> u64
-    requires { units_in machine.now heap.now < 2 ^ 62 }
+    requires { words_in machine.now heap.now < 2 ^ 62 }
     ensures { result ≡ units_in machine.now heap.now }
 {
-    heap.chunks.len() as u64
+    heap.chunks.as_slice().len() as u64
         + units_sum(machine, heap.large.as_slice())
         + heap.reserved as u64
         + heap.begun.unwrap_or(0) as u64

@@ -4,7 +4,7 @@ ghost use Rattle.std.specs.Prelude.{◌≡◌, ◌-◌, ◌<◌, ◌^◌, IfOk, 
 ghost use Rattle.std.specs.HashSet.{contains};
 ghost use Rattle.hh_model.specs.declared.data.Name.{Name};
 ghost use Rattle.run_ledger.specs.Reachable.{holds_name, is_name};
-ghost use Rattle.run_ledger.specs.Heaps.{in_snapshot, is_empty, is_last_empty, sweep_number, swept_heap, units_in, without_empty};
+ghost use Rattle.run_ledger.specs.Heaps.{in_snapshot, is_empty, is_last_empty, sweep_number, swept_heap, without_empty, words_in};
 ghost use Rattle.ledger_heaps.specs.Parts.{with_swept};
 
 use crate::names::{kept, table_of};
@@ -41,10 +41,10 @@ impl Swept {
     }
 }
 
-#[tactic(auto, using(crate::proofs::Kept::snapshot_units, crate::proofs::Kept::fewer_chunks))]
+#[tactic(auto, using(crate::proofs::Kept::snapshot_units, crate::proofs::Kept::large_units, crate::proofs::Kept::fewer_chunks))]
 /// What a sweep leaves of a heap whose snapshot is marked.
 pub fn sweep(alloc: Global, machine: &State, heap: &Heap) -> Result<Swept, AllocError>
-    requires { units_in machine.now heap.now < 2 ^ 62 }
+    requires { words_in machine.now heap.now < 2 ^ 62 }
     ensures heap { IfOk result (λ parts. with_swept heap.now parts ≡ swept_heap heap.now) }
     ensures number { IfOk result (λ parts. parts.given ≡ sweep_number machine.now heap.now) }
 {
@@ -53,7 +53,7 @@ pub fn sweep(alloc: Global, machine: &State, heap: &Heap) -> Result<Swept, Alloc
     let large = large_kept(alloc, heap, &snapshot)?;
     let room = if is_last_empty { 0 } else { heap.room };
     let dropped = units_sum(machine, heap.large.as_slice()) - units_sum(machine, large.as_slice());
-    let given = (heap.chunks.len() - chunks.len()) as u64 + dropped;
+    let given = (heap.chunks.as_slice().len() - chunks.len()) as u64 + dropped;
     Ok(Swept {
         chunks,
         large,

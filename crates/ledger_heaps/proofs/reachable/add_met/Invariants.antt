@@ -1,0 +1,7 @@
+use Rattle.std.proofs.Common.{◌≡◌, ◌++◌, take, filter, not}
+use Rattle.std.specs.HashSet.{contains}
+use Rattle.run_ledger.specs.Reachable.{is_name}
+use Rattle.ledger_heaps.proofs.reachable.add_met.Given as goal
+
+abbrev pub invariant-loop-name : goal.invariant-loop-name
+invariant-loop-name l = l.met ≡ l.fn.met ++ filter (λ n. not (contains is_name l.unmet n)) (take l.name-index l.names)

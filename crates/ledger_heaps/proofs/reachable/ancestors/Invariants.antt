@@ -1,0 +1,7 @@
+use Rattle.std.proofs.Common.{◌≡◌, ◌-◌, ◌++◌}
+use Rattle.hh_model.specs.Step.{parents}
+use Rattle.ledger_heaps.specs.Search.{ancestors, ancestors_by}
+use Rattle.ledger_heaps.proofs.reachable.ancestors.Given as goal
+
+abbrev pub invariant-loop : goal.invariant-loop
+invariant-loop l = l.above ++ ancestors_by (parents l.machine.tasks) (l.t - l.counter) l.at ≡ ancestors l.machine.tasks l.t

@@ -1,0 +1,13 @@
+use Rattle.std.proofs.Common.{◌≡◌, ◌+◌, length, take}
+use Rattle.std.specs.List.{flat_map}
+use Rattle.std.specs.HashSet.{contains, hash_set_len}
+use Rattle.hh_model.specs.Names.{named, refs_at, registers}
+use Rattle.run_ledger.specs.Reachable.{is_name}
+use Rattle.ledger_heaps.specs.Search.{Meets}
+use Rattle.ledger_heaps.proofs.search.Search.follow_all.Given as goal
+
+abbrev pub invariant-loop-name : goal.invariant-loop-name
+invariant-loop-name l = record {
+  met : Meets (flat_map (refs_at l.machine.store) (take l.name-index l.names)) (contains is_name l.fn.self.unmet) (contains is_name l.self.unmet) l.fn.self.waiting l.self.waiting;
+  left : hash_set_len l.self.unmet + length l.self.waiting ≡ hash_set_len l.fn.self.unmet + length l.fn.self.waiting;
+}
