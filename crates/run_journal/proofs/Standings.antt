@@ -1,5 +1,5 @@
 -- The steps of one entry, one after the other.
-use Rattle.std.proofs.Common.{◌≡◌, ℕ, ◌+◌, ◌-◌, ◌<◌, ◌≤◌, ◌&&◌, ◌||◌, not, Bool, true, false, cond, zero, suc, Option, Some, None, slice_get, is_none, refl, ap, ap₂, sym, subst, ◌∙◌, arith}
+use Rattle.std.proofs.Common.{◌≡◌, ℕ, ◌+◌, ◌-◌, ◌<◌, ◌≤◌, ◌&&◌, ◌||◌, not, Bool, true, false, cond, zero, suc, Option, Some, None, slice_get, is_none, is_some, refl, ap, ap₂, sym, subst, ◌∙◌, arith}
 use Rattle.std.proofs.lemmas.Bool.{false≢true}
 use Rattle.hh_lang.specs.declared.program.Line.{Line}
 use Rattle.hh_lang.specs.Form.{ProgramText}
@@ -39,9 +39,9 @@ private_after p l t = private_is p l.machine t ∙ ap (λ (m : State). is_own p 
 -- MANY STEPS
 
 pub steps_more : (p : ProgramText) (l : Ledger) (t k : ℕ) → task_steps p l t (k + 1) ≡ task_step p (task_steps p l t k) t
-steps_more p l t k = at k l ∙ refl
+steps_more p l t k = ap (task_steps p l t) (let e : k + 1 ≡ suc k = omega arith in e) ∙ at k l
   where
-    at : (k : ℕ) (l : Ledger) → task_steps p l t (k + 1) ≡ task_step p (task_steps p l t k) t
+    at : (k : ℕ) (l : Ledger) → task_steps p l t (suc k) ≡ task_step p (task_steps p l t k) t
     at zero l = refl
     at (suc k) l = at k (task_step p l t)
 
@@ -85,7 +85,7 @@ pub record Ran (s : Limits) (p : ProgramText) (l : Ledger) (t k done : ℕ) (now
   pub rest : standing s p l t k ≡ done + standing s p now t (k - done)
 
 pub ran_none : (s : Limits) (p : ProgramText) (l : Ledger) (t k : ℕ) → Ran s p l t k 0 l
-ran_none s p l t k = record { is = refl; rest = ap (standing s p l t) (omega arith) ∙ omega arith }
+ran_none s p l t k = record { is = refl; rest = let e : standing s p l t k ≡ standing s p l t (k - 0) = ap (standing s p l t) (let i : k ≡ k - 0 = omega arith in i) in omega arith }
 
 module _ (s : Limits) (p : ProgramText) (l : Ledger) (t k done : ℕ) (now : Ledger) (R : Ran s p l t k done now) (lt : done < k) where
   left_is : k - done ≡ suc (k - (done + 1))
@@ -119,3 +119,57 @@ module _ (s : Limits) (p : ProgramText) (l : Ledger) (t k done : ℕ) (now : Led
 
 pub ran_all : (s : Limits) (p : ProgramText) (l : Ledger) (t k : ℕ) (now : Ledger) → Ran s p l t k k now → k ≡ standing s p l t k
 ran_all s p l t k now R = let e = R.rest in let z : standing s p now t (k - k) ≡ 0 = ap (standing s p now t) (let q : k - k ≡ 0 = omega arith in q) in omega arith
+
+-- the same, by the accounts at the entry and those that the loop has come to
+module _ (a b : Standing) (t k done : ℕ) (el : b.limits ≡ a.limits) (ep : b.program ≡ a.program) (R : Ran a.limits a.program a.ledger t k done b.ledger) (lt : done < k) where
+  pub steady_at : StaysSteady a.limits a.program a.ledger t k → Steady b.ledger
+  steady_at S = ran_steady a.limits a.program a.ledger t k done b.ledger R lt S
+
+  pub steady_after_at : StaysSteady a.limits a.program a.ledger t k → (is_due b.limits b.program b.ledger t || is_in_need b.program b.ledger t) ≡ false → Steady (task_step b.program b.ledger t)
+  steady_after_at S fine =
+      subst (λ p. Steady (task_step p b.ledger t)) (sym ep)
+      (ran_steady_after a.limits a.program a.ledger t k done b.ledger R lt S (ap₂ (λ s p. is_due s p b.ledger t || is_in_need p b.ledger t) (sym el) (sym ep) ∙ fine))
+
+  module _ (how : Stood) (h : how ≡ stood b.limits b.program b.ledger t) where
+    stood_as : (w : Stood) → how ≡ w → w ≡ stood a.limits a.program b.ledger t
+    stood_as w e = sym e ∙ (h ∙ ap₂ (λ s p. stood s p b.ledger t) el ep)
+
+    pub not_at : how ≡ Not → done ≡ standing a.limits a.program a.ledger t k
+    not_at e = ran_not a.limits a.program a.ledger t k done b.ledger R lt (stood_as Not e)
+
+    pub last_at : how ≡ Last → done + 1 ≡ standing a.limits a.program a.ledger t k
+    last_at e = ran_last a.limits a.program a.ledger t k done b.ledger R lt (stood_as Last e)
+
+    module _ (new : Standing) (n : new ≡ record b { ledger = after_stood b.program b.ledger t how }) where
+      new_is : (w : Stood) → how ≡ w → new ≡ record a { ledger = after_stood a.program b.ledger t w }
+      new_is w e =
+          n ∙ (ap (λ v. record b { ledger = after_stood b.program b.ledger t v }) e
+          ∙ ap₂ (λ s p. record { program = p; limits = s; ledger = after_stood p b.ledger t w }) el ep)
+
+      pub new_not : how ≡ Not → new ≡ record a { ledger = task_steps a.program a.ledger t done }
+      new_not e = new_is Not e ∙ ap (λ l. record a { ledger = l }) R.is
+
+      pub new_last : how ≡ Last → new ≡ record a { ledger = task_steps a.program a.ledger t (done + 1) }
+      new_last e = new_is Last e ∙ ap (λ l. record a { ledger = l }) (ran_next a.limits a.program a.ledger t k done b.ledger R lt)
+
+      pub new_more : how ≡ More → Ran a.limits a.program a.ledger t k (done + 1) new.ledger
+      new_more e =
+          subst (Ran a.limits a.program a.ledger t k (done + 1)) (sym (ap (λ (q : Standing). q.ledger) (new_is More e)))
+          (ran_more a.limits a.program a.ledger t k done b.ledger R lt (stood_as More e))
+
+      pub new_program : new.program ≡ a.program
+      new_program = ap (λ (q : Standing). q.program) n ∙ ep
+
+      pub new_limits : new.limits ≡ a.limits
+      new_limits = ap (λ (q : Standing). q.limits) n ∙ el
+
+-- how a step stood that was taken
+pub stood_is : (s : Limits) (p : ProgramText) (l : Ledger) (t : ℕ) (own ended : Bool) → is_due s p l t ≡ false → is_in_need p l t ≡ false → own ≡ is_own p l.machine t
+    → ended ≡ is_some (task_step p l t).machine.end → cond (own && not ended) More Last ≡ stood s p l t
+stood_is s p l t own ended d n o e =
+    ap₂ (λ a b. cond (a && b) More Last) o (ap not e ∙ not_some (task_step p l t).machine.end)
+    ∙ (ap (λ b. cond b More Last) (sym (private_after p l t)) ∙ sym (ap₂ (λ a b. cond (a || b) Not (cond (is_private p l.machine t) More Last)) d n))
+  where
+    not_some : (o : Option End) → not (is_some o) ≡ is_none o
+    not_some None = refl
+    not_some (Some x) = refl

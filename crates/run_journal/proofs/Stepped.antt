@@ -63,7 +63,7 @@ placed_since h n w true = refl
 placed_since h n w false = refl
 
 -- what has room is no larger than a chunk, or than what waits for it
-small_enough : (h : Heap) (w : ℕ) (b : Bool) → is_small w ≡ b → cond b (nat_lt h.room w) (not (h.reserved == units w)) ≡ false → h.reserved < 2 ^ 20 → w < 2 ^ 31
+pub small_enough : (h : Heap) (w : ℕ) (b : Bool) → is_small w ≡ b → cond b (nat_lt h.room w) (not (h.reserved == units w)) ≡ false → h.reserved < 2 ^ 20 → w < 2 ^ 31
 small_enough h w true is e few = let le : w ≤ 1024 = leb-true w 1024 is in omega arith
 small_enough h w false is e few =
     let r : h.reserved ≡ units w = eqb-true h.reserved (units w) (holds (h.reserved == units w) e) in
@@ -73,7 +73,7 @@ small_enough h w false is e few =
     holds true q = refl
     holds false q = sym q
 
-placed_is : (h : Heap) (n : Name) (w : ℕ) (b : Bool) → is_small w ≡ b → (placed h n w).since ≡ h.since + w
+pub placed_is : (h : Heap) (n : Name) (w : ℕ) (b : Bool) → is_small w ≡ b → (placed h n w).since ≡ h.since + w
 placed_is h n w true e = ap (λ (q : Heap). q.since) (cond-true (is_small w) _ _ e)
 placed_is h n w false e = ap (λ (q : Heap). q.since) (cond-false (is_small w) _ _ e)
 

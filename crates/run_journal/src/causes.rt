@@ -1,12 +1,15 @@
 // Why an entry is refused, but for the steps of tasks.
 
-ghost use Rattle.std.specs.Prelude.{◌≡◌, Option, Some, None, is_some, IfOk};
+ghost use Rattle.std.specs.Prelude.{◌≡◌, ◌==◌, Option, Some, None, is_some, IfOk};
 ghost use Rattle.run_trace.specs.declared.entry.Kind.TheVariants.{Took, Chunk, Begin, End, PutOff, Mark, More, Sweep, Fuel};
-ghost use Rattle.run_ledger.specs.Entries.{kind_refusal, on_running, on_waiting, on_marking, on_due, is_pool_enough};
+ghost use Rattle.run_ledger.specs.Entries.{kind_refusal, on_running, on_waiting, on_marking, on_due, is_pool_enough, is_out, unless, counted, ends_as};
+ghost use Rattle.run_ledger.specs.Heaps.{heap_of, left_in, marked_in};
+ghost use Rattle.run_ledger.specs.declared.data.Refused.TheVariants.{NotOut, NotCollecting, Left};
 ghost use Rattle.run_journal.specs.Book.{Steady};
 
 use crate::accounts::Accounts;
 use run_ledger::Refused;
+use std::alloc::AllocError;
 
 impl<'p> Accounts<'p> {
     // The worker is to be at the task, which isn't to be amid a leaf collection.
@@ -160,4 +163,60 @@ impl<'p> Accounts<'p> {
         }
         None
     }
+
+    // The worker is to be at the task, whose leaf collection has begun.
+    pub(crate) fn collecting_cause(&self, worker: u32, task: u32) -> Option<Refused>
+        ensures { result ≡ unless (is_out self.now.ledger worker task) NotOut (unless (is_some (heap_of self.now.ledger task).begun) NotCollecting None) }
+    {
+        if !self.is_out(worker, task) {
+            return Some(Refused::NotOut);
+        }
+        if !self.is_collecting(task) {
+            return Some(Refused::NotCollecting);
+        }
+        None
+    }
+
+    // The heap is to be being marked, and nothing left to mark in it.
+    pub(crate) fn marked_cause(&self, task: u32) -> Option<Refused>
+        ensures { result ≡ on_marking self.now.ledger task (unless (left_in (heap_of self.now.ledger task) == 0) (Left (marked_in (heap_of self.now.ledger task))) None) }
+    {
+        if let Some(cause) = self.marking_cause(task) {
+            return Some(cause);
+        }
+        if self.left(task) != 0 {
+            return Some(Refused::Left(self.marked(task)));
+        }
+        None
+    }
+}
+
+/// A number of an entry is to say what it should. A number past 32 bits, to which no legal journal comes, is told as want of
+/// memory.
+pub(crate) fn count_cause(said: u32, is: u64) -> Result<Option<Refused>, AllocError>
+    ensures { IfOk result (λ cause. cause ≡ counted said is None) }
+{
+    if said as u64 == is {
+        return Ok(None);
+    }
+    match u32::try_from(is) {
+        Ok(is) => Ok(Some(Refused::Count(said, is))),
+        Err(_) => Err(AllocError),
+    }
+}
+
+/// The three numbers of the end of a leaf collection are to say what they should.
+pub(crate) fn end_cause(
+    said: (u32, u32, u32),
+    is: (u64, u64, u64),
+) -> Result<Option<Refused>, AllocError>
+    ensures { IfOk result (λ cause. cause ≡ ends_as (said.0, said.1, said.2) (is.0, is.1, is.2)) }
+{
+    if let Some(cause) = count_cause(said.0, is.0)? {
+        return Ok(Some(cause));
+    }
+    if let Some(cause) = count_cause(said.1, is.1)? {
+        return Ok(Some(cause));
+    }
+    count_cause(said.2, is.2)
 }

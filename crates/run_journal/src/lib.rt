@@ -4,9 +4,11 @@
 mod accounts;
 mod causes;
 mod changes;
+mod enter;
 mod private;
 mod ran;
 mod steps;
 mod texts;
 
+pub use enter::ApplyError;
 pub use texts::{end_status, end_text, refused_text, report_text};

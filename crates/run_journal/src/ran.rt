@@ -1,8 +1,9 @@
 // The steps of one entry.
 
-ghost use Rattle.std.specs.Prelude.{◌≡◌, ◌+◌, ◌||◌, Option, Some, None, true, false, OnOk, IfOk};
+ghost use Rattle.std.specs.Prelude.{◌≡◌, ◌+◌, ◌||◌, ◌&&◌, not, is_some, if◌then◌else◌, Option, Some, None, true, false, OnOk, IfOk};
 ghost use Rattle.run_ledger.specs.Steps.{task_step, task_steps, is_due, is_in_need, is_private, standing};
-ghost use Rattle.run_journal.specs.Book.{Steady, StaysSteady, stood, after_stood};
+ghost use Rattle.run_journal.specs.Book.{Steady, StaysSteady, stood, after_stood, is_own};
+ghost use Rattle.run_journal.specs.declared.ran.Stood.TheVariants.{More, Last};
 
 use crate::accounts::Accounts;
 use crate::private::is_own;
@@ -19,7 +20,32 @@ pub(crate) enum Stood {
     More,
 }
 
+// How a step stood that was taken: by whether it was the task's own matter, and whether the machine ended with it.
+fn stood_by(own: bool, ended: bool) -> Stood
+    ensures { result ≡ (if own && not ended then More else Last) }
+{
+    if own && !ended {
+        Stood::More
+    } else {
+        Stood::Last
+    }
+}
+
 impl<'p> Accounts<'p> {
+    // Whether the machine has ended.
+    fn has_ended(&self) -> bool
+        ensures { result ≡ is_some self.now.ledger.machine.end }
+    {
+        self.machine.end().is_some()
+    }
+
+    // Whether the next step of the task is its own matter.
+    fn is_own(&self, t: u32) -> bool
+        ensures { result ≡ is_own self.now.program self.now.ledger.machine t }
+    {
+        is_own(self.program, self.machine.state(), t)
+    }
+
     // One step of the entry, if it can stand in it.
     fn stand(&mut self, t: u32) -> Result<Stood, AllocError>
         requires before { Steady self.old.ledger }
@@ -30,13 +56,10 @@ impl<'p> Accounts<'p> {
         if self.is_due(t) || self.is_in_need(t) {
             return Ok(Stood::Not);
         }
-        let own = is_own(self.program, self.machine.state(), t);
+        let own = self.is_own(t);
         self.step(t)?;
-        if own && self.machine.end().is_none() {
-            Ok(Stood::More)
-        } else {
-            Ok(Stood::Last)
-        }
+        let ended = self.has_ended();
+        Ok(stood_by(own, ended))
     }
 
     /// Takes the first of so many steps of a task, as many as can stand in one entry, and says how many those are.

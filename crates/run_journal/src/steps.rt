@@ -2,14 +2,14 @@
 
 ghost use Rattle.hh_model.specs.Effect.{row_of};
 ghost use Rattle.std.specs.Prelude.{◌≡◌, ℕ, ◌+◌, ◌<◌, ◌^◌, Option, Some, None, true, false, length, slice_get, slice_set, OnOk, IfOk};
-ghost use Rattle.run_ledger.specs.Heaps.{heap_of, or_fresh, fresh, with_heap, within, let_go, merged, emptied};
+ghost use Rattle.run_ledger.specs.Heaps.{heap_of, or_fresh, fresh, with_heap, let_go, merged, emptied};
 ghost use Rattle.run_ledger.specs.Steps.{allocated_in, allocated_by, is_in_need, task_step, at_fork, at_join, join_heaps, moved_to, settled};
 ghost use Rattle.hh_model.specs.Step.{step, is_waiting};
 ghost use Rattle.run_journal.specs.Book.{Steady, Forks, Joins, AreOwned};
 
 use crate::accounts::{Accounts, fresh_heap};
 use hh_model::{Machine, Name, State, Status};
-use ledger_heaps::{merge, place};
+use ledger_heaps::{merge, place, within};
 use listed::Listed;
 use run_ledger::{Heap, RunEnd};
 use std::alloc::{AllocError, Global};
@@ -62,7 +62,7 @@ impl<'p> Accounts<'p> {
         requires { AreOwned self.old.ledger.machine.tasks self.old.ledger.heaps }
         ensures { OnOk result (self.new ≡ record self.old { ledger = at_fork self.old.ledger t }) }
     {
-        let names = reached_within(self.alloc, self.machine.state(), &self.heaps, t)?;
+        let names = within(self.alloc, self.machine.state(), &self.heaps, t)?;
         fork_heaps(self.alloc, &mut self.heaps, t, names)
     }
 
@@ -137,18 +137,6 @@ impl<'p> Accounts<'p> {
         self.advance(t)?;
         self.settle(t)
     }
-}
-
-fn reached_within(
-    _alloc: Global,
-    machine: &State,
-    heaps: &Listed<Heap>,
-    _t: u32,
-) -> Result<Listed<Name>, AllocError>
-    requires { AreOwned machine.now.tasks heaps.now }
-    ensures { IfOk result (λ names. names ≡ within (record { machine = machine.now; heaps = heaps.now; steps = 0; end = None }) _t) }
-{
-    Err(AllocError)
 }
 
 // The heap of a task that forks, of which these names are reached, and those of its children.

@@ -9,8 +9,8 @@ use Rattle.run_journal.specs.Book.{Standing, AreOwned}
 use Rattle.run_journal.proofs.Stepped.{fork_is}
 use Rattle.run_journal.proofs.accounts.Accounts.fork.Goals as goal
 
-pub reached_within-requires : goal.reached_within-requires
-reached_within-requires c =
+pub within-requires : goal.within-requires
+within-requires c =
     subst (λ (m : State). AreOwned m.tasks c.self.inside.heaps) (sym c.state.ensures)
     (subst (λ (s : Standing). AreOwned s.ledger.machine.tasks s.ledger.heaps) (sym c.self.view_is) c.requires)
 
