@@ -1,6 +1,7 @@
 pub mod Joined
 pub mod Lines
 pub mod Machines
+pub mod Opens
 pub mod Standings
 pub mod Steadies
 pub mod Stepped

@@ -4,9 +4,9 @@ use Rattle.run_trace.specs.Settings.{Limits}
 use Rattle.run_trace.specs.declared.entry.Kind.{Kind}
 use Rattle.run_ledger.specs.declared.data.Refused.{Refused as Cause}
 use Rattle.run_ledger.specs.declared.data.Refused.TheVariants.{Over, Spent, NoWorker}
-use Rattle.run_ledger.specs.Entries.{where_it, unless, is_fuel}
+use Rattle.run_ledger.specs.Entries.{refused_if, refused_unless, is_fuel}
 use Rattle.run_journal.specs.declared.enter.ApplyError.{ApplyError}
-use Rattle.run_journal.specs.declared.enter.ApplyError.TheVariants.{Refused, NoMemory}
+use Rattle.run_journal.specs.declared.enter.ApplyError.TheVariants.{Refused as RefusedFor, NoMemory}
 use Rattle.hh_lang.specs.Form.{ProgramText}
 use Rattle.hh_lang.specs.declared.program.Line.{Line}
 use Rattle.hh_model.specs.declared.data.Name.{Name}
@@ -83,9 +83,9 @@ StaysSteady s p l t k = (i : ℕ) → i ≤ standing s p l t k → Steady (task_
 -- why an entry is refused whatever it says of tasks
 abbrev pub general_refusal : Limits → Ledger → ℕ → Kind → Option Refused
 general_refusal s l w kind =
-    where_it (is_some l.end) Over (where_it (nat_le s.fuel l.steps && not (is_fuel kind)) (Spent l.steps) (unless (nat_lt w s.workers) NoWorker None))
+    refused_if (is_some l.end) Over (refused_if (nat_le s.fuel l.steps && not (is_fuel kind)) (Spent l.steps) (refused_unless (nat_lt w s.workers) NoWorker None))
 
 -- an entry isn't entered for the cause for which it is refused, or for want of memory
 abbrev pub FailsFor : Option Cause → ApplyError → Type 0
-FailsFor cause (Refused c) = cause ≡ Some c
+FailsFor cause (RefusedFor c) = cause ≡ Some c
 FailsFor cause NoMemory = Unit {0}

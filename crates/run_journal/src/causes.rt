@@ -2,7 +2,7 @@
 
 ghost use Rattle.std.specs.Prelude.{◌≡◌, ◌==◌, Option, Some, None, is_some, IfOk};
 ghost use Rattle.run_trace.specs.declared.entry.Kind.TheVariants.{Took, Chunk, Begin, End, PutOff, Mark, More, Sweep, Fuel};
-ghost use Rattle.run_ledger.specs.Entries.{kind_refusal, on_running, on_waiting, on_marking, on_due, is_pool_enough, is_out, unless, counted, ends_as};
+ghost use Rattle.run_ledger.specs.Entries.{kind_refusal, on_running, on_waiting, on_marking, on_due, is_pool_enough, is_out, refused_unless, counted, ends_as};
 ghost use Rattle.run_ledger.specs.Heaps.{heap_of, left_in, marked_in};
 ghost use Rattle.run_ledger.specs.declared.data.Refused.TheVariants.{NotOut, NotCollecting, Left};
 ghost use Rattle.run_journal.specs.Book.{Steady};
@@ -166,7 +166,7 @@ impl<'p> Accounts<'p> {
 
     // The worker is to be at the task, whose leaf collection has begun.
     pub(crate) fn collecting_cause(&self, worker: u32, task: u32) -> Option<Refused>
-        ensures { result ≡ unless (is_out self.now.ledger worker task) NotOut (unless (is_some (heap_of self.now.ledger task).begun) NotCollecting None) }
+        ensures { result ≡ refused_unless (is_out self.now.ledger worker task) NotOut (refused_unless (is_some (heap_of self.now.ledger task).begun) NotCollecting None) }
     {
         if !self.is_out(worker, task) {
             return Some(Refused::NotOut);
@@ -179,7 +179,7 @@ impl<'p> Accounts<'p> {
 
     // The heap is to be being marked, and nothing left to mark in it.
     pub(crate) fn marked_cause(&self, task: u32) -> Option<Refused>
-        ensures { result ≡ on_marking self.now.ledger task (unless (left_in (heap_of self.now.ledger task) == 0) (Left (marked_in (heap_of self.now.ledger task))) None) }
+        ensures { result ≡ on_marking self.now.ledger task (refused_unless (left_in (heap_of self.now.ledger task) == 0) (Left (marked_in (heap_of self.now.ledger task))) None) }
     {
         if let Some(cause) = self.marking_cause(task) {
             return Some(cause);

@@ -2,7 +2,7 @@
 
 ghost use Rattle.std.specs.Prelude.{◌≡◌, Option, Some, None, ◌<◌, ◌^◌, true, OnOk, OnErr, IfOk};
 ghost use Rattle.run_trace.specs.declared.entry.Kind.TheVariants.{Took, Chunk, Begin, End, PutOff, Mark, More, Sweep, Fuel};
-ghost use Rattle.run_ledger.specs.Entries.{after_kind, chunk_units, is_pool_enough};
+ghost use Rattle.run_ledger.specs.Entries.{after_kind, chunk_units};
 ghost use Rattle.hh_model.specs.Step.{asked};
 ghost use Rattle.run_ledger.specs.Steps.{on_asked};
 ghost use Rattle.run_ledger.specs.Heaps.{is_small, heap_of, with_heap, collected, end_numbers, swept_heap, sweep_number};
@@ -93,15 +93,16 @@ impl<'p> Accounts<'p> {
         Ok(())
     }
 
-    /// The task's leaf collection begins, for which there are chunks enough.
+    /// The task's leaf collection begins. A number past 32 bits, to which no legal journal comes, is told as want of memory.
     pub(crate) fn begin(&mut self, worker: u32, task: u32) -> Result<(), AllocError>
-        requires steady { Steady self.old.ledger }
-        requires enough { is_pool_enough self.old.limits self.old.ledger task ≡ true }
+        requires { Steady self.old.ledger }
         ensures ok { OnOk result (self.new ≡ record self.old { ledger = after_kind self.old.program self.old.limits self.old.ledger worker (Begin task) }) }
         ensures err { OnErr result (self.new ≡ self.old) }
     {
         let survivors = within(self.alloc, self.machine.state(), &self.heaps, task)?;
-        let chunks = self.take(task) as u32;
+        let Ok(chunks) = u32::try_from(self.take(task)) else {
+            return Err(AllocError);
+        };
         if (task as usize) < self.heaps.len() {
             let heap = self.heaps.at_mut(task as usize);
             heap.begun = Some(chunks);
