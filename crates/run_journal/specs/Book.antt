@@ -81,7 +81,7 @@ StaysSteady s p l t k = (i : ℕ) → i ≤ standing s p l t k → Steady (task_
 -- ENTRIES
 
 -- why an entry is refused whatever it says of tasks
-abbrev pub general_refusal : Limits → Ledger → ℕ → Kind → Option Refused
+abbrev pub general_refusal : Limits → Ledger → ℕ → Kind → Option Cause
 general_refusal s l w kind =
     refused_if (is_some l.end) Over (refused_if (nat_le s.fuel l.steps && not (is_fuel kind)) (Spent l.steps) (refused_unless (nat_lt w s.workers) NoWorker None))
 

@@ -1,7 +1,7 @@
 -- What contracts see of a book of accounts.
 use Rattle.std.specs.Prelude.{◌≡◌, Bool, true, false, Option, Some, List, if◌then◌else◌}
 use Rattle.run_trace.specs.Entry.{Event}
-use Rattle.run_trace.specs.Settings.{Limits, AreLimits}
+use Rattle.run_trace.specs.Settings.{Limits}
 use Rattle.hh_lang.specs.Form.{ProgramText}
 use Rattle.run_ledger.specs.declared.data.Ledger.{Ledger}
 use Rattle.run_ledger.specs.declared.data.Refused.{Refused}
@@ -24,7 +24,6 @@ IsLegalLedger p s l = (journal : List Event) × (is_legal p s journal ≡ true) 
 
 -- unless it is stopped, a book has the accounts of a legal journal
 pub record IsOpened (b : Opened) : Type 0 where
-  pub limits : AreLimits b.limits
   pub legal : b.stopped ≡ false → IsLegalLedger b.program b.limits b.ledger
 
 -- why a book refuses an entry

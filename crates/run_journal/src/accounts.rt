@@ -6,6 +6,7 @@ ghost use Rattle.run_ledger.specs.Steps.{is_due, is_in_need, on_asked, is_privat
 ghost use Rattle.run_ledger.specs.Entries.{is_ready, is_out, is_held_by, held_from};
 ghost use Rattle.run_ledger.specs.Journals.{opening};
 ghost use Rattle.hh_model.specs.Step.{is_running, is_waiting, asked};
+ghost use Rattle.run_trace.specs.Settings.{AreLimits};
 ghost use Rattle.run_journal.specs.Book.{Standing, Steady};
 
 use hh_lang::Program;
@@ -102,6 +103,13 @@ impl<'p> Accounts<'p> {
             steps: 0,
             end: None,
         })
+    }
+
+    /// The limits are in their ranges.
+    pub(crate) fn bounds(&self)
+        ensures { AreLimits self.now.limits }
+    {
+        let _ = self.limits.workers();
     }
 
     /// The account of a task's heap.

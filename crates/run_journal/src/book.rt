@@ -42,10 +42,8 @@ impl<'p> Book<'p> {
     ) -> Result<Book<'p>, AllocError>
         ensures { IfOk result (λ b. b ≡ record { program = program.entry.now; limits = settings; ledger = opening program.entry.now settings; stopped = false }) }
     {
-        let _workers = settings.workers();
-        let accounts = Accounts::open(alloc, program, settings)?;
         Ok(Book {
-            accounts,
+            accounts: Accounts::open(alloc, program, settings)?,
             stopped: false,
         })
     }
@@ -62,6 +60,7 @@ impl<'p> Book<'p> {
             return Err(ApplyError::Refused(Refused::Stopped));
         }
         let _kind = entry.kind();
+        self.accounts.bounds();
         match self.accounts.enter(entry) {
             Ok(()) => Ok(()),
             Err(error) => {
@@ -104,6 +103,7 @@ impl<'p> Book<'p> {
         requires { self.now.stopped ≡ false }
         ensures { result ≡ in_use self.now.ledger }
     {
+        self.accounts.bounds();
         self.accounts.in_use()
     }
 

@@ -47,8 +47,13 @@ impl<'p> Accounts<'p> {
         }
         match self.ran(task, steps) {
             Err(_) => Err(ApplyError::NoMemory),
-            Ok(count) if count < steps => Err(ApplyError::Refused(Refused::Long(count))),
-            Ok(_) => Ok(()),
+            Ok(count) => {
+                if count == steps {
+                    Ok(())
+                } else {
+                    Err(ApplyError::Refused(Refused::Long(count)))
+                }
+            }
         }
     }
 

@@ -1,6 +1,6 @@
 // The steps of one entry.
 
-ghost use Rattle.std.specs.Prelude.{◌≡◌, ◌+◌, ◌||◌, ◌&&◌, not, is_some, if◌then◌else◌, Option, Some, None, true, false, OnOk, IfOk};
+ghost use Rattle.std.specs.Prelude.{◌≡◌, ◌≤◌, ◌+◌, ◌||◌, ◌&&◌, not, is_some, if◌then◌else◌, Option, Some, None, true, false, OnOk, IfOk};
 ghost use Rattle.run_ledger.specs.Steps.{task_step, task_steps, is_due, is_in_need, is_private, standing};
 ghost use Rattle.run_journal.specs.Book.{Steady, StaysSteady, stood, after_stood, is_own};
 ghost use Rattle.run_journal.specs.declared.ran.Stood.TheVariants.{More, Last};
@@ -66,6 +66,7 @@ impl<'p> Accounts<'p> {
     pub(crate) fn ran(&mut self, t: u32, steps: u32) -> Result<u32, AllocError>
         requires { StaysSteady self.old.limits self.old.program self.old.ledger t steps }
         ensures standing { IfOk result (λ count. count ≡ standing self.old.limits self.old.program self.old.ledger t steps) }
+        ensures most { IfOk result (λ count. count ≤ steps) }
         ensures after { IfOk result (λ count. self.new ≡ record self.old { ledger = task_steps self.old.program self.old.ledger t count }) }
     {
         for done in 0..steps {

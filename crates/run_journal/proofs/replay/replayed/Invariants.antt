@@ -4,8 +4,8 @@ use Rattle.run_journal.proofs.replay.replayed.Given as goal
 
 abbrev pub invariant-loop-entry : goal.invariant-loop-entry
 invariant-loop-entry l = record {
-  program : l.book.program ≡ l.fn.program;
-  limits : l.book.limits ≡ l.settings;
+  program : l.book.program ≡ l.fn.program.now;
+  limits : l.book.limits ≡ l.fn.settings;
   stopped : l.book.stopped ≡ false;
   index : l.index ≡ l.entry-index + 1;
   accounts : after_all l.book.program l.book.limits l.book.ledger (drop l.entry-index l.journal) ≡ ledger_of l.book.program l.book.limits l.journal;
