@@ -4,7 +4,7 @@ use Rattle.run_journal.proofs.replay.replayed.Given as goal
 
 abbrev pub invariant-loop-entry : goal.invariant-loop-entry
 invariant-loop-entry l = record {
-  program : l.book.program ≡ l.fn.program.now;
+  program : l.book.program ≡ l.fn.program;
   limits : l.book.limits ≡ l.fn.settings;
   stopped : l.book.stopped ≡ false;
   index : l.index ≡ l.entry-index + 1;
