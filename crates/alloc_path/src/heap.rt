@@ -3,7 +3,7 @@
 ghost use Rattle.std.specs.Prelude.{◌≡◌, ◌+◌, ◌-◌, ◌*◌, ◌^◌, ◌<◌, ◌≤◌, [], ◌∷◌, length, option_map, OnOk, OnErr, IfErr, IsOk, None, Some};
 ghost use Rattle.object_layout.specs.Cell.{size_of, new_cell};
 ghost use Rattle.object_layout.specs.Chunks.{chunk_at, held_words, next_address, place_in, push_object};
-ghost use Rattle.alloc_path.specs.Heap.{added, counted, placed, placed_at, place_for, room_of, with_places, IsFresh};
+ghost use Rattle.alloc_path.specs.Heap.{added, counted, placed, placed_at, place_for, room_of, with_places, IsFresh, IsReserved};
 
 use object_layout::{Addr, Birth, Chunk, Header, write_new};
 use std::alloc::{AllocError, AllocFailed, Global};
@@ -66,6 +66,14 @@ impl LeafHeap {
         ensures { result.now ≡ self.now.chunks }
     {
         &self.chunks
+    }
+
+    /// At which place the chunk stands that is reserved for a large object, if one is.
+    pub fn reserved(&self) -> Option<usize>
+        ensures place { result ≡ self.now.reserved }
+        ensures empty { IsReserved self.now.chunks result }
+    {
+        self.reserved
     }
 
     /// The words left in the small chunk that is being filled; 0 where none is.

@@ -35,7 +35,7 @@ fn word_list(alloc: Global, words: &[&str]) -> Result<Vec<String>, Fail> {
 }
 
 fn source_of(alloc: Global, text: &[u8]) -> Result<MemSource, Fail> {
-    Ok(MemSource::new(text.to_vec(alloc)?, 65536, Vec::new(alloc)))
+    Ok(MemSource::new(text.to_vec(alloc)?, Vec::new(alloc), 65536, Vec::new(alloc)))
 }
 
 fn call<R: AllocGlobal + Threads + Wait + Sync>(
@@ -100,7 +100,7 @@ fn slow_sink(rt: HostRuntime) -> Result<(), Fail> {
 #[test]
 fn failing_source(rt: HostRuntime) -> Result<(), Fail> {
     let alloc = rt.alloc();
-    let mut source = MemSource::new(SEVEN.to_vec(alloc)?, 4, vec![in alloc; 2]?);
+    let mut source = MemSource::new(SEVEN.to_vec(alloc)?, Vec::new(alloc), 4, vec![in alloc; 2]?);
     let mut sink = MemSink::new(alloc, 65536, Vec::new(alloc));
     let outcome = call(&rt, &["run"], &mut source, &mut sink)?;
     assert_eq!(rt; outcome.status, Status::ReadFault);

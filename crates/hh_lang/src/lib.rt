@@ -1,10 +1,12 @@
 // Programs of the register language: registers, instructions, functions and their numbers.
 #![tactic(auto)]
 
+mod check;
 mod instr;
 mod number;
 mod program;
 
+pub use check::is_program;
 pub use instr::{FieldCount, Instr, IntReg, Operator, RefReg};
 pub use number::{read_i64, read_u32};
 pub use program::{Fun, Line, Program};

@@ -1,8 +1,9 @@
 // Programs: functions with their code, in which every index is in range.
 
-ghost use Rattle.std.specs.Prelude.{◌≡◌, Some, option_copied, slice_get};
+ghost use Rattle.std.specs.Prelude.{◌≡◌, ◌↔◌, Some, IsOk, IfOk, IfErr, option_copied, slice_get};
 ghost use Rattle.hh_lang.specs.Form.{IsProgram, line_at};
 
+use crate::check::is_program;
 use crate::instr::Instr;
 use listed::Listed;
 use std::marker::Model;
@@ -47,6 +48,19 @@ impl Program {
         Program { functions, main }
     }
 
+    /// The program of these functions, of which one is main, or the functions back where they are none.
+    pub fn try_new(functions: Listed<Fun>, main: u32) -> Result<Program, Listed<Fun>>
+        ensures exact { IsOk result ↔ IsProgram (record { functions = functions; main = main }) }
+        ensures ok { IfOk result (λ p. p ≡ record { functions = functions; main = main }) }
+        ensures err { IfErr result (λ back. back ≡ functions) }
+    {
+        if is_program(functions.as_slice(), main) {
+            Ok(Program::new(functions, main))
+        } else {
+            Err(functions)
+        }
+    }
+
     /// The number of the function `main`.
     pub fn main(&self) -> u32
         ensures { result ≡ self.now.main }
@@ -75,5 +89,51 @@ impl Program {
         ensures { IsProgram self.now }
     {
         let _ = &self.functions;
+    }
+}
+
+#[cfg(test)]
+mod tests {
+    use super::*;
+    use crate::instr::IntReg;
+    use std::alloc::{AllocError, Global};
+    use std::test::Fail;
+
+    fn fun(alloc: Global, name: &[u8], code: &[Instr]) -> Result<Fun, AllocError> {
+        let mut lines = Listed::new(alloc);
+        for instr in code {
+            lines.push(Line {
+                instr: *instr,
+                number: 1,
+            })?;
+        }
+        Ok(Fun {
+            name: Listed::from_vec(name.to_vec(alloc)?),
+            code: lines,
+        })
+    }
+
+    #[test]
+    fn programs_and_others(rt: HostRuntime) -> Result<(), Fail> {
+        let i0 = IntReg::new(0);
+        let cases: [(&[Instr], u32, bool); 9] = [
+            (&[Instr::Ret], 1, true),
+            (&[Instr::Ret], 0, false),
+            (&[Instr::Ret], 2, false),
+            (&[], 1, false),
+            (&[Instr::Out(i0)], 1, false),
+            (&[Instr::Jmp(1), Instr::Jz(i0, 0), Instr::Ret], 1, true),
+            (&[Instr::Jz(i0, 2), Instr::Ret], 1, false),
+            (&[Instr::Call(1), Instr::Par(0, 1), Instr::Ret], 1, true),
+            (&[Instr::Par(2, 1), Instr::Ret], 1, false),
+        ];
+        for (i, (code, main, is)) in cases.into_iter().enumerate() {
+            let mut functions = Listed::new(rt.alloc());
+            functions.push(fun(rt.alloc(), b"other", &[Instr::Ret])?)?;
+            functions.push(fun(rt.alloc(), b"main", code)?)?;
+            assert_eq!(rt; is_program(functions.as_slice(), main), is, "case {i}");
+            assert_eq!(rt; Program::try_new(functions, main).is_ok(), is, "case {i}");
+        }
+        Ok(())
     }
 }

@@ -33,6 +33,14 @@ SetsInt x y = (x.mutable ≡ true) × ((at : ℕ) × (k : ℤ) × (y ≡ record 
 abbrev pub Freezes : Setting → Name → Object → Object → Type 0
 Freezes s n x y = (s.owner n.task ≡ s.task) × (y ≡ record x { mutable = false })
 
+-- the reference field that an instruction writes; the others write none
+abbrev pub WritesField : Frame → Instr → Object → Object → Type 0
+WritesField f (Putr o k v) x y = (x.mutable ≡ true) × ((at : ℕ) × (place_in (length x.refs) (int_in f k) ≡ Some at) × (y.refs ≡ slice_set x.refs at (ref_in f v)))
+WritesField f (Cas d o k e v) x y =
+    (x.mutable ≡ true) × ((at : ℕ) × (place_in (length x.refs) (int_in f k) ≡ Some at) × (y.refs ≡ slice_set x.refs at (ref_in f v))
+    × (same_name (flat (slice_get x.refs at)) (ref_in f e) ≡ true))
+WritesField f _ x y = y.refs ≡ x.refs
+
 pub record Writes (s : Setting) (f : Frame) (instr : Instr) (store store' : List (List Object)) : Type 0 where
   pub name : Name
   pub old : Object
@@ -41,6 +49,7 @@ pub record Writes (s : Setting) (f : Frame) (instr : Instr) (store store' : List
   pub was : object_at store name ≡ Some old
   pub by : IsWriteTo f instr name
   pub how : SetsRef f old new ⊎ (SetsInt old new ⊎ Freezes s name old new)
+  pub field : WritesField f instr old new
   pub is : store' ≡ put_object store name new
 
 abbrev pub Change : Setting → Frame → Instr → List (List Object) → List (List Object) → Type 0
@@ -98,9 +107,10 @@ module _ (s : Setting) (f : Frame) (instr : Instr) (store : List (List Object)) 
   made_changes : (d : ℕ) (o : Object) → o.strand ≡ s.strand → ((r : Name) → In o.refs (Some r) → (o.mutable ≡ false) × In f.refs (Some r)) → D (made s f store d o)
   made_changes d o same fields = inr (inl (record { new = o; strand = same; fields = fields; is = refl }))
 
-  set_ref : (i v at : ℕ) (n : Name) (x : Object) → ref_in f i ≡ Some n → object_at store n ≡ Some x → IsWriteTo f instr n → x.mutable ≡ true → (g : Frame)
+  set_ref : (i v at : ℕ) (n : Name) (x : Object) → ref_in f i ≡ Some n → object_at store n ≡ Some x → IsWriteTo f instr n → x.mutable ≡ true
+      → WritesField f instr x (record x { refs = slice_set x.refs at (ref_in f v) }) → (g : Frame)
       → D (Goes g (put_object store n (record x { refs = slice_set x.refs at (ref_in f v) })))
-  set_ref i v at n x reg is by mutable g = inr (inr (record {
+  set_ref i v at n x reg is by mutable field g = inr (inr (record {
     name = n;
     old = x;
     new = record x { refs = slice_set x.refs at (ref_in f v) };
@@ -108,12 +118,14 @@ module _ (s : Setting) (f : Frame) (instr : Instr) (store : List (List Object)) 
     was = is;
     by = by;
     how = inl (mutable, (at, ref_in f v, refl, λ r e. at_in f.refs v r e));
+    field = field;
     is = refl;
   }))
 
-  set_int : (i at : ℕ) (k : ℤ) (n : Name) (x : Object) → ref_in f i ≡ Some n → object_at store n ≡ Some x → IsWriteTo f instr n → x.mutable ≡ true → (g : Frame)
+  set_int : (i at : ℕ) (k : ℤ) (n : Name) (x : Object) → ref_in f i ≡ Some n → object_at store n ≡ Some x → IsWriteTo f instr n → x.mutable ≡ true
+      → WritesField f instr x (record x { ints = slice_set x.ints at k }) → (g : Frame)
       → D (Goes g (put_object store n (record x { ints = slice_set x.ints at k })))
-  set_int i at k n x reg is by mutable g = inr (inr (record {
+  set_int i at k n x reg is by mutable field g = inr (inr (record {
     name = n;
     old = x;
     new = record x { ints = slice_set x.ints at k };
@@ -121,12 +133,14 @@ module _ (s : Setting) (f : Frame) (instr : Instr) (store : List (List Object)) 
     was = is;
     by = by;
     how = inr (inl (mutable, (at, k, refl)));
+    field = field;
     is = refl;
   }))
 
-  freezes : (i : ℕ) (n : Name) (x : Object) → ref_in f i ≡ Some n → object_at store n ≡ Some x → IsWriteTo f instr n → s.owner n.task ≡ s.task → (g : Frame)
+  freezes : (i : ℕ) (n : Name) (x : Object) → ref_in f i ≡ Some n → object_at store n ≡ Some x → IsWriteTo f instr n → s.owner n.task ≡ s.task
+      → WritesField f instr x (record x { mutable = false }) → (g : Frame)
       → D (Goes g (put_object store n (record x { mutable = false })))
-  freezes i n x reg is by own g = inr (inr (record {
+  freezes i n x reg is by own field g = inr (inr (record {
     name = n;
     old = x;
     new = record x { mutable = false };
@@ -134,6 +148,7 @@ module _ (s : Setting) (f : Frame) (instr : Instr) (store : List (List Object)) 
     was = is;
     by = by;
     how = inr (inr (own, refl));
+    field = field;
     is = refl;
   }))
 
@@ -157,21 +172,21 @@ effect_changes s f store (Geti d o k) =
     object_changes s f (Geti d o k) store o _ (λ n x reg is. trap_changes s f (Geti d o k) store Range (place_in (length x.ints) (int_in f k)) _ (λ at e. inl refl))
 effect_changes s f store (Putr o k v) =
     object_changes s f (Putr o k v) store o _ (λ n x reg is. trap_changes s f (Putr o k v) store Range (place_in (length x.refs) (int_in f k)) _ (λ at e.
-    either_changes s f (Putr o k v) store x.mutable _ (Traps Frozen) (λ h. set_ref s f (Putr o k v) store o v at n x reg is reg h (onward f)) (λ h. tt)))
+    either_changes s f (Putr o k v) store x.mutable _ (Traps Frozen) (λ h. set_ref s f (Putr o k v) store o v at n x reg is reg h (h, (at, e, refl)) (onward f)) (λ h. tt)))
 effect_changes s f store (Puti o k v) =
     object_changes s f (Puti o k v) store o _ (λ n x reg is. trap_changes s f (Puti o k v) store Range (place_in (length x.ints) (int_in f k)) _ (λ at e.
-    either_changes s f (Puti o k v) store x.mutable _ (Traps Frozen) (λ h. set_int s f (Puti o k v) store o at (int_in f v) n x reg is reg h (onward f)) (λ h. tt)))
+    either_changes s f (Puti o k v) store x.mutable _ (Traps Frozen) (λ h. set_int s f (Puti o k v) store o at (int_in f v) n x reg is reg h refl (onward f)) (λ h. tt)))
 effect_changes s f store (Cntr d o) = object_changes s f (Cntr d o) store o _ (λ n x reg is. inl refl)
 effect_changes s f store (Cnti d o) = object_changes s f (Cnti d o) store o _ (λ n x reg is. inl refl)
 effect_changes s f store (Freeze o) =
     object_changes s f (Freeze o) store o _ (λ n x reg is.
     either_changes s f (Freeze o) store (s.owner n.task == s.task) (Goes (onward f) (put_object store n (record x { mutable = false }))) (Traps Frozen)
-    (λ h. freezes s f (Freeze o) store o n x reg is reg (eqb-true (s.owner n.task) s.task h) (onward f)) (λ h. tt))
+    (λ h. freezes s f (Freeze o) store o n x reg is reg (eqb-true (s.owner n.task) s.task h) refl (onward f)) (λ h. tt))
 effect_changes s f store (Cas d o k c v) =
     object_changes s f (Cas d o k c v) store o _ (λ n x reg is. trap_changes s f (Cas d o k c v) store Range (place_in (length x.refs) (int_in f k)) _ (λ at e.
     either_changes s f (Cas d o k c v) store x.mutable _ (Traps Frozen)
     (λ h. either_changes s f (Cas d o k c v) store (same_name (flat (slice_get x.refs at)) (ref_in f c)) _ _
-    (λ h'. set_ref s f (Cas d o k c v) store o v at n x reg is reg h (onward (with_int f d (pos 1)))) (λ h'. inl refl)) (λ h. tt)))
+    (λ h'. set_ref s f (Cas d o k c v) store o v at n x reg is reg h (h, (at, e, refl, h')) (onward (with_int f d (pos 1)))) (λ h'. inl refl)) (λ h. tt)))
 effect_changes s f store (Call g) = tt
 effect_changes s f store (Par g h) = refl
 effect_changes s f store Ret = tt

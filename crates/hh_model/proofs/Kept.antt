@@ -216,7 +216,7 @@ module _ (x : Task) (none : x.parent ≡ None) (run : is_over x.status ≡ false
     path = alone;
   }
 
-no_objects : (k c : ℕ) (o : Object) → slice_get (row_of (slice_get ([] ∷ []) k)) c ≡ Some o → ⊥
+pub no_objects : (k c : ℕ) (o : Object) → slice_get (row_of (slice_get ([] ∷ []) k)) c ≡ Some o → ⊥
 no_objects zero c o e = absurd cc
 no_objects (suc k) c o e = absurd cc
 

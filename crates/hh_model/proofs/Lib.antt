@@ -20,3 +20,5 @@ pub mod Stored
 pub mod Numbers
 pub mod FreeReads
 pub mod Frozen
+pub mod Winner
+pub mod Next

@@ -58,10 +58,10 @@ rows_stay [] k c o e = absurd cc
 rows_stay (row ∷ rows) zero c o e = e
 rows_stay (row ∷ rows) (suc k) c o e = rows_stay rows k c o e
 
-same_stays : (o : Object) → StaysAs o o
+pub same_stays : (o : Object) → StaysAs o o
 same_stays o = record { strand = refl; refs = refl; ints = refl; frozen = λ h. refl }
 
-stays_on : (a b c : Object) → StaysAs a b → StaysAs b c → StaysAs a c
+pub stays_on : (a b c : Object) → StaysAs a b → StaysAs b c → StaysAs a c
 stays_on a b c h k = record {
   strand = k.strand ∙ h.strand;
   refs = k.refs ∙ h.refs;

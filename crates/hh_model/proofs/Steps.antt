@@ -57,7 +57,7 @@ registers_more (g ∷ fs) f r h =
       | inr i ↦ elim (registers_more fs f r i) [ inl j ↦ inl (in_append_right (named g.refs) (registers fs) r j) | inr j ↦ inr j ]
     ]
 
-last_in : (fs : List Frame) (f : Frame) → last_of fs ≡ Some f → In fs f
+pub last_in : (fs : List Frame) (f : Frame) → last_of fs ≡ Some f → In fs f
 last_in [] f e = absurd cc
 last_in (g ∷ []) f e = inl cc
 last_in (g ∷ h ∷ fs) f e = inr (last_in (h ∷ fs) f e)

@@ -7,3 +7,5 @@ pub mod Action
 pub mod Machine
 pub mod Store
 pub mod ReadLaws
+pub mod Winner
+pub mod NextLaw

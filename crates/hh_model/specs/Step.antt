@@ -258,7 +258,7 @@ follow m t x line Returns = returned m t x
 follow m t x line (Traps kind) = ended_by m (Trapped kind t line)
 follow m t x line (Stops n) = ended_by m (Entangled t (owner_of m.tasks n.task))
 
--- one instruction of a running task; the code of each function ends with a return, so there always is one
+-- one instruction of a running task; a law says that there always is one
 abbrev pub stepped : ProgramText → State → ℕ → Task → Option Line → State
 stepped p m t x None = m
 stepped p m t x (Some line) = follow m t x line.number (effect (setting m t x) x.top m.store line.instr)

@@ -55,17 +55,6 @@ fn decide_jz(top: &Frame, tested: IntReg, to: u32) -> Action
     }
 }
 
-/// What the making of a mutable object comes to.
-fn decide_newm(limit: u32, top: &Frame, target: RefReg, refs: IntReg, ints: IntReg) -> Action
-    ensures meaning { (s : Setting) (store : List (List Object)) → s.field_limit ≡ limit → meaning s top.now store result ≡ effect s top.now store (Instr.Newm target refs ints) }
-    ensures ready { (store : List (List Object)) → IsReady store result }
-{
-    match field_counts(limit, top.int(refs), top.int(ints)) {
-        Some((refs, ints)) => Action::New(target, refs, ints),
-        None => Action::Trap(Trap::Size),
-    }
-}
-
 impl State {
     /// What an instruction of a running task comes to.
     pub(crate) fn decide(&self, t: u32, instr: Instr) -> Action
@@ -88,13 +77,7 @@ impl State {
             Instr::Same(target, left, right) => decide_same(top, target, left, right),
             Instr::Jmp(to) => Action::Jump(to),
             Instr::Jz(tested, to) => decide_jz(top, tested, to),
-            Instr::Newm(target, refs, ints) => decide_newm(
-                self.field_limit,
-                top,
-                target,
-                refs,
-                ints,
-            ),
+            Instr::Newm(target, refs, ints) => self.decide_newm(top, target, refs, ints),
             Instr::Pack(target, refs, ints) => Action::Pack(target, refs, ints),
             Instr::Getr(target, object, index) => self.decide_getr(t, top, target, object, index),
             Instr::Geti(target, object, index) => self.decide_geti(top, target, object, index),
@@ -110,6 +93,17 @@ impl State {
             Instr::Par(left, right) => Action::Fork(left, right),
             Instr::Ret => Action::Return,
             Instr::Out(source) => Action::Print(top.int(source)),
+        }
+    }
+
+    /// What the making of a mutable object comes to.
+    fn decide_newm(&self, top: &Frame, target: RefReg, refs: IntReg, ints: IntReg) -> Action
+        ensures meaning { (s : Setting) (store : List (List Object)) → s.field_limit ≡ self.now.field_limit → meaning s top.now store result ≡ effect s top.now store (Instr.Newm target refs ints) }
+        ensures ready { (store : List (List Object)) → IsReady store result }
+    {
+        match field_counts(self.field_limit, top.int(refs), top.int(ints)) {
+            Some((refs, ints)) => Action::New(target, refs, ints),
+            None => Action::Trap(Trap::Size),
         }
     }
 

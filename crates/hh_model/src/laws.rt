@@ -2,6 +2,8 @@
 
 ghost use Rattle.hh_model.specs.PathLaw.{PathIsPrecedence};
 ghost use Rattle.hh_model.specs.ReadLaws.{OwnReadsGo, FrozenReadsGo, StopsNameOwners};
+ghost use Rattle.hh_model.specs.Winner.{OneWinner};
+ghost use Rattle.hh_model.specs.NextLaw.{AlwaysNext};
 ghost use Rattle.hh_model.specs.Store.{NothingLeaves, ObjectsStay, NamesAreStored, OutputsGrow, TasksAreNumbered};
 
 /// Who owns an object stands on a running task's path exactly where the object's strand precedes the task's.
@@ -47,4 +49,14 @@ pub fn outputs_grow()
 /// Tasks are numbered in the order of the forks, left and then right, and stay the children of their parents.
 pub fn tasks_are_numbered()
     ensures { TasksAreNumbered }
+{}
+
+/// Of the compare and swaps that would set a field from nil, the first yields 1 and all others 0; the field keeps its value.
+pub fn one_winner()
+    ensures { OneWinner }
+{}
+
+/// Each frame of each task has a next instruction, so that no step is without one.
+pub fn always_next()
+    ensures { AlwaysNext }
 {}

@@ -77,6 +77,13 @@ impl<'p> Machine<'p> {
         }
     }
 
+    /// How many steps were taken.
+    pub fn steps(&self) -> u32
+        ensures { result ≡ self.now.steps }
+    {
+        self.steps
+    }
+
     /// What the steps have written out, the oldest first.
     pub fn outputs(&self) -> &[i64]
         ensures { result.now ≡ self.now.state.outputs }

@@ -21,7 +21,7 @@ fn main(rt: HostRuntime) -> ExitCode {
     let status = match words_of_call(&rt) {
         Err(_) => Status::NoMemory,
         Ok(words) => {
-            let mut source = FileSource::new(rt.reader());
+            let mut source = FileSource::new(&rt, rt.reader());
             let mut sink = OutSink::new(io::writer(&rt));
             let ran = command(
                 &rt,

@@ -1,6 +1,7 @@
 pub mod Lists
 pub mod Laid
 pub mod Meets
+pub mod Owned
 pub mod Joins
 pub mod Above
 pub mod Sought

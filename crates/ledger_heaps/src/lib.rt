@@ -5,6 +5,7 @@
 mod collection;
 mod joined;
 mod names;
+mod owners;
 mod placed;
 mod reachable;
 mod search;
@@ -13,7 +14,11 @@ mod sweeping;
 
 pub use collection::{collect, Collected};
 pub use joined::{fresh, join, merge};
+pub use owners::are_owned;
 pub use placed::{place, put_last};
 pub use reachable::within;
 pub use sizes::{is_countable, take_of, units, units_in, words_at, words_in, words_sum};
 pub use sweeping::{sweep, Swept};
+
+#[cfg(test)]
+mod tests;

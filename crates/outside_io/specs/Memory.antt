@@ -1,9 +1,11 @@
 -- Sources and sinks in memory, as contracts see them.
 use Rattle.std.specs.Prelude.{ℕ, List}
 
--- the bytes still to come, the most that a call gives, the calls so far, the calls that fail (the first is 1), the faults so far
+-- the bytes still to come, those that every name has, the most that a call gives, the calls so far, the calls that fail (the
+-- first is 1), the faults so far
 pub record Input : Type 0 where
   pub left : List ℕ
+  pub named : List ℕ
   pub most : ℕ
   pub calls : ℕ
   pub failing : List ℕ
@@ -16,3 +18,8 @@ pub record Output : Type 0 where
   pub calls : ℕ
   pub failing : List ℕ
   pub faults : ℕ
+
+-- a source that never fails: the bytes still to come, and those that every name has
+pub record SureInput : Type 0 where
+  pub left : List ℕ
+  pub named : List ℕ

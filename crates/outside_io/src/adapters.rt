@@ -5,12 +5,16 @@ ghost use Rattle.std.specs.Prelude.{◌≡◌, ◌<◌, ◌≤◌, length, None}
 use crate::fault::{Failed, one_more};
 use crate::sink::Sink;
 use crate::source::Source;
+use std::fs;
 use std::io::{Read, Write};
+use std::rt::Files;
 
-/// A reader, as of standard input, as a source.
+/// A reader, as of standard input, or the file that was found last, as a source.
 #[derive(Drop)]
-pub struct FileSource<R> {
+pub struct FileSource<'r, F: Files, R> {
+    files: &'r F,
     reader: R,
+    file: Option<F::File>,
     faults: u64,
 }
 
@@ -21,23 +25,48 @@ pub struct OutSink<W> {
     faults: u64,
 }
 
-impl<R> FileSource<R> {
-    pub fn new(reader: R) -> FileSource<R>
-        ensures { result ≡ record { reader = reader; faults = 0 } }
+impl<'r, F: Files, R> FileSource<'r, F, R> {
+    /// A source of the reader's bytes, which finds files among these.
+    pub fn new(files: &'r F, reader: R) -> FileSource<'r, F, R>
+        ensures { (result.faults ≡ 0) × (result.file ≡ None) × (result.reader ≡ reader) }
     {
-        FileSource { reader, faults: 0 }
+        FileSource {
+            files,
+            reader,
+            file: None,
+            faults: 0,
+        }
     }
 }
 
-impl<R: Read> Source for FileSource<R> {
+impl<'r, F: Files, R: Read> Source for FileSource<'r, F, R> {
     ghost use Rattle.std.specs.Prelude.{None};
 
     ghost left = { λ _. None };
 
+    ghost named = { λ _ _. None };
+
     ghost faults = { λ s. s.faults };
 
+    fn find(&mut self, name: &str) -> Result<(), Failed> {
+        match fs::open(self.files, name) {
+            Ok(file) => {
+                self.file = Some(file);
+                Ok(())
+            }
+            Err(_) => {
+                self.faults = one_more(self.faults);
+                Err(Failed)
+            }
+        }
+    }
+
     fn take(&mut self, buf: &mut [u8]) -> Result<usize, Failed> {
-        match self.reader.read(buf) {
+        let read = match &mut self.file {
+            Some(file) => file.read(buf),
+            None => self.reader.read(buf),
+        };
+        match read {
             Ok(count) => Ok(count),
             Err(_) => {
                 self.faults = one_more(self.faults);
@@ -110,13 +139,15 @@ mod tests {
 
     #[test]
     fn a_reader_is_a_source(rt: HostRuntime) {
-        let mut source = FileSource::new(Flaky { fails: false });
+        let mut source = FileSource::new(&rt, Flaky { fails: false });
         let mut buf = [0u8; 4];
         assert_eq!(rt; source.take(&mut buf), Err(Failed));
         assert_eq!(rt; source.faults, 1);
         assert_eq!(rt; source.take(&mut buf), Ok(1));
         assert_eq!(rt; buf[0], 7);
         assert_eq!(rt; source.faults, 1);
+        assert_eq!(rt; source.find("no file has this name"), Err(Failed));
+        assert_eq!(rt; source.faults, 2);
     }
 
     #[test]

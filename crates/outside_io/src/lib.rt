@@ -7,6 +7,7 @@ mod gate;
 mod memory;
 mod sink;
 mod source;
+mod sure;
 
 pub use adapters::{FileSource, OutSink};
 pub use fault::Failed;
@@ -14,3 +15,4 @@ pub use gate::{EmptyGate, Gate, Point};
 pub use memory::{MemSink, MemSource};
 pub use sink::Sink;
 pub use source::Source;
+pub use sure::{SureSink, SureSource};

@@ -1,6 +1,6 @@
 // Sources and sinks in memory, which tell their bytes and fail at chosen calls.
 
-ghost use Rattle.std.specs.Prelude.{◌≡◌, ◌<◌, ◌≤◌, ◌↔◌, ◌++◌, [], ◌⊎◌, length, take, drop, min, IfOk, OnErr, IsErr, IsTrue, Contains, Some};
+ghost use Rattle.std.specs.Prelude.{◌≡◌, ◌<◌, ◌≤◌, ◌↔◌, ◌++◌, [], ◌⊎◌, length, take, drop, min, List, ℕ, IfOk, OnOk, OnErr, IsErr, IsTrue, Contains, Some};
 ghost use Rattle.outside_io.specs.Fault.{HasRisen, raised};
 ghost use Rattle.outside_io.specs.Told.{Gives, with_more};
 
@@ -10,10 +10,12 @@ use crate::source::Source;
 use std::alloc::{AllocError, Global};
 use std::marker::Model;
 
-/// Bytes in memory as a source.
+/// Bytes in memory as a source: some that come at first, and others that every name has.
 #[derive(Drop)]
 pub struct MemSource {
     bytes: Vec<u8>,
+    named: Vec<u8>,
+    is_found: bool,
     at: usize,
     most: usize,
     calls: u64,
@@ -22,14 +24,14 @@ pub struct MemSource {
 }
 
 impl Model for MemSource {
-    ghost use Rattle.std.specs.Prelude.{ℕ, ◌<◌, ◌≤◌, length, drop};
+    ghost use Rattle.std.specs.Prelude.{ℕ, ◌<◌, ◌≤◌, length, drop, if◌then◌else◌};
     ghost use Rattle.outside_io.specs.Memory.{Input};
 
     ghost Value = { Input };
 
-    ghost view = { λ s. record { left = drop s.at s.bytes.items; most = s.most; calls = s.calls; failing = s.failing.items; faults = s.faults } };
+    ghost view = { λ s. record { left = drop s.at (if s.is_found then s.named.items else s.bytes.items); named = s.named.items; most = s.most; calls = s.calls; failing = s.failing.items; faults = s.faults } };
 
-    ghost invariant = { λ s. (s.at ≤ length s.bytes.items) × (0 < s.most) };
+    ghost invariant = { λ s. (s.at ≤ length (if s.is_found then s.named.items else s.bytes.items)) × (0 < s.most) };
 }
 
 /// Bytes in memory as a sink.
@@ -53,8 +55,8 @@ impl Model for MemSink {
     ghost invariant = { λ s. 0 < s.most };
 }
 
-// Copies the first bytes of one list over the first ones of another.
-fn copy_front(to: &mut [u8], from: &[u8], count: usize)
+/// Copies the first bytes of one list over the first ones of another.
+pub(crate) fn copy_front(to: &mut [u8], from: &[u8], count: usize)
     requires room { count ≤ length to.old }
     requires there { count ≤ length from.now }
     ensures { take count to.new ≡ take count from.now }
@@ -63,13 +65,16 @@ fn copy_front(to: &mut [u8], from: &[u8], count: usize)
 }
 
 impl MemSource {
-    /// A source of these bytes that gives at most so many in a call, and fails at the calls with these numbers, from 1.
-    pub fn new(bytes: Vec<u8>, most: usize, failing: Vec<u64>) -> MemSource
+    /// A source of these bytes, where every name has the bytes `named`. It gives at most so many in a call, and fails at the
+    /// calls with these numbers, from 1.
+    pub fn new(bytes: Vec<u8>, named: Vec<u8>, most: usize, failing: Vec<u64>) -> MemSource
         requires { 0 < most }
-        ensures { result ≡ record { left = bytes.items; most = most; calls = 0; failing = failing.items; faults = 0 } }
+        ensures { result ≡ record { left = bytes.items; named = named.items; most = most; calls = 0; failing = failing.items; faults = 0 } }
     {
         MemSource {
             bytes,
+            named,
+            is_found: false,
             at: 0,
             most,
             calls: 0,
@@ -82,7 +87,11 @@ impl MemSource {
     pub fn left(&self) -> &[u8]
         ensures { result.now ≡ self.now.left }
     {
-        &self.bytes[self.at..]
+        if self.is_found {
+            &self.named[self.at..]
+        } else {
+            &self.bytes[self.at..]
+        }
     }
 }
 
@@ -91,7 +100,30 @@ impl Source for MemSource {
 
     ghost left = { λ s. Some s.left };
 
+    ghost named = { λ s _. Some s.named };
+
     ghost faults = { λ s. s.faults };
+
+    fn find(&mut self, name: &str) -> Result<(), Failed>
+        ensures found { OnOk result (Some self.new.left ≡ Some self.old.named) }
+        ensures failed { OnErr result (HasRisen self.old.faults self.new.faults) }
+        ensures kept { OnErr result (Some self.new.left ≡ Some self.old.left) }
+        ensures names { (n : List ℕ) → Some self.new.named ≡ Some self.old.named }
+        ensures never_falls { self.old.faults ≤ self.new.faults }
+        ensures fails { IsErr result ↔ Contains self.old.failing (raised self.old.calls) }
+        ensures counted { self.new.calls ≡ raised self.old.calls }
+        ensures settings { (self.new.most ≡ self.old.most) × (self.new.failing ≡ self.old.failing) }
+    {
+        let _ = name;
+        self.calls = one_more(self.calls);
+        if self.failing.contains(&self.calls) {
+            self.faults = one_more(self.faults);
+            return Err(Failed);
+        }
+        self.is_found = true;
+        self.at = 0;
+        Ok(())
+    }
 
     fn take(&mut self, buf: &mut [u8]) -> Result<usize, Failed>
         requires { 0 < length buf.old }
@@ -99,6 +131,7 @@ impl Source for MemSource {
         ensures given { IfOk result (λ n. Gives (Some self.old.left) (Some self.new.left) (take n buf.new)) }
         ensures failed { OnErr result (HasRisen self.old.faults self.new.faults) }
         ensures kept { OnErr result (self.new.left ≡ self.old.left) }
+        ensures names { (n : List ℕ) → Some self.new.named ≡ Some self.old.named }
         ensures never_falls { self.old.faults ≤ self.new.faults }
         ensures fails { IsErr result ↔ Contains self.old.failing (raised self.old.calls) }
         ensures amount { IfOk result (λ n. n ≡ min (length buf.new) (min self.old.most (length self.old.left))) }
@@ -110,7 +143,7 @@ impl Source for MemSource {
             self.faults = one_more(self.faults);
             return Err(Failed);
         }
-        let left = &self.bytes[self.at..];
+        let left = self.left();
         let count = buf.len().min(self.most.min(left.len()));
         copy_front(buf, left, count);
         self.at += count;
@@ -186,7 +219,12 @@ mod tests {
     #[test]
     fn a_source_gives_its_bytes_and_fails_where_told(rt: HostRuntime) -> Result<(), Fail> {
         let alloc = rt.alloc();
-        let mut source = MemSource::new(b"hello".to_vec(alloc)?, 4, vec![in alloc; 2]?);
+        let mut source = MemSource::new(
+            b"hello".to_vec(alloc)?,
+            b"file".to_vec(alloc)?,
+            4,
+            vec![in alloc; 2, 5]?,
+        );
         let mut buf = [0u8; 8];
         assert_eq!(rt; source.take(&mut buf), Ok(4));
         assert_eq!(rt; &buf[..4], b"hell".as_slice());
@@ -194,6 +232,11 @@ mod tests {
         assert_eq!(rt; source.left(), b"o".as_slice());
         assert_eq!(rt; source.take(&mut buf), Ok(1));
         assert_eq!(rt; source.take(&mut buf), Ok(0));
+        assert_eq!(rt; source.find("a"), Err(Failed));
+        assert_eq!(rt; source.left(), b"".as_slice());
+        assert_eq!(rt; source.find("a"), Ok(()));
+        assert_eq!(rt; source.take(&mut buf), Ok(4));
+        assert_eq!(rt; &buf[..4], b"file".as_slice());
         Ok(())
     }
 

@@ -1,7 +1,7 @@
 -- The chunks of heaps: what a leaf collection took, where room comes from, what waits for a large object, and how many are
 -- in use.
 use Rattle.std.proofs.Common.{◌≡◌, ℕ, zero, suc, ◌+◌, ◌-◌, ◌*◌, ◌<◌, ◌≤◌, ◌==◌, ◌||◌, not, max, Bool, true, false, cond, Option, Some, None, List, [], ◌∷◌, ◌++◌, length, slice_get, slice_set, sum_by, nat_lt, inl, inr, refl, ap, ap₂, sym, subst, ◌∙◌, arith, is_some, length-append}
-use Rattle.std.proofs.lemmas.Bool.{false≢true, both_ways, cases_eq, ltb-false, eqb-true}
+use Rattle.std.proofs.lemmas.Bool.{false≢true, both_ways, cases_eq, ltb-false, eqb-true, cases_lt}
 use Rattle.std.proofs.lemmas.List.Sums.{sum_by-append, sum_by-cons}
 use Rattle.std.proofs.lemmas.Option.{same_Some}
 use Rattle.listed.proofs.Members.{In, got_same, got_other, got_within, in_append_left, in_append_right}
@@ -20,8 +20,10 @@ use Rattle.hh_model.proofs.Counts.{step_limit}
 use Rattle.hh_model.proofs.Runs.{waiting, running_tells, grown_other, three_other, wp, below}
 use Rattle.run_ledger.specs.declared.data.Heap.{Heap}
 use Rattle.run_ledger.specs.declared.data.Ledger.{Ledger}
-use Rattle.run_ledger.specs.Heaps.{units, is_small, words_of, words_at, small_in, held_in, begun_in, units_in, fresh, heap_of, or_fresh, with_heap_at, in_use, placed, put_last, lacks_room, take_of}
+use Rattle.run_ledger.specs.Heaps.{units, is_small, words_of, words_at, small_in, held_in, begun_in, units_in, fresh, heap_of, or_fresh, with_heap_at, in_use, placed, put_last, lacks_room, take_of, chunk_words}
 use Rattle.run_ledger.specs.Steps.{allocated_by, allocated_in, stepped_to, task_step, task_steps, is_due, is_in_need, is_private, standing}
+use Rattle.run_ledger.specs.Space.{last_words}
+use Rattle.run_ledger.proofs.Chunks.{sum_same, Full, full_same, last_same, last_full, put_last_words, put_full, append_full, last_append}
 use Rattle.run_ledger.proofs.Machine.{stepped_machine}
 use Rattle.run_ledger.proofs.Sound.{collecting, names_of}
 use Rattle.run_ledger.proofs.Moves.{moves_each}
@@ -33,11 +35,7 @@ use Rattle.run_ledger.proofs.Bounds.{asked_bounds, stands_by}
 
 -- SUMS THAT ARE THE SAME
 
-sum_same : {A : Type 0} (f g : A → ℕ) (xs : List A) → ((x : A) → In xs x → f x ≡ g x) → sum_by f xs ≡ sum_by g xs
-sum_same f g [] same = refl
-sum_same f g (x ∷ xs) same = sum_by-cons f x xs ∙ (ap₂ (λ a b. a + b) (same x (inl refl)) (sum_same f g xs (λ y i. same y (inr i))) ∙ sym (sum_by-cons g x xs))
-
-total_same : (f g : Heap → ℕ) (heaps : List Heap) → ((u : ℕ) (h : Heap) → slice_get heaps u ≡ Some h → f h ≡ g h) → total f heaps ≡ total g heaps
+pub total_same : (f g : Heap → ℕ) (heaps : List Heap) → ((u : ℕ) (h : Heap) → slice_get heaps u ≡ Some h → f h ≡ g h) → total f heaps ≡ total g heaps
 total_same f g [] same = refl
 total_same f g (h ∷ heaps) same =
     sum_by-cons f h heaps ∙ (ap₂ (λ a b. a + b) (same zero h refl) (total_same f g heaps (λ u k e. same (suc u) k e)) ∙ sym (sum_by-cons g h heaps))
@@ -68,11 +66,14 @@ put_length (ns ∷ ms ∷ rest) n l = ap suc (put_length (ms ∷ rest) n (omega 
 -- ONE HEAP
 
 -- while a leaf collection goes on it has the chunks that it takes, and none waits for a large object; where there is room
--- there is a chunk; and where a chunk waits, the task's next step allocates the large object that fits, and isn't due
+-- there is a chunk; where a chunk waits, the task's next step allocates the large object that fits, and isn't due; no list
+-- has more words than a chunk, and the last one leaves the room that is there
 pub record Booked (p : ProgramText) (s : Limits) (m : State) (u : ℕ) (h : Heap) : Type 0 where
   pub begun : (c : ℕ) → h.begun ≡ Some c → (c ≡ take_of m h) × (h.reserved ≡ 0)
   pub room : 0 < h.room → 0 < length h.chunks
   pub reserved : 0 < h.reserved → (w : ℕ) × (asked p m u ≡ Some w) × (is_small w ≡ false) × (h.reserved ≡ units w) × (h.since < s.leaf)
+  pub full : Full m h.chunks
+  pub last : last_words m h.chunks + h.room ≤ chunk_words
 
 pub record BookedLedger (p : ProgramText) (s : Limits) (l : Ledger) : Type 0 where
   pub each : (u : ℕ) (h : Heap) → slice_get l.heaps u ≡ Some h → Booked p s l.machine u h
@@ -108,7 +109,7 @@ wait_run m u w r = by (slice_get m.tasks u) w r
     by (Some x) a b = both_ways (is_waiting (Some x)) (running_tells x.status b).1 a
 
 -- a step leaves the other tasks that run as they are
-step_others : (p : ProgramText) (m : State) (t u : ℕ) → Kept m → (u ≡ t → ⊥) → is_running (slice_get m.tasks u) ≡ true → slice_get (step p m t).tasks u ≡ slice_get m.tasks u
+pub step_others : (p : ProgramText) (m : State) (t u : ℕ) → Kept m → (u ≡ t → ⊥) → is_running (slice_get m.tasks u) ≡ true → slice_get (step p m t).tasks u ≡ slice_get m.tasks u
 step_others p m t u K ne run =
     step_cases p m t K (λ m'. slice_get m'.tasks u ≡ slice_get m.tasks u) refl (λ x e is r why. refl)
     (λ x y store outs is r ep ed es ej names fields alters grows. got_other m.tasks t u y ne)
@@ -164,6 +165,15 @@ module _ (p : ProgramText) (s : Limits) (l : Ledger) (t : ℕ) (S : SoundAt t l)
   asked_same u w ne e =
       ap (asked_by p m') (step_others p m t u S.0.kept ne (asked_runs p m u w e)) ∙ (asked_limit p m m' (slice_get m.tasks u) (step_limit p m t S.0.kept) ∙ e)
 
+  small_same : (u : ℕ) (h : Heap) → slice_get l.heaps u ≡ Some h → (n : Name) → In (small_in h) n → words_at m' n ≡ words_at m n
+  small_same u h e n i = words_same u h n e (in_append_left (small_in h) h.large n i)
+
+  full_now : (u : ℕ) (h : Heap) → slice_get l.heaps u ≡ Some h → Full m' h.chunks
+  full_now u h e = full_same m m' h.chunks (small_same u h e) (B.each u h e).full
+
+  last_now : (u : ℕ) (h : Heap) → slice_get l.heaps u ≡ Some h → last_words m' h.chunks + h.room ≤ chunk_words
+  last_now u h e = let a = last_same m m' h.chunks (small_same u h e) in let b = (B.each u h e).last in omega arith
+
   -- the heap of another task
   carried : (u : ℕ) (h : Heap) → (u ≡ t → ⊥) → slice_get l.heaps u ≡ Some h → Booked p s m' u h
   carried u h ne e =
@@ -172,6 +182,8 @@ module _ (p : ProgramText) (s : Limits) (l : Ledger) (t : ℕ) (S : SoundAt t l)
         begun = λ c is. (let q = B0.begun c is in (q.0 ∙ sym (take_same u h e), q.1));
         room = B0.room;
         reserved = λ pos. (let q = B0.reserved pos in (q.0, asked_same u q.0 ne q.1, q.2, q.3, q.4));
+        full = full_now u h e;
+        last = last_now u h e;
       }
 
   idle_t : is_some heap.0.begun ≡ false
@@ -186,6 +198,8 @@ module _ (p : ProgramText) (s : Limits) (l : Ledger) (t : ℕ) (S : SoundAt t l)
     begun = λ c is. no_begun heap.0 c idle_t is;
     room = B_t.room;
     reserved = λ pos. absurd (none_some (sym e ∙ (B_t.reserved pos).1));
+    full = full_now t heap.0 heap.1;
+    last = last_now t heap.0 heap.1;
   }
     where
       none_some : {w : ℕ} → ◌≡◌ {A = Option ℕ} None (Some w) → ⊥
@@ -194,18 +208,40 @@ module _ (p : ProgramText) (s : Limits) (l : Ledger) (t : ℕ) (S : SoundAt t l)
   abbrev next : Name
   next = next_name t l.machine.store
 
+  -- what is asked for is at least two words
+  at_least : (w : ℕ) → asked p m t ≡ Some w → (2 ≤ w) × (words_at m' next ≤ w)
+  at_least w e =
+      let q = grown.new w e in
+      let size : words_at m' next ≡ words_of (Some q.0.0) = ap words_of q.0.1 in
+      let le : words_at m' next ≤ w = q.1 in
+      (omega arith, le)
+
+  lacks_at : (w : ℕ) → asked p m t ≡ Some w → lacks_room heap.0 w ≡ false
+  lacks_at w e = ap (λ o. lacks_room (or_fresh o) w) (sym heap.1) ∙ (asked_bounds s (heap_of l t) (asked p m t) w e fine).1
+
+  fits : (w : ℕ) → asked p m t ≡ Some w → nat_lt heap.0.room w ≡ false → last_words m' heap.0.chunks + words_at m' next ≤ chunk_words
+  fits w e lacks =
+      let a = (at_least w e).1 in
+      let r : w ≤ heap.0.room = ltb-false heap.0.room w lacks in
+      let d = last_now t heap.0 heap.1 in
+      omega arith
+
   -- or asks for these words
-  placed_by : (w : ℕ) → asked p m t ≡ Some w → (v : Bool) → is_small w ≡ v
+  placed_by : (w : ℕ) → asked p m t ≡ Some w → (v : Bool) → is_small w ≡ v → cond v (nat_lt heap.0.room w) (not (heap.0.reserved == units w)) ≡ false
       → Booked p s m' t (cond v (record heap.0 { chunks = put_last heap.0.chunks next; room = heap.0.room - w; since = heap.0.since + w }) (record heap.0 { large = heap.0.large ++ next ∷ []; reserved = 0; since = heap.0.since + w }))
-  placed_by w e true is = record {
+  placed_by w e true is lacks = record {
     begun = λ c q. no_begun heap.0 c idle_t q;
     room = λ pos. put_some heap.0.chunks next;
     reserved = λ pos. (let q = B_t.reserved pos in absurd (false≢true (sym q.2 ∙ (ap is_small (same_Some q.0 w (sym q.1 ∙ e)) ∙ is))));
+    full = put_full m' heap.0.chunks next (full_now t heap.0 heap.1) (fits w e lacks);
+    last = let a = put_last_words m' heap.0.chunks next in let c = fits w e lacks in let d = last_now t heap.0 heap.1 in let f = (at_least w e).1 in let r = ltb-false heap.0.room w lacks in omega arith;
   }
-  placed_by w e false is = record {
+  placed_by w e false is lacks = record {
     begun = λ c q. no_begun heap.0 c idle_t q;
     room = B_t.room;
     reserved = λ pos. absurd (omega arith);
+    full = full_now t heap.0 heap.1;
+    last = last_now t heap.0 heap.1;
   }
 
   each_by : (o : Option ℕ) → asked p m t ≡ o → (u : ℕ) (h : Heap) → slice_get (allocated_by l t o).heaps u ≡ Some h → Booked p s m' u h
@@ -221,7 +257,7 @@ module _ (p : ProgramText) (s : Limits) (l : Ledger) (t : ℕ) (S : SoundAt t l)
       elim (cases_eq u t) [
         | inl same ↦
             let at : placed heap.0 next w ≡ h = same_Some (placed heap.0 next w) h (sym (got_same l.heaps t heap.0 (placed heap.0 next w) heap.1) ∙ (ap (slice_get heaps1) (sym same) ∙ is)) in
-            subst (λ v. Booked p s m' v h) (sym same) (subst (Booked p s m' t) at (placed_by w e (is_small w) refl))
+            subst (λ v. Booked p s m' v h) (sym same) (subst (Booked p s m' t) at (placed_by w e (is_small w) refl (lacks_at w e)))
         | inr ne ↦ carried u h ne (sym (got_other l.heaps t u (placed heap.0 next w) ne) ∙ is)
       ]
 
@@ -238,32 +274,32 @@ module _ (p : ProgramText) (s : Limits) (l : Ledger) (t : ℕ) (S : SoundAt t l)
       old_by (Some w') ne e =
           sym (got_other l.heaps t u (placed heap.0 next w') ne) ∙ (ap (λ (q : Ledger). slice_get q.heaps u) (sym (ap (with_heap_at l t (λ g. placed g next w')) heap.1)) ∙ e)
 
+  merged_last : (xs ys : List (List Name)) (room : ℕ) → Full m' xs → (0 < room → 0 < length ys) → last_words m' ys + room ≤ chunk_words → last_words m' (xs ++ ys) + room ≤ chunk_words
+  merged_last xs [] room F some h = let a = last_full m' (xs ++ []) (append_full m' xs [] F (λ ns i. absurd i)) in let z : room ≤ 0 = elim (cases_lt 0 room) [ inl pos ↦ let q = some pos in absurd (omega arith) | inr le ↦ le ] in omega arith
+  merged_last xs (y ∷ ys) room F some h = let a = last_append m' xs (y ∷ ys) (omega arith) in omega arith
+
   each_k : (u : ℕ) (h : Heap) → slice_get k.heaps u ≡ Some h → Booked p s m' u h
   each_k =
       moves_each (Booked p s m') t m.tasks b.heaps k.heaps leaves.2 (each_by (asked p m t) refl)
-      (λ u h q. record { begun = q.begun; room = q.room; reserved = q.reserved })
-      (λ u. record { begun = λ c e. no_begun fresh c refl e; room = λ pos. absurd (omega arith); reserved = λ pos. absurd (omega arith) })
-      (λ u ns h q. record { begun = q.begun; room = q.room; reserved = q.reserved })
-      (λ u h x y is w none q. record {
+      (λ h q. record { begun = q.begun; room = q.room; reserved = q.reserved; full = q.full; last = q.last })
+      (λ u. record { begun = λ c e. no_begun fresh c refl e; room = λ pos. absurd (omega arith); reserved = λ pos. absurd (omega arith); full = λ ns i. absurd i; last = omega arith })
+      (λ ns h q. record { begun = q.begun; room = q.room; reserved = q.reserved; full = q.full; last = q.last })
+      (λ u h x y v z is w none q qx qy. record {
         begun = λ c e. no_begun h c none e;
         room = λ pos. (let a = q.room pos in omega (arith, length-append (x.chunks ++ y.chunks) h.chunks));
         reserved = λ pos. absurd (parent_none u h is w pos);
+        full = append_full m' (x.chunks ++ y.chunks) h.chunks (append_full m' x.chunks y.chunks qx.full qy.full) q.full;
+        last = merged_last (x.chunks ++ y.chunks) h.chunks h.room (append_full m' x.chunks y.chunks qx.full qy.full) q.room q.last;
       })
       (λ u h none q. record {
         begun = λ c e. no_begun h c none e;
         room = λ pos. absurd (omega arith);
         reserved = λ pos. (let a = q.reserved pos in (a.0, a.1, a.2, a.3, let lt : h.since < s.leaf = a.4 in omega arith));
+        full = λ ns i. absurd i;
+        last = omega arith;
       })
 
   -- CHUNKS IN USE
-
-  -- what is asked for is at least two words
-  at_least : (w : ℕ) → asked p m t ≡ Some w → (2 ≤ w) × (words_at m' next ≤ w)
-  at_least w e =
-      let q = grown.new w e in
-      let size : words_at m' next ≡ words_of (Some q.0.0) = ap words_of q.0.1 in
-      let le : words_at m' next ≤ w = q.1 in
-      (omega arith, le)
 
   placed_units : (w : ℕ) → asked p m t ≡ Some w → (v : Bool) → is_small w ≡ v → cond v (nat_lt heap.0.room w) (not (heap.0.reserved == units w)) ≡ false
       → units_in m' (cond v (record heap.0 { chunks = put_last heap.0.chunks next; room = heap.0.room - w; since = heap.0.since + w }) (record heap.0 { large = heap.0.large ++ next ∷ []; reserved = 0; since = heap.0.since + w })) ≤ units_in m' heap.0
@@ -283,9 +319,6 @@ module _ (p : ProgramText) (s : Limits) (l : Ledger) (t : ℕ) (S : SoundAt t l)
       holds : (v : Bool) → not v ≡ false → v ≡ true
       holds true q = refl
       holds false q = sym q
-
-  lacks_at : (w : ℕ) → asked p m t ≡ Some w → lacks_room heap.0 w ≡ false
-  lacks_at w e = ap (λ o. lacks_room (or_fresh o) w) (sym heap.1) ∙ (asked_bounds s (heap_of l t) (asked p m t) w e fine).1
 
   use_by : (o : Option ℕ) → asked p m t ≡ o → total (units_in m') (allocated_by l t o).heaps ≤ total (units_in m) l.heaps
   use_by None e = let a = total_same (units_in m') (units_in m) l.heaps units_same in omega arith

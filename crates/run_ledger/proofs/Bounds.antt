@@ -17,7 +17,7 @@ use Rattle.run_ledger.specs.Heaps.{with_heap, with_heap_at, heap_at, heap_of, wi
 use Rattle.run_ledger.specs.Steps.{join_heaps, moved_on, moved_to, settled, stepped_to, allocated_by, allocated_in, task_step, task_steps, on_asked, is_due, is_in_need, is_private, most_steps, standing}
 use Rattle.run_ledger.specs.Entries.{after_kind, after, chunk_units, refusal, long_at}
 use Rattle.run_ledger.specs.Journals.{after_all, opening, ledger_of, is_legal_from}
-use Rattle.run_ledger.specs.Laws.{StepsAreBounded, AllocatesInBounds, AllocationsAreInBounds}
+use Rattle.run_ledger.specs.Space.{StepsAreBounded, AllocatesInBounds, AllocationsAreInBounds}
 use Rattle.run_ledger.proofs.Journals.{entry_tells, out_tells, none_unless}
 use Rattle.run_ledger.proofs.Cuts.{cut_legal}
 
@@ -52,7 +52,7 @@ allocated_steps : (l : Ledger) (t : ℕ) (o : Option ℕ) → (allocated_by l t 
 allocated_steps l t None = refl
 allocated_steps l t (Some w) = heap_steps l t _
 
-task_step_steps : (p : ProgramText) (l : Ledger) (t : ℕ) → (task_step p l t).steps ≡ l.steps + 1
+pub task_step_steps : (p : ProgramText) (l : Ledger) (t : ℕ) → (task_step p l t).steps ≡ l.steps + 1
 task_step_steps p l t = by (can_step l.machine t)
   where
     by : (v : Bool) → (cond v (stepped_to (allocated_in p l t) t (step p l.machine t)) (record l { steps = l.steps + 1 })).steps ≡ l.steps + 1

@@ -9,7 +9,7 @@ use Rattle.run_ledger.specs.declared.data.Refused.{Refused}
 use Rattle.run_ledger.specs.declared.data.RefusedAt.{RefusedAt}
 use Rattle.run_ledger.specs.Entries.{refusal, after}
 use Rattle.run_ledger.specs.Journals.{opening, after_all, is_legal_from, refused_or, first_refused_from}
-use Rattle.run_ledger.specs.Laws.{LegalIsUnrefused, JournalsCanBeCut, FirstRefusedIsFirst}
+use Rattle.run_ledger.specs.Cuts.{LegalIsUnrefused, JournalsCanBeCut, FirstRefusedIsFirst}
 
 pub none_is : {A : Type 0} (o : Option A) → is_none o ≡ true → o ≡ None
 none_is None h = refl

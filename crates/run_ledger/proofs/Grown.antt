@@ -1,5 +1,7 @@
 -- What a step adds to the store: nothing, or the one object that it asks words for; and objects keep their words.
-use Rattle.std.proofs.Common.{◌≡◌, ℕ, ℤ, zero, suc, pos, ◌+◌, ◌-◌, ◌==◌, ◌<◌, ◌≤◌, Bool, true, false, cond, Option, Some, None, List, [], ◌∷◌, ◌++◌, length, slice_get, slice_set, replicate, take, ◌⊎◌, inl, inr, refl, ap, ap₂, sym, subst, ◌∙◌, arith, is_some, nat_lt}
+use Rattle.run_ledger.specs.Space.{store_words}
+use Rattle.std.proofs.lemmas.List.Sums.{sum_by-append, sum_by-cons}
+use Rattle.std.proofs.Common.{◌≡◌, ℕ, ℤ, zero, suc, pos, ◌+◌, ◌-◌, ◌==◌, ◌<◌, ◌≤◌, Bool, true, false, cond, Option, Some, None, List, [], ◌∷◌, ◌++◌, length, slice_get, slice_set, replicate, take, ◌⊎◌, inl, inr, refl, ap, ap₂, sym, subst, ◌∙◌, arith, is_some, nat_lt, sum_by, length-set}
 use Rattle.std.proofs.lemmas.Bool.{false≢true}
 use Rattle.std.proofs.lemmas.Option.{same_Some}
 use Rattle.listed.proofs.Members.{got_same, got_back, got_within}
@@ -20,7 +22,7 @@ use Rattle.hh_model.specs.Names.{words_asked, words_for}
 use Rattle.hh_model.specs.Precedence.{precedes}
 use Rattle.hh_model.specs.Store.{IsStored}
 use Rattle.hh_model.specs.Step.{setting, fetched, step, follow, called, returned, returned_to, last_return, child_ended_by, last_of, kept_by, result_of, sibling, is_left, or_same, join_of, ended_by, can_step, is_running, asked, asked_line, frame_limit, depth_limit}
-use Rattle.hh_model.proofs.Stores.{put_cases, made_cases}
+use Rattle.hh_model.proofs.Stores.{put_cases, made_cases, in_row}
 use Rattle.hh_model.proofs.Carried.{next_name}
 use Rattle.hh_model.proofs.Kept.{Kept, empty_rows}
 use Rattle.hh_model.proofs.Closed.{asked_at}
@@ -28,11 +30,49 @@ use Rattle.hh_model.proofs.Objects.{object_later}
 use Rattle.hh_model.proofs.Taken.{can_runs, step_taken, step_none}
 use Rattle.run_ledger.specs.Heaps.{words_of, words_at}
 
+-- WORDS OF A STORE
+
+sum_set : {A : Type 0} (g : A → ℕ) (xs : List A) (k : ℕ) (x y : A) → slice_get xs k ≡ Some x → sum_by g (slice_set xs k y) + g x ≡ sum_by g xs + g y
+sum_set g [] k x y e = absurd cc
+sum_set g (z ∷ xs) zero x y e =
+    let same : z ≡ x = same_Some z x e in
+    let q = ap g same in
+    let a = sum_by-cons g z xs in
+    let b : sum_by g (slice_set (z ∷ xs) zero y) ≡ g y + sum_by g xs = sum_by-cons g y xs in
+    omega arith
+sum_set g (z ∷ xs) (suc k) x y e =
+    let more = sum_set g xs k x y e in
+    let a = sum_by-cons g z xs in
+    let b : sum_by g (slice_set (z ∷ xs) (suc k) y) ≡ g z + sum_by g (slice_set xs k y) = sum_by-cons g z (slice_set xs k y) in
+    omega arith
+
+put_words : (store : List (List Object)) (n : Name) (x y : Object) → object_at store n ≡ Some x → words_of (Some y) ≡ words_of (Some x) → store_words (put_object store n y) ≡ store_words store
+put_words store n x y is w =
+    let row = in_row store (slice_get store n.task) n.task n.count x refl is in
+    let new : List Object = slice_set (row_of (slice_get store n.task)) n.count y in
+    let at : row_of (slice_get store n.task) ≡ row.0 = ap row_of row.1 in
+    let a = sum_set (λ r. sum_by (λ o. words_of (Some o)) r) store n.task row.0 new row.1 in
+    let b = sum_set (λ o. words_of (Some o)) row.0 n.count x y row.2 in
+    let c : sum_by (λ o. words_of (Some o)) new ≡ sum_by (λ o. words_of (Some o)) (slice_set row.0 n.count y) = ap (λ r. sum_by (λ o. words_of (Some o)) (slice_set r n.count y)) at in
+    omega arith
+
+two_empty : (store : List (List Object)) → store_words (store ++ [] ∷ [] ∷ []) ≡ store_words store
+two_empty store = sum_by-append (λ row. sum_by (λ o. words_of (Some o)) row) store ([] ∷ [] ∷ []) ∙ omega arith
+
+push_words : (store : List (List Object)) (t : ℕ) (row : List Object) (o : Object) → slice_get store t ≡ Some row → store_words (slice_set store t (row_of (slice_get store t) ++ o ∷ [])) ≡ store_words store + words_of (Some o)
+push_words store t row o e =
+    let at : row_of (slice_get store t) ≡ row = ap row_of e in
+    let a = sum_set (λ r. sum_by (λ q. words_of (Some q)) r) store t row (row_of (slice_get store t) ++ o ∷ []) e in
+    let b = sum_by-append (λ q. words_of (Some q)) row (o ∷ []) in
+    let c : sum_by (λ q. words_of (Some q)) (row_of (slice_get store t) ++ o ∷ []) ≡ sum_by (λ q. words_of (Some q)) (row ++ o ∷ []) = ap (λ r. sum_by (λ q. words_of (Some q)) (r ++ o ∷ [])) at in
+    let d : sum_by (λ q. words_of (Some q)) (o ∷ []) ≡ words_of (Some o) = sum_by-cons (λ q. words_of (Some q)) o [] ∙ omega arith in
+    omega arith
+
 -- EFFECTS
 
--- the first store has no object that the second hasn't
+-- the first store has no object that the second hasn't, and as many words
 abbrev pub Within : List (List Object) → List (List Object) → Type 0
-Within store' store = (n : Name) (q : Object) → object_at store' n ≡ Some q → (o : Object) × (object_at store n ≡ Some o)
+Within store' store = ((n : Name) (q : Object) → object_at store' n ≡ Some q → (o : Object) × (object_at store n ≡ Some o)) × (store_words store' ≡ store_words store)
 
 -- one object more, in the row of the task t, of at most so many words
 pub record Adds (t words : ℕ) (store store' : List (List Object)) : Type 0 where
@@ -55,7 +95,7 @@ Makes s store next (Stops n) = next ≡ None
 
 module _ (s : Setting) (f : Frame) (store : List (List Object)) where
   same : Grows s.task None store store
-  same = inl (refl, λ n q e. (q, e))
+  same = inl (refl, (λ n q e. (q, e), refl))
 
   trap : {A : Type 0} (kind : Trap) (o : Option A) (go : A → Effect) → ((x : A) → Makes s store None (go x)) → Makes s store None (or_trap kind o go)
   trap kind None go each = refl
@@ -69,8 +109,14 @@ module _ (s : Setting) (f : Frame) (store : List (List Object)) where
       by None e = refl
       by (Some x) e = each n x e
 
-  put : (n : Name) (x y : Object) → object_at store n ≡ Some x → Grows s.task None store (put_object store n y)
-  put n x y is = inl (refl, λ k q e. elim (put_cases store n y k q e) [ inl p ↦ (x, ap (object_at store) p.0 ∙ is) | inr old ↦ (q, old) ])
+  put : (n : Name) (x y : Object) → object_at store n ≡ Some x → words_of (Some y) ≡ words_of (Some x) → Grows s.task None store (put_object store n y)
+  put n x y is w = inl (refl, (λ k q e. elim (put_cases store n y k q e) [ inl p ↦ (x, ap (object_at store) p.0 ∙ is) | inr old ↦ (q, old) ], put_words store n x y is w))
+
+  refs_words : (x : Object) (at : ℕ) (v : Option Name) → words_of (Some (record x { refs = slice_set x.refs at v })) ≡ words_of (Some x)
+  refs_words x at v = ap (λ k. 2 + k + length x.ints) (length-set x.refs at v)
+
+  ints_words : (x : Object) (at : ℕ) (v : ℤ) → words_of (Some (record x { ints = slice_set x.ints at v })) ≡ words_of (Some x)
+  ints_words x at v = ap (λ k. 2 + length x.refs + k) (length-set x.ints at v)
 
   writable : (b : Bool) (go : Effect) → Makes s store None go → Makes s store None (cond b go (Traps Frozen))
   writable true go m = m
@@ -126,13 +172,13 @@ module _ (s : Setting) (f : Frame) (store : List (List Object)) where
   )
   makes (Getr d o k) = object (ref_in f o) _ (λ n x is. trap Range (place_in (length x.refs) (int_in f k)) _ (λ at. reads d (flat (slice_get x.refs at))))
   makes (Geti d o k) = object (ref_in f o) _ (λ n x is. trap Range (place_in (length x.ints) (int_in f k)) _ (λ at. same))
-  makes (Putr o k v) = object (ref_in f o) _ (λ n x is. trap Range (place_in (length x.refs) (int_in f k)) _ (λ at. writable x.mutable _ (put n x _ is)))
-  makes (Puti o k v) = object (ref_in f o) _ (λ n x is. trap Range (place_in (length x.ints) (int_in f k)) _ (λ at. writable x.mutable _ (put n x _ is)))
+  makes (Putr o k v) = object (ref_in f o) _ (λ n x is. trap Range (place_in (length x.refs) (int_in f k)) _ (λ at. writable x.mutable _ (put n x _ is (refs_words x at (ref_in f v)))))
+  makes (Puti o k v) = object (ref_in f o) _ (λ n x is. trap Range (place_in (length x.ints) (int_in f k)) _ (λ at. writable x.mutable _ (put n x _ is (ints_words x at (int_in f v)))))
   makes (Cntr d o) = object (ref_in f o) _ (λ n x is. same)
   makes (Cnti d o) = object (ref_in f o) _ (λ n x is. same)
   makes (Freeze o) = object (ref_in f o) _ (λ n x is.
-      either (s.owner n.task == s.task) (Goes (onward f) (put_object store n (record x { mutable = false }))) (Traps Frozen) (put n x (record x { mutable = false }) is) refl)
-  makes (Cas d o k e v) = object (ref_in f o) _ (λ n x is. trap Range (place_in (length x.refs) (int_in f k)) _ (λ at. writable x.mutable _ (either (same_name (flat (slice_get x.refs at)) (ref_in f e)) _ _ (put n x _ is) same)))
+      either (s.owner n.task == s.task) (Goes (onward f) (put_object store n (record x { mutable = false }))) (Traps Frozen) (put n x (record x { mutable = false }) is refl) refl)
+  makes (Cas d o k e v) = object (ref_in f o) _ (λ n x is. trap Range (place_in (length x.refs) (int_in f k)) _ (λ at. writable x.mutable _ (either (same_name (flat (slice_get x.refs at)) (ref_in f e)) _ _ (put n x _ is (refs_words x at (ref_in f v))) same)))
   makes (Call g) = refl
   makes (Par g h) = refl
   makes Ret = refl
@@ -163,11 +209,11 @@ module _ (m : State) (t : ℕ) (x : Task) where
   returned_store (Some f) = refl
 
   within_same : (store : List (List Object)) → store ≡ m.store → Within store m.store
-  within_same store e n q h = (q, ap (λ w. object_at w n) (sym e) ∙ h)
+  within_same store e = (λ n q h. (q, ap (λ w. object_at w n) (sym e) ∙ h), ap store_words e)
 
   within_fork : (b : Bool) (m1 m2 : State) → m1.store ≡ m.store ++ [] ∷ [] ∷ [] → m2.store ≡ m.store → Within (cond b m1 m2).store m.store
-  within_fork true m1 m2 e g n q h = (q, empty_rows m.store n.task n.count q (ap (λ w. object_at w n) (sym e) ∙ h))
-  within_fork false m1 m2 e g n q h = within_same m2.store g n q h
+  within_fork true m1 m2 e g = (λ n q h. (q, empty_rows m.store n.task n.count q (ap (λ w. object_at w n) (sym e) ∙ h)), ap store_words e ∙ two_empty m.store)
+  within_fork false m1 m2 e g = within_same m2.store g
 
   followed : (p : ProgramText) (line : ℕ) (next : Option ℕ) (e : Effect) → Makes (setting m t x) m.store next e → Grows t next m.store (follow m t x line e).store
   followed p line next (Goes f store) k = k
@@ -180,7 +226,7 @@ module _ (m : State) (t : ℕ) (x : Task) where
 
 module _ (p : ProgramText) (m : State) (t : ℕ) (can : can_step m t ≡ true) where
   grows_line : (x : Task) (o : Option Line) → slice_get m.tasks t ≡ Some x → fetched p x.top ≡ o → Grows t (asked_line m.field_limit x.top o) m.store (step p m t).store
-  grows_line x None is il = inl (refl, λ n q h. (q, ap (λ (w : State). object_at w.store n) (sym (step_none p m t x can is il)) ∙ h))
+  grows_line x None is il = inl (refl, (λ n q h. (q, ap (λ (w : State). object_at w.store n) (sym (step_none p m t x can is il)) ∙ h), ap (λ (w : State). store_words w.store) (step_none p m t x can is il)))
   grows_line x (Some line) is il =
       subst (λ (w : State). Grows t (words_asked m.field_limit x.top line.instr) m.store w.store) (sym (step_taken p m t x line can is il))
       (followed m t x p line.number (words_asked m.field_limit x.top line.instr) (effect (setting m t x) x.top m.store line.instr) (makes (setting m t x) x.top m.store line.instr))
@@ -198,6 +244,8 @@ pub record Grown (p : ProgramText) (m : State) (t : ℕ) : Type 0 where
   pub words : (n : Name) → IsStored m n → words_at (step p m t) n ≡ words_at m n
   pub down : (n : Name) → IsStored (step p m t) n → IsStored m n ⊎ ((n ≡ next_name t m.store) × (is_some (asked p m t) ≡ true))
   pub new : (w : ℕ) → asked p m t ≡ Some w → IsStored (step p m t) (next_name t m.store) × (words_at (step p m t) (next_name t m.store) ≤ w)
+  pub none : asked p m t ≡ None → store_words (step p m t).store ≡ store_words m.store
+  pub some : (w : ℕ) → asked p m t ≡ Some w → store_words (step p m t).store ≡ store_words m.store + words_at (step p m t) (next_name t m.store)
 
 -- the next name of a task has no object yet
 pub next_unstored : (m : State) (t : ℕ) → IsStored m (next_name t m.store) → ⊥
@@ -222,7 +270,7 @@ module _ (p : ProgramText) (m : State) (t : ℕ) (K : Kept m) (can : can_step m 
   old_words n s = let l = object_later p m t K n s.0 s.1 in ap words_of l.1 ∙ (same_words s.0 l.0 l.2.refs l.2.ints ∙ sym (ap words_of s.1))
 
   down_by : Grows t (asked p m t) m.store (step p m t).store → (n : Name) → IsStored (step p m t) n → IsStored m n ⊎ ((n ≡ next_name t m.store) × (is_some (asked p m t) ≡ true))
-  down_by (inl g) n s = inl (g.1 n s.0 s.1)
+  down_by (inl g) n s = inl (g.1.0 n s.0 s.1)
   down_by (inr (w, e, a)) n s = elim (made_cases m.store t a.new n s.0 (ap (λ u. object_at u n) (sym a.is) ∙ s.1)) [
     | inl h ↦ inr (λ i. record { task = h.0 i; count = h.1 i }, ap is_some e)
     | inr old ↦ inl (s.0, old)
@@ -236,10 +284,26 @@ module _ (p : ProgramText) (m : State) (t : ℕ) (K : Kept m) (can : can_step m 
       let same : v ≡ w = same_Some v w (sym e' ∙ e) in
       ((a.new, at), subst (λ k. k ≤ w) (sym (ap words_of at)) (subst (λ k. words_of (Some a.new) ≤ k) same a.size))
 
+  none_by : Grows t (asked p m t) m.store (step p m t).store → asked p m t ≡ None → store_words (step p m t).store ≡ store_words m.store
+  none_by (inl g) e = g.1.1
+  none_by (inr (v, e', a)) e = absurd (none_some (sym e ∙ e'))
+    where
+      none_some : {v : ℕ} → ◌≡◌ {A = Option ℕ} None (Some v) → ⊥
+      none_some q = absurd cc
+
+  some_by : Grows t (asked p m t) m.store (step p m t).store → (w : ℕ) → asked p m t ≡ Some w → store_words (step p m t).store ≡ store_words m.store + words_at (step p m t) (next_name t m.store)
+  some_by (inl g) w e = absurd cc
+  some_by (inr (v, e', a)) w e =
+      let row = got_some m.store t t_row in
+      let at : object_at (step p m t).store (next_name t m.store) ≡ Some a.new = ap (λ u. object_at u (next_name t m.store)) a.is ∙ made_here m.store t row.0 a.new row.1 in
+      ap store_words a.is ∙ (push_words m.store t row.0 a.new row.1 ∙ ap (λ k. store_words m.store + k) (sym (ap words_of at)))
+
   pub grown : Grown p m t
   grown = record {
     up = λ n s. (let l = object_later p m t K n s.0 s.1 in (l.0, l.1));
     words = old_words;
     down = down_by (step_grows p m t can);
     new = new_by (step_grows p m t can);
+    none = none_by (step_grows p m t can);
+    some = some_by (step_grows p m t can);
   }

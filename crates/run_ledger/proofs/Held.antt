@@ -129,7 +129,7 @@ insert_by n m ms x rest true (inr i) = inr i
 insert_by n m ms x rest false (inl e) = inr (inl e)
 insert_by n m ms x rest false (inr i) = elim (rest i) [ inl e ↦ inl e | inr j ↦ inr (inr j) ]
 
-insert_cases : (n : Name) (ms : List Name) (x : Name) → In (insert_name n ms) x → (n ≡ x) ⊎ In ms x
+pub insert_cases : (n : Name) (ms : List Name) (x : Name) → In (insert_name n ms) x → (n ≡ x) ⊎ In ms x
 insert_cases n [] x (inl e) = inl e
 insert_cases n [] x (inr i) = inr i
 insert_cases n (m ∷ ms) x i = insert_by n m ms x (insert_cases n ms x) (name_le n m) i
@@ -145,7 +145,7 @@ in_insert n [] x (inl e) = inl e
 in_insert n [] x (inr i) = absurd i
 in_insert n (m ∷ ms) x i = into_by n m ms x (in_insert n ms x) (name_le n m) i
 
-birth_cases : (ns : List Name) (x : Name) → In (by_birth ns) x → In ns x
+pub birth_cases : (ns : List Name) (x : Name) → In (by_birth ns) x → In ns x
 birth_cases [] x i = i
 birth_cases (n ∷ ns) x i = elim (insert_cases n (by_birth ns) x i) [ inl e ↦ inl e | inr j ↦ inr (birth_cases ns x j) ]
 

@@ -7,13 +7,8 @@ use Rattle.hh_model.specs.declared.data.Name.{Name}
 use Rattle.hh_model.specs.declared.data.State.{State}
 use Rattle.run_ledger.specs.declared.data.Heap.{Heap}
 use Rattle.run_ledger.specs.Heaps.{chunk_words, units, words_at, words_sum, small_in, lay, laid_onto, small_survivors, collected, take_of, without_empty, is_last_empty, room_behind}
+use Rattle.run_ledger.specs.Space.{last_words}
 use Rattle.run_ledger.proofs.Weights.{survivors_weight}
-
--- the words in the last list
-abbrev last_words : State → List (List Name) → ℕ
-last_words m [] = 0
-last_words m (ns ∷ []) = words_sum m ns
-last_words m (ns ∷ ms ∷ rest) = last_words m (ms ∷ rest)
 
 -- of so many lists with u words in the last one and so many in all, two neighbours have more than a chunk's words
 abbrev Filled : ℕ → ℕ → ℕ → Type 0

@@ -12,8 +12,15 @@ pub mod Grown
 pub mod Weights
 pub mod Stocks
 pub mod Drops
+pub mod Chunks
 pub mod Laid
 pub mod Booked
 pub mod Space
 pub mod Within
 pub mod Paced
+pub mod Holders
+pub mod Words
+pub mod Since
+pub mod OwedEntries
+pub mod Frames
+pub mod Collections

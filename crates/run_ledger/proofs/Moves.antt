@@ -43,19 +43,19 @@ Moves t tasks heaps heaps' = (heaps' ≡ heaps) ⊎ (LetsGo t heaps heaps' ⊎ (
 
 -- what every heap has it keeps, if each of these changes keeps it
 pub moves_each : (Q : ℕ → Heap → Type 0) (t : ℕ) (tasks : List Task) (heaps heaps' : List Heap) → Moves t tasks heaps heaps'
-    → ((u : ℕ) (h : Heap) → slice_get heaps u ≡ Some h → Q u h) → ((u : ℕ) (h : Heap) → Q u h → Q u (let_go h)) → ((u : ℕ) → Q u fresh) → ((u : ℕ) (ns : List Name) (h : Heap) → Q u h → Q u (forked_heap ns h))
-    → ((u : ℕ) (h l r : Heap) → slice_get heaps u ≡ Some h → waiting tasks u ≡ true → is_some h.begun ≡ false → Q u h → Q u (merged h l r))
+    → ((u : ℕ) (h : Heap) → slice_get heaps u ≡ Some h → Q u h) → ((h : Heap) → Q t h → Q t (let_go h)) → ((u : ℕ) → Q u fresh) → ((ns : List Name) (h : Heap) → Q t h → Q t (forked_heap ns h))
+    → ((u : ℕ) (h l r : Heap) (v w : ℕ) → slice_get heaps u ≡ Some h → waiting tasks u ≡ true → is_some h.begun ≡ false → Q u h → Q v l → Q w r → Q u (merged h l r))
     → ((u : ℕ) (h : Heap) → is_some h.begun ≡ false → Q u h → Q u (emptied h))
     → (u : ℕ) (h : Heap) → slice_get heaps' u ≡ Some h → Q u h
 moves_each Q t tasks heaps heaps' (inl e) each go new fork merge empty u h is = each u h (ap (λ hs. slice_get hs u) (sym e) ∙ is)
 moves_each Q t tasks heaps heaps' (inr (inl m)) each go new fork merge empty u h is =
     elim (got_cases heaps t u (let_go m.heap) h (ap (λ hs. slice_get hs u) (sym m.is) ∙ is)) [
-      | inl e ↦ subst (Q u) (sym e.1) (go u m.heap (each u m.heap (ap (slice_get heaps) e.0 ∙ m.at)))
+      | inl e ↦ subst (λ v. Q v h) (sym e.0) (subst (Q t) (sym e.1) (go m.heap (each t m.heap m.at)))
       | inr old ↦ each u h old
     ]
 moves_each Q t tasks heaps heaps' (inr (inr (inl f))) each go new fork merge empty u h is =
     elim (got_cases (heaps ++ fresh ∷ fresh ∷ []) t u (forked_heap f.names f.heap) h (ap (λ hs. slice_get hs u) (sym f.is) ∙ is)) [
-      | inl e ↦ subst (Q u) (sym e.1) (fork u f.names f.heap (each u f.heap (ap (slice_get heaps) e.0 ∙ f.at)))
+      | inl e ↦ subst (λ v. Q v h) (sym e.0) (subst (Q t) (sym e.1) (fork f.names f.heap (each t f.heap f.at)))
       | inr old ↦ elim (pushed heaps u h old) [ inl before ↦ each u h before | inr e ↦ subst (Q u) (sym e) (new u) ]
     ]
   where
@@ -73,7 +73,7 @@ moves_each Q t tasks heaps heaps' (inr (inr (inr j))) each go new fork merge emp
         | inr other' ↦ elim (got_cases heaps j.parent u (merged j.own j.left j.right) h other') [
           | inl e ↦
               let at : slice_get heaps u ≡ Some j.own = ap (slice_get heaps) e.0 ∙ j.at_parent in
-              subst (Q u) (sym e.1) (merge u j.own j.left j.right at (ap (waiting tasks) e.0 ∙ j.waits) j.idle_parent (each u j.own at))
+              subst (Q u) (sym e.1) (merge u j.own j.left j.right j.child (j.child + 1) at (ap (waiting tasks) e.0 ∙ j.waits) j.idle_parent (each u j.own at) (each j.child j.left j.at_left) (each (j.child + 1) j.right j.at_right))
           | inr old ↦ each u h old
         ]
       ]

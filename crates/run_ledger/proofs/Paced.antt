@@ -9,7 +9,7 @@ use Rattle.run_ledger.specs.declared.data.WorkerPace.{WorkerPace}
 use Rattle.run_ledger.specs.Entries.{after, is_fuel}
 use Rattle.run_ledger.specs.Journals.{opening, after_all}
 use Rattle.run_ledger.specs.Pace.{gives, owed, pace_of, pace_after, pace_after_all, pace_opening, is_paced_from}
-use Rattle.run_ledger.specs.Laws.{PacedIsMeant}
+use Rattle.run_ledger.specs.Cuts.{PacedIsMeant}
 
 module _ (p : ProgramText) (s : Limits) where
   abbrev Each : Ledger → List WorkerPace → List Event → Type 0

@@ -1,10 +1,10 @@
 -- Space by count over legal journals.
-use Rattle.std.proofs.Common.{◌≡◌, ℕ, zero, suc, ◌+◌, ◌<◌, ◌≤◌, Bool, true, false, cond, Option, Some, None, List, [], ◌∷◌, ◌++◌, map, length, slice_get, slice_set, nat_lt, nat_le, ◌⊎◌, inl, inr, refl, ap, sym, subst, ◌∙◌, arith, is_some, is_none, length-append}
+use Rattle.std.proofs.Common.{◌≡◌, ℕ, zero, suc, ◌+◌, ◌<◌, ◌≤◌, Bool, true, false, cond, Option, Some, None, List, [], ◌∷◌, ◌++◌, map, length, slice_get, slice_set, nat_lt, nat_le, ◌⊎◌, inl, inr, refl, ap, sym, subst, ◌∙◌, arith, is_some, is_none, length-append, filter, ◌*◌}
 use Rattle.std.proofs.lemmas.Bool.{false≢true, both_ways, cases_lt, and_parts, leb-true, leb-false, ltb-false}
 use Rattle.std.specs.Prelude.{unwrap_or}
 use Rattle.std.proofs.lemmas.List.{length-map}
 use Rattle.std.proofs.lemmas.Option.{same_Some}
-use Rattle.listed.proofs.Members.{in_from_contains, got_same}
+use Rattle.listed.proofs.Members.{in_from_contains, got_same, in_from_kept, In}
 use Rattle.run_trace.specs.declared.entry.Kind.{Kind}
 use Rattle.run_trace.specs.declared.entry.Kind.TheVariants.{Took, Ran, Chunk, Begin, End as EndOf, PutOff, Mark, More, Sweep, Fuel}
 use Rattle.run_trace.specs.Entry.{Event}
@@ -17,13 +17,18 @@ use Rattle.hh_model.proofs.Runs.{waiting}
 use Rattle.run_ledger.specs.declared.data.Heap.{Heap}
 use Rattle.run_ledger.specs.declared.data.Ledger.{Ledger}
 use Rattle.run_ledger.specs.declared.data.RunEnd.TheVariants.{Pool}
-use Rattle.run_ledger.specs.Heaps.{chunk_words, units, is_small, words_at, units_sum, begun_in, units_in, fresh, heap_at, heap_of, or_fresh, with_heap, with_heap_at, in_use, within, lacks_room, take_of, collected, swept_heap, in_snapshot, is_last_empty, without_empty, laid_onto, small_survivors}
+use Rattle.run_ledger.specs.Heaps.{chunk_words, units, is_small, words_at, units_sum, begun_in, units_in, fresh, heap_at, heap_of, or_fresh, with_heap, with_heap_at, in_use, within, lacks_room, take_of, collected, swept_heap, in_snapshot, is_last_empty, without_empty, laid_onto, small_survivors, small_in, held_in, words_sum, words_in}
 use Rattle.run_ledger.specs.Steps.{on_asked, is_due, is_in_need}
 use Rattle.run_ledger.specs.Entries.{refusal, after_kind, after, is_out, is_pool_enough, chunk_units, with_chunk}
+use Rattle.run_ledger.specs.Report.{peak_from}
 use Rattle.run_ledger.specs.Journals.{opening, after_all, ledger_of, is_legal_from, is_legal}
-use Rattle.run_ledger.specs.Laws.{EachHasName, LeafCollectionsAreBounded, SweptWithin, SweepsAreBounded, UseIsBounded}
+use Rattle.run_ledger.specs.Space.{EachHasName, LeafCollectionsAreBounded, SweptWithin, SweepsAreBounded, UseIsBounded, last_words, FitsInChunks, HeapsFit}
 use Rattle.run_ledger.proofs.Sound.{collecting, SoundLedger}
-use Rattle.run_ledger.proofs.Weights.{total_set, kept_weight}
+use Rattle.run_ledger.proofs.Weights.{sum_flat, total, total_set, kept_weight}
+use Rattle.run_ledger.proofs.Chunks.{Full, last_full, append_full, last_append, onto_full, room_full, small_full, swept_full, swept_last, heap_words}
+use Rattle.run_ledger.proofs.Held.{birth_cases}
+use Rattle.run_ledger.specs.Reachable.{holds_name}
+use Rattle.std.proofs.lemmas.List.Sums.{sum_by-cons}
 use Rattle.run_ledger.proofs.Laid.{HaveNames, onto_names, nonempty_names, collected_bound, room_some, nonempty_length, last_some}
 use Rattle.run_ledger.proofs.Stocks.{StockedLedger, with_heap_any, kind_stocked, opening_stocked}
 use Rattle.run_ledger.proofs.Bounds.{ran_tells}
@@ -93,15 +98,19 @@ module _ (p : ProgramText) (s : Limits) where
         none : is_some h.begun ≡ false
         none = ap collecting (sym e) ∙ idle
 
+        one_empty : Full l.machine ([] ∷ [])
+        one_empty ns (inl q) = subst (λ ys. words_sum l.machine ys ≤ chunk_words) q (omega arith)
+        one_empty ns (inr i) = absurd i
+
         by : (v : Bool) → is_small w ≡ v
             → Booked p s l.machine t (cond v (record h { chunks = h.chunks ++ [] ∷ []; room = chunk_words }) (record h { reserved = cond v 1 (units w) }))
             × (units_in l.machine (cond v (record h { chunks = h.chunks ++ [] ∷ []; room = chunk_words }) (record h { reserved = cond v 1 (units w) })) ≤ units_in l.machine h + cond v 1 (units w))
         by true small = (
-          record { begun = λ c q. no_begun h c none q; room = λ pos. omega (arith, length-append h.chunks ([] ∷ [])); reserved = b.reserved },
+          record { begun = λ c q. no_begun h c none q; room = λ pos. omega (arith, length-append h.chunks ([] ∷ [])); reserved = b.reserved; full = append_full l.machine h.chunks ([] ∷ []) b.full one_empty; last = let a = last_append l.machine h.chunks ([] ∷ []) (omega arith) in omega arith },
           omega (arith, length-append h.chunks ([] ∷ [])),
         )
         by false small = (
-          record { begun = λ c q. no_begun h c none q; room = b.room; reserved = λ pos. (w, is, small, refl, leb-false s.leaf h.since no_due) },
+          record { begun = λ c q. no_begun h c none q; room = b.room; reserved = λ pos. (w, is, small, refl, leb-false s.leaf h.since no_due); full = b.full; last = b.last },
           omega arith,
         )
 
@@ -125,9 +134,13 @@ module _ (p : ProgramText) (s : Limits) where
       let z = begun_none h none in
       let same : take_of l.machine (heap_of l t) ≡ take_of l.machine h = ap (take_of l.machine) (heap_is l t h e) in
       subst (λ (g : Heap). Booked p s l.machine t g × (units_in l.machine g ≤ units_in l.machine h + take_of l.machine (heap_of l t))) (sym (is h)) (
-        record { begun = λ c q. (sym (same_Some (take_of l.machine h) c q), zero_reserved); room = b.room; reserved = b.reserved },
+        record { begun = λ c q. (sym (same_Some (take_of l.machine h) c q), zero_reserved); room = b.room; reserved = b.reserved; full = b.full; last = b.last },
         let u : units_in l.machine h' ≡ length h.chunks + units_sum l.machine h.large + h.reserved + take_of l.machine h = refl in omega arith,
       )) enough
+
+  -- a small survivor is one of the small names
+  survivor_in : (h : Heap) (n : Name) → In (small_survivors h) n → In (small_in h) n
+  survivor_in h n i = (in_from_kept (holds_name h.survivors) (small_in h) n (birth_cases (filter (holds_name h.survivors) (small_in h)) n i)).0
 
   some_begun : (h : Heap) → is_some h.begun ≡ true → (c : ℕ) × (h.begun ≡ Some c)
   some_begun h e = by h.begun refl e
@@ -146,11 +159,15 @@ module _ (p : ProgramText) (s : Limits) where
       let took = (b.begun c.0 c.1).0 in
       let is = begun_is h c.0 c.1 in
       let most = collected_bound l.machine h in
-      let large = kept_weight (λ n. units (words_at l.machine n)) _ h.large in (
+      let large = kept_weight (λ n. units (words_at l.machine n)) _ h.large in
+      let lists : List (List Name) = laid_onto l.machine [] (small_survivors h) in
+      let lists_full : Full l.machine lists = onto_full l.machine (small_survivors h) [] (λ ns i. absurd i) (λ n i. small_full l.machine h.chunks b.full n (survivor_in h n i)) in (
         record {
           begun = λ d q. no_begun (collected l.machine h) d refl q;
           room = room_some l.machine (laid_onto l.machine [] (small_survivors h));
           reserved = λ pos. (let r = b.reserved pos in (r.0, r.1, r.2, r.3, let lt : h.since < s.leaf = r.4 in omega arith));
+          full = lists_full;
+          last = room_full l.machine lists (last_full l.machine lists lists_full);
         },
         let large' : units_sum l.machine (collected l.machine h).large ≤ units_sum l.machine h.large = large in
             let none : begun_in (collected l.machine h) ≡ 0 = refl in
@@ -168,16 +185,22 @@ module _ (p : ProgramText) (s : Limits) where
           begun = λ c q. absurd (both_ways (waiting l.machine.tasks t) (not_waiting l S t (S.running t (ap collecting e ∙ ap is_some q))) w);
           room = room_by h b (is_last_empty (map (in_snapshot h) h.chunks)) refl;
           reserved = b.reserved;
+          full = swept_full l.machine h h.chunks b.full;
+          last = last_by h b (is_last_empty (map (in_snapshot h) h.chunks)) refl;
         },
         omega arith,
       )) (let a : in_use l ≤ s.chunks = B.within in omega arith)
     where
+      last_by : (h : Heap) → Booked p s l.machine t h → (v : Bool) → is_last_empty (map (in_snapshot h) h.chunks) ≡ v → last_words l.machine (without_empty (map (in_snapshot h) h.chunks)) + cond v 0 h.room ≤ chunk_words
+      last_by h b true is = let a = last_full l.machine (without_empty (map (in_snapshot h) h.chunks)) (swept_full l.machine h h.chunks b.full) in omega arith
+      last_by h b false is = let a = swept_last l.machine h last_some h.chunks is in let c = b.last in omega arith
+
       room_by : (h : Heap) → Booked p s l.machine t h → (v : Bool) → is_last_empty (map (in_snapshot h) h.chunks) ≡ v → 0 < cond v 0 h.room → 0 < length (without_empty (map (in_snapshot h) h.chunks))
       room_by h b true is pos = absurd (omega arith)
       room_by h b false is pos = last_some (map (in_snapshot h) h.chunks) is (let a = b.room pos in let c = length-map h.chunks (in_snapshot h) in omega arith)
 
   kind_booked : (l : Ledger) (w : ℕ) (kind : Kind) → SoundLedger l → StockedLedger l → BookedLedger p s l → is_none (refusal p s l (record { worker = w; kind = kind })) ≡ true → BookedLedger p s (after_kind p s l w kind)
-  kind_booked l w (Took t) S I B h = plain_booked l t _ B (λ g b. record { begun = b.begun; room = b.room; reserved = b.reserved }) (λ g. refl)
+  kind_booked l w (Took t) S I B h = plain_booked l t _ B (λ g b. record { begun = b.begun; room = b.room; reserved = b.reserved; full = b.full; last = b.last }) (λ g. refl)
   kind_booked l w (Ran t k) S I B h =
       let r = (entry_tells p s l (record { worker = w; kind = Ran t k }) h).2 in
       task_steps_booked p s k l t (S, (out_tells l w t _ r).1) I B (ran_tells p s l w t k h).1
@@ -198,9 +221,9 @@ module _ (p : ProgramText) (s : Limits) where
       let o = none_unless (is_out l w t) _ _ r in
       end_booked l t B (none_unless (is_some (heap_of l t).begun) _ _ o.1).0
   kind_booked l w (PutOff t) S I B h =
-      plain_booked l t _ B (λ g b. record { begun = b.begun; room = b.room; reserved = λ pos. (let q = b.reserved pos in (q.0, q.1, q.2, q.3, let lt : g.since < s.leaf = q.4 in omega arith)) }) (λ g. refl)
-  kind_booked l w (Mark t) S I B h = plain_booked l t _ B (λ g b. record { begun = b.begun; room = b.room; reserved = b.reserved }) (λ g. refl)
-  kind_booked l w (More t n) S I B h = plain_booked l t _ B (λ g b. record { begun = b.begun; room = b.room; reserved = b.reserved }) (λ g. refl)
+      plain_booked l t _ B (λ g b. record { begun = b.begun; room = b.room; reserved = λ pos. (let q = b.reserved pos in (q.0, q.1, q.2, q.3, let lt : g.since < s.leaf = q.4 in omega arith)); full = b.full; last = b.last }) (λ g. refl)
+  kind_booked l w (Mark t) S I B h = plain_booked l t _ B (λ g b. record { begun = b.begun; room = b.room; reserved = b.reserved; full = b.full; last = b.last }) (λ g. refl)
+  kind_booked l w (More t n) S I B h = plain_booked l t _ B (λ g b. record { begun = b.begun; room = b.room; reserved = b.reserved; full = b.full; last = b.last }) (λ g. refl)
   kind_booked l w (Sweep t g) S I B h =
       let r = (entry_tells p s l (record { worker = w; kind = Sweep t g }) h).2 in
       sweep_booked l t S B (wait_tells l t _ r).0
@@ -216,14 +239,50 @@ module _ (p : ProgramText) (s : Limits) where
   opening_booked = record { each = first; within = omega arith }
     where
       first : (u : ℕ) (h : Heap) → slice_get (fresh ∷ []) u ≡ Some h → Booked p s (opening p s).machine u h
-      first zero h e = subst (Booked p s (opening p s).machine 0) (same_Some fresh h e) (record { begun = λ c q. no_begun fresh c refl q; room = λ pos. absurd (omega arith); reserved = λ pos. absurd (omega arith) })
+      first zero h e = subst (Booked p s (opening p s).machine 0) (same_Some fresh h e) (record { begun = λ c q. no_begun fresh c refl q; room = λ pos. absurd (omega arith); reserved = λ pos. absurd (omega arith); full = λ ns i. absurd i; last = omega arith })
       first (suc u) h e = absurd cc
 
   pub legal_booked : (journal : List Event) → is_legal p s journal ≡ true → BookedLedger p s (ledger_of p s journal)
   legal_booked journal legal = journal_booked journal (opening p s) (opening_sound p s) (opening_stocked p s) opening_booked legal
 
+-- the words of all heaps
+all_words : (m : State) (heaps : List Heap) → ((u : ℕ) (h : Heap) → slice_get heaps u ≡ Some h → words_in m h ≤ chunk_words * units_in m h) → total (words_in m) heaps ≤ chunk_words * total (units_in m) heaps
+all_words m [] each = omega arith
+all_words m (h ∷ heaps) each =
+    let a = sum_by-cons (words_in m) h heaps in
+    let b = sum_by-cons (units_in m) h heaps in
+    let c = each zero h refl in
+    let d = all_words m heaps (λ u k e. each (suc u) k e) in
+    omega arith
+
+pub heaps_fit : HeapsFit
+heaps_fit p s journal legal =
+    let l : Ledger = ledger_of p s journal in
+    let B = legal_booked p s journal legal in
+    record {
+      heaps = λ t. fits_by l t B (heap_at l t) refl;
+      words = subst (λ w. w ≤ chunk_words * in_use l) (sym (sum_flat (words_at l.machine) held_in l.heaps)) (all_words l.machine l.heaps (λ u h e. let a = heap_words l.machine h (B.each u h e).full in omega arith));
+    }
+  where
+    fits_by : (l : Ledger) (t : ℕ) → BookedLedger p s l → (o : Option Heap) → heap_at l t ≡ o → FitsInChunks l.machine (or_fresh o)
+    fits_by l t B None e = record { each = λ ns c. absurd (in_from_contains [] ns c); last = omega arith }
+    fits_by l t B (Some h) e = let b = B.each t h e in record { each = λ ns c. b.full ns (in_from_contains h.chunks ns c); last = b.last }
+
+-- the most chunks in use
+peak_bounded : (p : ProgramText) (s : Limits) (journal : List Event) (l : Ledger) → SoundLedger l → StockedLedger l → BookedLedger p s l → is_legal_from p s l journal ≡ true → peak_from p s l journal ≤ s.chunks
+peak_bounded p s [] l S I B h = omega arith
+peak_bounded p s (e ∷ es) l S I B h =
+    let both = and_parts (is_none (refusal p s l e)) (is_legal_from p s (after p s l e) es) h in
+    let B' = kind_booked p s l e.worker e.kind S I B both.0 in
+    let now : in_use (after p s l e) ≤ s.chunks = B'.within in
+    let later = peak_bounded p s es (after p s l e) (entry_sound p s l e S both.0) (kind_stocked p s l e.worker e.kind S (entry_tells p s l e both.0).2 I) B' both.1 in
+    omega arith
+
 pub use_is_bounded : UseIsBounded
-use_is_bounded p s journal legal = (legal_booked p s journal legal).within
+use_is_bounded p s journal legal = record {
+  now = (legal_booked p s journal legal).within;
+  peak = peak_bounded p s journal (opening p s) (opening_sound p s) (opening_stocked p s) (opening_booked p s) legal;
+}
 
 -- where an entry isn't refused after a journal that is legal
 legal_entry : (p : ProgramText) (s : Limits) (before : List Event) (e : Event) (rest : List Event) → is_legal p s (before ++ e ∷ rest) ≡ true → (is_legal p s before ≡ true) × (is_none (refusal p s (ledger_of p s before) e) ≡ true)

@@ -43,6 +43,19 @@ heap_there tasks heaps t len lt = go (slice_get heaps t) refl
     go None e = absurd (inside heaps t (omega arith) e)
     go (Some h) e = (h, e)
 
+-- who holds the task of a heap
+abbrev pub worker_at : Option Heap → Option ℕ
+worker_at None = None
+worker_at (Some h) = h.worker
+
+-- where a task stands after its step: the machine has ended, the task runs on, or nobody holds it
+abbrev pub StandsAfter : ℕ → Ledger → Type 0
+StandsAfter t k = (is_some k.machine.end ≡ true) ⊎ ((is_running (slice_get k.machine.tasks t) ≡ true) ⊎ (worker_at (slice_get k.heaps t) ≡ None))
+
+-- the heaps of the other tasks that ran before it or wait after it are as they were
+abbrev pub LeavesOthers : ℕ → Ledger → Ledger → Type 0
+LeavesOthers t l k = (u : ℕ) → (u ≡ t → ⊥) → (is_running (slice_get l.machine.tasks u) ≡ true) ⊎ (waiting k.machine.tasks u ≡ true) → slice_get k.heaps u ≡ slice_get l.heaps u
+
 -- the heaps after the account of an allocation
 pub record Allots (t : ℕ) (next : Name) (does : Bool) (heaps heaps1 : List Heap) : Type 0 where
   pub down : (u : ℕ) (n : Name) → InHeaps heaps1 u n → InHeaps heaps u n ⊎ ((u ≡ t) × (n ≡ next))
@@ -163,7 +176,7 @@ module _ (p : ProgramText) (l : Ledger) (S : SoundLedger l) (t : ℕ) (x : Task)
 
   -- all is kept, the task collects nothing, and the heaps have changed so
   abbrev pub Good : Ledger → Type 0
-  Good k = SoundLedger k × (collecting (slice_get k.heaps t) ≡ false) × Moves t l.machine.tasks b.heaps k.heaps
+  Good k = SoundLedger k × (collecting (slice_get k.heaps t) ≡ false) × Moves t l.machine.tasks b.heaps k.heaps × StandsAfter t k × LeavesOthers t l k
 
   -- what a state after the step owes
   abbrev Owes : State → Type 0
@@ -193,13 +206,13 @@ module _ (p : ProgramText) (l : Ledger) (S : SoundLedger l) (t : ℕ) (x : Task)
 
   -- the machine has ended
   halts : (m' : State) (e : End) → m'.end ≡ Some e → Sound m'.tasks m'.edges m'.store b.heaps → Good (stepped_to b t m')
-  halts m' e at s = subst Good (sym (ap (settled (record b { machine = m'; steps = b.steps + 1 }) t) at)) (s, A.still ∙ idle, inl refl)
+  halts m' e at s = subst Good (sym (ap (settled (record b { machine = m'; steps = b.steps + 1 }) t) at)) (s, A.still ∙ idle, inl refl, inl (ap is_some at), λ u ne w. A.others u ne)
 
   -- the step left the task running
   runs_on : (m' : State) (y : Task) → m'.end ≡ None → slice_get m'.tasks t ≡ Some y → y.status ≡ Running → Sound m'.tasks m'.edges m'.store b.heaps → Good (stepped_to b t m')
   runs_on m' y on at st s =
       let k : Ledger = record b { machine = m'; steps = b.steps + 1 } in
-      subst Good (sym (ap (settled k t) on ∙ (ap (moved_to k t) at ∙ ap (moved_on k t y.parent) st))) (s, A.still ∙ idle, inl refl)
+      subst Good (sym (ap (settled k t) on ∙ (ap (moved_to k t) at ∙ ap (moved_on k t y.parent) st))) (s, A.still ∙ idle, inl refl, inr (inl (ap is_running at ∙ ap runs st)), λ u ne w. A.others u ne)
 
   same_sound : (m' : State) → m'.tasks ≡ tasks → KeptIn m'.tasks m'.edges m'.store → Disentangled m'.tasks m'.store → Closed m'.tasks m'.store (Keeps b.heaps)
       → ((u : ℕ) (ns : List Name) → (u ≡ t → ⊥) → Spares tasks l.machine.store l.heaps u ns → Spares m'.tasks m'.store b.heaps u ns)
@@ -231,6 +244,8 @@ module _ (p : ProgramText) (l : Ledger) (S : SoundLedger l) (t : ℕ) (x : Task)
         renewed m'.tasks m'.edges m'.store b.heaps s t h.0 (let_go h.0) h.1 (λ n i. i) (λ n i. i) refl refl refl,
         ap collecting (got_same b.heaps t h.0 (let_go h.0) h.1) ∙ (ap collecting (sym h.1) ∙ (A.still ∙ idle)),
         inr (inl (record { heap = h.0; at = h.1; is = refl })),
+        inr (inr (ap worker_at (got_same b.heaps t h.0 (let_go h.0) h.1))),
+        λ u ne w. got_other b.heaps t u (let_go h.0) ne ∙ A.others u ne,
       )
 
   -- the task forks
@@ -395,6 +410,8 @@ module _ (p : ProgramText) (l : Ledger) (S : SoundLedger l) (t : ℕ) (x : Task)
           fork_sound K D C sp,
           ap collecting at3 ∙ (ap collecting (sym hb.1) ∙ (A.still ∙ idle)),
           inr (inr (inl (record { heap = hb.0; names = within a t; at = hb.1; is = refl }))),
+          inr (inr (ap worker_at at3)),
+          λ u ne w. others3 u ne (elim w [ inl r ↦ within_tasks u is_running refl r | inr q ↦ within_tasks u is_waiting refl (was_waiting u ne q) ]),
         )
 
   -- both children of a task have ended
@@ -643,6 +660,13 @@ module _ (p : ProgramText) (l : Ledger) (S : SoundLedger l) (t : ℕ) (x : Task)
       ]
     ]
 
+    runs4 : (u : ℕ) → (u ≡ t → ⊥) → is_running (slice_get tasks u) ≡ true → Other u
+    runs4 u ne r = (
+      λ e. elim side [ inl s ↦ ne (e ∙ sym s.0) | inr s ↦ both_ways (runs xl.status) s.3 (ap is_running (sym (ap (slice_get tasks) e ∙ il)) ∙ r) ],
+      λ e. elim side [ inl s ↦ both_ways (runs xr.status) s.3 (ap is_running (sym (ap (slice_get tasks) e ∙ ir)) ∙ r) | inr s ↦ ne (e ∙ sym s.0) ],
+      λ e. both_ways (runs xp.status) stops_p (ap is_running (sym (ap (slice_get tasks) e ∙ ip)) ∙ r),
+    )
+
     join_sound : KeptIn after mj.edges l.machine.store → Disentangled after l.machine.store → Closed after l.machine.store (Keeps b.heaps)
         → ((u : ℕ) (ns : List Name) → (u ≡ t → ⊥) → Spares tasks l.machine.store l.heaps u ns → Spares after l.machine.store b.heaps u ns) → Sound after mj.edges l.machine.store j4
     join_sound K D C sp = record {
@@ -695,6 +719,8 @@ module _ (p : ProgramText) (l : Ledger) (S : SoundLedger l) (t : ℕ) (x : Task)
         at_right = e_r;
         is = refl;
       }))),
+      inr (inr (elim side [ inl s ↦ ap (λ v. worker_at (slice_get j4 v)) s.0 ∙ ap worker_at j4_l | inr s ↦ ap (λ v. worker_at (slice_get j4 v)) s.0 ∙ ap worker_at j4_r ])),
+      λ u ne w. let o : Other u = elim w [ inl r ↦ runs4 u ne r | inr q ↦ (waits4 u q).0 ] in j4_o u o ∙ A.others u ne,
     )
       where
         stops : (v : Bool) → collecting (slice_get j4 t) ≡ v → collecting (slice_get j4 t) ≡ false
@@ -747,7 +773,7 @@ SoundAt t l = SoundLedger l × (collecting (slice_get l.heaps t) ≡ false)
 
 -- what a step of such a task leaves
 abbrev pub StepLeaves : ℕ → Ledger → Ledger → Ledger → Type 0
-StepLeaves t l b k = SoundLedger k × (collecting (slice_get k.heaps t) ≡ false) × Moves t l.machine.tasks b.heaps k.heaps
+StepLeaves t l b k = SoundLedger k × (collecting (slice_get k.heaps t) ≡ false) × Moves t l.machine.tasks b.heaps k.heaps × StandsAfter t k × LeavesOthers t l k
 
 running_at : (ts : List Task) (t : ℕ) (o : Option Task) → slice_get ts t ≡ o → is_running o ≡ true → (x : Task) × (slice_get ts t ≡ Some x) × (is_running (Some x) ≡ true)
 running_at ts t None e h = absurd (false≢true h)

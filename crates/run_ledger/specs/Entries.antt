@@ -42,6 +42,7 @@ refused_unless test cause rest = if test then rest else Some cause
 abbrev pub refused_if : Bool → Refused → Option Refused → Option Refused
 refused_if test cause rest = if test then Some cause else rest
 
+-- refused where the worker holds this task already
 abbrev pub refused_holding : Option ℕ → Option Refused → Option Refused
 refused_holding None rest = rest
 refused_holding (Some t) rest = Some (Holding t)

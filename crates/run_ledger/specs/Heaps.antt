@@ -177,6 +177,7 @@ let_go h = record h { worker = None }
 abbrev pub take_of : State → Heap → ℕ
 take_of m h = 2 * max 1 (units (words_sum m (small_in h))) - 1
 
+-- born no later: by task, then by count
 abbrev pub name_le : Name → Name → Bool
 name_le a b = nat_lt a.task b.task || ((a.task == b.task) && nat_le a.count b.count)
 
@@ -184,7 +185,7 @@ abbrev pub insert_name : Name → List Name → List Name
 insert_name n [] = n ∷ []
 insert_name n (m ∷ ms) = if name_le n m then n ∷ m ∷ ms else m ∷ insert_name n ms
 
--- in order of birth: by task, then by count
+-- in order of birth
 abbrev pub by_birth : List Name → List Name
 by_birth [] = []
 by_birth (n ∷ ns) = insert_name n (by_birth ns)
@@ -200,6 +201,7 @@ abbrev pub laid_onto : State → List (List Name) → List Name → List (List N
 laid_onto m lists [] = lists
 laid_onto m lists (n ∷ ns) = laid_onto m (lay m lists n) ns
 
+-- the survivors among the names of small objects, and among those of large ones
 abbrev pub small_survivors : Heap → List Name
 small_survivors h = by_birth (filter (holds_name h.survivors) (small_in h))
 
@@ -237,6 +239,7 @@ marked_in h = unwrap_or h.marked 0
 abbrev pub left_in : Heap → ℕ
 left_in h = length h.snapshot - marked_in h
 
+-- of these names, those of the snapshot
 abbrev pub in_snapshot : Heap → List Name → List Name
 in_snapshot h ns = filter (holds_name h.snapshot) ns
 

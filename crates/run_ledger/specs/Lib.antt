@@ -7,3 +7,5 @@ pub mod Report
 pub mod Pace
 pub mod Text
 pub mod Laws
+pub mod Cuts
+pub mod Space

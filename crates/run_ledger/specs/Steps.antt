@@ -32,7 +32,7 @@ allocated_in p l t = allocated_by l t (asked p l.machine t)
 abbrev pub at_fork : Ledger → ℕ → Ledger
 at_fork l t = with_heap (record l { heaps = l.heaps ++ fresh ∷ fresh ∷ [] }) t (forked_heap (within l t))
 
--- the parent's heap gets all that the left child's and the right child's hold, which is the next task's
+-- the parent's heap gets all that its children's hold: the left child's, and that of the next task, the right one
 abbrev pub join_heaps : Ledger → ℕ → ℕ → Ledger
 join_heaps l parent left =
     with_heap (with_heap (with_heap l parent (λ h. merged h (heap_of l left) (heap_of l (left + 1)))) left emptied) (left + 1) emptied

@@ -4,6 +4,7 @@ use Rattle.std.specs.List.{flat_map, join_with_byte}
 use Rattle.std.specs.Fmt.{decimal, signed_decimal}
 use Rattle.run_trace.specs.Entry.{Event}
 use Rattle.run_trace.specs.Settings.{Limits}
+use Rattle.run_trace.specs.Trace.{trace_text}
 use Rattle.hh_lang.specs.Form.{ProgramText}
 use Rattle.hh_model.specs.declared.data.Trap.{Trap}
 use Rattle.hh_model.specs.declared.data.Trap.TheVariants.{Nil, Range, Frozen, Div, Size, Depth}
@@ -120,11 +121,10 @@ refused_status = 11
 
 -- ALL THAT IS WRITTEN
 
--- the outputs of a journal that has an end, the report and the trace where they are asked for, and the end line; it is
--- said from outside what the text of a trace is
-abbrev pub out_text : (List Event → List ℕ) → ProgramText → Limits → Bool → Bool → List Event → List ℕ
-out_text trace_text p s report trace journal =
+-- the outputs of a journal that has an end, the report and the trace where they are asked for, and the end line
+abbrev pub out_text : ProgramText → Limits → Bool → Bool → List Event → List ℕ
+out_text p s report trace journal =
     output_lines (machine_of p s journal).outputs
     ++ (if report then report_lines (report_of p s journal) else [])
-    ++ (if trace then trace_text journal else [])
+    ++ (if trace then trace_text s.version journal else [])
     ++ end_line_of (end_of p s journal)

@@ -10,4 +10,4 @@ mod trace;
 pub use entry::{Entry, Kind};
 pub use laws::texts_are_read_again;
 pub use settings::{Settings, Version};
-pub use trace::{Trace, TraceError, read_trace, trace_text};
+pub use trace::{Trace, TraceError, read_trace, read_version, trace_text};

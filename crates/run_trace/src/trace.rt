@@ -53,8 +53,8 @@ fn version_named(word: &[u8]) -> Option<Version>
     }
 }
 
-// The version that the first line bears.
-fn read_version(line: &[u8]) -> Option<Version>
+/// The version that the first line of a trace text bears; None where it isn't such a line.
+pub fn read_version(line: &[u8]) -> Option<Version>
     ensures { result ≡ version_of line.now }
 {
     let (word, rest) = next_word(line)?;

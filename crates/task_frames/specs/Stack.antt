@@ -1,5 +1,5 @@
 -- A task's frames as callers see them.
-use Rattle.std.specs.Prelude.{◌≡◌, ℕ, ◌+◌, ℤ, Bool, true, false, Option, Some, None, List, [], ◌∷◌, ◌++◌, length, nat_lt, slice_get, slice_set, if◌then◌else◌}
+use Rattle.std.specs.Prelude.{◌≡◌, ℕ, zero, suc, ◌+◌, ℤ, Option, Some, None, List, [], ◌∷◌, ◌++◌, length, nat_lt, slice_get, slice_set, if◌then◌else◌}
 use Rattle.object_layout.specs.declared.word.Addr.{Addr}
 use Rattle.task_frames.specs.declared.frames.Frame.{Frame}
 
@@ -56,3 +56,17 @@ with_reference_at s frame i value =
     if nat_lt frame (length s.below)
     then record s { below = written_in s.below frame i value (slice_get s.below frame) }
     else with_reference s i value
+
+-- ---- all reference registers of one frame
+
+-- those of the frame at a place of the list; none past its end
+abbrev pub references_of : List Frame → ℕ → List (Option Addr)
+references_of [] i = []
+references_of (f ∷ fs) zero = f.refs
+references_of (f ∷ fs) (suc i) = references_of fs i
+
+-- the frames with other reference registers in the frame at a place
+abbrev pub references_written : List Frame → ℕ → List (Option Addr) → List Frame
+references_written [] i refs = []
+references_written (f ∷ fs) zero refs = record f { refs = refs } ∷ fs
+references_written (f ∷ fs) (suc i) refs = f ∷ references_written fs i refs

@@ -1,7 +1,7 @@
 // A stack of frames, never empty and never more than 1,000 deep.
 
 ghost use Rattle.std.specs.Prelude.{◌≡◌, ◌+◌, ◌<◌, ◌≤◌, ◌↔◌, [], length, OnOk, OnErr, Err, Some, slice_get};
-ghost use Rattle.task_frames.specs.Stack.{Stack, depth_of, frames_of, reference_at, pushed, IsPopped, with_next, with_int, with_reference, with_reference_at};
+ghost use Rattle.task_frames.specs.Stack.{Stack, depth_of, frames_of, reference_at, pushed, IsPopped, references_of, references_written, with_next, with_int, with_reference, with_reference_at};
 
 use object_layout::Addr;
 use std::alloc::{AllocError, Global};
@@ -190,6 +190,30 @@ impl Frames {
             self.below[frame as usize].refs[i as usize] = value;
         } else {
             self.top.refs[i as usize] = value;
+        }
+    }
+
+    /// All reference registers of any frame. Frames are counted from 0, the oldest.
+    pub fn references_in(&self, frame: u32) -> [Option<Addr>; 16]
+        requires { frame < depth_of self.now }
+        ensures { result ≡ references_of (frames_of self.now) frame }
+    {
+        if (frame as usize) < self.below.len() {
+            self.below[frame as usize].refs
+        } else {
+            self.top.refs
+        }
+    }
+
+    /// Writes all reference registers of any frame. Frames are counted from 0, the oldest.
+    pub fn set_references_in(&mut self, frame: u32, refs: &[Option<Addr>; 16])
+        requires { frame < depth_of self.old }
+        ensures { frames_of self.new ≡ references_written (frames_of self.old) frame refs.now }
+    {
+        if (frame as usize) < self.below.len() {
+            self.below[frame as usize].refs = *refs;
+        } else {
+            self.top.refs = *refs;
         }
     }
 }

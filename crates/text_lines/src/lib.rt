@@ -5,5 +5,5 @@
 mod lines;
 mod words;
 
-pub use lines::next_line;
-pub use words::next_word;
+pub use lines::{line_end, next_line};
+pub use words::{behind, next_word};

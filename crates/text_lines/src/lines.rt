@@ -4,8 +4,8 @@ ghost use Rattle.std.specs.Prelude.{◌≡◌, ◌≤◌, ◌<◌, ◌+◌, ◌=
 ghost use Rattle.std.specs.List.{position_or_len};
 ghost use Rattle.text_lines.specs.Lines.{lines_of};
 
-// Where the first line ends: at its line feed, or with the text.
-fn line_end(text: &[u8]) -> usize
+/// Where the first line ends: at its line feed, or with the text.
+pub fn line_end(text: &[u8]) -> usize
     ensures end { result ≡ position_or_len (λ c. c == 10) text.now }
     ensures within { result ≤ length text.now }
 {

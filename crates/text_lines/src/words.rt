@@ -23,8 +23,8 @@ fn run_end(line: &[u8]) -> usize
     line.len()
 }
 
-// What comes behind the byte at a place, or nothing where there is none.
-fn behind(line: &[u8], end: usize) -> &[u8]
+/// What comes behind the byte at a place, or nothing where there is none.
+pub fn behind(line: &[u8], end: usize) -> &[u8]
     requires { end ≤ length line.now }
     ensures { result.now ≡ drop (end + 1) line.now }
 {

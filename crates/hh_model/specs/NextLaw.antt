@@ -1,0 +1,18 @@
+-- The law that there is always a next instruction.
+use Rattle.std.specs.Prelude.{◌≡◌, ℕ, List, ◌∷◌, Some, slice_get, Contains}
+use Rattle.hh_lang.specs.declared.program.Line.{Line}
+use Rattle.hh_lang.specs.Form.{ProgramText, IsProgram}
+use Rattle.hh_model.specs.declared.data.Frame.{Frame}
+use Rattle.hh_model.specs.declared.data.Task.{Task}
+use Rattle.hh_model.specs.Step.{fetched, run}
+
+-- an instruction stands where the frame goes on
+abbrev pub HasNext : ProgramText → Frame → Type 0
+HasNext p f = (line : Line) × (fetched p f ≡ Some line)
+
+-- in every run of a program each frame of each task has a next instruction; for a task that has ended it is the return by
+-- which it did. So a step of a task that can take one is never for want of an instruction
+abbrev pub AlwaysNext : Type 0
+AlwaysNext =
+    (p : ProgramText) (limit : ℕ) (ts : List ℕ) (t : ℕ) (x : Task) (f : Frame)
+    → IsProgram p → slice_get (run p limit ts).tasks t ≡ Some x → Contains (x.top ∷ x.below) f → HasNext p f

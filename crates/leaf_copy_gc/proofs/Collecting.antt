@@ -1,0 +1,122 @@
+-- From the old chunks as they are left to the heap as it is to be.
+use Rattle.std.proofs.Common.{◌≡◌, ℕ, ◌+◌, ◌<◌, List, [], ◌++◌, length, map, filter, fold, refl, sym, ap, ◌∙◌, subst, arith, Option, Some, None}
+use Rattle.std.specs.Prelude.{reverse}
+use Rattle.std.proofs.lemmas.List.{length-map, reverse-reverse}
+use Rattle.object_layout.specs.Content.{Content}
+use Rattle.object_layout.specs.Chunks.{chunk_at}
+use Rattle.alloc_path.specs.Heap.{AreApart, Heap, IsReserved, IsCurrent, exchanged, with_places}
+use Rattle.listed.proofs.Members.{In, in_append_left}
+use Rattle.leaf_copy_gc.specs.declared.lists.Survivor.{Survivor}
+use Rattle.leaf_copy_gc.specs.Survivors.{olds, with_chunks, Once, HaveNames}
+use Rattle.leaf_copy_gc.specs.Laid.{before, smalls, AreNew}
+use Rattle.leaf_copy_gc.specs.Redirected.{led_chunk}
+use Rattle.leaf_copy_gc.specs.Exchanged.{emptied, goes, stays, unreserved, reserved_of, reserved_place, named, last_place, CanName}
+use Rattle.leaf_copy_gc.specs.Collected.{AreTidy, IsLeft, keeps, leaves, laying_of, redirection}
+use Rattle.leaf_copy_gc.proofs.Numbers as nums
+use Rattle.leaf_copy_gc.proofs.Numbers.{numbers, Distinct, Within}
+use Rattle.leaf_copy_gc.proofs.Rebuilt as rebuilt
+use Rattle.leaf_copy_gc.proofs.Rebuilt.{marked_chunk, NoneThere}
+use Rattle.leaf_copy_gc.proofs.Naming as naming
+
+module _ (h g : List Content) (ss : List Survivor) (news : List Content) (r : Option ℕ) (laid : List Content)
+    (left : IsLeft h g (olds ss) (redirection h ss (reverse news))) (tidy : AreTidy h) (apart : AreApart (h ++ news)) (new : AreNew news)
+    (once : Once (olds ss)) (names : HaveNames h ss) (reserved : IsReserved g r)
+    (is : laid ≡ map (led_chunk (redirection h ss (reverse news))) (laying_of h ss (reverse news)).laid) where
+  all_once : Distinct (numbers h ++ numbers news)
+  all_once = subst Distinct (nums.numbers_append h news) (nums.apart_distinct (h ++ news) apart)
+
+  once_h : Distinct (numbers h)
+  once_h = nums.distinct_left (numbers h) (numbers news) all_once
+
+  once_news : Distinct (numbers (reverse news))
+  once_news = nums.distinct_reverse news (nums.distinct_right (numbers h) (numbers news) all_once)
+
+  laid_numbers : numbers laid ≡ numbers (laying_of h ss (reverse news)).laid
+  laid_numbers = ap numbers is ∙ nums.numbers_of_map (led_chunk (redirection h ss (reverse news))) (λ k. refl) (laying_of h ss (reverse news)).laid
+
+  laid_parts : numbers (laying_of h ss (reverse news)).laid ++ numbers (laying_of h ss (reverse news)).spare ≡ numbers (reverse news)
+  laid_parts = nums.laid_numbers (before (reverse news)) h (smalls h (olds ss))
+
+  laid_once : Distinct (numbers laid)
+  laid_once = subst Distinct (sym laid_numbers) (nums.distinct_left (numbers (laying_of h ss (reverse news)).laid) (numbers (laying_of h ss (reverse news)).spare) (subst Distinct (sym laid_parts) once_news))
+
+  laid_apart : (n : ℕ) → In (numbers laid) n → In (numbers h) n → ⊥
+  laid_apart n i j =
+      let k = subst (λ (ns : List ℕ). In ns n) laid_parts (in_append_left (numbers (laying_of h ss (reverse news)).laid) (numbers (laying_of h ss (reverse news)).spare) n (subst (λ (ns : List ℕ). In ns n) laid_numbers i)) in
+      nums.distinct_apart_parts (numbers h) (numbers news) all_once n j (nums.in_reverse news n k)
+
+  within_at : (o : Option ℕ) → IsReserved g o → Within h o
+  within_at None w = tt
+  within_at (Some i) w = let n = nums.alike_length h g left.alike in let l : i < length g = w.0 in omega arith
+
+  none_at : (o : Option ℕ) → IsReserved g o → NoneThere g o
+  none_at None w = tt
+  none_at (Some i) w = w.1.1
+
+  reserved_is : reserved_of g r ≡ reserved_of h r
+  reserved_is = rebuilt.reserved_same h g r left.alike (none_at r reserved)
+
+  none_before : (o : Option ℕ) → reserved_of g o ≡ reserved_of h o → NoneThere g o → NoneThere h o
+  none_before None e n = tt
+  none_before (Some i) e n = let same : chunk_at g i ≡ chunk_at h i = cc in ap (λ (k : Content). k.cells) (sym same) ∙ n
+
+  pairs : rebuilt.ArePairs ss (redirection h ss (reverse news)) (unreserved h r) (unreserved g r)
+  pairs = rebuilt.pairs_unreserved ss (redirection h ss (reverse news)) h g r
+      (rebuilt.pairs ss (redirection h ss (reverse news)) h g left.alike tidy once_h (λ a i. (left.large a, left.others a)))
+
+  stay_is : filter stays (unreserved g r) ≡ map (marked_chunk ss (redirection h ss (reverse news))) (filter (keeps ss) (unreserved h r))
+  stay_is = rebuilt.stay_same ss (redirection h ss (reverse news)) (unreserved h r) (unreserved g r) pairs
+
+  pub go_is : map emptied (filter goes (unreserved g r)) ≡ map emptied (filter (leaves ss) (unreserved h r))
+  go_is = rebuilt.go_same ss (redirection h ss (reverse news)) (unreserved h r) (unreserved g r) pairs
+
+  now_is : laid ++ (filter stays (unreserved g r) ++ reserved_of g r) ≡ naming.Now h ss (redirection h ss (reverse news)) r laid tidy once_h once names laid_apart laid_once (within_at r reserved) (none_before r reserved_is (none_at r reserved))
+  now_is = ap (λ (xs : List Content). laid ++ (xs ++ reserved_of g r)) stay_is ∙ ap (λ (xs : List Content). laid ++ (map (marked_chunk ss (redirection h ss (reverse news))) (filter (keeps ss) (unreserved h r)) ++ xs)) reserved_is
+
+  pub now_apart : AreApart (laid ++ (filter stays (unreserved g r) ++ reserved_of g r))
+  now_apart = subst AreApart (sym now_is) (nums.distinct_apart _ (naming.now_once h ss (redirection h ss (reverse news)) r laid tidy once_h once names laid_apart laid_once (within_at r reserved) (none_before r reserved_is (none_at r reserved))))
+
+  pub can_name : CanName (laid ++ (filter stays (unreserved g r) ++ reserved_of g r)) ss
+  can_name = subst (λ (ks : List Content). CanName ks ss) (sym now_is) (naming.ready h ss (redirection h ss (reverse news)) r laid tidy once_h once names laid_apart laid_once (within_at r reserved) (none_before r reserved_is (none_at r reserved)))
+
+  pub named_is : fold named (laid ++ (filter stays (unreserved g r) ++ reserved_of g r)) ss ≡ laid ++ (map (led_chunk (redirection h ss (reverse news))) (filter (keeps ss) (unreserved h r)) ++ reserved_of h r)
+  named_is = ap (λ (ks : List Content). fold named ks ss) now_is ∙ naming.same h ss (redirection h ss (reverse news)) r laid tidy once_h once names laid_apart laid_once (within_at r reserved) (none_before r reserved_is (none_at r reserved))
+
+  pub small_last : IsCurrent laid (last_place laid)
+  small_last = nums.current_last laid (subst nums.AreSmall (sym is) (nums.small_of_map (led_chunk (redirection h ss (reverse news))) (λ k. refl) (laying_of h ss (reverse news)).laid (nums.laid_small (before (reverse news)) h (smalls h (olds ss)) tt (nums.new_reverse news new))))
+
+  pub kept_count : length (filter stays (unreserved g r)) ≡ length (map (led_chunk (redirection h ss (reverse news))) (filter (keeps ss) (unreserved h r)))
+  kept_count =
+      ap (λ (xs : List Content). length xs) stay_is
+      ∙ (length-map (filter (keeps ss) (unreserved h r)) (marked_chunk ss (redirection h ss (reverse news))) ∙ sym (length-map (filter (keeps ss) (unreserved h r)) (led_chunk (redirection h ss (reverse news)))))
+
+  -- ---- the heap, field by field
+
+  module _ (H : Heap) (r_is : r ≡ H.reserved) where
+    pub heap_is : H.chunks ≡ h → (E M N : Heap) (G : Heap)
+        → E ≡ with_places (exchanged G (laid ++ (filter stays (unreserved g r) ++ reserved_of g r)) (last_place laid) (reserved_place (length laid + length (filter stays (unreserved g r))) r)) E.slots E.spare
+        → M ≡ with_chunks E (fold named E.chunks ss) → N ≡ record M { since = 0 }
+        → N ≡ with_places (record H {
+          chunks = map (led_chunk (redirection h ss (reverse news))) (laying_of h ss (reverse news)).laid ++ (map (led_chunk (redirection h ss (reverse news))) (filter (keeps ss) (unreserved h H.reserved)) ++ reserved_of h H.reserved);
+          current = last_place (map (led_chunk (redirection h ss (reverse news))) (laying_of h ss (reverse news)).laid);
+          reserved = reserved_place (length (map (led_chunk (redirection h ss (reverse news))) (laying_of h ss (reverse news)).laid) + length (map (led_chunk (redirection h ss (reverse news))) (filter (keeps ss) (unreserved h H.reserved)))) H.reserved;
+          since = 0;
+        }) N.slots N.spare
+    heap_is h_is E M N G e m n =
+        let chunks = ap (λ (x : Heap). x.chunks) n ∙ (ap (λ (x : Heap). x.chunks) m ∙ (ap (λ (x : Heap). fold named x.chunks ss) e ∙ (named_is
+        ∙ (ap (λ (o : Option ℕ). laid ++ (map (led_chunk (redirection h ss (reverse news))) (filter (keeps ss) (unreserved h o)) ++ reserved_of h o)) r_is
+        ∙ ap (λ (ks : List Content). ks ++ (map (led_chunk (redirection h ss (reverse news))) (filter (keeps ss) (unreserved h H.reserved)) ++ reserved_of h H.reserved)) is)))) in
+        let current = ap (λ (x : Heap). x.current) n ∙ (ap (λ (x : Heap). x.current) m ∙ (ap (λ (x : Heap). x.current) e ∙ ap last_place is)) in
+        let place = ap (λ (x : Heap). x.reserved) n ∙ (ap (λ (x : Heap). x.reserved) m ∙ (ap (λ (x : Heap). x.reserved) e
+        ∙ (ap (λ (k : ℕ). reserved_place (length laid + k) r) kept_count
+        ∙ (ap (λ (o : Option ℕ). reserved_place (length laid + length (map (led_chunk (redirection h ss (reverse news))) (filter (keeps ss) (unreserved h o)))) o) r_is
+        ∙ ap (λ (ks : List Content). reserved_place (length ks + length (map (led_chunk (redirection h ss (reverse news))) (filter (keeps ss) (unreserved h H.reserved)))) H.reserved) is)))) in
+        let since = ap (λ (x : Heap). x.since) n in
+        λ i. record { chunks = chunks i; current = current i; reserved = place i; since = since i; slots = N.slots; spare = N.spare }
+
+    pub back_is : (old : List Content) → old ≡ [] → (rest : List Content) → reverse rest ≡ (laying_of h ss (reverse news)).spare → (back : List Content) → back ≡ old ++ map emptied (filter goes (unreserved g r))
+        → back ++ rest ≡ map emptied (filter (leaves ss) (unreserved h H.reserved)) ++ reverse (laying_of h ss (reverse news)).spare
+    back_is old none rest e back b =
+        let first : back ≡ map emptied (filter (leaves ss) (unreserved h H.reserved)) = b ∙ (ap (λ (xs : List Content). xs ++ map emptied (filter goes (unreserved g r))) none ∙ (go_is ∙ ap (λ (o : Option ℕ). map emptied (filter (leaves ss) (unreserved h o))) r_is)) in
+        let second : rest ≡ reverse (laying_of h ss (reverse news)).spare = sym (reverse-reverse rest) ∙ ap (λ (ks : List Content). reverse ks) e in
+        ap (λ (xs : List Content). xs ++ rest) first ∙ ap (λ (ys : List Content). map emptied (filter (leaves ss) (unreserved h H.reserved)) ++ ys) second

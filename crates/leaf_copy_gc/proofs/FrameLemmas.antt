@@ -1,0 +1,41 @@
+-- Frames led one after another.
+use Rattle.std.proofs.Common.{◌≡◌, ℕ, zero, suc, ◌+◌, ◌<◌, List, [], ◌∷◌, ◌++◌, length, take, drop, map, refl, ap, arith, Option, All, inl, inr}
+use Rattle.object_layout.specs.declared.word.Addr.{Addr}
+use Rattle.task_frames.specs.declared.frames.Frame.{Frame}
+use Rattle.task_frames.specs.Stack.{references_of, references_written}
+use Rattle.listed.proofs.Members.{In, in_append_left, in_append_right}
+use Rattle.leaf_copy_gc.specs.Survivors.{held_by}
+use Rattle.leaf_copy_gc.specs.Redirected.{led_frame}
+use Rattle.leaf_copy_gc.proofs.ListLemmas.{read_in, all_from}
+
+module _ (f : Option Addr → Option Addr) where
+  -- the frame that comes next is as it was
+  pub next_frame : (fs : List Frame) (k : ℕ) → k < length fs → references_of (map (led_frame f) (take k fs) ++ drop k fs) k ≡ references_of fs k
+  next_frame [] k l = absurd (omega arith)
+  next_frame (x ∷ xs) zero l = refl
+  next_frame (x ∷ xs) (suc k) l = next_frame xs k (omega arith)
+
+  pub more_frames : (fs : List Frame) (k : ℕ) → k < length fs →
+      references_written (map (led_frame f) (take k fs) ++ drop k fs) k (map f (references_of fs k)) ≡ map (led_frame f) (take (k + 1) fs) ++ drop (k + 1) fs
+  more_frames [] k l = absurd (omega arith)
+  more_frames (x ∷ xs) zero l = refl
+  more_frames (x ∷ xs) (suc k) l =
+      let n : suc k + 1 ≡ suc (k + 1) = omega arith in
+      rw n (ap (λ (ys : List Frame). led_frame f x ∷ ys) (more_frames xs k (omega arith)))
+
+pub first_part : {X : Type 0} (P : X → Type 0) (xs ys : List X) → All P (xs ++ ys) → All P xs
+first_part P xs ys a = all_from P xs (λ x i. read_in P (xs ++ ys) x (in_append_left xs ys x i) a)
+
+refs_same : (f g : Option Addr → Option Addr) (rs : List (Option Addr)) → ((r : Option Addr) → In rs r → f r ≡ g r) → map f rs ≡ map g rs
+refs_same f g [] e = refl
+refs_same f g (r ∷ rs) e = λ i. e r (inl refl) i ∷ refs_same f g rs (λ q j. e q (inr j)) i
+
+same_frames : (f g : Option Addr → Option Addr) (fs : List Frame) → ((r : Option Addr) → In (held_by fs) r → f r ≡ g r) → map (led_frame f) fs ≡ map (led_frame g) fs
+same_frames f g [] e = refl
+same_frames f g (x ∷ xs) e =
+    λ i.
+    ap (λ (rs : List (Option Addr)). let y : Frame = record x { refs = rs } in y) (refs_same f g x.refs (λ r j. e r (in_append_left x.refs (held_by xs) r j))) i
+    ∷ same_frames f g xs (λ r j. e r (in_append_right x.refs (held_by xs) r j)) i
+
+pub frames_same : (f g : Option Addr → Option Addr) (fs : List Frame) → All (λ r. f r ≡ g r) (held_by fs) → map (led_frame f) fs ≡ map (led_frame g) fs
+frames_same f g fs a = same_frames f g fs (λ r i. read_in (λ q. f q ≡ g q) (held_by fs) r i a)

@@ -1,0 +1,79 @@
+-- Lists, read and folded in steps.
+use Rattle.std.proofs.Common.{◌≡◌, ℕ, zero, suc, ◌+◌, ◌<◌, List, [], ◌∷◌, ◌++◌, length, get_or, take, map, fold, refl, sym, ap, ◌∙◌, subst, arith, inl, inr, All, Option, Some, slice_get}
+use Rattle.std.proofs.lemmas.List.{append-nil}
+use Rattle.object_layout.specs.declared.word.Addr.{Addr}
+use Rattle.task_frames.specs.declared.frames.Frame.{Frame}
+use Rattle.task_frames.specs.Stack.{references_of}
+use Rattle.listed.proofs.Members.{In, contains_from_in, in_append_left, in_append_right}
+use Rattle.leaf_copy_gc.specs.Survivors.{held_by}
+
+-- one step more of a fold
+pub fold_read : {S X : Type 0} (f : S → X → S) (s : S) (xs : List X) (k : ℕ) (d : X) → k < length xs → fold f s (take (k + 1) xs) ≡ f (fold f s (take k xs)) (get_or xs k d)
+fold_read f s [] k d l = absurd (omega arith)
+fold_read f s (y ∷ ys) zero d l = refl
+fold_read f s (y ∷ ys) (suc k) d l = let n : suc k + 1 ≡ suc (k + 1) = omega arith in rw n (fold_read f (f s y) ys k d (omega arith))
+
+-- a place within a list reads the same, whatever stands for nothing
+pub read_any : {X : Type 0} (xs : List X) (k : ℕ) (d e : X) → k < length xs → get_or xs k d ≡ get_or xs k e
+read_any [] k d e l = absurd (omega arith)
+read_any (x ∷ xs) zero d e l = refl
+read_any (x ∷ xs) (suc k) d e l = read_any xs k d e (omega arith)
+
+pub in_read : {X : Type 0} (xs : List X) (k : ℕ) (x : X) → k < length xs → In xs (get_or xs k x)
+in_read [] k x l = absurd (omega arith)
+in_read (y ∷ ys) zero x l = inl refl
+in_read (y ∷ ys) (suc k) x l = inr (in_read ys k x (omega arith))
+
+pub read_in : {X : Type 0} (P : X → Type 0) (xs : List X) (x : X) → In xs x → All P xs → P x
+read_in P xs x i all = let c = contains_from_in xs x i in subst P c.2 (all c.0 x c.1)
+
+pub all_from : {X : Type 0} (P : X → Type 0) (xs : List X) → ((x : X) → In xs x → P x) → All P xs
+all_from P xs h = λ k d l. h (get_or xs k d) (in_there xs k d l)
+  where
+    in_there : {X : Type 0} (ys : List X) (k : ℕ) (d : X) → k < length ys → In ys (get_or ys k d)
+    in_there [] k d l = absurd (omega arith)
+    in_there (y ∷ ys) zero d l = inl refl
+    in_there (y ∷ ys) (suc k) d l = inr (in_there ys k d (omega arith))
+
+pub fold_append : {S X : Type 0} (f : S → X → S) (s : S) (xs ys : List X) → fold f s (xs ++ ys) ≡ fold f (fold f s xs) ys
+fold_append f s [] ys = refl
+fold_append f s (x ∷ xs) ys = fold_append f (f s x) xs ys
+
+-- one step more of a fold over a mapped list
+pub fold_map_read : {S X Y : Type 0} (f : S → Y → S) (g : X → Y) (s : S) (xs : List X) (k : ℕ) (d : X) → k < length xs →
+    fold f s (map g (take (k + 1) xs)) ≡ f (fold f s (map g (take k xs))) (g (get_or xs k d))
+fold_map_read f g s [] k d l = absurd (omega arith)
+fold_map_read f g s (y ∷ ys) zero d l = refl
+fold_map_read f g s (y ∷ ys) (suc k) d l = let n : suc k + 1 ≡ suc (k + 1) = omega arith in rw n (fold_map_read f g (f s (g y)) ys k d (omega arith))
+
+pub in_map : {X Y : Type 0} (f : X → Y) (xs : List X) (x : X) → In xs x → In (map f xs) (f x)
+in_map f [] x i = i
+in_map f (y ∷ ys) x (inl e) = inl (ap f e)
+in_map f (y ∷ ys) x (inr i) = inr (in_map f ys x i)
+
+-- ---- the references of frames
+
+pub fold_frames : {S : Type 0} (f : S → Option Addr → S) (s : S) (fs : List Frame) (k : ℕ) → k < length fs →
+    fold f s (held_by (take (k + 1) fs)) ≡ fold f (fold f s (held_by (take k fs))) (references_of fs k)
+fold_frames f s [] k l = absurd (omega arith)
+fold_frames f s (x ∷ xs) zero l = ap (fold f s) (append-nil x.refs)
+fold_frames f s (x ∷ xs) (suc k) l =
+    let n : suc k + 1 ≡ suc (k + 1) = omega arith in
+    rw n (fold_append f s x.refs (held_by (take (k + 1) xs)) ∙ (fold_frames f (fold f s x.refs) xs k (omega arith)
+    ∙ ap (λ t. fold f t (references_of xs k)) (sym (fold_append f s x.refs (held_by (take k xs))))))
+
+pub in_frames : (fs : List Frame) (k : ℕ) (r : Option Addr) → In (references_of fs k) r → In (held_by fs) r
+in_frames [] k r i = i
+in_frames (x ∷ xs) zero r i = in_append_left x.refs (held_by xs) r i
+in_frames (x ∷ xs) (suc k) r i = in_append_right x.refs (held_by xs) r (in_frames xs k r i)
+
+-- one step more of a fold, by the element that was read
+pub fold_got : {S X : Type 0} (f : S → X → S) (s : S) (xs : List X) (k : ℕ) (x : X) → slice_get xs k ≡ Some x → fold f s (take (k + 1) xs) ≡ f (fold f s (take k xs)) x
+fold_got f s [] k x e = absurd cc
+fold_got f s (y ∷ ys) zero x e = let h : y ≡ x = cc in ap (f s) h
+fold_got f s (y ∷ ys) (suc k) x e = let n : suc k + 1 ≡ suc (k + 1) = omega arith in rw n (fold_got f (f s y) ys k x e)
+
+pub in_read_any : {X : Type 0} (ys : List X) (k : ℕ) (d : X) → k < length ys → In ys (get_or ys k d)
+in_read_any [] k d l = absurd (omega arith)
+in_read_any (y ∷ ys) zero d l = inl refl
+in_read_any (y ∷ ys) (suc k) d l = inr (in_read_any ys k d (omega arith))

@@ -1,0 +1,159 @@
+-- Objects of a heap by their addresses, where one was put elsewhere or marked.
+use Rattle.std.proofs.Common.{◌≡◌, ℕ, zero, suc, ◌+◌, ◌-◌, ◌<◌, ◌≤◌, true, false, List, [], ◌∷◌, length, refl, sym, ap, ◌∙◌, subst, arith, ⊎_elim, inl, inr, ◌⊎◌, eqb, eqb-true, eq-eqb, is_some}
+use Rattle.std.proofs.lemmas.Bool.{cases_Bool, cases_lt, le-leb, lt-leb, lt-ltb, le-ltb}
+use Rattle.object_layout.specs.declared.word.Addr.{Addr}
+use Rattle.object_layout.specs.Cell.{Cell, Mark, Born, Moved, Hole, IsBorn, IsObject, no_cell, size_of, with_mark}
+use Rattle.object_layout.specs.Content.{Content}
+use Rattle.object_layout.specs.Place.{cell_at, put_cell}
+use Rattle.object_layout.specs.Chunks.{cell_of, place_in, place_of, put_object}
+use Rattle.object_layout.proofs.PlaceLemmas as place
+use Rattle.object_layout.proofs.ChunkLaws as laws
+use Rattle.listed.proofs.Members.{In}
+use Rattle.leaf_copy_gc.specs.Survivors.{IsLive, born_of, born_in, live_count}
+
+-- two addresses are one, or not
+pub same_or_other : (a b : Addr) → (a ≡ b) ⊎ (a ≡ b → ⊥)
+same_or_other a b =
+    elim (cases_Bool (eqb a.chunk b.chunk)) [
+      | inl e ↦ elim (cases_Bool (eqb a.offset b.offset)) [
+        | inl f ↦ let c : a.chunk ≡ b.chunk = eqb-true a.chunk b.chunk e in let o : a.offset ≡ b.offset = eqb-true a.offset b.offset f in inl (λ i. record { chunk = c i; offset = o i })
+        | inr f ↦ inr (λ h. let t = eq-eqb a.offset b.offset (ap (λ (x : Addr). x.offset) h) in absurd cc)
+      ]
+      | inr e ↦ inr (λ h. let t = eq-eqb a.chunk b.chunk (ap (λ (x : Addr). x.chunk) h) in absurd cc)
+    ]
+
+pub in_or_not : (xs : List Addr) (a : Addr) → In xs a ⊎ (In xs a → ⊥)
+in_or_not [] a = inr (λ h. h)
+in_or_not (x ∷ xs) a =
+    elim (same_or_other x a) [
+      | inl e ↦ inl (inl e)
+      | inr n ↦ elim (in_or_not xs a) [
+        | inl i ↦ inl (inr i)
+        | inr m ↦ inr (λ h. elim h [ inl e ↦ n e | inr i ↦ m i ])
+      ]
+    ]
+
+-- ---- one object put elsewhere
+
+pub place_put : (h : List Content) (x : Addr) (c : Cell) (n : ℕ) → place_of (put_object h x c) n ≡ place_of h n
+place_put [] x c n = refl
+place_put (k ∷ ks) x c n =
+    ⊎_elim
+    (λ (e : eqb k.number x.chunk ≡ true). rw e)
+    (λ (e : eqb k.number x.chunk ≡ false). rw (e, place_put ks x c n))
+    (cases_Bool (eqb k.number x.chunk))
+
+pub length_put : (h : List Content) (x : Addr) (c : Cell) → length (put_object h x c) ≡ length h
+length_put [] x c = refl
+length_put (k ∷ ks) x c =
+    ⊎_elim
+    (λ (e : eqb k.number x.chunk ≡ true). rw e)
+    (λ (e : eqb k.number x.chunk ≡ false). let ih = length_put ks x c in rw e (omega arith))
+    (cases_Bool (eqb k.number x.chunk))
+
+-- the later of two puts at one address stands
+pub put_put : (h : List Content) (a : Addr) (c d : Cell) → put_object (put_object h a c) a d ≡ put_object h a d
+put_put [] a c d = refl
+put_put (k ∷ ks) a c d =
+    ⊎_elim
+    (λ (e : eqb k.number a.chunk ≡ true). rw (e, e, place.put_cell-put_cell) refl)
+    (λ (e : eqb k.number a.chunk ≡ false). rw (e, e, put_put ks a c d) refl)
+    (cases_Bool (eqb k.number a.chunk))
+
+-- what was put is there, or no object or hole is
+cell_put : (cs : List Cell) (at : ℕ) (c : Cell) → (cell_at (put_cell cs at c) at ≡ c) ⊎ ((cell_at (put_cell cs at c) at ≡ cell_at cs at) × (cell_at cs at ≡ no_cell))
+cell_put cs at c =
+    elim (place.cell_or_none cs at) [
+      | inl o ↦ inl (place.cell_at-put_same cs at c o)
+      | inr o ↦ inr (ap (λ (xs : List Cell). cell_at xs at) (place.put_nowhere cs at c o.0), o.1)
+    ]
+
+pub put_cases : (h : List Content) (a : Addr) (c : Cell) → (cell_of (put_object h a c) a ≡ c) ⊎ ((cell_of (put_object h a c) a ≡ cell_of h a) × (cell_of h a ≡ no_cell))
+put_cases [] a c = inr (refl, refl)
+put_cases (k ∷ ks) a c =
+    ⊎_elim
+    (λ (e : eqb k.number a.chunk ≡ true). rw (e, e) (cell_put k.cells a.offset c))
+    (λ (e : eqb k.number a.chunk ≡ false). rw (e, e) (put_cases ks a c))
+    (cases_Bool (eqb k.number a.chunk))
+
+-- ---- one object marked
+
+module _ (h : List Content) (x : Addr) (m : Mark) where
+  pub mark_other : (a : Addr) → (x ≡ a → ⊥) → cell_of (put_object h x (with_mark (cell_of h x) m)) a ≡ cell_of h a
+  mark_other a ne = laws.cell_of-put_other h x a (with_mark (cell_of h x) m) refl (λ e. ne (sym e))
+
+  -- nothing but marks changes
+  pub mark_alone : (a : Addr) (n : Mark) → with_mark (cell_of (put_object h x (with_mark (cell_of h x) m)) a) n ≡ with_mark (cell_of h a) n
+  mark_alone a n =
+      elim (same_or_other x a) [
+        | inl e ↦ subst (λ (y : Addr). with_mark (cell_of (put_object h x (with_mark (cell_of h x) m)) y) n ≡ with_mark (cell_of h y) n) e (elim (put_cases h x (with_mark (cell_of h x) m)) [
+          | inl p ↦ ap (λ (c : Cell). with_mark c n) p
+          | inr p ↦ ap (λ (c : Cell). with_mark c n) p.0
+        ])
+        | inr ne ↦ ap (λ (c : Cell). with_mark c n) (mark_other a ne)
+      ]
+
+  pub mark_object : IsObject m → (a : Addr) → IsObject (cell_of h a).mark → IsObject (cell_of (put_object h x (with_mark (cell_of h x) m)) a).mark
+  mark_object o a was =
+      elim (same_or_other x a) [
+        | inl e ↦ subst (λ (y : Addr). IsObject (cell_of (put_object h x (with_mark (cell_of h x) m)) y).mark) e (elim (put_cases h x (with_mark (cell_of h x) m)) [
+          | inl p ↦ subst (λ (c : Cell). IsObject c.mark) (sym p) o
+          | inr p ↦ subst (λ (c : Cell). IsObject c.mark) (sym p.0) (subst (λ (y : Addr). IsObject (cell_of h y).mark) (sym e) was)
+        ])
+        | inr ne ↦ subst (λ (c : Cell). IsObject c.mark) (sym (mark_other a ne)) was
+      ]
+
+  -- what isn't to bear its birth name doesn't
+  pub mark_dead : (IsBorn m → ⊥) → IsLive (put_object h x (with_mark (cell_of h x) m)) x → ⊥
+  mark_dead d l =
+      elim (put_cases h x (with_mark (cell_of h x) m)) [
+        | inl p ↦ d (subst (λ (c : Cell). IsBorn c.mark) p l)
+        | inr p ↦ let z = subst (λ (c : Cell). IsBorn c.mark) (p.0 ∙ p.1) l in z
+      ]
+
+-- what bears its birth name lies in a chunk
+pub live_chunk : (h : List Content) (a : Addr) → IsLive h a → place_of h a.chunk < length h
+live_chunk h a l = laws.chunk_of_object h a (laws.born_object h a l)
+
+-- ---- how many bear their birth names
+
+born_one : (m : Mark) → IsBorn m → born_of m ≡ 1
+born_one (Born b) l = refl
+born_one (Moved to) l = absurd l
+born_one Hole l = absurd l
+
+count_cells : (cs : List Cell) (at : ℕ) (to : Addr) → IsBorn (cell_at cs at).mark → born_in cs ≡ born_in (put_cell cs at (with_mark (cell_at cs at) (Moved to))) + 1
+count_cells [] at to l = absurd l
+count_cells (c ∷ cs) zero to l = let e = born_one c.mark l in omega arith
+count_cells (c ∷ cs) (suc n) to l =
+    ⊎_elim
+    (λ (above : suc n < size_of c). let m = rw (lt-leb (size_of c) (suc n) above) at l in absurd m)
+    (λ (within : size_of c ≤ suc n).
+    let t = le-leb (size_of c) (suc n) within in
+    let ih = count_cells cs (suc n - size_of c) to (rw t at l) in
+    rw t (omega arith))
+    (cases_lt (suc n) (size_of c))
+
+pub count_found : (h : List Content) (a to : Addr) → IsLive h a → live_count h ≡ live_count (put_object h a (with_mark (cell_of h a) (Moved to))) + 1
+count_found [] a to l = absurd l
+count_found (k ∷ ks) a to l =
+    ⊎_elim
+    (λ (e : eqb k.number a.chunk ≡ true). let ih = count_cells k.cells a.offset to (rw e at l) in rw e (omega arith))
+    (λ (e : eqb k.number a.chunk ≡ false). let ih = count_found ks a to (rw e at l) in rw e (omega arith))
+    (cases_Bool (eqb k.number a.chunk))
+
+-- ---- whether an address lies in a chunk of the heap
+
+pub owned : (h : List Content) (n : ℕ) → is_some (place_in h n) ≡ true → place_of h n < length h
+owned h n e =
+    elim (cases_lt (place_of h n) (length h)) [
+      | inl l ↦ l
+      | inr l ↦ let w = rw (le-ltb (place_of h n) (length h) l) at e in absurd cc
+    ]
+
+pub not_owned : (h : List Content) (n : ℕ) → is_some (place_in h n) ≡ false → length h ≤ place_of h n
+not_owned h n e =
+    elim (cases_lt (place_of h n) (length h)) [
+      | inl l ↦ let w = rw (lt-ltb (place_of h n) (length h) l) at e in absurd cc
+      | inr l ↦ l
+    ]

@@ -1,0 +1,52 @@
+-- The references of an object led one after another.
+use Rattle.std.proofs.Common.{◌≡◌, ℕ, zero, suc, ◌+◌, ◌-◌, ◌<◌, ◌≤◌, List, [], ◌∷◌, ◌++◌, length, get_or, set, take, drop, refl, sym, ap, ◌∙◌, arith, Some, Option, length-append, length-take, length-drop, map, slice_get}
+use Rattle.std.proofs.lemmas.List.{length-map, get_or-append_right, get_or-drop, take_all, drop_all, append-nil}
+use Rattle.std.proofs.lemmas.List.Edits.{map_over_more}
+use Rattle.object_layout.specs.declared.word.Addr.{Addr}
+use Rattle.object_layout.specs.Cell.{Cell, with_ref, size_of}
+use Rattle.leaf_copy_gc.specs.Redirected.{led}
+
+-- as far as the references below k
+abbrev pub led_upto : (Option Addr → Option Addr) → ℕ → Cell → Cell
+led_upto f k c = record c { refs = map f (take k c.refs) ++ drop k c.refs }
+
+read_some : {X : Type 0} (xs : List X) (k : ℕ) (x : X) → slice_get xs k ≡ Some x → x ≡ get_or xs k x
+read_some [] k x e = refl
+read_some (y ∷ ys) zero x e = cc
+read_some (y ∷ ys) (suc k) x e = read_some ys k x e
+
+some_read : {X : Type 0} (xs : List X) (k : ℕ) (x : X) → k < length xs → x ≡ get_or xs k x → slice_get xs k ≡ Some x
+some_read [] k x l e = absurd (omega arith)
+some_read (y ∷ ys) zero x l e = ap Some (sym e)
+some_read (y ∷ ys) (suc k) x l e = some_read ys k x (omega arith) e
+
+module _ (f : Option Addr → Option Addr) (c : Cell) where
+  pub length-upto : (k : ℕ) → k ≤ length c.refs → length (led_upto f k c).refs ≡ length c.refs
+  length-upto k l = simp (length-append, length-map, length-take, length-drop) (omega arith)
+
+  pub size-upto : (k : ℕ) → k ≤ length c.refs → size_of (led_upto f k c) ≡ size_of c
+  size-upto k l = let e = length-upto k l in omega arith
+
+  pub upto_none : led_upto f 0 c ≡ c
+  upto_none = refl
+
+  pub upto_all : (n : ℕ) → n ≡ length c.refs → led_upto f n c ≡ led f c
+  upto_all n e = rw (e, take_all (length c.refs) c.refs (omega arith), drop_all (length c.refs) c.refs (omega arith), append-nil) refl
+
+  module _ (k : ℕ) (l : k < length c.refs) where
+    same_there : (d : Option Addr) → get_or (led_upto f k c).refs k d ≡ get_or c.refs k d
+    same_there d =
+        let len : length (map f (take k c.refs)) ≡ k = simp (length-map, length-take) (omega arith) in
+        let none : k - k ≡ 0 = omega arith in
+        let all : k + 0 ≡ k = omega arith in
+        get_or-append_right (map f (take k c.refs)) (drop k c.refs) k k d len (omega arith) ∙ rw none (get_or-drop k c.refs 0 d ∙ rw all refl)
+
+    -- what is read there is as it was
+    pub upto_read : (r : Option Addr) → slice_get (led_upto f k c).refs k ≡ Some r → slice_get c.refs k ≡ Some r
+    upto_read r e = some_read c.refs k r l (read_some (led_upto f k c).refs k r e ∙ same_there r)
+
+    pub upto_more : (r : Option Addr) → slice_get (led_upto f k c).refs k ≡ Some r → with_ref (led_upto f k c) k (f r) ≡ led_upto f (k + 1) c
+    upto_more r e =
+        let more : set (map f (take k c.refs) ++ drop k c.refs) k (f r) ≡ map f (take (k + 1) c.refs) ++ drop (k + 1) c.refs =
+        map_over_more f c.refs _ k r l refl (read_some (led_upto f k c).refs k r e) in
+        ap (λ (rs : List (Option Addr)). let d : Cell = record c { refs = rs } in d) more

@@ -1,0 +1,10 @@
+use Rattle.std.proofs.Common.{◌≡◌, take, drop, fold}
+use Rattle.leaf_copy_gc.specs.Survivors.{with_chunks}
+use Rattle.leaf_copy_gc.specs.Exchanged.{named, CanName}
+use Rattle.leaf_copy_gc.proofs.exchange.name_all.Given as goal
+
+abbrev pub invariant-loop-survivor : goal.invariant-loop-survivor
+invariant-loop-survivor l = record {
+  named : l.heap ≡ with_chunks l.fn.heap (fold named l.fn.heap.chunks (take l.survivor-index l.found));
+  ready : CanName l.heap.chunks (drop l.survivor-index l.found);
+}

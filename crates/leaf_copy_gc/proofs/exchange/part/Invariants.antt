@@ -1,0 +1,14 @@
+use Rattle.std.proofs.Common.{◌≡◌, ◌++◌, ◌≤◌, ◌+◌, length, filter, map, vec_len, vec_capacity}
+use Rattle.leaf_copy_gc.specs.Exchanged.{emptied, goes, stays}
+use Rattle.leaf_copy_gc.proofs.exchange.part.Given as goal
+
+abbrev pub invariant-loop-chunk : goal.invariant-loop-chunk
+invariant-loop-chunk l = record {
+  laid : l.laid.items ≡ l.fn.laid.items ++ filter stays l.yielded;
+  back : l.back.items ≡ l.fn.back.items ++ map emptied (filter goes l.yielded);
+  laid_count : vec_len l.laid ≤ vec_len l.fn.laid + length l.yielded;
+  back_count : vec_len l.back ≤ vec_len l.fn.back + length l.yielded;
+  laid_length : length l.laid.items ≤ length l.fn.laid.items + length l.yielded;
+  laid_room : vec_capacity l.laid ≡ vec_capacity l.fn.laid;
+  back_room : vec_capacity l.back ≡ vec_capacity l.fn.back;
+}

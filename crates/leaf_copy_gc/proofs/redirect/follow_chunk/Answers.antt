@@ -1,0 +1,50 @@
+use Rattle.std.proofs.Common.{◌≡◌, ◌+◌, List, arith, refl, sym, ap, ◌∙◌, subst, All}
+use Rattle.object_layout.specs.Cell.{Cell, IsObject, size_of}
+use Rattle.object_layout.specs.Content.{Content}
+use Rattle.object_layout.specs.Place.{IsCellAt, cell_at, words_in}
+use Rattle.object_layout.proofs.PlaceLemmas as place
+use Rattle.leaf_copy_gc.specs.Search.{IsTarget}
+use Rattle.leaf_copy_gc.specs.Redirected.{followed_ref, HasTargets}
+use Rattle.leaf_copy_gc.proofs.FollowLemmas as follows
+use Rattle.leaf_copy_gc.proofs.FollowLemmas.{led_before}
+use Rattle.leaf_copy_gc.proofs.redirect.follow_chunk.Goals as goal
+
+pub follow_refs-requires-clause-object : goal.follow_refs-requires-clause-object
+follow_refs-requires-clause-object c =
+    let f = followed_ref c.args.heap.now.chunks in
+    let o : IsCellAt c.args.chunk.now.cells c.loop-at.at = c.loop-at.invariant.begins c.loop-at-test.true in
+    let t : HasTargets c.args.heap.now.chunks (cell_at c.args.chunk.now.cells c.loop-at.at) = place.All-cell_at (HasTargets c.args.heap.now.chunks) c.args.chunk.now.cells c.loop-at.at o c.requires in
+    subst (λ (d : Cell). IsObject d.mark) (sym (follows.there f c.args.chunk.now c.loop-at.chunk _ c.loop-at.at o c.loop-at.invariant.chunk refl)) t.0
+
+pub follow_refs-requires-clause-targets : goal.follow_refs-requires-clause-targets
+follow_refs-requires-clause-targets c =
+    let f = followed_ref c.args.heap.now.chunks in
+    let o : IsCellAt c.args.chunk.now.cells c.loop-at.at = c.loop-at.invariant.begins c.loop-at-test.true in
+    let t : HasTargets c.args.heap.now.chunks (cell_at c.args.chunk.now.cells c.loop-at.at) = place.All-cell_at (HasTargets c.args.heap.now.chunks) c.args.chunk.now.cells c.loop-at.at o c.requires in
+    subst (λ (d : Cell). All (IsTarget c.args.heap.now.chunks) d.refs) (sym (follows.there f c.args.chunk.now c.loop-at.chunk _ c.loop-at.at o c.loop-at.invariant.chunk refl)) t.1
+
+pub next_at-at-requires : goal.next_at-at-requires
+next_at-at-requires c =
+    let f = followed_ref c.args.heap.now.chunks in
+    let o : IsCellAt c.args.chunk.now.cells c.loop-at.at = c.loop-at.invariant.begins c.loop-at-test.true in
+    follows.after_object f c.args.chunk.now c.loop-at.chunk c.follow_refs.new.chunk c.loop-at.at o c.loop-at.invariant.chunk c.follow_refs.ensures
+
+pub loop-at-preserved : goal.loop-at-preserved
+loop-at-preserved c =
+    let f = followed_ref c.args.heap.now.chunks in
+    let o : IsCellAt c.args.chunk.now.cells c.loop-at.at = c.loop-at.invariant.begins c.loop-at-test.true in
+    let size = follows.after_size f c.args.chunk.now c.loop-at.chunk c.follow_refs.new.chunk c.loop-at.at o c.loop-at.invariant.chunk c.follow_refs.ensures in
+    let next : c.next_at-at.result ≡ c.loop-at.at + size_of (cell_at c.args.chunk.now.cells c.loop-at.at) = c.next_at-at.ensures.next ∙ ap (λ n. c.loop-at.at + n) size in
+    let ends = place.cell_ends c.args.chunk.now.cells c.loop-at.at o in
+    record {
+      chunk = follows.after_is f c.args.chunk.now c.loop-at.chunk c.follow_refs.new.chunk c.loop-at.at o c.loop-at.invariant.chunk c.follow_refs.ensures c.next_at-at.result next;
+      within = omega arith;
+      begins = λ l. rw next (place.next_cell c.args.chunk.now.cells c.loop-at.at o (omega arith));
+    }
+
+pub returns : goal.returns
+returns c =
+    let f = followed_ref c.args.heap.now.chunks in
+    let w = c.loop-at.invariant.within in
+    let at : c.loop-at.at ≡ words_in c.args.chunk.now.cells = omega arith in
+    c.loop-at.invariant.chunk ∙ ap (λ (xs : List Cell). let r : Content = record c.args.chunk.now { cells = xs } in r) (ap (led_before f c.args.chunk.now.cells) at ∙ follows.before_all f c.args.chunk.now.cells)

@@ -1,0 +1,29 @@
+use Rattle.std.proofs.Common.{◌<◌, length, ap, ◌∙◌, sym, subst, arith, length-append, List, Option, All}
+use Rattle.object_layout.specs.declared.word.Addr.{Addr}
+use Rattle.task_frames.specs.declared.frames.Frame.{Frame}
+use Rattle.task_frames.specs.Stack.{frames_of, references_of}
+use Rattle.leaf_copy_gc.specs.Survivors.{held_by}
+use Rattle.leaf_copy_gc.specs.Search.{IsTarget}
+use Rattle.leaf_copy_gc.specs.Redirected.{followed_ref}
+use Rattle.leaf_copy_gc.proofs.FrameLemmas as frames
+use Rattle.leaf_copy_gc.proofs.ListLemmas as lists
+use Rattle.leaf_copy_gc.proofs.redirect.follow_frames.Goals as goal
+
+pub follow_all-requires : goal.follow_all-requires
+follow_all-requires c =
+    let fs = frames_of c.args.frames.now in
+    let within : c.loop-frame.frame < length fs = omega (arith, length-append c.args.frames.now.below) in
+    let same = c.references_in-references.ensures
+    ∙ (ap (λ (xs : List Frame). references_of xs c.loop-frame.frame) c.loop-frame.invariant ∙ frames.next_frame (followed_ref c.args.heap.now.chunks) fs c.loop-frame.frame within) in
+    subst (λ (rs : List (Option Addr)). All (IsTarget c.args.heap.now.chunks) rs) (sym same)
+    (lists.all_from (IsTarget c.args.heap.now.chunks) (references_of fs c.loop-frame.frame)
+    (λ r i. lists.read_in (IsTarget c.args.heap.now.chunks) (held_by fs) r (lists.in_frames fs c.loop-frame.frame r i) c.requires))
+
+pub loop-frame-preserved : goal.loop-frame-preserved
+loop-frame-preserved c =
+    let fs = frames_of c.args.frames.now in
+    let f = followed_ref c.args.heap.now.chunks in
+    let within : c.loop-frame.frame < length fs = omega (arith, length-append c.args.frames.now.below) in
+    let same = c.references_in-references.ensures
+    ∙ (ap (λ (xs : List Frame). references_of xs c.loop-frame.frame) c.loop-frame.invariant ∙ frames.next_frame f fs c.loop-frame.frame within) in
+    rw (c.set_references_in.ensures, c.follow_all.ensures, same, c.loop-frame.invariant) (frames.more_frames f fs c.loop-frame.frame within)

@@ -1,0 +1,10 @@
+use Rattle.std.proofs.Common.{◌≡◌, take, drop, fold}
+use Rattle.leaf_copy_gc.specs.Survivors.{with_chunks}
+use Rattle.leaf_copy_gc.specs.Redirected.{followed_large, CanFollow}
+use Rattle.leaf_copy_gc.proofs.redirect.follow_larges.Given as goal
+
+abbrev pub invariant-loop-survivor : goal.invariant-loop-survivor
+invariant-loop-survivor l = record {
+  led : l.heap ≡ with_chunks l.fn.heap (fold followed_large l.fn.heap.chunks (take l.survivor-index l.found));
+  ready : CanFollow l.heap.chunks (drop l.survivor-index l.found);
+}

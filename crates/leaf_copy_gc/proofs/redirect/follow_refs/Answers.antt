@@ -1,0 +1,46 @@
+use Rattle.std.proofs.Common.{◌<◌, length, ap, arith}
+use Rattle.object_layout.specs.declared.word.Header.{Header}
+use Rattle.object_layout.specs.Cell.{Cell}
+use Rattle.object_layout.specs.Content.{Content}
+use Rattle.object_layout.specs.Place.{cell_at}
+use Rattle.object_layout.proofs.PlaceLemmas as place
+use Rattle.leaf_copy_gc.specs.Redirected.{followed_ref}
+use Rattle.leaf_copy_gc.specs.Search.{IsTarget}
+use Rattle.leaf_copy_gc.proofs.FollowLemmas as follows
+use Rattle.leaf_copy_gc.proofs.redirect.follow_refs.Goals as goal
+
+pub loop-field-init : goal.loop-field-init
+loop-field-init c = rw (follows.none_yet (followed_ref c.args.heap.now.chunks) c.args.chunk.now.cells c.args.at c.requires.object)
+
+pub ref_at-requires : goal.ref_at-requires
+ref_at-requires c =
+    let same = ap (λ (d : Cell). length d.refs) (place.object_is c.args.chunk.now.cells c.args.at c.requires.object) in
+    let kind = ap (λ (h : Header). h.nrefs) c.header_at-field-end.ensures.kind in
+    let l : c.loop-field.field < length (cell_at c.args.chunk.now.cells c.args.at).refs = omega arith in
+    let cells = ap (λ (k : Content). k.cells) c.loop-field.invariant in
+    rw cells (follows.field (followed_ref c.args.heap.now.chunks) c.args.chunk.now.cells c.args.at c.requires.object c.loop-field.field l)
+
+pub set_ref-requires-clause-field : goal.set_ref-requires-clause-field
+set_ref-requires-clause-field c =
+    let same = ap (λ (d : Cell). length d.refs) (place.object_is c.args.chunk.now.cells c.args.at c.requires.object) in
+    let kind = ap (λ (h : Header). h.nrefs) c.header_at-field-end.ensures.kind in
+    let l : c.loop-field.field < length (cell_at c.args.chunk.now.cells c.args.at).refs = omega arith in
+    let cells = ap (λ (k : Content). k.cells) c.loop-field.invariant in
+    rw cells (follows.field (followed_ref c.args.heap.now.chunks) c.args.chunk.now.cells c.args.at c.requires.object c.loop-field.field l)
+
+pub follow-now-requires : goal.follow-now-requires
+follow-now-requires c =
+    let same = ap (λ (d : Cell). length d.refs) (place.object_is c.args.chunk.now.cells c.args.at c.requires.object) in
+    let kind = ap (λ (h : Header). h.nrefs) c.header_at-field-end.ensures.kind in
+    let l : c.loop-field.field < length (cell_at c.args.chunk.now.cells c.args.at).refs = omega arith in
+    let cells = ap (λ (k : Content). k.cells) c.loop-field.invariant in
+    let was = follows.was (followed_ref c.args.heap.now.chunks) c.args.chunk.now.cells c.args.at c.requires.object c.loop-field.field l c.ref_at.result (rw cells at c.ref_at.ensures.value) in
+    follows.got_all (IsTarget c.args.heap.now.chunks) (cell_at c.args.chunk.now.cells c.args.at).refs c.loop-field.field c.ref_at.result was c.requires.targets
+
+pub loop-field-preserved : goal.loop-field-preserved
+loop-field-preserved c =
+    let same = ap (λ (d : Cell). length d.refs) (place.object_is c.args.chunk.now.cells c.args.at c.requires.object) in
+    let kind = ap (λ (h : Header). h.nrefs) c.header_at-field-end.ensures.kind in
+    let l : c.loop-field.field < length (cell_at c.args.chunk.now.cells c.args.at).refs = omega arith in
+    let cells = ap (λ (k : Content). k.cells) c.loop-field.invariant in
+    rw (c.set_ref.ensures, c.follow-now.ensures.value, c.loop-field.invariant, follows.more (followed_ref c.args.heap.now.chunks) c.args.chunk.now.cells c.args.at c.requires.object c.loop-field.field l c.ref_at.result (rw cells at c.ref_at.ensures.value))

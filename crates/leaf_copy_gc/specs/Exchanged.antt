@@ -1,0 +1,60 @@
+-- Which chunks a heap keeps, and which it gives back.
+use Rattle.std.specs.Prelude.{◌≡◌, true, ℕ, ◌+◌, ◌-◌, ◌^◌, Bool, List, [], ◌∷◌, ◌&&◌, Option, Some, None, is_some, length, min, nat_le, not, remove, if◌then◌else◌}
+use Rattle.object_layout.specs.Cell.{Born, Cell, IsObject, moved_to, size_of, with_mark}
+use Rattle.object_layout.specs.Content.{Content}
+use Rattle.object_layout.specs.Place.{cell_at}
+use Rattle.object_layout.specs.Chunks.{cell_of, chunk_at, place_in, put_object}
+use Rattle.alloc_path.specs.Heap.{units}
+use Rattle.leaf_copy_gc.specs.declared.lists.Survivor.{Survivor}
+
+-- a large object that was found
+abbrev pub is_found_large : Cell → Bool
+is_found_large c = not (nat_le (size_of c) 1024) && is_some (moved_to c.mark)
+
+-- a chunk that holds one stays
+abbrev pub stays : Content → Bool
+stays k = is_found_large (cell_at k.cells 0)
+
+abbrev pub goes : Content → Bool
+goes k = not (stays k)
+
+-- a chunk without its objects
+abbrev pub emptied : Content → Content
+emptied k = record k { cells = [] }
+
+-- the chunks but for the reserved one, and the reserved one
+abbrev pub unreserved : List Content → Option ℕ → List Content
+unreserved ks None = ks
+unreserved ks (Some i) = remove ks i
+
+abbrev pub reserved_of : List Content → Option ℕ → List Content
+reserved_of ks None = []
+reserved_of ks (Some i) = chunk_at ks i ∷ []
+
+-- the place of the last of these chunks; none where there is none
+abbrev pub last_place : List Content → Option ℕ
+last_place [] = None
+last_place (k ∷ ks) = Some (length ks)
+
+-- the place of the reserved chunk behind so many others
+abbrev pub reserved_place : ℕ → Option ℕ → Option ℕ
+reserved_place n None = None
+reserved_place n (Some i) = Some n
+
+-- the units of 1,024 words of these chunks
+abbrev pub unit_count : List Content → ℕ
+unit_count [] = 0
+unit_count (k ∷ ks) = units k.size + unit_count ks
+
+-- a number, as far as 32 bits count
+abbrev pub counted32 : ℕ → ℕ
+counted32 n = min n (2 ^ 32 - 1)
+
+-- a survivor that is in the heap bears its birth name again
+abbrev pub named : List Content → Survivor → List Content
+named h s = if is_some (place_in h s.old.chunk) then put_object h s.old (with_mark (cell_of h s.old) (Born s.birth)) else h
+
+-- each of these that is in the heap is an object there, in its turn
+abbrev pub CanName : List Content → List Survivor → Type 0
+CanName h [] = Unit {0}
+CanName h (s ∷ ss) = (is_some (place_in h s.old.chunk) ≡ true → IsObject (cell_of h s.old).mark) × CanName (named h s) ss

@@ -1,0 +1,33 @@
+-- What is read in a heap once it was collected.
+use Rattle.std.specs.Prelude.{◌≡◌, false, ◌+◌, ◌*◌, ◌/◌, ◌≤◌, List, ◌++◌, Option, Contains, length, reverse}
+use Rattle.object_layout.specs.declared.word.Addr.{Addr}
+use Rattle.object_layout.specs.Content.{Content}
+use Rattle.object_layout.specs.Chunks.{cell_of}
+use Rattle.alloc_path.specs.Heap.{AreApart, Heap, IsReserved}
+use Rattle.leaf_copy_gc.specs.declared.lists.Survivor.{Survivor}
+use Rattle.leaf_copy_gc.specs.Survivors.{olds}
+use Rattle.leaf_copy_gc.specs.Laid.{AreNew, is_small, small_words}
+use Rattle.leaf_copy_gc.specs.Redirected.{led}
+use Rattle.leaf_copy_gc.specs.Collected.{AreSurvivors, AreTidy, collected, moves_of, redirection}
+
+-- so many chunks are new, numbered apart, and enough for the heap
+pub record CanTake (h : List Content) (news : List Content) : Type 0 where
+  pub apart : AreApart (h ++ news)
+  pub new : AreNew news
+  pub enough : 2 * ((small_words h + 1023) / 1024) ≤ length news + 1
+
+-- an object that was moved is read at its new address as it was at the old one, under the same name, its references led
+abbrev pub MovedAreRead : Type 0
+MovedAreRead =
+    (h : Heap) (from : List (Option Addr)) (ss : List Survivor) (news : List Content)
+    → AreSurvivors h.chunks from ss → CanTake h.chunks news
+    → (old new : Addr) → Contains (moves_of h.chunks ss (reverse news)) (old, new)
+    → cell_of (collected h ss (reverse news)).chunks new ≡ led (redirection h.chunks ss (reverse news)) (cell_of h.chunks old)
+
+-- a large survivor is read where it was, as it was, its references led
+abbrev pub LargeAreRead : Type 0
+LargeAreRead =
+    (h : Heap) (from : List (Option Addr)) (ss : List Survivor) (news : List Content)
+    → AreSurvivors h.chunks from ss → CanTake h.chunks news → AreTidy h.chunks → IsReserved h.chunks h.reserved
+    → (a : Addr) → Contains (olds ss) a → is_small h.chunks a ≡ false
+    → cell_of (collected h ss (reverse news)).chunks a ≡ led (redirection h.chunks ss (reverse news)) (cell_of h.chunks a)

@@ -1,0 +1,58 @@
+-- References led to where their objects are now.
+use Rattle.std.specs.Prelude.{List, [], ◌∷◌, Option, Some, None, map, nat_lt, if◌then◌else◌, All, length, unwrap_or}
+use Rattle.object_layout.specs.declared.word.Addr.{Addr}
+use Rattle.object_layout.specs.Cell.{Cell, IsObject, moved_to}
+use Rattle.object_layout.specs.Content.{Content}
+use Rattle.object_layout.specs.Chunks.{cell_of, place_of, put_object}
+use Rattle.remembered_set.specs.Moved.{new_of}
+use Rattle.task_frames.specs.declared.frames.Frame.{Frame}
+use Rattle.leaf_copy_gc.specs.declared.lists.Survivor.{Survivor}
+use Rattle.leaf_copy_gc.specs.Laid.{is_small}
+use Rattle.leaf_copy_gc.specs.Search.{IsTarget}
+
+-- ---- by the list of what was moved
+
+-- the new address of what was moved; any other stays
+abbrev pub new_address : List (Addr × Addr) → Addr → Addr
+new_address moved a = unwrap_or (new_of moved a) a
+
+abbrev pub redirected : List (Addr × Addr) → Option Addr → Option Addr
+redirected moved None = None
+redirected moved (Some a) = Some (new_address moved a)
+
+-- an object, a chunk and a frame with each reference led elsewhere, and nothing else changed
+abbrev pub led : (Option Addr → Option Addr) → Cell → Cell
+led f c = record c { refs = map f c.refs }
+
+abbrev pub led_chunk : (Option Addr → Option Addr) → Content → Content
+led_chunk f k = record k { cells = map (led f) k.cells }
+
+abbrev pub led_frame : (Option Addr → Option Addr) → Frame → Frame
+led_frame f x = record x { refs = map f x.refs }
+
+-- ---- by the addresses that were left in the old heap
+
+-- where what was at an address of the heap is now; an address elsewhere stays
+abbrev pub followed : List Content → Addr → Option Addr
+followed h a = if nat_lt (place_of h a.chunk) (length h) then moved_to (cell_of h a).mark else Some a
+
+abbrev pub followed_ref : List Content → Option Addr → Option Addr
+followed_ref h None = None
+followed_ref h (Some a) = followed h a
+
+-- an object, each of whose references can be followed
+abbrev pub HasTargets : List Content → Cell → Type 0
+HasTargets h c = IsObject c.mark × All (IsTarget h) c.refs
+
+-- the heap with the references of one object led to where their objects are now
+abbrev pub followed_at : List Content → Addr → List Content
+followed_at h a = put_object h a (led (followed_ref h) (cell_of h a))
+
+-- the same, where the object is large
+abbrev pub followed_large : List Content → Survivor → List Content
+followed_large h s = if is_small h s.old then h else followed_at h s.old
+
+-- the references of each of these can be followed in its turn
+abbrev pub CanFollow : List Content → List Survivor → Type 0
+CanFollow h [] = Unit {0}
+CanFollow h (s ∷ ss) = HasTargets h (cell_of h s.old) × CanFollow (followed_large h s) ss

@@ -1,0 +1,106 @@
+// A whole collection of a heap.
+
+ghost use Rattle.std.specs.Prelude.{◌≡◌, ◌+◌, ◌*◌, ◌/◌, ◌≤◌, ◌++◌, length, vec_len, vec_capacity, All};
+ghost use Rattle.alloc_path.specs.Heap.{AreApart};
+ghost use Rattle.leaf_copy_gc.specs.Survivors.{outside, IsClosed, IsSound};
+ghost use Rattle.leaf_copy_gc.specs.Laid.{small_words, AreNew};
+ghost use Rattle.leaf_copy_gc.specs.Exchanged.{counted32};
+ghost use Rattle.leaf_copy_gc.specs.Collected.{AreTidy};
+ghost use Rattle.leaf_copy_gc.specs.Lists.{AreReserved, IsCollected};
+
+use crate::evacuation::evacuate;
+use crate::exchange::{counted, exchange, name_all, units_of};
+use crate::lists::{Moved, ToChunks};
+use alloc_path::LeafHeap;
+use object_layout::{Addr, Chunk};
+use outside_io::{Gate, Point};
+use task_frames::Frames;
+
+/// Collects a heap: it keeps exactly what the frames and the roots lead to through the heap, one object for each.
+///
+/// The small survivors, of at most 1,024 words, are moved into new chunks in order of birth. Large ones stay where they
+/// are, and chunks of those that were dropped are given back. All references of survivors and frames to moved objects
+/// are led to the new addresses. It takes no memory, and passes the gate before all else.
+pub fn copy<G: Gate>(
+    heap: &mut LeafHeap,
+    frames: &mut Frames,
+    roots: &[Addr],
+    to_chunks: ToChunks,
+    gate: &G,
+    worker: u32,
+    task: u32,
+) -> Moved
+    requires closed { IsClosed heap.old.chunks }
+    requires outside { All (IsSound heap.old.chunks) (outside frames.old roots.now) }
+    requires tidy { AreTidy heap.old.chunks }
+    requires apart { AreApart (heap.old.chunks ++ to_chunks.chunks.items) }
+    requires new { AreNew to_chunks.chunks.items }
+    requires enough { 2 * ((small_words heap.old.chunks + 1023) / 1024) ≤ length to_chunks.chunks.items + 1 }
+    requires reserved { AreReserved heap.old (vec_len to_chunks.chunks) to_chunks }
+    ensures { IsCollected heap.old frames.old roots.now to_chunks.chunks.items heap.new frames.new result }
+{
+    gate.pass(worker, task, Point::AfterBegin);
+    collect(heap, frames, roots, to_chunks)
+}
+
+// The collection itself.
+fn collect(heap: &mut LeafHeap, frames: &mut Frames, roots: &[Addr], to_chunks: ToChunks) -> Moved
+    requires closed { IsClosed heap.old.chunks }
+    requires outside { All (IsSound heap.old.chunks) (outside frames.old roots.now) }
+    requires tidy { AreTidy heap.old.chunks }
+    requires apart { AreApart (heap.old.chunks ++ to_chunks.chunks.items) }
+    requires new { AreNew to_chunks.chunks.items }
+    requires enough { 2 * ((small_words heap.old.chunks + 1023) / 1024) ≤ length to_chunks.chunks.items + 1 }
+    requires reserved { AreReserved heap.old (vec_len to_chunks.chunks) to_chunks }
+    ensures { IsCollected heap.old frames.old roots.now to_chunks.chunks.items heap.new frames.new result }
+{
+    let ToChunks {
+        mut chunks,
+        lists,
+        mut found,
+        mut laid,
+    } = to_chunks;
+    let Moved {
+        mut moved,
+        mut back,
+        ..
+    } = lists;
+    evacuate(
+        heap,
+        frames,
+        roots,
+        &mut found,
+        &mut laid,
+        &mut chunks,
+        &mut moved,
+    );
+    moved.sort_unstable();
+    let taken = count_of(&laid);
+    let reserved = heap.reserved();
+    exchange(heap, laid, reserved, &mut back);
+    give_rest(&mut back, &mut chunks);
+    name_all(heap, &found);
+    heap.reset_since();
+    Moved {
+        moved,
+        taken,
+        given: units_of(&back),
+        left: counted(heap.words()),
+        back,
+    }
+}
+
+// Puts the new chunks that were not opened with those to give back.
+fn give_rest(back: &mut Vec<Chunk>, spare: &mut Vec<Chunk>)
+    requires { vec_len back.old + vec_len spare.old ≤ vec_capacity back.old }
+    ensures { back.new.items ≡ back.old.items ++ spare.old.items }
+{
+    let _ = back.append(spare);
+}
+
+// How many chunks these are, as far as 32 bits count.
+fn count_of(chunks: &[Chunk]) -> u32
+    ensures { result ≡ counted32 (length chunks.now) }
+{
+    counted(chunks.len() as u64)
+}

@@ -1,0 +1,133 @@
+// Exchanges the chunks of the heap for the new ones.
+
+ghost use Rattle.std.specs.Prelude.{◌≡◌, ◌+◌, ◌-◌, ◌≤◌, ◌<◌, ◌++◌, ◌∷◌, [], length, vec_len, vec_capacity, fold, filter, map, remove, None, Some};
+ghost use Rattle.object_layout.specs.Chunks.{held_words};
+ghost use Rattle.alloc_path.specs.Heap.{exchanged, with_places, AreApart, IsCurrent, IsReserved};
+ghost use Rattle.leaf_copy_gc.specs.Survivors.{with_chunks};
+ghost use Rattle.leaf_copy_gc.specs.Exchanged.{counted32, emptied, goes, last_place, named, reserved_of, reserved_place, stays, unit_count, unreserved, CanName};
+
+use crate::copying::SMALL;
+use crate::lists::Survivor;
+use alloc_path::LeafHeap;
+use object_layout::{Chunk, is_born_at, is_object_at, next_at};
+
+// Whether the chunk holds a large object that was found.
+fn has_found_large(chunk: &Chunk) -> bool
+    ensures { result ≡ stays chunk.now }
+{
+    if chunk.used() == 0 {
+        return false;
+    }
+    next_at(chunk, 0) > SMALL && !is_born_at(chunk, 0) && is_object_at(chunk, 0)
+}
+
+// Puts the chunks that stay behind the new ones, and the others with those to give back.
+fn part(chunks: Vec<Chunk>, laid: &mut Vec<Chunk>, back: &mut Vec<Chunk>)
+    requires laid { vec_len laid.old + vec_len chunks ≤ vec_capacity laid.old }
+    requires back { vec_len back.old + vec_len chunks ≤ vec_capacity back.old }
+    ensures laid { laid.new.items ≡ laid.old.items ++ filter stays chunks.items }
+    ensures back { back.new.items ≡ back.old.items ++ map emptied (filter goes chunks.items) }
+    ensures back_count { vec_len back.new ≤ vec_len back.old + vec_len chunks }
+    ensures laid_count { vec_len laid.new ≤ vec_len laid.old + vec_len chunks }
+    ensures laid_length { length laid.new.items ≤ length laid.old.items + length chunks.items }
+    ensures laid_room { vec_capacity laid.new ≡ vec_capacity laid.old }
+    ensures back_room { vec_capacity back.new ≡ vec_capacity back.old }
+{
+    for mut chunk in chunks {
+        if has_found_large(&chunk) {
+            laid.push_reserved(chunk);
+        } else {
+            chunk.clear();
+            back.push_reserved(chunk);
+        }
+    }
+}
+
+// A number, as far as 32 bits count.
+pub(crate) fn counted(n: u64) -> u32
+    ensures { result ≡ counted32 n }
+{
+    if n > u32::MAX as u64 {
+        u32::MAX
+    } else {
+        n as u32
+    }
+}
+
+// The units of these chunks.
+pub(crate) fn units_of(chunks: &[Chunk]) -> u32
+    ensures { result ≡ counted32 (unit_count chunks.now) }
+{
+    let mut units = 0u32;
+    for chunk in chunks {
+        units = units.saturating_add(((chunk.size() as u64 + 1023) / 1024) as u32);
+    }
+    units
+}
+
+// The place of the last of these chunks.
+fn place_of_last(chunks: &[Chunk]) -> Option<usize>
+    ensures { result ≡ last_place chunks.now }
+{
+    if chunks.is_empty() {
+        None
+    } else {
+        Some(chunks.len() - 1)
+    }
+}
+
+// Gives a survivor that is in the heap its birth name again.
+fn name(heap: &mut LeafHeap, survivor: Survivor)
+    requires { CanName heap.old.chunks (survivor ∷ []) }
+    ensures { heap.new ≡ with_chunks heap.old (named heap.old.chunks survivor) }
+{
+    if heap.owns(survivor.old) {
+        heap.own_set_birth(survivor.old, survivor.birth);
+    }
+}
+
+/// Gives the survivors that are in the heap their birth names again.
+pub fn name_all(heap: &mut LeafHeap, found: &[Survivor])
+    requires { CanName heap.old.chunks found.now }
+    ensures { heap.new ≡ with_chunks heap.old (fold named heap.old.chunks found.now) }
+{
+    for &survivor in found {
+        name(heap, survivor);
+    }
+}
+
+/// Takes the old chunks out, and puts in the new ones, those of large objects that were found, and the reserved one.
+pub fn exchange(
+    heap: &mut LeafHeap,
+    mut laid: Vec<Chunk>,
+    reserved: Option<usize>,
+    back: &mut Vec<Chunk>,
+)
+    requires place { reserved ≡ heap.old.reserved }
+    requires empty { IsReserved heap.old.chunks reserved }
+    requires apart { AreApart (laid.items ++ (filter stays (unreserved heap.old.chunks reserved) ++ reserved_of heap.old.chunks reserved)) }
+    requires small { IsCurrent laid.items (last_place laid.items) }
+    requires laid { vec_len laid + length heap.old.chunks ≤ vec_capacity laid }
+    requires back { vec_len back.old + length heap.old.chunks ≤ vec_capacity back.old }
+    requires spare { length laid.items ≤ heap.old.spare }
+    ensures heap { let kept = filter stays (unreserved heap.old.chunks reserved) in heap.new ≡ with_places (exchanged heap.old (laid.items ++ (kept ++ reserved_of heap.old.chunks reserved)) (last_place laid.items) (reserved_place (length laid.items + length kept) reserved)) heap.new.slots heap.new.spare }
+    ensures back { back.new.items ≡ back.old.items ++ map emptied (filter goes (unreserved heap.old.chunks reserved)) }
+    ensures back_count { vec_len back.new ≤ vec_len back.old + length heap.old.chunks }
+    ensures back_room { vec_capacity back.new ≡ vec_capacity back.old }
+{
+    let current = place_of_last(&laid);
+    let mut old = heap.take_chunks();
+    match reserved {
+        None => {
+            part(old, &mut laid, back);
+            heap.put_chunks(laid, current, None);
+        }
+        Some(i) => {
+            let kept = old.remove(i);
+            part(old, &mut laid, back);
+            let place = laid.len();
+            laid.push_reserved(kept);
+            heap.put_chunks(laid, current, Some(place));
+        }
+    }
+}

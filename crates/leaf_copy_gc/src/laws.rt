@@ -1,0 +1,13 @@
+// Laws of collections.
+
+ghost use Rattle.leaf_copy_gc.specs.Laws.{LargeAreRead, MovedAreRead};
+
+/// What is read at a new address is the object that was moved there.
+pub fn moved_are_read()
+    ensures { MovedAreRead }
+{}
+
+/// What is read where a large survivor was is that object.
+pub fn large_are_read()
+    ensures { LargeAreRead }
+{}

@@ -1,0 +1,19 @@
+// The copying collector of a heap that one task owns.
+#![tactic(auto)]
+
+mod collection;
+mod copying;
+mod discovery;
+mod evacuation;
+mod exchange;
+mod laws;
+mod lists;
+mod redirect;
+mod reserving;
+
+pub use collection::copy;
+pub use laws::{large_are_read, moved_are_read};
+pub use lists::{Moved, Survivor, ToChunks};
+
+#[cfg(test)]
+mod tests;

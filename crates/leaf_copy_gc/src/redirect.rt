@@ -1,0 +1,122 @@
+// Leads references to where their objects are now.
+
+ghost use Rattle.std.specs.Prelude.{◌≡◌, ◌+◌, ◌≤◌, ◌<◌, length, map, fold, All};
+ghost use Rattle.object_layout.specs.Cell.{IsObject, IsPlace};
+ghost use Rattle.object_layout.specs.Chunks.{cell_of};
+ghost use Rattle.object_layout.specs.Place.{cell_at, put_cell, IsObjectAt};
+ghost use Rattle.task_frames.specs.Stack.{frames_of};
+ghost use Rattle.leaf_copy_gc.specs.Survivors.{held_by, with_chunks};
+ghost use Rattle.leaf_copy_gc.specs.Search.{IsTarget};
+ghost use Rattle.leaf_copy_gc.specs.Redirected.{followed_at, followed_large, followed_ref, led, led_chunk, led_frame, CanFollow, HasTargets};
+
+use crate::copying::{SMALL, size_at};
+use crate::lists::Survivor;
+use alloc_path::LeafHeap;
+use object_layout::{Addr, Chunk, header_at, next_at, ref_at, set_ref};
+use task_frames::Frames;
+
+// Where the object of a reference is now.
+fn follow(heap: &LeafHeap, reference: Option<Addr>) -> Option<Addr>
+    requires { IsTarget heap.now.chunks reference }
+    ensures value { result ≡ followed_ref heap.now.chunks reference }
+    ensures place { IsPlace reference → IsPlace result }
+{
+    match reference {
+        None => None,
+        Some(address) => {
+            if heap.owns(address) {
+                heap.own_forwarded(address)
+            } else {
+                reference
+            }
+        }
+    }
+}
+
+// Leads the references of an object of a new chunk.
+fn follow_refs(chunk: &mut Chunk, at: u32, heap: &LeafHeap)
+    requires object { IsObjectAt chunk.old.cells at }
+    requires targets { All (IsTarget heap.now.chunks) (cell_at chunk.old.cells at).refs }
+    ensures { chunk.new ≡ record chunk.old { cells = put_cell chunk.old.cells at (led (followed_ref heap.now.chunks) (cell_at chunk.old.cells at)) } }
+{
+    for field in 0..header_at(chunk, at).nrefs {
+        let now = follow(heap, ref_at(chunk, at, field));
+        set_ref(chunk, at, field, now);
+    }
+}
+
+// Leads the references of all objects of a new chunk.
+fn follow_chunk(chunk: &mut Chunk, heap: &LeafHeap)
+    requires { All (HasTargets heap.now.chunks) chunk.old.cells }
+    ensures { chunk.new ≡ led_chunk (followed_ref heap.now.chunks) chunk.old }
+{
+    let used = chunk.used();
+    let mut at = 0;
+    while at < used {
+        follow_refs(chunk, at, heap);
+        at = next_at(chunk, at);
+    }
+}
+
+/// Leads the references of all objects of the new chunks.
+pub fn follow_chunks(chunks: &mut [Chunk], heap: &LeafHeap)
+    requires { All (λ k. All (HasTargets heap.now.chunks) k.cells) chunks.old }
+    ensures { chunks.new ≡ map (led_chunk (followed_ref heap.now.chunks)) chunks.old }
+{
+    for chunk in chunks.iter_mut() {
+        follow_chunk(chunk, heap);
+    }
+}
+
+// Leads the references of an object of the heap.
+fn follow_object(heap: &mut LeafHeap, object: Addr)
+    requires { HasTargets heap.old.chunks (cell_of heap.old.chunks object) }
+    ensures { heap.new ≡ with_chunks heap.old (followed_at heap.old.chunks object) }
+{
+    for field in 0..heap.own_header(object).nrefs {
+        let now = follow(heap, heap.own_ref(object, field));
+        heap.own_set_ref(object, field, now);
+    }
+}
+
+// Leads these references.
+fn follow_all(references: &mut [Option<Addr>], heap: &LeafHeap)
+    requires { All (IsTarget heap.now.chunks) references.old }
+    ensures { references.new ≡ map (followed_ref heap.now.chunks) references.old }
+{
+    for reference in references.iter_mut() {
+        *reference = follow(heap, *reference);
+    }
+}
+
+/// Leads the references of all frames.
+pub fn follow_frames(frames: &mut Frames, heap: &LeafHeap)
+    requires { All (IsTarget heap.now.chunks) (held_by (frames_of frames.old)) }
+    ensures { frames_of frames.new ≡ map (led_frame (followed_ref heap.now.chunks)) (frames_of frames.old) }
+{
+    for frame in 0..frames.depth() {
+        let mut references = frames.references_in(frame);
+        follow_all(&mut references, heap);
+        frames.set_references_in(frame, &references);
+    }
+}
+
+// Leads the references of an object of the heap, if it is large.
+fn follow_if_large(heap: &mut LeafHeap, survivor: Survivor)
+    requires { HasTargets heap.old.chunks (cell_of heap.old.chunks survivor.old) }
+    ensures { heap.new ≡ with_chunks heap.old (followed_large heap.old.chunks survivor) }
+{
+    if size_at(heap, survivor.old) > SMALL {
+        follow_object(heap, survivor.old);
+    }
+}
+
+/// Leads the references of the large survivors, where they are.
+pub fn follow_larges(heap: &mut LeafHeap, found: &[Survivor])
+    requires { CanFollow heap.old.chunks found.now }
+    ensures { heap.new ≡ with_chunks heap.old (fold followed_large heap.old.chunks found.now) }
+{
+    for &survivor in found {
+        follow_if_large(heap, survivor);
+    }
+}

@@ -1,0 +1,9 @@
+use Rattle.std.proofs.Common.{◌≡◌, ℕ, ◌<◌, true, slice_get}
+use Rattle.std.specs.List.{list_all}
+use Rattle.hh_model.specs.Step.{owner_of}
+use Rattle.run_ledger.specs.Heaps.{held_in, or_fresh}
+use Rattle.ledger_heaps.proofs.Owned.{owns}
+use Rattle.ledger_heaps.proofs.owners.are_owned.Given as goal
+
+abbrev pub invariant-loop-task : goal.invariant-loop-task
+invariant-loop-task l = (u : ℕ) → u < l.task → owns l.machine.tasks u (held_in (or_fresh (slice_get l.heaps u))) ≡ true

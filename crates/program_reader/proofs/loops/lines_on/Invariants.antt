@@ -1,0 +1,6 @@
+use Rattle.std.proofs.Common.{◌≡◌, map, take}
+use Rattle.program_reader.specs.Program.{line_of}
+use Rattle.program_reader.proofs.loops.lines_on.Given as goal
+
+abbrev pub invariant-loop-instr : goal.invariant-loop-instr
+invariant-loop-instr l = l.code ≡ map (λ i. line_of i l.number) (take l.instr-index l.instrs)

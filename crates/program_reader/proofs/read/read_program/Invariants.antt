@@ -1,0 +1,13 @@
+use Rattle.std.proofs.Common.{◌≤◌, ◌+◌, length}
+use Rattle.text_lines.specs.Lines.{lines_of}
+use Rattle.program_reader.proofs.Rounds.{IsReading}
+use Rattle.program_reader.proofs.read.read_program.Given as goal
+
+abbrev pub invariant-loop-reader : goal.invariant-loop-reader
+invariant-loop-reader l = record {
+  reading : IsReading l.outline l.text l.reader l.number (lines_of l.rest);
+  fits : l.number + length l.rest ≤ length l.text + 1;
+}
+
+abbrev pub decreases-loop-reader : goal.decreases-loop-reader
+decreases-loop-reader l = length l.rest

@@ -1,0 +1,10 @@
+pub mod Names
+pub mod Head
+pub mod Operands
+pub mod Sense
+pub mod Around
+pub mod Cause
+pub mod Fault
+pub mod Program
+pub mod Reading
+pub mod Laws

@@ -1,0 +1,76 @@
+// The labels of a function.
+
+ghost use Rattle.std.specs.Prelude.{◌≡◌, ◌<◌, ◌≤◌, ◌^◌, length, IfOk, OnOk, IsTrue};
+ghost use Rattle.text_lines.specs.Lines.{lines_of, words_of};
+ghost use Rattle.program_reader.specs.Around.{ends_body, no_labels, labels_onto};
+
+use crate::head::Head;
+use crate::names::Table;
+use crate::operands::read_only_name;
+use crate::outline::{note_if, split_line};
+use std::alloc::{AllocError, Global};
+use text_lines::{behind, line_end};
+
+/// Labels, each with the number of the instructions before it; and how many instructions there are.
+#[derive(Drop)]
+pub(crate) struct Labels<'a> {
+    pub entries: Table<'a>,
+    pub next: u32,
+}
+
+// Whether the lines of a function end before such a line.
+fn is_end(head: Head) -> bool
+    ensures { result ≡ ends_body head }
+{
+    matches!(head, Head::Begin | Head::End)
+}
+
+impl<'a> Labels<'a> {
+    ghost use Rattle.program_reader.specs.Around.{label_line};
+
+    /// No labels.
+    pub(crate) fn new(alloc: Global) -> Labels<'a>
+        ensures { result ≡ no_labels }
+    {
+        Labels {
+            entries: Table::new(alloc),
+            next: 0,
+        }
+    }
+
+    // Notes what a line of this kind says, behind its first word.
+    fn add_line(&mut self, head: Head, rest: &'a [u8]) -> Result<(), AllocError>
+        requires { self.old.next < 2 ^ 31 }
+        ensures { OnOk result (self.new ≡ label_line head (words_of rest.now) self.old) }
+    {
+        match head {
+            Head::Label => note_if(&mut self.entries, read_only_name(rest), self.next),
+            Head::Order(_) => {
+                self.next += 1;
+                Ok(())
+            }
+            _ => Ok(()),
+        }
+    }
+}
+
+/// The labels of the function whose lines begin here.
+pub(crate) fn read_labels<'a>(alloc: Global, lines: &'a [u8]) -> Result<Labels<'a>, AllocError>
+    requires { length lines.now ≤ 16777216 }
+    ensures { IfOk result (λ labels. labels ≡ labels_onto no_labels (lines_of lines.now)) }
+{
+    let mut labels = Labels::new(alloc);
+    let mut rest = lines;
+    loop {
+        let end = line_end(rest);
+        let (head, operands) = split_line(&rest[..end]);
+        if is_end(head) {
+            return Ok(labels);
+        }
+        labels.add_line(head, operands)?;
+        if end == rest.len() {
+            return Ok(labels);
+        }
+        rest = behind(rest, end);
+    }
+}

@@ -1,0 +1,13 @@
+// Laws over the definitions, each the `ensures` of a function that does nothing.
+
+ghost use Rattle.program_reader.specs.Laws.{NoFaultLaw, FirstFaultLaw};
+
+/// A text without a first fault has no line with a fault.
+pub fn no_fault_on_any_line()
+    ensures { NoFaultLaw }
+{}
+
+/// The first fault is a fault of its line, and no line before has one.
+pub fn first_fault_is_first()
+    ensures { FirstFaultLaw }
+{}

@@ -1,0 +1,20 @@
+// Reads texts of the register language.
+#![tactic(auto)]
+
+mod cause;
+mod head;
+mod labels;
+mod laws;
+mod loops;
+mod names;
+mod operands;
+mod outline;
+mod read;
+mod reader;
+mod sense;
+#[cfg(test)]
+mod tests;
+
+pub use cause::{Cause, Refused};
+pub use laws::{first_fault_is_first, no_fault_on_any_line};
+pub use read::read_program;

@@ -1,0 +1,96 @@
+// The names of the functions and of the loops of a text.
+
+ghost use Rattle.std.specs.Prelude.{◌≡◌, ◌≤◌, length, IfOk, OnOk, option_copied};
+ghost use Rattle.text_lines.specs.Lines.{words_of};
+ghost use Rattle.program_reader.specs.Head.{head_of_words, operands_of};
+ghost use Rattle.program_reader.specs.Sense.{IsSmall};
+ghost use Rattle.program_reader.specs.Around.{begun_name, looped_name, noted_if, outline_of};
+
+use crate::head::{Head, Verb, head_of};
+use crate::names::Table;
+use crate::operands::read_only_name;
+use crate::sense::Outline;
+use std::alloc::{AllocError, Global};
+use text_lines::{behind, line_end, next_word};
+
+/// What kind of line a line is, and what follows its first word.
+pub(crate) fn split_line(line: &[u8]) -> (Head, &[u8])
+    ensures head { result.0 ≡ head_of_words (words_of line.now) }
+    ensures operands { words_of result.1.now ≡ operands_of (words_of line.now) }
+{
+    match next_word(line) {
+        None => (Head::Blank, &line[line.len()..]),
+        Some((word, rest)) => (head_of(word), rest),
+    }
+}
+
+/// Notes a name, if there is one.
+pub(crate) fn note_if<'a>(
+    table: &mut Table<'a>,
+    name: Option<&'a [u8]>,
+    number: u32,
+) -> Result<(), AllocError>
+    ensures { OnOk result (table.new ≡ noted_if table.old (option_copied name.entry) number) }
+{
+    match name {
+        None => Ok(()),
+        Some(name) => table.note(name, number),
+    }
+}
+
+// The name of the function that a line begins.
+fn read_begun(head: Head, rest: &[u8]) -> Option<&[u8]>
+    ensures { option_copied result ≡ begun_name head (words_of rest.now) }
+{
+    match head {
+        Head::Begin => read_only_name(rest),
+        _ => None,
+    }
+}
+
+// The name of the function that a line loops over.
+fn read_looped(head: Head, rest: &[u8]) -> Option<&[u8]>
+    ensures { option_copied result ≡ looped_name head (words_of rest.now) }
+{
+    match head {
+        Head::Order(Verb::Pfor) => read_only_name(rest),
+        _ => None,
+    }
+}
+
+impl<'a> Outline<'a> {
+    ghost use Rattle.program_reader.specs.Sense.{IsSmall};
+    ghost use Rattle.program_reader.specs.Around.{outline_line};
+
+    // Notes what a line names.
+    fn add_line(&mut self, line: &'a [u8], number: u32) -> Result<(), AllocError>
+        ensures { OnOk result (self.new ≡ outline_line number self.old line.now) }
+    {
+        let (head, rest) = split_line(line);
+        note_if(&mut self.functions, read_begun(head, rest), number)?;
+        note_if(&mut self.loops, read_looped(head, rest), number)
+    }
+}
+
+/// The names of the functions and of the loops of a text.
+pub(crate) fn read_outline<'a>(alloc: Global, text: &'a [u8]) -> Result<Outline<'a>, AllocError>
+    requires { length text.now ≤ 16777216 }
+    ensures value { IfOk result (λ o. o ≡ outline_of text.now) }
+    ensures small { IfOk result IsSmall }
+{
+    let mut outline = Outline {
+        functions: Table::new(alloc),
+        loops: Table::new(alloc),
+    };
+    let mut rest = text;
+    let mut number: u32 = 1;
+    loop {
+        let end = line_end(rest);
+        outline.add_line(&rest[..end], number)?;
+        if end == rest.len() {
+            return Ok(outline);
+        }
+        rest = behind(rest, end);
+        number += 1;
+    }
+}

@@ -1,0 +1,308 @@
+// What the operands of a line say.
+
+ghost use Rattle.std.specs.Prelude.{◌≡◌, ◌<◌, ◌+◌, ◌*◌, ◌^◌, length};
+ghost use Rattle.text_lines.specs.Lines.{words_of};
+ghost use Rattle.program_reader.specs.Sense.{plain, plain_one, plain_two, plain_three, plain_five, jump, jump_on_zero, call, fork, loop_over, order_alone, order_one, order_two, order_of, only_name, named, alone, sense_of, IsSmall};
+
+use crate::head::{Head, Verb};
+use crate::names::{Table, is_name_word};
+use crate::operands::{read_field_count, read_int_register, read_only_name, read_ref_register};
+use hh_lang::{Instr, IntReg, Operator, read_i64};
+use text_lines::next_word;
+
+/// What the operands of a line say.
+#[derive(Drop)]
+pub(crate) enum Sense {
+    /// They fit, and the line isn't an instruction.
+    Fits,
+    /// They fit, and the line is this instruction.
+    Does(Instr),
+    WrongOperand,
+    NoSuchFunction,
+    NoSuchLabel,
+}
+
+/// The names of the functions of a text, and of those that its loops name, each with the line on
+/// which it first stands.
+#[derive(Drop)]
+pub(crate) struct Outline<'a> {
+    pub functions: Table<'a>,
+    pub loops: Table<'a>,
+}
+
+// An instruction with one operand that names nothing.
+fn read_plain_one(verb: Verb, a: &[u8]) -> Option<Instr>
+    ensures { result ≡ plain_one verb a.now }
+{
+    match verb {
+        Verb::Nil => Some(Instr::Nil(read_ref_register(a)?)),
+        Verb::Freeze => Some(Instr::Freeze(read_ref_register(a)?)),
+        Verb::Out => Some(Instr::Out(read_int_register(a)?)),
+        _ => None,
+    }
+}
+
+// An instruction with two operands that names nothing.
+fn read_plain_two(verb: Verb, a: &[u8], b: &[u8]) -> Option<Instr>
+    ensures { result ≡ plain_two verb a.now b.now }
+{
+    match verb {
+        Verb::Set => Some(Instr::Set(read_int_register(a)?, read_i64(b)?)),
+        Verb::Mov => Some(Instr::Mov(read_int_register(a)?, read_int_register(b)?)),
+        Verb::Movr => Some(Instr::Movr(read_ref_register(a)?, read_ref_register(b)?)),
+        Verb::Cntr => Some(Instr::Cntr(read_int_register(a)?, read_ref_register(b)?)),
+        Verb::Cnti => Some(Instr::Cnti(read_int_register(a)?, read_ref_register(b)?)),
+        _ => None,
+    }
+}
+
+// An instruction with three operands, of which the first two are number registers.
+fn read_calculation(operator: Operator, a: &[u8], b: &[u8], c: &[u8]) -> Option<Instr>
+    ensures { result ≡ plain_three (Verb.Calc operator) a.now b.now c.now }
+{
+    let target = read_int_register(a)?;
+    let left = read_int_register(b)?;
+    let right = read_int_register(c)?;
+    Some(Instr::Calc(operator, target, left, right))
+}
+
+// An instruction with three operands.
+fn read_plain_three(verb: Verb, a: &[u8], b: &[u8], c: &[u8]) -> Option<Instr>
+    ensures { result ≡ plain_three verb a.now b.now c.now }
+{
+    match verb {
+        Verb::Calc(operator) => read_calculation(operator, a, b, c),
+        Verb::Same => Some(Instr::Same(
+            read_int_register(a)?,
+            read_ref_register(b)?,
+            read_ref_register(c)?,
+        )),
+        Verb::Newm => Some(Instr::Newm(
+            read_ref_register(a)?,
+            read_int_register(b)?,
+            read_int_register(c)?,
+        )),
+        Verb::Pack => Some(Instr::Pack(
+            read_ref_register(a)?,
+            read_field_count(b)?,
+            read_field_count(c)?,
+        )),
+        Verb::Getr => Some(Instr::Getr(
+            read_ref_register(a)?,
+            read_ref_register(b)?,
+            read_int_register(c)?,
+        )),
+        Verb::Geti => Some(Instr::Geti(
+            read_int_register(a)?,
+            read_ref_register(b)?,
+            read_int_register(c)?,
+        )),
+        Verb::Putr => Some(Instr::Putr(
+            read_ref_register(a)?,
+            read_int_register(b)?,
+            read_ref_register(c)?,
+        )),
+        Verb::Puti => Some(Instr::Puti(
+            read_ref_register(a)?,
+            read_int_register(b)?,
+            read_int_register(c)?,
+        )),
+        _ => None,
+    }
+}
+
+// A compare and swap.
+fn read_cas(a: &[u8], b: &[u8], c: &[u8], d: &[u8], e: &[u8]) -> Option<Instr>
+    ensures { result ≡ plain_five Verb.Cas a.now b.now c.now d.now e.now }
+{
+    let target = read_int_register(a)?;
+    let object = read_ref_register(b)?;
+    let index = read_int_register(c)?;
+    let expected = read_ref_register(d)?;
+    let value = read_ref_register(e)?;
+    Some(Instr::Cas(target, object, index, expected, value))
+}
+
+// An instruction with five operands.
+fn read_plain_five(verb: Verb, a: &[u8], b: &[u8], c: &[u8], d: &[u8], e: &[u8]) -> Option<Instr>
+    ensures { result ≡ plain_five verb a.now b.now c.now d.now e.now }
+{
+    match verb {
+        Verb::Cas => read_cas(a, b, c, d, e),
+        _ => None,
+    }
+}
+
+fn plainly(instr: Option<Instr>) -> Sense
+    ensures { result ≡ plain instr }
+{
+    match instr {
+        Some(instr) => Sense::Does(instr),
+        None => Sense::WrongOperand,
+    }
+}
+
+fn read_jump(labels: &Table<'_>, name: &[u8]) -> Sense
+    ensures { result ≡ jump labels.now name.now }
+{
+    if !is_name_word(name) {
+        return Sense::WrongOperand;
+    }
+    match labels.number(name) {
+        Some(place) => Sense::Does(Instr::Jmp(place)),
+        None => Sense::NoSuchLabel,
+    }
+}
+
+fn read_jump_on_zero(labels: &Table<'_>, register: Option<IntReg>, name: &[u8]) -> Sense
+    ensures { result ≡ jump_on_zero labels.now register name.now }
+{
+    let Some(register) = register else {
+        return Sense::WrongOperand;
+    };
+    if !is_name_word(name) {
+        return Sense::WrongOperand;
+    }
+    match labels.number(name) {
+        Some(place) => Sense::Does(Instr::Jz(register, place)),
+        None => Sense::NoSuchLabel,
+    }
+}
+
+fn read_call(outline: &Outline<'_>, name: &[u8]) -> Sense
+    requires { IsSmall outline.now }
+    ensures { result ≡ call outline.now name.now }
+{
+    if !is_name_word(name) {
+        return Sense::WrongOperand;
+    }
+    match outline.functions.find(name) {
+        Some(function) => Sense::Does(Instr::Call(function as u32)),
+        None => Sense::NoSuchFunction,
+    }
+}
+
+fn read_fork(outline: &Outline<'_>, left: &[u8], right: &[u8]) -> Sense
+    requires { IsSmall outline.now }
+    ensures { result ≡ fork outline.now left.now right.now }
+{
+    if !is_name_word(left) || !is_name_word(right) {
+        return Sense::WrongOperand;
+    }
+    match (outline.functions.find(left), outline.functions.find(right)) {
+        (Some(left), Some(right)) => Sense::Does(Instr::Par(left as u32, right as u32)),
+        _ => Sense::NoSuchFunction,
+    }
+}
+
+fn read_loop(outline: &Outline<'_>, name: &[u8]) -> Sense
+    requires { IsSmall outline.now }
+    ensures { result ≡ loop_over outline.now name.now }
+{
+    if !is_name_word(name) {
+        return Sense::WrongOperand;
+    }
+    match (outline.functions.find(name), outline.loops.find(name)) {
+        (Some(_), Some(place)) => {
+            let first = outline.functions.len() + 3 * place;
+            Sense::Does(Instr::Call(first as u32))
+        }
+        _ => Sense::NoSuchFunction,
+    }
+}
+
+// An instruction without operands.
+fn read_alone(verb: Verb) -> Sense
+    ensures { result ≡ order_alone verb }
+{
+    match verb {
+        Verb::Ret => Sense::Does(Instr::Ret),
+        _ => Sense::WrongOperand,
+    }
+}
+
+// An instruction with one operand.
+fn read_one(outline: &Outline<'_>, labels: &Table<'_>, verb: Verb, a: &[u8]) -> Sense
+    requires { IsSmall outline.now }
+    ensures { result ≡ order_one outline.now labels.now verb a.now }
+{
+    match verb {
+        Verb::Jmp => read_jump(labels, a),
+        Verb::Call => read_call(outline, a),
+        Verb::Pfor => read_loop(outline, a),
+        _ => plainly(read_plain_one(verb, a)),
+    }
+}
+
+// An instruction with two operands.
+fn read_two(outline: &Outline<'_>, labels: &Table<'_>, verb: Verb, a: &[u8], b: &[u8]) -> Sense
+    requires { IsSmall outline.now }
+    ensures { result ≡ order_two outline.now labels.now verb a.now b.now }
+{
+    match verb {
+        Verb::Jz => read_jump_on_zero(labels, read_int_register(a), b),
+        Verb::Par => read_fork(outline, a, b),
+        _ => plainly(read_plain_two(verb, a, b)),
+    }
+}
+
+// What the operands of an instruction say.
+fn read_order(outline: &Outline<'_>, labels: &Table<'_>, verb: Verb, rest: &[u8]) -> Sense
+    requires { IsSmall outline.now }
+    ensures { result ≡ order_of outline.now labels.now verb (words_of rest.now) }
+{
+    let Some((a, rest)) = next_word(rest) else {
+        return read_alone(verb);
+    };
+    let Some((b, rest)) = next_word(rest) else {
+        return read_one(outline, labels, verb, a);
+    };
+    let Some((c, rest)) = next_word(rest) else {
+        return read_two(outline, labels, verb, a, b);
+    };
+    let Some((d, rest)) = next_word(rest) else {
+        return plainly(read_plain_three(verb, a, b, c));
+    };
+    let Some((e, rest)) = next_word(rest) else {
+        return Sense::WrongOperand;
+    };
+    match next_word(rest) {
+        None => plainly(read_plain_five(verb, a, b, c, d, e)),
+        Some(_) => Sense::WrongOperand,
+    }
+}
+
+fn read_no_operand(rest: &[u8]) -> Sense
+    ensures { result ≡ alone (words_of rest.now) }
+{
+    match next_word(rest) {
+        None => Sense::Fits,
+        Some(_) => Sense::WrongOperand,
+    }
+}
+
+fn read_name_operand(rest: &[u8]) -> Sense
+    ensures { result ≡ named (only_name (words_of rest.now)) }
+{
+    match read_only_name(rest) {
+        Some(_) => Sense::Fits,
+        None => Sense::WrongOperand,
+    }
+}
+
+/// What the rest of a line of this kind says, behind its first word.
+pub(crate) fn read_operands(
+    outline: &Outline<'_>,
+    labels: &Table<'_>,
+    head: Head,
+    rest: &[u8],
+) -> Sense
+    requires { IsSmall outline.now }
+    ensures { result ≡ sense_of outline.now labels.now head (words_of rest.now) }
+{
+    match head {
+        Head::Begin | Head::Label => read_name_operand(rest),
+        Head::Order(verb) => read_order(outline, labels, verb, rest),
+        _ => read_no_operand(rest),
+    }
+}

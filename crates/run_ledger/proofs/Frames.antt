@@ -1,0 +1,108 @@
+-- What an entry of one worker leaves of what another worker holds.
+use Rattle.std.proofs.Common.{◌≡◌, ℕ, zero, suc, ◌+◌, Bool, true, false, cond, Option, Some, None, ◌∷◌, slice_get, nat_lt, inl, refl, ap, sym, ◌∙◌, is_none, is_some}
+use Rattle.std.proofs.lemmas.Bool.{false≢true, and_parts, eqb-true}
+use Rattle.std.proofs.lemmas.Option.{same_Some}
+use Rattle.listed.proofs.Members.{got_other}
+use Rattle.run_trace.specs.declared.entry.Kind.{Kind}
+use Rattle.run_trace.specs.declared.entry.Kind.TheVariants.{Took, Ran, Chunk, Begin, End as EndOf, PutOff, Mark, More, Sweep, Fuel}
+use Rattle.run_trace.specs.Settings.{Limits}
+use Rattle.hh_lang.specs.Form.{ProgramText}
+use Rattle.hh_model.specs.declared.data.State.{State}
+use Rattle.hh_model.specs.Step.{step, can_step, asked, is_running}
+use Rattle.hh_model.proofs.Runs.{waiting}
+use Rattle.run_ledger.specs.declared.data.Heap.{Heap}
+use Rattle.run_ledger.specs.declared.data.Ledger.{Ledger}
+use Rattle.run_ledger.specs.declared.data.RunEnd.{RunEnd}
+use Rattle.run_ledger.specs.declared.data.RunEnd.TheVariants.{Pool}
+use Rattle.run_ledger.specs.Heaps.{heap_of, or_fresh, with_heap, in_use}
+use Rattle.run_ledger.specs.Steps.{allocated_in, stepped_to, task_step, task_steps}
+use Rattle.run_ledger.specs.Entries.{refusal, kind_refusal, after_kind, after, is_out, is_ready, is_held_by, with_chunk, chunk_units}
+use Rattle.run_ledger.specs.Journals.{opening, ledger_of, is_legal_from}
+use Rattle.run_ledger.specs.Laws.{EntriesLeaveOthers}
+use Rattle.run_ledger.proofs.Machine.{stepped_machine}
+use Rattle.run_ledger.proofs.Sound.{SoundLedger}
+use Rattle.run_ledger.proofs.Steps.{SoundAt, step_leaves, task_step_sound}
+use Rattle.run_ledger.proofs.Booked.{step_others, wait_run}
+use Rattle.run_ledger.proofs.Stocks.{with_heap_any}
+use Rattle.run_ledger.proofs.Cuts.{cut_legal}
+use Rattle.run_ledger.proofs.Holders.{tasks_are_held_once}
+use Rattle.run_ledger.proofs.Journals.{none_unless, out_tells, wait_tells, entry_tells, legal_sound}
+
+-- the task u is as it was, and the account of its heap
+abbrev Left : ℕ → Ledger → Ledger → Type 0
+Left u l k = (slice_get k.machine.tasks u ≡ slice_get l.machine.tasks u) × (slice_get k.heaps u ≡ slice_get l.heaps u)
+
+left_heap : (l : Ledger) (t u : ℕ) (f : Heap → Heap) → (u ≡ t → ⊥) → Left u l (with_heap l t f)
+left_heap l t u f ne = with_heap_any (Left u l) l t f (refl, refl) (λ h e. (refl, got_other l.heaps t u (f h) ne))
+
+left_step : (p : ProgramText) (l : Ledger) (t u : ℕ) → SoundAt t l → (u ≡ t → ⊥) → is_running (slice_get l.machine.tasks u) ≡ true → Left u l (task_step p l t)
+left_step p l t u S ne run = by (can_step l.machine t) refl
+  where
+    by : (v : Bool) → can_step l.machine t ≡ v → Left u l (cond v (stepped_to (allocated_in p l t) t (step p l.machine t)) (record l { steps = l.steps + 1 }))
+    by false e = (refl, refl)
+    by true e = (
+      ap (λ (m : State). slice_get m.tasks u) (stepped_machine (allocated_in p l t) t (step p l.machine t)) ∙ step_others p l.machine t u S.0.kept ne run,
+      (step_leaves p l t S e).4 u ne (inl run),
+    )
+
+left_steps : (p : ProgramText) (k : ℕ) (l : Ledger) (t u : ℕ) → SoundAt t l → (u ≡ t → ⊥) → is_running (slice_get l.machine.tasks u) ≡ true → Left u l (task_steps p l t k)
+left_steps p zero l t u S ne run = (refl, refl)
+left_steps p (suc k) l t u S ne run =
+    let now = left_step p l t u S ne run in
+    let later = left_steps p k (task_step p l t) t u (task_step_sound p l t S) ne (ap is_running now.0 ∙ run) in
+    (later.0 ∙ now.0, later.1 ∙ now.1)
+
+left_chunk : (l : Ledger) (t u : ℕ) (next : Option ℕ) (full : Bool) → (u ≡ t → ⊥) → Left u l (cond full (record l { end = Some (Pool (in_use l)) }) (with_heap l t (with_chunk next)))
+left_chunk l t u next true ne = (refl, refl)
+left_chunk l t u next false ne = left_heap l t u (with_chunk next) ne
+
+held_is : (o : Option ℕ) (w : ℕ) → is_held_by o w ≡ true → o ≡ Some w
+held_is None w h = absurd (false≢true h)
+held_is (Some v) w h = ap Some (eqb-true v w h)
+
+none_is : (o : Option ℕ) → is_none o ≡ true → o ≡ None
+none_is None h = refl
+none_is (Some v) h = absurd (false≢true h)
+
+module _ (p : ProgramText) (s : Limits) (l : Ledger) (w u v : ℕ) (S : SoundLedger l) (other : v ≡ w → ⊥) (held : (heap_of l u).worker ≡ Some v) (run : is_running (slice_get l.machine.tasks u) ≡ true) where
+  -- a task that the worker holds is another one
+  not_out : (t : ℕ) → is_out l w t ≡ true → u ≡ t → ⊥
+  not_out t h e =
+      let mine : (heap_of l t).worker ≡ Some w = held_is (heap_of l t).worker w (and_parts (is_running (slice_get l.machine.tasks t)) (is_held_by (heap_of l t).worker w) h).1 in
+      other (same_Some v w (sym held ∙ (ap (λ x. (heap_of l x).worker) e ∙ mine)))
+
+  -- so is one that nobody holds, and one that waits
+  not_ready : (t : ℕ) → is_ready l t ≡ true → u ≡ t → ⊥
+  not_ready t h e = none_some (sym (none_is (heap_of l t).worker (and_parts (is_running (slice_get l.machine.tasks t)) (is_none (heap_of l t).worker) h).1) ∙ (ap (λ x. (heap_of l x).worker) (sym e) ∙ held))
+    where
+      none_some : ◌≡◌ {A = Option ℕ} None (Some v) → ⊥
+      none_some q = absurd cc
+
+  not_waiting_one : (t : ℕ) → waiting l.machine.tasks t ≡ true → u ≡ t → ⊥
+  not_waiting_one t h e = wait_run l.machine u (ap (waiting l.machine.tasks) e ∙ h) run
+
+  left_kind : (kind : Kind) → is_none (kind_refusal p s l w kind) ≡ true → Left u l (after_kind p s l w kind)
+  left_kind (Took t) h = left_heap l t u _ (not_ready t (none_unless (is_ready l t) _ _ h).0)
+  left_kind (Ran t k) h = left_steps p k l t u (S, (out_tells l w t _ h).1) (not_out t (none_unless (is_out l w t) _ _ h).0) run
+  left_kind (Chunk t) h = left_chunk l t u (asked p l.machine t) (nat_lt s.chunks (in_use l + chunk_units (asked p l.machine t))) (not_out t (none_unless (is_out l w t) _ _ h).0)
+  left_kind (Begin t) h = left_heap l t u _ (not_out t (none_unless (is_out l w t) _ _ h).0)
+  left_kind (EndOf t a g n) h = left_heap l t u _ (not_out t (none_unless (is_out l w t) _ _ h).0)
+  left_kind (PutOff t) h = left_heap l t u _ (not_out t (none_unless (is_out l w t) _ _ h).0)
+  left_kind (Mark t) h = left_heap l t u _ (not_waiting_one t (wait_tells l t _ h).0)
+  left_kind (More t n) h = left_heap l t u _ (not_waiting_one t (wait_tells l t _ h).0)
+  left_kind (Sweep t g) h = left_heap l t u _ (not_waiting_one t (wait_tells l t _ h).0)
+  left_kind Fuel h = (refl, refl)
+
+no_end : (o : Option RunEnd) → is_some o ≡ false → o ≡ None
+no_end None h = refl
+no_end (Some e) h = absurd (false≢true (sym h))
+
+pub entries_leave_others : EntriesLeaveOthers
+entries_leave_others p s before rest e u v legal held other =
+    let l : Ledger = ledger_of p s before in
+    let c = cut_legal p s before (e ∷ rest) (opening p s) legal in
+    let now = (and_parts (is_none (refusal p s l e)) (is_legal_from p s (after p s l e) rest) c.1).0 in
+    let tells = entry_tells p s l e now in
+    let run = (tasks_are_held_once p s before c.0).runs (no_end l.end tells.0) u v held in
+    let q = left_kind p s l e.worker u v (legal_sound p s before c.0) other held run e.kind tells.2 in
+    record { task = q.0; heap = ap or_fresh q.1 }

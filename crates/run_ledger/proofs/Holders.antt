@@ -1,0 +1,344 @@
+-- Which worker holds which task.
+use Rattle.std.proofs.Common.{◌≡◌, ℕ, zero, suc, ◌+◌, ◌-◌, Bool, true, false, cond, Option, Some, None, List, [], ◌∷◌, ◌++◌, slice_get, slice_set, nat_lt, inl, inr, refl, ap, sym, subst, ◌∙◌, is_some, is_none, eq-eqb}
+use Rattle.std.proofs.lemmas.Bool.{false≢true, both_ways, cases_eq, and_parts}
+use Rattle.listed.proofs.Members.{got_same, got_other}
+use Rattle.run_trace.specs.declared.entry.Kind.{Kind}
+use Rattle.run_trace.specs.declared.entry.Kind.TheVariants.{Took, Ran, Chunk, Begin, End as EndOf, PutOff, Mark, More, Sweep, Fuel}
+use Rattle.run_trace.specs.Entry.{Event}
+use Rattle.run_trace.specs.Settings.{Limits}
+use Rattle.hh_lang.specs.Form.{ProgramText}
+use Rattle.hh_model.specs.declared.data.Name.{Name}
+use Rattle.hh_model.specs.declared.data.End.{End}
+use Rattle.hh_model.specs.declared.data.Status.{Status}
+use Rattle.hh_model.specs.declared.data.Status.TheVariants.{Running, Waiting, Ended, Joined}
+use Rattle.hh_model.specs.declared.data.Task.{Task}
+use Rattle.hh_model.specs.declared.data.State.{State}
+use Rattle.hh_model.specs.Step.{step, can_step, asked, is_running, is_left}
+use Rattle.hh_model.proofs.Carried.{next_name}
+use Rattle.run_ledger.specs.declared.data.Heap.{Heap}
+use Rattle.run_ledger.specs.declared.data.Ledger.{Ledger}
+use Rattle.run_ledger.specs.declared.data.RunEnd.{RunEnd}
+use Rattle.run_ledger.specs.declared.data.RunEnd.TheVariants.{Pool}
+use Rattle.run_ledger.specs.Heaps.{heap_at, heap_of, or_fresh, with_heap, with_heap_at, placed, is_small, fresh, forked_heap, emptied, let_go, within, in_use, collected, swept_heap, put_last, chunk_words}
+use Rattle.run_ledger.specs.Steps.{allocated_by, allocated_in, settled, moved_on, moved_to, join_heaps, stepped_to, task_step, task_steps, on_asked}
+use Rattle.run_ledger.specs.Entries.{refusal, kind_refusal, after_kind, after, is_ready, is_out, is_held_by, held_from, refused_holding, with_chunk, chunk_units}
+use Rattle.run_ledger.specs.Journals.{opening, after_all, ledger_of, is_legal_from}
+use Rattle.run_ledger.specs.Laws.{TasksAreHeldOnce}
+use Rattle.run_ledger.proofs.Machine.{stepped_machine}
+use Rattle.run_ledger.proofs.Sound.{SoundLedger, collecting}
+use Rattle.run_ledger.proofs.Moves.{moves_each}
+use Rattle.run_ledger.proofs.Steps.{SoundAt, StepLeaves, step_leaves, heap_of_task, can_tells, task_step_sound, worker_at}
+use Rattle.run_ledger.proofs.Booked.{step_others}
+use Rattle.run_ledger.proofs.Stocks.{with_heap_any}
+use Rattle.run_ledger.proofs.Journals.{none_unless, out_tells, entry_tells, entry_sound, opening_sound, legal_sound}
+
+-- THE END OF THE LEDGER
+
+heap_at_end : (l : Ledger) (t : ℕ) (f : Heap → Heap) (o : Option Heap) → (with_heap_at l t f o).end ≡ l.end
+heap_at_end l t f None = refl
+heap_at_end l t f (Some h) = refl
+
+heap_end : (l : Ledger) (t : ℕ) (f : Heap → Heap) → (with_heap l t f).end ≡ l.end
+heap_end l t f = heap_at_end l t f (heap_at l t)
+
+join_end : (l : Ledger) (p c : ℕ) → (join_heaps l p c).end ≡ l.end
+join_end l p c = heap_end _ (c + 1) emptied ∙ (heap_end _ c emptied ∙ heap_end l p _)
+
+moved_on_end : (l : Ledger) (t : ℕ) (parent : Option ℕ) (s : Status) → (moved_on l t parent s).end ≡ l.end
+moved_on_end l t parent Running = refl
+moved_on_end l t parent Waiting = heap_end (record l { heaps = l.heaps ++ fresh ∷ fresh ∷ [] }) t (forked_heap (within l t))
+moved_on_end l t parent (Ended k n) = heap_end l t let_go
+moved_on_end l t None Joined = refl
+moved_on_end l t (Some p) Joined = join_end l p (cond (is_left t) t _)
+
+moved_to_end : (l : Ledger) (t : ℕ) (o : Option Task) → (moved_to l t o).end ≡ l.end
+moved_to_end l t None = refl
+moved_to_end l t (Some x) = moved_on_end l t x.parent x.status
+
+settled_end : (l : Ledger) (t : ℕ) (o : Option End) → (settled l t o).end ≡ None → (o ≡ None) × (l.end ≡ None)
+settled_end l t (Some e) h = absurd cc
+settled_end l t None h = (refl, sym (moved_to_end l t (slice_get l.machine.tasks t)) ∙ h)
+
+allocated_end : (l : Ledger) (t : ℕ) (o : Option ℕ) → (allocated_by l t o).end ≡ l.end
+allocated_end l t None = refl
+allocated_end l t (Some w) = heap_end l t _
+
+-- WHAT EVERY LEGAL JOURNAL KEEPS
+
+pub record Manned (m : State) (end : Option RunEnd) (heaps : List Heap) : Type 0 where
+  pub runs : end ≡ None → (u w : ℕ) → worker_at (slice_get heaps u) ≡ Some w → is_running (slice_get m.tasks u) ≡ true
+  pub one : (u v w : ℕ) → worker_at (slice_get heaps u) ≡ Some w → worker_at (slice_get heaps v) ≡ Some w → u ≡ v
+  pub out : (u : ℕ) → collecting (slice_get heaps u) ≡ true → is_some (worker_at (slice_get heaps u)) ≡ true
+
+abbrev pub MannedLedger : Ledger → Type 0
+MannedLedger l = Manned l.machine l.end l.heaps
+
+none_held : {A : Type 0} {w : ℕ} → ◌≡◌ {A = Option ℕ} None (Some w) → A
+none_held q = absurd cc
+
+-- a heap's account changes, and its worker and its begun collection don't
+same_manned : (l : Ledger) (t : ℕ) (f : Heap → Heap) → ((h : Heap) → (f h).worker ≡ h.worker) → ((h : Heap) → slice_get l.heaps t ≡ Some h → is_some (f h).begun ≡ true → is_some h.worker ≡ true) → MannedLedger l → MannedLedger (with_heap l t f)
+same_manned l t f same goes I = with_heap_any MannedLedger l t f I (λ h e.
+    let heaps' : List Heap = slice_set l.heaps t (f h) in
+    let at : (u : ℕ) → worker_at (slice_get heaps' u) ≡ worker_at (slice_get l.heaps u) = λ u. elim (cases_eq u t) [
+      | inl q ↦ ap (λ v. worker_at (slice_get heaps' v)) q ∙ (ap worker_at (got_same l.heaps t h (f h) e) ∙ (same h ∙ (sym (ap worker_at e) ∙ ap (λ v. worker_at (slice_get l.heaps v)) (sym q))))
+      | inr ne ↦ ap worker_at (got_other l.heaps t u (f h) ne)
+    ] in
+    record {
+      runs = λ on u w q. I.runs on u w (sym (at u) ∙ q);
+      one = λ u v w q r. I.one u v w (sym (at u) ∙ q) (sym (at v) ∙ r);
+      out = λ u c. ap is_some (at u) ∙ elim (cases_eq u t) [
+        | inl q ↦
+            ap (λ v. is_some (worker_at (slice_get l.heaps v))) q
+            ∙ (ap (λ o. is_some (worker_at o)) e ∙ goes h e (sym (ap collecting (got_same l.heaps t h (f h) e)) ∙ (ap (λ v. collecting (slice_get heaps' v)) (sym q) ∙ c)))
+        | inr ne ↦ I.out u (sym (ap collecting (got_other l.heaps t u (f h) ne)) ∙ c)
+      ];
+    })
+
+-- where a collection doesn't begin
+still : (l : Ledger) (t : ℕ) (I : MannedLedger l) (h : Heap) → slice_get l.heaps t ≡ Some h → is_some h.begun ≡ true → is_some h.worker ≡ true
+still l t I h e c = sym (ap (λ o. is_some (worker_at o)) e) ∙ I.out t (ap collecting e ∙ c)
+
+-- A STEP
+
+module _ (p : ProgramText) (l : Ledger) (t : ℕ) (S : SoundAt t l) (I : MannedLedger l) (can : can_step l.machine t ≡ true) where
+  abbrev b : Ledger
+  b = allocated_in p l t
+
+  abbrev k : Ledger
+  k = stepped_to (allocated_in p l t) t (step p l.machine t)
+
+  leaves : StepLeaves t l b k
+  leaves = step_leaves p l t S can
+
+  heap : (h : Heap) × (slice_get l.heaps t ≡ Some h)
+  heap = heap_of_task l t S.0 (can_tells l.machine t can).1
+
+  worker_b : (o : Option ℕ) (u : ℕ) → worker_at (slice_get (allocated_by l t o).heaps u) ≡ worker_at (slice_get l.heaps u)
+  worker_b None u = refl
+  worker_b (Some w) u =
+      let h1 : Heap = placed heap.0 (next_name t l.machine.store) w in
+      ap (λ (q : Ledger). worker_at (slice_get q.heaps u)) (ap (with_heap_at l t (λ g. placed g (next_name t l.machine.store) w)) heap.1)
+      ∙ elim (cases_eq u t) [
+        | inl q ↦
+            ap (λ v. worker_at (slice_get (slice_set l.heaps t h1) v)) q
+            ∙ (ap worker_at (got_same l.heaps t heap.0 h1 heap.1) ∙ (placed_worker heap.0 (next_name t l.machine.store) w ∙ (sym (ap worker_at heap.1) ∙ ap (λ v. worker_at (slice_get l.heaps v)) (sym q))))
+        | inr ne ↦ ap worker_at (got_other l.heaps t u h1 ne)
+      ]
+    where
+      placed_worker : (h : Heap) (n : Name) (w : ℕ) → (placed h n w).worker ≡ h.worker
+      placed_worker h n w = by (is_small w)
+        where
+          by : (v : Bool) → (cond v (record h { chunks = put_last h.chunks n; room = h.room - w; since = h.since + w }) (record h { large = h.large ++ n ∷ []; reserved = 0; since = h.since + w })).worker ≡ h.worker
+          by true = refl
+          by false = refl
+
+  collecting_b : (o : Option ℕ) (u : ℕ) → (u ≡ t → ⊥) → collecting (slice_get (allocated_by l t o).heaps u) ≡ collecting (slice_get l.heaps u)
+  collecting_b None u ne = refl
+  collecting_b (Some w) u ne =
+      ap (λ (q : Ledger). collecting (slice_get q.heaps u)) (ap (with_heap_at l t (λ g. placed g (next_name t l.machine.store) w)) heap.1)
+      ∙ ap collecting (got_other l.heaps t u (placed heap.0 (next_name t l.machine.store) w) ne)
+
+  -- who holds a task after the step held it before
+  abbrev Was : ℕ → Heap → Type 0
+  Was u h = (w : ℕ) → h.worker ≡ Some w → worker_at (slice_get b.heaps u) ≡ Some w
+
+  was_k : (u : ℕ) (h : Heap) → slice_get k.heaps u ≡ Some h → Was u h
+  was_k =
+      moves_each Was t l.machine.tasks b.heaps k.heaps leaves.2 (λ u h e w q. ap worker_at e ∙ q) (λ h q w e. none_held e) (λ u w e. none_held e) (λ ns h q w e. none_held e)
+      (λ u h x y v z is wait none q qx qy w e. ap worker_at is ∙ e) (λ u h none q w e. none_held e)
+
+  was : (u w : ℕ) → worker_at (slice_get k.heaps u) ≡ Some w → worker_at (slice_get l.heaps u) ≡ Some w
+  was u w q = sym (worker_b (asked p l.machine t) u) ∙ by (slice_get k.heaps u) refl q
+    where
+      by : (o : Option Heap) → slice_get k.heaps u ≡ o → worker_at o ≡ Some w → worker_at (slice_get b.heaps u) ≡ Some w
+      by None e r = none_held r
+      by (Some h) e r = was_k u h e w r
+
+  -- a leaf collection goes on in a task that was held before
+  abbrev Goes : ℕ → Heap → Type 0
+  Goes u h = (u ≡ t → ⊥) → is_some h.begun ≡ true → is_some h.worker ≡ true
+
+  goes_b : (u : ℕ) (h : Heap) → slice_get b.heaps u ≡ Some h → Goes u h
+  goes_b u h e ne c =
+      let was_collecting : collecting (slice_get l.heaps u) ≡ true = sym (collecting_b (asked p l.machine t) u ne) ∙ (ap collecting e ∙ c) in
+      sym (ap (λ o. is_some (worker_at o)) e) ∙ (ap is_some (worker_b (asked p l.machine t) u) ∙ I.out u was_collecting)
+
+  goes_k : (u : ℕ) (h : Heap) → slice_get k.heaps u ≡ Some h → Goes u h
+  goes_k =
+      moves_each Goes t l.machine.tasks b.heaps k.heaps leaves.2 goes_b (λ h q ne c. absurd (ne refl)) (λ u ne c. absurd (false≢true c)) (λ ns h q ne c. absurd (ne refl))
+      (λ u h x y v z is wait none q qx qy ne c. absurd (both_ways (is_some h.begun) none c)) (λ u h none q ne c. absurd (both_ways (is_some h.begun) none c))
+
+  machine_is : k.machine ≡ step p l.machine t
+  machine_is = stepped_machine b t (step p l.machine t)
+
+  runs_k : k.end ≡ None → (u w : ℕ) → worker_at (slice_get k.heaps u) ≡ Some w → is_running (slice_get k.machine.tasks u) ≡ true
+  runs_k on u w q = elim (cases_eq u t) [
+    | inl e ↦ elim leaves.3 [
+      | inl over ↦ absurd (false≢true (sym (ap is_some (ap (λ (m : State). m.end) machine_is ∙ ends.0)) ∙ over))
+      | inr more ↦ elim more [
+        | inl r ↦ ap (λ v. is_running (slice_get k.machine.tasks v)) e ∙ r
+        | inr none ↦ none_held (sym none ∙ (ap (λ v. worker_at (slice_get k.heaps v)) (sym e) ∙ q))
+      ]
+    ]
+    | inr ne ↦
+        let before : is_running (slice_get l.machine.tasks u) ≡ true = I.runs (sym (allocated_end l t (asked p l.machine t)) ∙ ends.1) u w (was u w q) in
+        ap (λ (m : State). is_running (slice_get m.tasks u)) machine_is ∙ (ap is_running (step_others p l.machine t u S.0.kept ne before) ∙ before)
+  ]
+    where
+      ends : ((step p l.machine t).end ≡ None) × (b.end ≡ None)
+      ends = settled_end (record b { machine = step p l.machine t; steps = b.steps + 1 }) t (step p l.machine t).end on
+
+  pub step_manned : MannedLedger k
+  step_manned = record {
+    runs = runs_k;
+    one = λ u v w q r. I.one u v w (was u w q) (was v w r);
+    out = λ u c. elim (cases_eq u t) [
+      | inl e ↦ absurd (both_ways (collecting (slice_get k.heaps t)) leaves.1 (ap (λ v. collecting (slice_get k.heaps v)) (sym e) ∙ c))
+      | inr ne ↦ by u ne (slice_get k.heaps u) refl c
+    ];
+  }
+    where
+      by : (u : ℕ) → (u ≡ t → ⊥) → (o : Option Heap) → slice_get k.heaps u ≡ o → collecting o ≡ true → is_some (worker_at o) ≡ true
+      by u ne None e c = c
+      by u ne (Some h) e c = goes_k u h e ne c
+
+task_step_manned : (p : ProgramText) (l : Ledger) (t : ℕ) → SoundAt t l → MannedLedger l → MannedLedger (task_step p l t)
+task_step_manned p l t S I = by (can_step l.machine t) refl
+  where
+    by : (v : Bool) → can_step l.machine t ≡ v → MannedLedger (cond v (stepped_to (allocated_in p l t) t (step p l.machine t)) (record l { steps = l.steps + 1 }))
+    by false e = I
+    by true e = step_manned p l t S I e
+
+task_steps_manned : (p : ProgramText) (k : ℕ) (l : Ledger) (t : ℕ) → SoundAt t l → MannedLedger l → MannedLedger (task_steps p l t k)
+task_steps_manned p zero l t S I = I
+task_steps_manned p (suc k) l t S I = task_steps_manned p k (task_step p l t) t (task_step_sound p l t S) (task_step_manned p l t S I)
+
+-- ENTRIES
+
+-- who isn't found holding a task holds none
+holding_none : (w t : ℕ) (heaps : List Heap) → held_from w t heaps ≡ None → (u : ℕ) → worker_at (slice_get heaps u) ≡ Some w → ⊥
+holding_none w t [] h u q = none_held q
+holding_none w t (g ∷ heaps) h u q = by (is_held_by g.worker w) refl h (λ v free r. holding_none w (t + 1) heaps free v r) u q
+  where
+    held_is : g.worker ≡ Some w → is_held_by g.worker w ≡ true
+    held_is e = ap (λ o. is_held_by o w) e ∙ eq-eqb w w refl
+
+    none_task : {A : Type 0} → ◌≡◌ {A = Option ℕ} (Some t) None → A
+    none_task q' = absurd cc
+
+    by : (v : Bool) → is_held_by g.worker w ≡ v → cond v (Some t) (held_from w (t + 1) heaps) ≡ None
+        → ((u' : ℕ) → held_from w (t + 1) heaps ≡ None → worker_at (slice_get heaps u') ≡ Some w → ⊥) → (u' : ℕ) → worker_at (slice_get (g ∷ heaps) u') ≡ Some w → ⊥
+    by true e free more u' q' = none_task free
+    by false e free more zero q' = both_ways (is_held_by g.worker w) e (held_is q')
+    by false e free more (suc u') q' = more u' free q'
+
+none_holding : (o : Option ℕ) → is_none (refused_holding o None) ≡ true → o ≡ None
+none_holding None h = refl
+none_holding (Some t) h = absurd (false≢true h)
+
+took_manned : (l : Ledger) (w t : ℕ) → MannedLedger l → is_running (slice_get l.machine.tasks t) ≡ true → held_from w 0 l.heaps ≡ None → MannedLedger (with_heap l t (λ h. record h { worker = Some w }))
+took_manned l w t I run free = with_heap_any MannedLedger l t (λ h. record h { worker = Some w }) I (λ h e.
+    let h' : Heap = record h { worker = Some w } in
+    let heaps' : List Heap = slice_set l.heaps t h' in
+    let here : (u : ℕ) → u ≡ t → worker_at (slice_get heaps' u) ≡ Some w = λ u q. ap (λ v. worker_at (slice_get heaps' v)) q ∙ ap worker_at (got_same l.heaps t h h' e) in
+    let other : (u : ℕ) → (u ≡ t → ⊥) → worker_at (slice_get heaps' u) ≡ worker_at (slice_get l.heaps u) = λ u ne. ap worker_at (got_other l.heaps t u h' ne) in
+    record {
+      runs = λ on u v q. elim (cases_eq u t) [
+        | inl same ↦ ap (λ x. is_running (slice_get l.machine.tasks x)) same ∙ run
+        | inr ne ↦ I.runs on u v (sym (other u ne) ∙ q)
+      ];
+      one = λ u v x q r. elim (cases_eq u t) [
+        | inl same ↦ elim (cases_eq v t) [
+          | inl same' ↦ same ∙ sym same'
+          | inr ne ↦ absurd (holding_none w 0 l.heaps free v (sym (other v ne) ∙ (r ∙ (sym q ∙ here u same))))
+        ]
+        | inr ne ↦ elim (cases_eq v t) [
+          | inl same' ↦ absurd (holding_none w 0 l.heaps free u (sym (other u ne) ∙ (q ∙ (sym r ∙ here v same'))))
+          | inr ne' ↦ I.one u v x (sym (other u ne) ∙ q) (sym (other v ne') ∙ r)
+        ]
+      ];
+      out = λ u c. elim (cases_eq u t) [
+        | inl same ↦ ap is_some (here u same)
+        | inr ne ↦ ap is_some (other u ne) ∙ I.out u (sym (ap collecting (got_other l.heaps t u h' ne)) ∙ c)
+      ];
+    })
+
+chunk_worker_by : (h : Heap) (n : ℕ) (v : Bool) → (cond v (record h { chunks = h.chunks ++ [] ∷ []; room = chunk_words }) (record h { reserved = n })).worker ≡ h.worker
+chunk_worker_by h n true = refl
+chunk_worker_by h n false = refl
+
+chunk_begun_by : (h : Heap) (n : ℕ) (v : Bool) → (cond v (record h { chunks = h.chunks ++ [] ∷ []; room = chunk_words }) (record h { reserved = n })).begun ≡ h.begun
+chunk_begun_by h n true = refl
+chunk_begun_by h n false = refl
+
+chunk_manned : (l : Ledger) (t : ℕ) (next : Option ℕ) (full : Bool) (end : RunEnd) → MannedLedger l → MannedLedger (cond full (record l { end = Some end }) (with_heap l t (with_chunk next)))
+chunk_manned l t next true end I = record { runs = λ on. absurd cc; one = I.one; out = I.out }
+chunk_manned l t next false end I =
+    same_manned l t (with_chunk next) (λ h. chunk_worker_by h (chunk_units next) (on_asked next is_small)) (λ h e c. still l t I h e (sym (ap is_some (chunk_begun_by h (chunk_units next) (on_asked next is_small))) ∙ c)) I
+
+held_some : (o : Option ℕ) (w : ℕ) → is_held_by o w ≡ true → is_some o ≡ true
+held_some None w h = h
+held_some (Some v) w h = refl
+
+out_held : (l : Ledger) (w t : ℕ) → is_out l w t ≡ true → is_some (heap_of l t).worker ≡ true
+out_held l w t h = held_some (heap_of l t).worker w (and_parts (is_running (slice_get l.machine.tasks t)) (is_held_by (heap_of l t).worker w) h).1
+
+kind_manned : (p : ProgramText) (s : Limits) (l : Ledger) (w : ℕ) (kind : Kind) → SoundLedger l → is_none (kind_refusal p s l w kind) ≡ true → MannedLedger l → MannedLedger (after_kind p s l w kind)
+kind_manned p s l w (Took t) S h I =
+    let a = none_unless (is_ready l t) _ _ h in
+    took_manned l w t I (and_parts (is_running (slice_get l.machine.tasks t)) (is_none (heap_of l t).worker) a.0).0 (none_holding (held_from w 0 l.heaps) a.1)
+kind_manned p s l w (Ran t k) S h I = task_steps_manned p k l t (S, (out_tells l w t _ h).1) I
+kind_manned p s l w (Chunk t) S h I = chunk_manned l t (asked p l.machine t) (nat_lt s.chunks (in_use l + chunk_units (asked p l.machine t))) (Pool (in_use l)) I
+kind_manned p s l w (Begin t) S h I =
+    let held = out_held l w t (none_unless (is_out l w t) _ _ h).0 in
+    same_manned l t _ (λ g. refl) (λ g e c. subst (λ (x : Heap). is_some x.worker ≡ true) (ap or_fresh e) held) I
+kind_manned p s l w (EndOf t a g n) S h I = same_manned l t (collected l.machine) (λ g. refl) (λ g e c. absurd (false≢true c)) I
+kind_manned p s l w (PutOff t) S h I = same_manned l t _ (λ g. refl) (λ g e c. still l t I g e c) I
+kind_manned p s l w (Mark t) S h I = same_manned l t _ (λ g. refl) (λ g e c. still l t I g e c) I
+kind_manned p s l w (More t n) S h I = same_manned l t _ (λ g. refl) (λ g e c. still l t I g e c) I
+kind_manned p s l w (Sweep t g) S h I = same_manned l t swept_heap (λ g. refl) (λ g e c. still l t I g e c) I
+kind_manned p s l w Fuel S h I = record { runs = λ on. absurd cc; one = I.one; out = I.out }
+
+journal_manned : (p : ProgramText) (s : Limits) (journal : List Event) (l : Ledger) → SoundLedger l → MannedLedger l → is_legal_from p s l journal ≡ true → MannedLedger (after_all p s l journal)
+journal_manned p s [] l S I h = I
+journal_manned p s (e ∷ es) l S I h =
+    let both = and_parts (is_none (refusal p s l e)) (is_legal_from p s (after p s l e) es) h in
+    journal_manned p s es (after p s l e) (entry_sound p s l e S both.0) (kind_manned p s l e.worker e.kind S (entry_tells p s l e both.0).2 I) both.1
+
+first_free : (u w : ℕ) → worker_at (slice_get (fresh ∷ []) u) ≡ Some w → ⊥
+first_free zero w q = none_held q
+first_free (suc u) w q = none_held q
+
+first_idle : (u : ℕ) → collecting (slice_get (fresh ∷ []) u) ≡ true → ⊥
+first_idle zero c = false≢true c
+first_idle (suc u) c = false≢true c
+
+opening_manned : (p : ProgramText) (s : Limits) → MannedLedger (opening p s)
+opening_manned p s = record { runs = λ on u w q. absurd (first_free u w q); one = λ u v w q r. absurd (first_free u w q); out = λ u c. absurd (first_idle u c) }
+
+worker_of : (l : Ledger) (t : ℕ) → (heap_of l t).worker ≡ worker_at (slice_get l.heaps t)
+worker_of l t = by (slice_get l.heaps t)
+  where
+    by : (o : Option Heap) → (or_fresh o).worker ≡ worker_at o
+    by None = refl
+    by (Some h) = refl
+
+begun_of : (l : Ledger) (t : ℕ) → is_some (heap_of l t).begun ≡ collecting (slice_get l.heaps t)
+begun_of l t = by (slice_get l.heaps t)
+  where
+    by : (o : Option Heap) → is_some (or_fresh o).begun ≡ collecting o
+    by None = refl
+    by (Some h) = refl
+
+pub tasks_are_held_once : TasksAreHeldOnce
+tasks_are_held_once p s journal legal =
+    let l : Ledger = ledger_of p s journal in
+    let S = legal_sound p s journal legal in
+    let I = journal_manned p s journal (opening p s) (opening_sound p s) (opening_manned p s) legal in
+    record {
+      as_many = S.lengths;
+      runs = λ on t w q. I.runs on t w (sym (worker_of l t) ∙ q);
+      one = λ t u w q r. I.one t u w (sym (worker_of l t) ∙ q) (sym (worker_of l u) ∙ r);
+      collecting = λ t c. ap is_some (worker_of l t) ∙ I.out t (sym (begun_of l t) ∙ c);
+    }

@@ -1,0 +1,111 @@
+-- Laws of space by count.
+use Rattle.std.specs.Prelude.{◌≡◌, ℕ, ◌+◌, ◌*◌, ◌<◌, ◌≤◌, true, false, List, [], ◌∷◌, ◌++◌, Some, length, Contains, sum_by}
+use Rattle.run_trace.specs.declared.entry.Kind.TheVariants.{Ran, End, Sweep}
+use Rattle.run_trace.specs.Entry.{Event}
+use Rattle.run_trace.specs.Settings.{Limits, field_limit}
+use Rattle.hh_lang.specs.Form.{ProgramText}
+use Rattle.hh_model.specs.declared.data.Name.{Name}
+use Rattle.hh_model.specs.declared.data.Object.{Object}
+use Rattle.hh_model.specs.declared.data.State.{State}
+use Rattle.hh_model.specs.Step.{asked}
+use Rattle.run_ledger.specs.declared.data.Heap.{Heap}
+use Rattle.run_ledger.specs.declared.data.Ledger.{Ledger}
+use Rattle.run_ledger.specs.Heaps.{chunk_words, words_sum, held, heap_of, lacks_room, begun_in, take_of, in_use, words_of}
+use Rattle.run_ledger.specs.Steps.{task_steps}
+use Rattle.run_ledger.specs.Entries.{after}
+use Rattle.run_ledger.specs.Journals.{ledger_of, is_legal}
+use Rattle.run_ledger.specs.Report.{report_of}
+
+-- the steps of a legal journal are at most the fuel and 256 more
+abbrev pub StepsAreBounded : Type 0
+StepsAreBounded = (p : ProgramText) (s : Limits) (journal : List Event) → is_legal p s journal ≡ true → (ledger_of p s journal).steps ≤ s.fuel + 256
+
+-- before each allocation among k steps of t, its words since the last collection are below the limit, and the object has
+-- its place
+abbrev pub AllocatesInBounds : ProgramText → Limits → Ledger → ℕ → ℕ → Type 0
+AllocatesInBounds p s l t k =
+    (j w : ℕ) → j < k → asked p (task_steps p l t j).machine t ≡ Some w
+    → let h = heap_of (task_steps p l t j) t in (h.since < s.leaf) × (lacks_room h w ≡ false)
+
+abbrev pub AllocationsAreInBounds : Type 0
+AllocationsAreInBounds =
+    (p : ProgramText) (s : Limits) (before rest : List Event) (w t k : ℕ) → is_legal p s (before ++ record { worker = w; kind = Ran t k } ∷ rest) ≡ true
+    → AllocatesInBounds p s (ledger_of p s before) t k
+
+-- each list has a name
+abbrev pub EachHasName : List (List Name) → Type 0
+EachHasName lists = (ns : List Name) → Contains lists ns → 0 < length ns
+
+-- the end of t's leaf collection, by the accounts l before it and those after it: as many chunks were taken when it began
+-- as its small names would take still; at most so many hold the small survivors, each has one, and none waits for a large
+-- object
+pub record CollectedWithin (l after : Ledger) (t : ℕ) : Type 0 where
+  pub took : begun_in (heap_of l t) ≡ take_of l.machine (heap_of l t)
+  pub most : length (heap_of after t).chunks ≤ take_of l.machine (heap_of l t)
+  pub each : EachHasName (heap_of after t).chunks
+  pub reserved : (heap_of after t).reserved ≡ 0
+
+abbrev pub LeafCollectionsAreBounded : Type 0
+LeafCollectionsAreBounded =
+    (p : ProgramText) (s : Limits) (before rest : List Event) (w t taken given left : ℕ)
+    → let e : Event = record { worker = w; kind = End t taken given left } in
+    is_legal p s (before ++ e ∷ rest) ≡ true → CollectedWithin (ledger_of p s before) (after p s (ledger_of p s before) e) t
+
+-- a sweep of t's heap, by the accounts after it: each chunk has a name, and none waits for a large object
+pub record SweptWithin (after : Ledger) (t : ℕ) : Type 0 where
+  pub each : EachHasName (heap_of after t).chunks
+  pub reserved : (heap_of after t).reserved ≡ 0
+
+abbrev pub SweepsAreBounded : Type 0
+SweepsAreBounded =
+    (p : ProgramText) (s : Limits) (before rest : List Event) (w t given : ℕ)
+    → let e : Event = record { worker = w; kind = Sweep t given } in
+    is_legal p s (before ++ e ∷ rest) ≡ true → SweptWithin (after p s (ledger_of p s before) e) t
+
+-- the chunks in use never exceed the limit, neither at the end nor before
+pub record UsesFew (p : ProgramText) (s : Limits) (journal : List Event) : Type 0 where
+  pub now : in_use (ledger_of p s journal) ≤ s.chunks
+  pub peak : (report_of p s journal).peak ≤ s.chunks
+
+abbrev pub UseIsBounded : Type 0
+UseIsBounded = (p : ProgramText) (s : Limits) (journal : List Event) → is_legal p s journal ≡ true → UsesFew p s journal
+
+-- with this limit on the fields of objects, no step of the program asks for more words than so many
+abbrev pub AsksAtMost : ProgramText → ℕ → ℕ → Type 0
+AsksAtMost p limit most = (m : State) (t w : ℕ) → m.field_limit ≡ limit → asked p m t ≡ Some w → w ≤ most
+
+-- so the words that a heap counts since its last leaf collection are at most so many for each step taken
+abbrev pub SinceIsBounded : Type 0
+SinceIsBounded =
+    (p : ProgramText) (s : Limits) (journal : List Event) (most : ℕ) → is_legal p s journal ≡ true → AsksAtMost p (field_limit s.version) most
+    → let l = ledger_of p s journal in (t : ℕ) → (heap_of l t).since ≤ most * l.steps
+
+-- the words in the last list, and none without one
+abbrev pub last_words : State → List (List Name) → ℕ
+last_words m [] = 0
+last_words m (ns ∷ []) = words_sum m ns
+last_words m (ns ∷ ms ∷ rest) = last_words m (ms ∷ rest)
+
+-- a list has at most a chunk's words, and the last one leaves the room that is there
+pub record FitsInChunks (m : State) (h : Heap) : Type 0 where
+  pub each : (ns : List Name) → Contains h.chunks ns → words_sum m ns ≤ chunk_words
+  pub last : last_words m h.chunks + h.room ≤ chunk_words
+
+-- the heaps fit in their chunks, and the held names have at most the words of the chunks in use
+pub record Fits (l : Ledger) : Type 0 where
+  pub heaps : (t : ℕ) → FitsInChunks l.machine (heap_of l t)
+  pub words : words_sum l.machine (held l) ≤ chunk_words * in_use l
+
+abbrev pub HeapsFit : Type 0
+HeapsFit = (p : ProgramText) (s : Limits) (journal : List Event) → is_legal p s journal ≡ true → Fits (ledger_of p s journal)
+
+-- the words of all objects of a store
+abbrev pub store_words : List (List Object) → ℕ
+store_words store = sum_by (λ row. sum_by (λ o. words_of (Some o)) row) store
+
+-- each word that was allocated is held, or the end of a leaf collection or a sweep has dropped it
+abbrev pub WordsAreAccounted : Type 0
+WordsAreAccounted =
+    (p : ProgramText) (s : Limits) (journal : List Event) → is_legal p s journal ≡ true
+    → let l = ledger_of p s journal in
+    let r = report_of p s journal in r.leaf_freed + r.inner_freed + words_sum l.machine (held l) ≡ store_words l.machine.store

@@ -1,0 +1,193 @@
+// Reads an input of a program and a trace.
+
+ghost use Rattle.std.specs.Prelude.{◌≡◌, ◌≤◌, length, IfOk, IfErr, Some, None};
+ghost use Rattle.text_lines.specs.Lines.{lines_of};
+ghost use Rattle.run_trace.specs.Trace.{AreTraceLines};
+ghost use Rattle.trace_input.specs.Input.{IsInput, FailsAt, FailsTrace, input_fault, trace_bad};
+
+use crate::cut::cut;
+use crate::newer::is_newer;
+use hh_lang::Program;
+use program_reader::{Refused, read_program};
+use run_trace::{Trace, TraceError, Version, read_trace, read_version};
+use std::alloc::{AllocError, Global};
+use text_lines::next_line;
+
+/// What an input says.
+#[derive(Drop)]
+pub struct TraceInput {
+    pub program: Program,
+    pub trace: Trace,
+}
+
+/// The first fault of an input; those of the program come before those of the trace.
+#[derive(Clone, Copy, PartialEq, Eq, Debug)]
+pub enum InputFault {
+    /// The program is refused.
+    Source(Refused),
+    /// The line of this number isn't one of a trace; it may be the trace line itself, or the last line for want of one.
+    BadLine(u32),
+}
+
+/// Why an input couldn't be read.
+#[derive(Clone, Copy, PartialEq, Eq, Debug)]
+pub enum InputError {
+    /// Its first fault.
+    Fault(InputFault),
+    /// Want of memory.
+    NoMemory,
+}
+
+impl From<AllocError> for InputError {
+    ghost use Rattle.std.specs.Prelude.{◌≡◌};
+    ghost use Rattle.trace_input.specs.declared.input.InputError.TheVariants.{NoMemory};
+
+    ghost from_gives = { λ _ e. e ≡ NoMemory };
+
+    fn from(_: AllocError) -> InputError {
+        InputError::NoMemory
+    }
+}
+
+// The answer at a bad line.
+fn bad_line_error(line: u32) -> InputError
+    ensures { result ≡ InputError.Fault (InputFault.BadLine line) }
+{
+    InputError::Fault(InputFault::BadLine(line))
+}
+
+// How many lines a text has.
+fn count_lines(text: &[u8]) -> u32
+    requires { length text.now ≤ 16777216 }
+    ensures { result ≡ length (lines_of text.now) }
+{
+    let mut rest = text;
+    let mut count: u32 = 1;
+    loop {
+        match next_line(rest).1 {
+            None => return count,
+            Some(below) => rest = below,
+        }
+        count += 1;
+    }
+}
+
+// Reads a trace for a program, where the trace line has this number.
+fn read_for(alloc: Global, program: &Program, number: u32, text: &[u8]) -> Result<Trace, InputError>
+    requires sized { length text.now ≤ 16777216 }
+    requires numbered { number ≤ 16777217 }
+    ensures read { IfOk result (λ t. AreTraceLines (lines_of text.now) t × (trace_bad number program.now (lines_of text.now) ≡ None)) }
+    ensures bad { IfErr result (λ e. FailsTrace (trace_bad number program.now (lines_of text.now)) e) }
+{
+    match read_version(next_line(text).0) {
+        Some(Version::One) if is_newer(program) => return Err(bad_line_error(number)),
+        _ => {}
+    }
+    match read_trace(alloc, text, number) {
+        Ok(trace) => Ok(trace),
+        Err(TraceError::NoMemory) => Err(InputError::NoMemory),
+        Err(TraceError::BadLine(line)) => Err(bad_line_error(line)),
+    }
+}
+
+/// Reads an input: the program in front of the first line whose first word is `trace`, and the trace from there on. A program
+/// with `freeze`, `cas` or a parallel loop has no trace of the first version: its trace line is then bad.
+pub fn read_trace_input(alloc: Global, input: &[u8]) -> Result<TraceInput, InputError>
+    requires { length input.now ≤ 16777216 }
+    ensures read { IfOk result (IsInput input.now) }
+    ensures fault { IfErr result (FailsAt (input_fault input.now)) }
+{
+    let (above, trace) = cut(input);
+    let program = match read_program(alloc, above)? {
+        Ok(program) => program,
+        Err(refused) => return Err(InputError::Fault(InputFault::Source(refused))),
+    };
+    match trace {
+        None => Err(bad_line_error(count_lines(input))),
+        Some((number, text)) => match read_for(alloc, &program, number, text) {
+            Ok(trace) => Ok(TraceInput { program, trace }),
+            Err(error) => Err(error),
+        },
+    }
+}
+
+#[cfg(test)]
+mod tests {
+    use super::*;
+    use program_reader::Cause;
+
+    // How many functions and entries an input has, or its first fault.
+    fn said(alloc: Global, input: &[u8]) -> Result<(usize, usize), InputError> {
+        if input.len() > 16777216 {
+            return Err(InputError::NoMemory);
+        }
+        match read_trace_input(alloc, input) {
+            Ok(read) => Ok((read.program.functions().len(), read.trace.entries.len())),
+            Err(error) => Err(error),
+        }
+    }
+
+    fn source(line: u32, cause: Cause) -> Result<(usize, usize), InputError> {
+        Err(InputError::Fault(InputFault::Source(Refused { line, cause })))
+    }
+
+    fn bad(line: u32) -> Result<(usize, usize), InputError> {
+        Err(InputError::Fault(InputFault::BadLine(line)))
+    }
+
+    #[test]
+    fn programs_end_where_traces_begin(rt: HostRuntime) {
+        let alloc = rt.alloc();
+        assert_eq!(rt;
+            said(alloc, b"fn main\nend\ntrace 1\n0 took 0\n\n0 ran 0 1"),
+            Ok((1, 2))
+        );
+        assert_eq!(rt;
+            said(alloc, b"fn main\nend\n  trace 2 # the trace"),
+            Ok((1, 0))
+        );
+        assert_eq!(rt;
+            said(
+                alloc,
+                b"fn trace\nend\nfn main\nend\n#trace\ntrace 1\n0 fuel\n"
+            ),
+            Ok((2, 1))
+        );
+        assert_eq!(rt; said(alloc, b"fn main\nend"), bad(2));
+        assert_eq!(rt; said(alloc, b"fn main\nend\n"), bad(3));
+        assert_eq!(rt; said(alloc, b""), source(1, Cause::NoMain));
+        assert_eq!(rt; said(alloc, b"trace 1"), source(1, Cause::NoMain));
+        assert_eq!(rt;
+            said(alloc, b"fn main\ntrace 1\nend"),
+            source(2, Cause::NoEnd)
+        );
+        assert_eq!(rt;
+            said(alloc, b"fn main\nend\nx\ntrace 9"),
+            source(3, Cause::Word)
+        );
+        assert_eq!(rt; said(alloc, b"fn main\nend\ntrace 9\nx"), bad(3));
+        assert_eq!(rt;
+            said(alloc, b"fn main\nend\ntrace 1\n0 took 0\ntrace 1"),
+            bad(5)
+        );
+    }
+
+    #[test]
+    fn newer_programs_have_no_older_trace(rt: HostRuntime) {
+        let alloc = rt.alloc();
+        assert_eq!(rt; said(alloc, b"fn main\nfreeze r0\nend\ntrace 1\nx"), bad(4));
+        assert_eq!(rt; said(alloc, b"fn main\nfreeze r0\nend\ntrace 2\nx"), bad(5));
+        assert_eq!(rt;
+            said(alloc, b"fn main\ncas i0 r0 i0 r0 r0\nend\ntrace 1"),
+            bad(4)
+        );
+        assert_eq!(rt;
+            said(alloc, b"fn f\nend\nfn main\npfor f\nend\ntrace 1"),
+            bad(6)
+        );
+        assert_eq!(rt;
+            said(alloc, b"fn f\nend\nfn main\npfor f\nend\ntrace 2"),
+            Ok((5, 0))
+        );
+    }
+}

@@ -1,0 +1,17 @@
+# A fork: two tasks run side by side. The left one's i0 comes back in i0, the right one's in i1.
+fn left
+  set i1 10
+  add i0 i1 i2
+end
+
+fn right
+  set i1 20
+  add i0 i1 i2
+end
+
+fn main
+  set i2 3
+  par left right
+  add i0 i0 i1
+  out i0           # writes 36
+end
