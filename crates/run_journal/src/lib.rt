@@ -14,5 +14,5 @@ mod texts;
 
 pub use book::Book;
 pub use enter::ApplyError;
-pub use replay::{ReplayError, model_replay};
-pub use texts::{end_status, end_text, refused_text, report_text};
+pub use replay::{ReplayError, model_replay, replayed};
+pub use texts::{end_status, end_text, outputs_text, refused_text, report_text};

@@ -21,8 +21,8 @@ pub enum ReplayError {
     NoMemory,
 }
 
-// The accounts of a legal journal.
-fn replayed<'p>(
+/// The accounts of a legal journal: how its run ended, if it did, what it has written out, and more.
+pub fn replayed<'p>(
     alloc: Global,
     program: &'p Program,
     settings: Settings,

@@ -1,10 +1,10 @@
 // The lines that are written of a run, and its exit status.
 
-ghost use Rattle.std.specs.Prelude.{◌≡◌, ◌∷◌, [], IfOk, codes};
+ghost use Rattle.std.specs.Prelude.{◌≡◌, ◌∷◌, ◌++◌, [], IfOk, OnOk, codes};
 ghost use Rattle.std.specs.String.{string_bytes};
 ghost use Rattle.std.specs.List.{join_with_byte};
-ghost use Rattle.run_ledger.specs.Text.{trap_word, machine_end_words, end_words, end_line, machine_status, cause_words, refused_words, refused_line, report_lines, line};
-ghost use Rattle.std.specs.Fmt.{decimal};
+ghost use Rattle.run_ledger.specs.Text.{trap_word, machine_end_words, end_words, end_line, machine_status, cause_words, refused_words, refused_line, report_lines, line, output_lines};
+ghost use Rattle.std.specs.Fmt.{decimal, signed_decimal};
 ghost use Rattle.run_ledger.specs.Text.{end_status as status_of};
 
 use hh_model::{End, Trap};
@@ -164,4 +164,23 @@ pub fn report_text(alloc: Global, report: Report) -> Result<String, AllocError>
     let chunks = chunks_line(alloc, report.chunks, report.peak)?;
     let held = held_line(alloc, report.held, report.words)?;
     format!(in alloc; "{length}{leaf}{inner}{chunks}{held}")
+}
+
+/// The lines of what a run has written out.
+pub fn outputs_text(alloc: Global, outputs: &[i64]) -> Result<Vec<u8>, AllocError>
+    ensures { IfOk result (λ text. text.items ≡ output_lines outputs.now) }
+{
+    let mut text = Vec::new(alloc);
+    for output in outputs {
+        add_output(alloc, &mut text, *output)?;
+    }
+    Ok(text)
+}
+
+// Adds the line of one output.
+fn add_output(alloc: Global, text: &mut Vec<u8>, output: i64) -> Result<(), AllocError>
+    ensures { OnOk result (text.new.items ≡ text.old.items ++ signed_decimal output ++ 10 ∷ []) }
+{
+    let line = format!(in alloc; "{output}\n")?;
+    text.extend_from_slice(line.as_bytes())
 }
