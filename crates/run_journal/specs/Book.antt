@@ -10,9 +10,10 @@ use Rattle.run_journal.specs.declared.enter.ApplyError.TheVariants.{Refused as R
 use Rattle.hh_lang.specs.Form.{ProgramText}
 use Rattle.hh_lang.specs.declared.program.Line.{Line}
 use Rattle.hh_model.specs.declared.data.Name.{Name}
+use Rattle.hh_model.specs.declared.data.Strand.{Strand}
 use Rattle.hh_model.specs.declared.data.Task.{Task}
 use Rattle.hh_model.specs.declared.data.State.{State}
-use Rattle.hh_model.specs.Step.{fetched, owner_of}
+use Rattle.hh_model.specs.Step.{fetched, owner_of, strand_of}
 use Rattle.run_ledger.specs.declared.data.Ledger.{Ledger}
 use Rattle.run_ledger.specs.declared.data.Heap.{Heap}
 use Rattle.run_ledger.specs.Heaps.{fresh, with_heap, forked_heap, heap_of, or_fresh, held_in, words_in, units_in, in_use}
@@ -89,3 +90,10 @@ general_refusal s l w kind =
 abbrev pub FailsFor : Option Cause → ApplyError → Type 0
 FailsFor cause (RefusedFor c) = cause ≡ Some c
 FailsFor cause NoMemory = Unit {0}
+
+-- THE PACE
+
+-- the strand of the task t, if there is such a task
+abbrev pub strand_at : ℕ → Option Task → Option Strand
+strand_at t None = None
+strand_at t (Some x) = Some (strand_of t x)

@@ -4,14 +4,16 @@ ghost use Rattle.std.specs.Prelude.{◌≡◌, Option, Some, None, true, false, 
 ghost use Rattle.run_ledger.specs.Heaps.{in_use};
 ghost use Rattle.run_ledger.specs.Entries.{refusal, after};
 ghost use Rattle.run_ledger.specs.Journals.{opening};
+ghost use Rattle.run_ledger.specs.Pace.{noted};
+ghost use Rattle.run_ledger.specs.Pace.{owed as owed_by};
 ghost use Rattle.run_journal.specs.Book.{FailsFor};
 ghost use Rattle.run_journal.specs.Opened.{Opened, IsOpened, IsLegalLedger, cause_in};
 
 use crate::accounts::Accounts;
 use crate::enter::ApplyError;
 use hh_lang::Program;
-use run_ledger::{Refused, RunEnd};
-use run_trace::{Entry, Settings};
+use run_ledger::{Owed, Refused, RunEnd, WorkerPace};
+use run_trace::{Entry, Kind, Settings};
 use std::alloc::{AllocError, Global};
 use std::marker::Model;
 
@@ -113,5 +115,22 @@ impl<'p> Book<'p> {
         ensures { IsLegalLedger self.now.program self.now.limits self.now.ledger }
     {
         let _ = &self.accounts;
+    }
+
+    /// What the pace of inner collections demands of a worker's next entry, by what is kept of the worker.
+    pub fn owed(&self, pace: &WorkerPace) -> Owed
+        requires { self.now.stopped ≡ false }
+        ensures { result ≡ owed_by self.now.limits self.now.ledger pace.now }
+    {
+        self.accounts.bounds();
+        self.accounts.owed(pace)
+    }
+
+    /// Keeps of a worker what its entry leaves, which was the last to be entered. Want of memory changes nothing.
+    pub fn note(&self, pace: &mut WorkerPace, kind: Kind) -> Result<(), AllocError>
+        ensures ok { OnOk result (pace.new ≡ noted self.now.ledger pace.old kind) }
+        ensures err { OnErr result (pace.new ≡ pace.old) }
+    {
+        self.accounts.note(pace, kind)
     }
 }

@@ -6,6 +6,7 @@ mod book;
 mod causes;
 mod changes;
 mod enter;
+mod pace;
 mod private;
 mod ran;
 mod replay;
