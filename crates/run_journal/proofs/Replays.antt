@@ -1,0 +1,24 @@
+-- The next entry of a replay.
+use Rattle.std.proofs.Common.{◌≡◌, ℕ, ◌+◌, ◌<◌, suc, Option, Some, None, List, [], ◌∷◌, length, drop, get_or, refl, ap, ap₂, sym, ◌∙◌, arith}
+use Rattle.std.proofs.Math.Seq.{drop-cons}
+use Rattle.run_trace.specs.Entry.{Event}
+use Rattle.run_trace.specs.Settings.{Limits}
+use Rattle.hh_lang.specs.Form.{ProgramText}
+use Rattle.run_ledger.specs.declared.data.Ledger.{Ledger}
+use Rattle.run_ledger.specs.declared.data.Refused.{Refused}
+use Rattle.run_ledger.specs.declared.data.RefusedAt.{RefusedAt}
+use Rattle.run_ledger.specs.Entries.{refusal, after}
+use Rattle.run_ledger.specs.Journals.{after_all, first_refused_from, refused_or}
+
+module _ (p : ProgramText) (s : Limits) (l : Ledger) (n : ℕ) (journal : List Event) (i : ℕ) (e : Event) (lt : i < length journal) (is : e ≡ get_or journal i e) where
+  pub cut : drop i journal ≡ e ∷ drop (i + 1) journal
+  cut = drop-cons journal i e lt ∙ ap₂ (λ x k. x ∷ drop k journal) (sym is) (let q : suc i ≡ i + 1 = omega arith in q)
+
+  pub refused_here : (c : Refused) → refusal p s l e ≡ Some c → first_refused_from p s l n (drop i journal) ≡ Some (record { index = n; cause = c })
+  refused_here c h = ap (first_refused_from p s l n) cut ∙ ap (λ o. refused_or o n (first_refused_from p s (after p s l e) (n + 1) (drop (i + 1) journal))) h
+
+  pub refused_next : refusal p s l e ≡ None → first_refused_from p s l n (drop i journal) ≡ first_refused_from p s (after p s l e) (n + 1) (drop (i + 1) journal)
+  refused_next h = ap (first_refused_from p s l n) cut ∙ ap (λ o. refused_or o n (first_refused_from p s (after p s l e) (n + 1) (drop (i + 1) journal))) h
+
+  pub accounts_next : after_all p s l (drop i journal) ≡ after_all p s (after p s l e) (drop (i + 1) journal)
+  accounts_next = ap (after_all p s l) cut

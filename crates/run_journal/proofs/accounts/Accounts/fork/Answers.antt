@@ -1,0 +1,21 @@
+use Rattle.std.proofs.Common.{◌≡◌, ◌∙◌, ◌++◌, ◌∷◌, [], None, refl, ap, sym, subst, List}
+use Rattle.std.proofs.lemmas.Result.{on_ok_weaker}
+use Rattle.hh_model.specs.declared.data.Name.{Name}
+use Rattle.hh_model.specs.declared.data.State.{State}
+use Rattle.run_ledger.specs.declared.data.Ledger.{Ledger}
+use Rattle.run_ledger.specs.Heaps.{with_heap, forked_heap, fresh, within}
+use Rattle.run_ledger.specs.Steps.{at_fork}
+use Rattle.run_journal.specs.Book.{Standing, AreOwned}
+use Rattle.run_journal.proofs.Stepped.{fork_is}
+use Rattle.run_journal.proofs.accounts.Accounts.fork.Goals as goal
+
+pub within-requires : goal.within-requires
+within-requires c =
+    subst (λ (m : State). AreOwned m.tasks c.self.inside.heaps) (sym c.state.ensures)
+    (subst (λ (s : Standing). AreOwned s.ledger.machine.tasks s.ledger.heaps) (sym c.self.view_is) c.requires)
+
+pub returns : goal.returns
+returns c =
+    let v : Standing = record { program = c.self.inside.program.now; limits = c.self.inside.limits; ledger = record { machine = c.self.inside.machine.state; heaps = c.self.inside.heaps; steps = c.self.inside.steps; end = c.self.inside.end } } in
+    on_ok_weaker c.fork_heaps.result
+    (λ f. fork_is v c.args.self.now c.self.view_is c.args.t c.state.result.now c.state.ensures c.in_ok-names.names c.in_ok-names.ensures c.fork_heaps.new.heaps f) c.fork_heaps.ensures

@@ -1,0 +1,16 @@
+use Rattle.std.proofs.Common.{◌≡◌, ◌∙◌, refl, ap, sym, subst, true, None, slice_get, rules}
+use Rattle.std.proofs.lemmas.Result.{on_ok_weaker}
+use Rattle.hh_model.specs.Step.{is_waiting}
+use Rattle.run_ledger.specs.declared.data.Ledger.{Ledger}
+use Rattle.run_journal.specs.Book.{Standing}
+use Rattle.run_journal.proofs.Stepped.{settled_fork}
+use Rattle.run_journal.proofs.accounts.Accounts.settle.Goals as goal
+
+pub fork-requires : goal.fork-requires
+fork-requires c = let w : is_waiting (slice_get c.args.self.now.ledger.machine.tasks c.args.t) ≡ true = search rules in c.requires.owned w
+
+pub returns-in-Waiting : goal.returns-in-Waiting
+returns-in-Waiting c =
+    let w : is_waiting (slice_get c.args.self.now.ledger.machine.tasks c.args.t) ≡ true = search rules in
+    let e : c.args.self.now.ledger.machine.end ≡ None = search rules in
+    on_ok_weaker c.fork.result (λ q. q ∙ ap (λ (l : Ledger). record c.args.self.now { ledger = l }) (settled_fork c.args.self.now.ledger c.args.t e w)) c.fork.ensures

@@ -1,0 +1,29 @@
+use Rattle.std.proofs.Common.{◌≡◌, sym, subst}
+use Rattle.std.proofs.lemmas.Bool.{false≢true}
+use Rattle.run_trace.specs.Entry.{IsKind}
+use Rattle.run_journal.specs.Book.{Standing}
+use Rattle.run_journal.specs.Opened.{IsLegalLedger}
+use Rattle.run_journal.proofs.Opens.{ledger_steady, ledger_stays, ledger_after}
+use Rattle.run_journal.proofs.book.Book.apply.Goals as goal
+
+pub enter-requires-clause-steady : goal.enter-requires-clause-steady
+enter-requires-clause-steady c =
+    let a = c.self.inside.accounts in
+    ledger_steady a.program a.limits c.bounds.ensures a.ledger (c.self.invariant.legal c.if-self.false)
+
+pub enter-requires-clause-stays : goal.enter-requires-clause-stays
+enter-requires-clause-stays c =
+    let a = c.self.inside.accounts in
+    ledger_stays a.program a.limits c.bounds.ensures a.ledger (c.self.invariant.legal c.if-self.false) c.args.entry.kind (subst IsKind c.kind-kind.ensures.value c.kind-kind.ensures.range)
+
+pub invariant_of-self : goal.invariant_of-self
+invariant_of-self c =
+    let a = c.self.inside.accounts in
+    record {
+      legal = λ e.
+          subst (λ (s : Standing). IsLegalLedger s.program s.limits s.ledger) (sym c.in-Ok.ensures.ok)
+          (ledger_after a.program a.limits a.ledger (c.self.invariant.legal c.if-self.false) c.args.entry c.in-Ok.ensures.none);
+    }
+
+pub invariant_of-self-in-Err : goal.invariant_of-self-in-Err
+invariant_of-self-in-Err c = record { legal = λ e. absurd (false≢true (sym e)) }

@@ -1,0 +1,99 @@
+-- What contracts see of accounts that are kept entry by entry.
+use Rattle.std.specs.Prelude.{◌≡◌, ℕ, ◌<◌, ◌≤◌, ◌^◌, ◌&&◌, ◌||◌, not, if◌then◌else◌, Bool, false, Option, Some, None, List, [], ◌∷◌, ◌++◌, nat_le, nat_lt, is_some, length, slice_get, Contains}
+use Rattle.run_trace.specs.Settings.{Limits}
+use Rattle.run_trace.specs.declared.entry.Kind.{Kind}
+use Rattle.run_ledger.specs.declared.data.Refused.{Refused as Cause}
+use Rattle.run_ledger.specs.declared.data.Refused.TheVariants.{Over, Spent, NoWorker}
+use Rattle.run_ledger.specs.Entries.{refused_if, refused_unless, is_fuel}
+use Rattle.run_journal.specs.declared.enter.ApplyError.{ApplyError}
+use Rattle.run_journal.specs.declared.enter.ApplyError.TheVariants.{Refused as RefusedFor, NoMemory}
+use Rattle.hh_lang.specs.Form.{ProgramText}
+use Rattle.hh_lang.specs.declared.program.Line.{Line}
+use Rattle.hh_model.specs.declared.data.Name.{Name}
+use Rattle.hh_model.specs.declared.data.Strand.{Strand}
+use Rattle.hh_model.specs.declared.data.Task.{Task}
+use Rattle.hh_model.specs.declared.data.State.{State}
+use Rattle.hh_model.specs.Step.{fetched, owner_of, strand_of}
+use Rattle.run_ledger.specs.declared.data.Ledger.{Ledger}
+use Rattle.run_ledger.specs.declared.data.Heap.{Heap}
+use Rattle.run_ledger.specs.Heaps.{fresh, with_heap, forked_heap, heap_of, or_fresh, held_in, words_in, units_in, in_use}
+use Rattle.run_ledger.specs.Steps.{touched, is_open, owns, join_heaps, is_due, is_in_need, is_private, task_step, task_steps, standing}
+use Rattle.run_journal.specs.declared.ran.Stood.{Stood}
+use Rattle.run_journal.specs.declared.ran.Stood.TheVariants.{Not, Last, More}
+
+-- the program, the limits and the accounts
+pub record Standing : Type 0 where
+  pub program : ProgramText
+  pub limits : Limits
+  pub ledger : Ledger
+
+-- the names of each heap are owned by its task
+abbrev pub AreOwned : List Task → List Heap → Type 0
+AreOwned tasks heaps = (t : ℕ) (n : Name) → Contains (held_in (or_fresh (slice_get heaps t))) n → owner_of tasks n.task ≡ t
+
+-- the counts of accounts fit their types; the accounts of every legal journal are so
+pub record Steady (l : Ledger) : Type 0 where
+  pub steps : l.steps < 2 ^ 30
+  pub heaps : length l.heaps < 2 ^ 31
+  pub words : (t : ℕ) → words_in l.machine (heap_of l t) < 2 ^ 61
+  pub units : (t : ℕ) → units_in l.machine (heap_of l t) < 2 ^ 20
+  pub in_use : in_use l < 2 ^ 20
+  pub since : (t : ℕ) → (heap_of l t).since < 2 ^ 61
+  pub owned : AreOwned l.machine.tasks l.heaps
+
+-- the next step of a running task is no output, no fork and no end of the task, and reads or writes no object that another
+-- task owns
+abbrev pub is_own_line : State → ℕ → Task → Option Line → Bool
+is_own_line m t x None = false
+is_own_line m t x (Some line) = not (is_open x line.instr) && owns m.tasks t (touched x.top line.instr)
+
+abbrev pub is_own_by : ProgramText → State → ℕ → Option Task → Bool
+is_own_by p m t None = false
+is_own_by p m t (Some x) = is_own_line m t x (fetched p x.top)
+
+abbrev pub is_own : ProgramText → State → ℕ → Bool
+is_own p m t = is_own_by p m t (slice_get m.tasks t)
+
+-- these heaps become those in which the task t has forked, in whose heap these names are reached
+abbrev pub Forks : List Heap → List Heap → ℕ → List Name → Type 0
+Forks heaps after t names =
+    (l : Ledger) → l.heaps ≡ heaps → with_heap (record l { heaps = heaps ++ fresh ∷ fresh ∷ [] }) t (forked_heap names) ≡ record l { heaps = after }
+
+-- these heaps become those in which the two heaps from the left one on have joined the parent's
+abbrev pub Joins : List Heap → List Heap → ℕ → ℕ → Type 0
+Joins heaps after parent left = (l : Ledger) → l.heaps ≡ heaps → join_heaps l parent left ≡ record l { heaps = after }
+
+-- THE STEPS OF ONE ENTRY
+
+-- how the next step of a task can stand in an entry
+abbrev pub stood : Limits → ProgramText → Ledger → ℕ → Stood
+stood s p l t = if is_due s p l t || is_in_need p l t then Not else if is_private p l.machine t then More else Last
+
+-- the accounts after it, if it stands
+abbrev pub after_stood : ProgramText → Ledger → ℕ → Stood → Ledger
+after_stood p l t Not = l
+after_stood p l t Last = task_step p l t
+after_stood p l t More = task_step p l t
+
+-- the counts fit their types after each of the steps that can stand in an entry
+abbrev pub StaysSteady : Limits → ProgramText → Ledger → ℕ → ℕ → Type 0
+StaysSteady s p l t k = (i : ℕ) → i ≤ standing s p l t k → Steady (task_steps p l t i)
+
+-- ENTRIES
+
+-- why an entry is refused whatever it says of tasks
+abbrev pub general_refusal : Limits → Ledger → ℕ → Kind → Option Cause
+general_refusal s l w kind =
+    refused_if (is_some l.end) Over (refused_if (nat_le s.fuel l.steps && not (is_fuel kind)) (Spent l.steps) (refused_unless (nat_lt w s.workers) NoWorker None))
+
+-- an entry isn't entered for the cause for which it is refused, or for want of memory
+abbrev pub FailsFor : Option Cause → ApplyError → Type 0
+FailsFor cause (RefusedFor c) = cause ≡ Some c
+FailsFor cause NoMemory = Unit {0}
+
+-- THE PACE
+
+-- the strand of the task t, if there is such a task
+abbrev pub strand_at : ℕ → Option Task → Option Strand
+strand_at t None = None
+strand_at t (Some x) = Some (strand_of t x)

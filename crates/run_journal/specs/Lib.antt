@@ -1,0 +1,3 @@
+pub mod Book
+pub mod Opened
+pub mod Replay

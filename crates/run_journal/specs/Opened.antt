@@ -1,0 +1,31 @@
+-- What contracts see of a book of accounts.
+use Rattle.std.specs.Prelude.{◌≡◌, Bool, true, false, Option, Some, List, if◌then◌else◌}
+use Rattle.run_trace.specs.Entry.{Event}
+use Rattle.run_trace.specs.Settings.{Limits}
+use Rattle.hh_lang.specs.Form.{ProgramText}
+use Rattle.run_ledger.specs.declared.data.Ledger.{Ledger}
+use Rattle.run_ledger.specs.declared.data.Refused.{Refused}
+use Rattle.run_ledger.specs.declared.data.Refused.TheVariants.{Stopped}
+use Rattle.run_ledger.specs.declared.data.RunEnd.{RunEnd}
+use Rattle.run_ledger.specs.declared.data.RefusedAt.{RefusedAt}
+use Rattle.run_ledger.specs.Entries.{refusal}
+use Rattle.run_ledger.specs.Journals.{is_legal, ledger_of}
+
+-- the program, the limits and the accounts, and whether an entry was refused or found no memory
+pub record Opened : Type 0 where
+  pub program : ProgramText
+  pub limits : Limits
+  pub ledger : Ledger
+  pub stopped : Bool
+
+-- the accounts of a legal journal
+abbrev pub IsLegalLedger : ProgramText → Limits → Ledger → Type 0
+IsLegalLedger p s l = (journal : List Event) × (is_legal p s journal ≡ true) × (l ≡ ledger_of p s journal)
+
+-- unless it is stopped, a book has the accounts of a legal journal
+pub record IsOpened (b : Opened) : Type 0 where
+  pub legal : b.stopped ≡ false → IsLegalLedger b.program b.limits b.ledger
+
+-- why a book refuses an entry
+abbrev pub cause_in : Opened → Event → Option Refused
+cause_in b e = if b.stopped then Some Stopped else refusal b.program b.limits b.ledger e

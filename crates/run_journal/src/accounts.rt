@@ -1,0 +1,323 @@
+// The accounts of a run as a value, and what is looked up in them.
+
+ghost use Rattle.std.specs.Prelude.{◌≡◌, ◌<◌, ◌^◌, ◌+◌, IfOk, Option, Some, None, IsTrue, slice_get, option_copied, length, is_some};
+ghost use Rattle.run_ledger.specs.Heaps.{fresh, heap_at, heap_of, or_fresh, marked_in, left_in, lacks_room, words_in, take_of, in_use, units};
+ghost use Rattle.run_ledger.specs.Steps.{is_due, is_in_need, on_asked, is_private};
+ghost use Rattle.run_ledger.specs.Entries.{is_ready, is_out, is_held_by, held_from};
+ghost use Rattle.run_ledger.specs.Journals.{opening};
+ghost use Rattle.hh_model.specs.Step.{is_running, is_waiting, asked};
+ghost use Rattle.run_trace.specs.Settings.{AreLimits};
+ghost use Rattle.run_journal.specs.Book.{Standing, Steady};
+
+use hh_lang::Program;
+use hh_model::{Machine, State, Status};
+use ledger_heaps::{take_of, units_in, words_in};
+use listed::Listed;
+use run_ledger::{Heap, RunEnd};
+use run_trace::Settings;
+use std::alloc::{AllocError, Global};
+use std::marker::Model;
+
+/// The accounts of a run, with the machine that never collects.
+#[derive(Drop)]
+pub(crate) struct Accounts<'p> {
+    pub(crate) alloc: Global,
+    pub(crate) program: &'p Program,
+    pub(crate) limits: Settings,
+    pub(crate) machine: Machine<'p>,
+    pub(crate) heaps: Listed<Heap>,
+    pub(crate) steps: u64,
+    pub(crate) end: Option<RunEnd>,
+}
+
+impl<'p> Model for Accounts<'p> {
+    ghost use Rattle.run_journal.specs.Book.{Standing};
+    ghost use Rattle.std.specs.Prelude.{◌≡◌, ◌≤◌};
+
+    ghost Value = { Standing };
+
+    ghost view = { λ a. record {
+      program = a.program.now;
+      limits = a.limits;
+      ledger = record { machine = a.machine.state; heaps = a.heaps; steps = a.steps; end = a.end };
+    } };
+
+    ghost invariant = { λ a. (a.machine.steps ≤ a.steps) × (a.machine.program ≡ a.program.now) };
+}
+
+/// A heap that holds nothing.
+pub(crate) fn fresh_heap(alloc: Global) -> Heap
+    ensures { result ≡ fresh }
+{
+    Heap {
+        chunks: Listed::new(alloc),
+        large: Listed::new(alloc),
+        reserved: 0,
+        room: 0,
+        since: 0,
+        worker: None,
+        begun: None,
+        survivors: Listed::new(alloc),
+        snapshot: Listed::new(alloc),
+        marked: None,
+        swept: false,
+    }
+}
+
+/// How many units hold so many words.
+pub(crate) fn units_of(words: usize) -> usize
+    ensures value { result ≡ units words }
+    ensures fits { result < 2 ^ 55 }
+{
+    let whole = words / 1024;
+    if words % 1024 == 0 { whole } else { whole + 1 }
+}
+
+/// How many objects of the heap's snapshot are left to mark.
+pub(crate) fn left_in(heap: &Heap) -> usize
+    ensures { result ≡ left_in heap.now }
+{
+    heap.snapshot
+        .len()
+        .saturating_sub(heap.marked.unwrap_or(0) as usize)
+}
+
+impl<'p> Accounts<'p> {
+    /// The accounts of a run before its first entry.
+    pub(crate) fn open(
+        alloc: Global,
+        program: &'p Program,
+        limits: Settings,
+    ) -> Result<Accounts<'p>, AllocError>
+        ensures { IfOk result (λ a. a ≡ record { program = program.entry.now; limits = limits; ledger = opening program.entry.now limits }) }
+    {
+        let machine = Machine::start(alloc, program, limits.version().field_limit())?;
+        let mut heaps = Listed::new(alloc);
+        heaps.push(fresh_heap(alloc))?;
+        Ok(Accounts {
+            alloc,
+            program,
+            limits,
+            machine,
+            heaps,
+            steps: 0,
+            end: None,
+        })
+    }
+
+    /// The limits are in their ranges.
+    pub(crate) fn bounds(&self)
+        ensures { AreLimits self.now.limits }
+    {
+        let _ = self.limits.workers();
+    }
+
+    /// The account of a task's heap.
+    pub(crate) fn heap(&self, task: u32) -> Option<&Heap>
+        ensures { option_copied result ≡ heap_at self.now.ledger task }
+    {
+        self.heaps.get(task as usize)
+    }
+
+    /// The words allocated since the heap's last leaf collection.
+    pub(crate) fn since(&self, task: u32) -> u64
+        ensures { result ≡ (heap_of self.now.ledger task).since }
+    {
+        match self.heap(task) {
+            Some(heap) => heap.since,
+            None => 0,
+        }
+    }
+
+    /// The words left in the heap's last chunk.
+    pub(crate) fn room(&self, task: u32) -> u32
+        ensures { result ≡ (heap_of self.now.ledger task).room }
+    {
+        match self.heap(task) {
+            Some(heap) => heap.room,
+            None => 0,
+        }
+    }
+
+    /// The units of the heap's chunk that waits for a large object.
+    pub(crate) fn reserved(&self, task: u32) -> u32
+        ensures { result ≡ (heap_of self.now.ledger task).reserved }
+    {
+        match self.heap(task) {
+            Some(heap) => heap.reserved,
+            None => 0,
+        }
+    }
+
+    /// Whether the task's leaf collection has begun and not ended.
+    pub(crate) fn is_collecting(&self, task: u32) -> bool
+        ensures { result ≡ is_some (heap_of self.now.ledger task).begun }
+    {
+        match self.heap(task) {
+            Some(heap) => heap.begun.is_some(),
+            None => false,
+        }
+    }
+
+    /// Whether the heap was swept since the task's last fork.
+    pub(crate) fn is_swept(&self, task: u32) -> bool
+        ensures { result ≡ (heap_of self.now.ledger task).swept }
+    {
+        match self.heap(task) {
+            Some(heap) => heap.swept,
+            None => false,
+        }
+    }
+
+    /// Whether the heap is being marked.
+    pub(crate) fn is_marked(&self, task: u32) -> bool
+        ensures { result ≡ is_some (heap_of self.now.ledger task).marked }
+    {
+        match self.heap(task) {
+            Some(heap) => heap.marked.is_some(),
+            None => false,
+        }
+    }
+
+    /// How many of the heap's objects are marked.
+    pub(crate) fn marked(&self, task: u32) -> u32
+        ensures { result ≡ marked_in (heap_of self.now.ledger task) }
+    {
+        match self.heap(task) {
+            Some(heap) => heap.marked.unwrap_or(0),
+            None => 0,
+        }
+    }
+
+    /// How many objects of the heap's snapshot are left to mark.
+    pub(crate) fn left(&self, task: u32) -> usize
+        ensures { result ≡ left_in (heap_of self.now.ledger task) }
+    {
+        match self.heap(task) {
+            Some(heap) => left_in(heap),
+            None => 0,
+        }
+    }
+
+    /// The words of all that the heap holds.
+    pub(crate) fn words(&self, task: u32) -> u64
+        requires { Steady self.now.ledger }
+        ensures { result ≡ words_in self.now.ledger.machine (heap_of self.now.ledger task) }
+    {
+        match self.heap(task) {
+            Some(heap) => words_in(self.machine.state(), heap),
+            None => 0,
+        }
+    }
+
+    /// How many chunks a leaf collection of the heap takes.
+    pub(crate) fn take(&self, task: u32) -> u64
+        requires { Steady self.now.ledger }
+        ensures { result ≡ take_of self.now.ledger.machine (heap_of self.now.ledger task) }
+    {
+        match self.heap(task) {
+            Some(heap) => take_of(self.machine.state(), heap),
+            None => 1,
+        }
+    }
+
+    /// The chunks in use, in units.
+    pub(crate) fn in_use(&self) -> u64
+        requires { Steady self.now.ledger }
+        ensures { result ≡ in_use self.now.ledger }
+    {
+        let mut units = 0;
+        for heap in self.heaps.as_slice() {
+            units += units_in(self.machine.state(), heap);
+        }
+        units
+    }
+
+    /// The task that the worker holds.
+    pub(crate) fn holding(&self, worker: u32) -> Option<u32>
+        requires { Steady self.now.ledger }
+        ensures { result ≡ held_from worker 0 self.now.ledger.heaps }
+    {
+        for (task, heap) in self.heaps.as_slice().iter().enumerate() {
+            if heap.worker == Some(worker) {
+                return Some(task as u32);
+            }
+        }
+        None
+    }
+
+    /// The words that the next step of a task allocates, where it allocates.
+    pub(crate) fn asked(&self, task: u32) -> Option<usize>
+        ensures { result ≡ asked self.now.program self.now.ledger.machine task }
+    {
+        self.machine.state().asked(self.program, task)
+    }
+
+    /// Whether the next step of a task allocates, and a leaf collection is due.
+    pub(crate) fn is_due(&self, task: u32) -> bool
+        ensures { result ≡ is_due self.now.limits self.now.program self.now.ledger task }
+    {
+        match self.asked(task) {
+            Some(_) => self.limits.leaf() as u64 <= self.since(task),
+            None => false,
+        }
+    }
+
+    /// Whether the next step of a task allocates, and its object has no place yet.
+    pub(crate) fn is_in_need(&self, task: u32) -> bool
+        ensures { result ≡ is_in_need self.now.program self.now.ledger task }
+    {
+        match self.asked(task) {
+            Some(words) if words <= 1024 => (self.room(task) as usize) < words,
+            Some(words) => self.reserved(task) as usize != units_of(words),
+            None => false,
+        }
+    }
+
+    /// Whether the task waits for its children.
+    pub(crate) fn is_waiting(&self, task: u32) -> bool
+        ensures { result ≡ is_waiting (slice_get self.now.ledger.machine.tasks task) }
+    {
+        match self.machine.state().tasks.get(task as usize) {
+            Some(task) => match task.status {
+                Status::Waiting => true,
+                _ => false,
+            },
+            None => false,
+        }
+    }
+
+    /// Whether the task runs.
+    pub(crate) fn is_running(&self, task: u32) -> bool
+        ensures { result ≡ is_running (slice_get self.now.ledger.machine.tasks task) }
+    {
+        match self.machine.state().tasks.get(task as usize) {
+            Some(task) => match task.status {
+                Status::Running => true,
+                _ => false,
+            },
+            None => false,
+        }
+    }
+
+    /// The worker that holds the task.
+    pub(crate) fn worker(&self, task: u32) -> Option<u32>
+        ensures { result ≡ (heap_of self.now.ledger task).worker }
+    {
+        self.heap(task)?.worker
+    }
+
+    /// Whether the task runs and the worker holds it.
+    pub(crate) fn is_out(&self, worker: u32, task: u32) -> bool
+        ensures { result ≡ is_out self.now.ledger worker task }
+    {
+        self.is_running(task) && self.worker(task) == Some(worker)
+    }
+
+    /// Whether the task runs and nobody holds it.
+    pub(crate) fn is_ready(&self, task: u32) -> bool
+        ensures { result ≡ is_ready self.now.ledger task }
+    {
+        self.is_running(task) && self.worker(task).is_none()
+    }
+}

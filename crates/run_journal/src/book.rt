@@ -1,0 +1,136 @@
+// The accounts of a journal, entered one entry after the other.
+
+ghost use Rattle.std.specs.Prelude.{◌≡◌, Option, Some, None, true, false, IfOk, OnOk, OnErr, IfErr};
+ghost use Rattle.run_ledger.specs.Heaps.{in_use};
+ghost use Rattle.run_ledger.specs.Entries.{refusal, after};
+ghost use Rattle.run_ledger.specs.Journals.{opening};
+ghost use Rattle.run_ledger.specs.Pace.{noted};
+ghost use Rattle.run_ledger.specs.Pace.{owed as owed_by};
+ghost use Rattle.run_journal.specs.Book.{FailsFor};
+ghost use Rattle.run_journal.specs.Opened.{Opened, IsOpened, IsLegalLedger, cause_in};
+
+use crate::accounts::Accounts;
+use crate::enter::ApplyError;
+use hh_lang::Program;
+use run_ledger::{Owed, Refused, RunEnd, WorkerPace};
+use run_trace::{Entry, Kind, Settings};
+use std::alloc::{AllocError, Global};
+use std::marker::Model;
+
+/// The accounts of a journal, which is entered one entry after the other. A refused entry stops it, and so does want of
+/// memory: from then on each further entry is refused as stopped.
+#[derive(Drop)]
+pub struct Book<'p> {
+    accounts: Accounts<'p>,
+    stopped: bool,
+}
+
+impl<'p> Model for Book<'p> {
+    ghost use Rattle.run_journal.specs.Opened.{Opened, IsOpened};
+
+    ghost Value = { Opened };
+
+    ghost view = { λ b. record { program = b.accounts.program; limits = b.accounts.limits; ledger = b.accounts.ledger; stopped = b.stopped } };
+
+    ghost invariant = { λ b. IsOpened (record { program = b.accounts.program; limits = b.accounts.limits; ledger = b.accounts.ledger; stopped = b.stopped }) };
+}
+
+impl<'p> Book<'p> {
+    /// The accounts of a run before its first entry.
+    pub fn open(
+        alloc: Global,
+        program: &'p Program,
+        settings: Settings,
+    ) -> Result<Book<'p>, AllocError>
+        ensures { IfOk result (λ b. b ≡ record { program = program.entry.now; limits = settings; ledger = opening program.entry.now settings; stopped = false }) }
+    {
+        Ok(Book {
+            accounts: Accounts::open(alloc, program, settings)?,
+            stopped: false,
+        })
+    }
+
+    /// Enters an entry, unless it is refused.
+    pub fn apply(&mut self, entry: Entry) -> Result<(), ApplyError>
+        ensures open { OnOk result (self.old.stopped ≡ false) }
+        ensures legal { OnOk result (refusal self.old.program self.old.limits self.old.ledger entry ≡ None) }
+        ensures entered { OnOk result (self.new ≡ record self.old { ledger = after self.old.program self.old.limits self.old.ledger entry }) }
+        ensures fails { IfErr result (FailsFor (cause_in self.old entry)) }
+        ensures stops { OnErr result (self.new.stopped ≡ true) }
+    {
+        if self.stopped {
+            return Err(ApplyError::Refused(Refused::Stopped));
+        }
+        let _kind = entry.kind();
+        self.accounts.bounds();
+        match self.accounts.enter(entry) {
+            Ok(()) => Ok(()),
+            Err(error) => {
+                self.stopped = true;
+                Err(error)
+            }
+        }
+    }
+
+    /// How the run ended, if it has.
+    pub fn end(&self) -> Option<RunEnd>
+        ensures { result ≡ self.now.ledger.end }
+    {
+        self.accounts.end
+    }
+
+    /// The steps taken.
+    pub fn steps(&self) -> u64
+        ensures { result ≡ self.now.ledger.steps }
+    {
+        self.accounts.steps
+    }
+
+    /// What the steps have written out, the oldest first.
+    pub fn outputs(&self) -> &[i64]
+        ensures { result.now ≡ self.now.ledger.machine.outputs }
+    {
+        self.accounts.machine.outputs()
+    }
+
+    /// Whether an entry was refused, or found no memory.
+    pub fn is_stopped(&self) -> bool
+        ensures { result ≡ self.now.stopped }
+    {
+        self.stopped
+    }
+
+    /// The chunks in use, in units.
+    pub fn in_use(&self) -> u64
+        requires { self.now.stopped ≡ false }
+        ensures { result ≡ in_use self.now.ledger }
+    {
+        self.accounts.bounds();
+        self.accounts.in_use()
+    }
+
+    /// Unless it is stopped, its accounts are those of a legal journal, so each law on legal journals holds of them.
+    pub fn legal(&self)
+        requires { self.now.stopped ≡ false }
+        ensures { IsLegalLedger self.now.program self.now.limits self.now.ledger }
+    {
+        let _ = &self.accounts;
+    }
+
+    /// What the pace of inner collections demands of a worker's next entry, by what is kept of the worker.
+    pub fn owed(&self, pace: &WorkerPace) -> Owed
+        requires { self.now.stopped ≡ false }
+        ensures { result ≡ owed_by self.now.limits self.now.ledger pace.now }
+    {
+        self.accounts.bounds();
+        self.accounts.owed(pace)
+    }
+
+    /// Keeps of a worker what its entry leaves, which was the last to be entered. Want of memory changes nothing.
+    pub fn note(&self, pace: &mut WorkerPace, kind: Kind) -> Result<(), AllocError>
+        ensures ok { OnOk result (pace.new ≡ noted self.now.ledger pace.old kind) }
+        ensures err { OnErr result (pace.new ≡ pace.old) }
+    {
+        self.accounts.note(pace, kind)
+    }
+}

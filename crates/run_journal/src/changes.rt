@@ -1,0 +1,173 @@
+// What an entry changes, but for the steps of tasks.
+
+ghost use Rattle.std.specs.Prelude.{◌≡◌, Option, Some, None, ◌<◌, ◌^◌, true, OnOk, OnErr, IfOk};
+ghost use Rattle.run_trace.specs.declared.entry.Kind.TheVariants.{Took, Chunk, Begin, End, PutOff, Mark, More, Sweep, Fuel};
+ghost use Rattle.run_ledger.specs.Entries.{after_kind, chunk_units};
+ghost use Rattle.hh_model.specs.Step.{asked};
+ghost use Rattle.run_ledger.specs.Steps.{on_asked};
+ghost use Rattle.run_ledger.specs.Heaps.{is_small, heap_of, with_heap, collected, end_numbers, swept_heap, sweep_number};
+ghost use Rattle.ledger_heaps.specs.Parts.{with_collected, with_swept};
+ghost use Rattle.run_journal.specs.Book.{Steady};
+
+use crate::accounts::{Accounts, fresh_heap, units_of};
+use ledger_heaps::{Collected, Swept, collect, sweep, within};
+use listed::Listed;
+use run_ledger::RunEnd;
+use std::alloc::AllocError;
+
+impl<'p> Accounts<'p> {
+    pub(crate) fn took(&mut self, worker: u32, task: u32)
+        ensures { self.new ≡ record self.old { ledger = after_kind self.old.program self.old.limits self.old.ledger worker (Took task) } }
+    {
+        if (task as usize) < self.heaps.len() {
+            self.heaps.at_mut(task as usize).worker = Some(worker);
+        }
+    }
+
+    pub(crate) fn put_off(&mut self, worker: u32, task: u32)
+        ensures { self.new ≡ record self.old { ledger = after_kind self.old.program self.old.limits self.old.ledger worker (PutOff task) } }
+    {
+        if (task as usize) < self.heaps.len() {
+            self.heaps.at_mut(task as usize).since = 0;
+        }
+    }
+
+    pub(crate) fn mark(&mut self, worker: u32, task: u32)
+        ensures { self.new ≡ record self.old { ledger = after_kind self.old.program self.old.limits self.old.ledger worker (Mark task) } }
+    {
+        if (task as usize) < self.heaps.len() {
+            self.heaps.at_mut(task as usize).marked = Some(0);
+        }
+    }
+
+    pub(crate) fn fuel(&mut self, worker: u32)
+        ensures { self.new ≡ record self.old { ledger = after_kind self.old.program self.old.limits self.old.ledger worker Fuel } }
+    {
+        self.end = Some(RunEnd::Fuel(self.steps));
+    }
+
+    // How many units the chunk has that the task's next step needs.
+    fn chunk_units(&self, task: u32) -> usize
+        ensures value { result ≡ chunk_units (asked self.now.program self.now.ledger.machine task) }
+        ensures fits { result < 2 ^ 55 }
+    {
+        match self.asked(task) {
+            Some(words) if 1024 < words => units_of(words),
+            _ => 1,
+        }
+    }
+
+    // Whether the task's next step allocates an object that has its place in a chunk with others.
+    fn needs_small(&self, task: u32) -> bool
+        ensures { result ≡ on_asked (asked self.now.program self.now.ledger.machine task) is_small }
+    {
+        match self.asked(task) {
+            Some(words) => words <= 1024,
+            None => false,
+        }
+    }
+
+    #[tactic(auto, using(ledger_heaps::proofs::Lists::set_again))]
+    /// A chunk is asked for: the run ends where too few are free.
+    pub(crate) fn chunk(&mut self, worker: u32, task: u32) -> Result<(), AllocError>
+        requires { Steady self.old.ledger }
+        ensures ok { OnOk result (self.new ≡ record self.old { ledger = after_kind self.old.program self.old.limits self.old.ledger worker (Chunk task) }) }
+        ensures err { OnErr result (self.new ≡ self.old) }
+    {
+        let units = self.chunk_units(task);
+        let in_use = self.in_use();
+        let small = self.needs_small(task);
+        if in_use + units as u64 > self.limits.chunks() as u64 {
+            self.end = Some(RunEnd::Pool(in_use as u32));
+            return Ok(());
+        }
+        if (task as usize) < self.heaps.len() {
+            let heap = self.heaps.at_mut(task as usize);
+            if small {
+                heap.chunks.push(Listed::new(self.alloc))?;
+                heap.room = 1024;
+            } else {
+                heap.reserved = units as u32;
+            }
+        }
+        Ok(())
+    }
+
+    /// The task's leaf collection begins. A number past 32 bits, to which no legal journal comes, is told as want of memory.
+    pub(crate) fn begin(&mut self, worker: u32, task: u32) -> Result<(), AllocError>
+        requires { Steady self.old.ledger }
+        ensures ok { OnOk result (self.new ≡ record self.old { ledger = after_kind self.old.program self.old.limits self.old.ledger worker (Begin task) }) }
+        ensures err { OnErr result (self.new ≡ self.old) }
+    {
+        let survivors = within(self.alloc, self.machine.state(), &self.heaps, task)?;
+        let Ok(chunks) = u32::try_from(self.take(task)) else {
+            return Err(AllocError);
+        };
+        if (task as usize) < self.heaps.len() {
+            let heap = self.heaps.at_mut(task as usize);
+            heap.begun = Some(chunks);
+            heap.survivors = survivors;
+        }
+        Ok(())
+    }
+
+    /// So many objects of the heap more are marked, at most. A number past 32 bits, to which no legal journal comes, is told
+    /// as want of memory.
+    pub(crate) fn more(&mut self, worker: u32, task: u32, count: u32) -> Result<(), AllocError>
+        ensures ok { OnOk result (self.new ≡ record self.old { ledger = after_kind self.old.program self.old.limits self.old.ledger worker (More task count) }) }
+        ensures err { OnErr result (self.new ≡ self.old) }
+    {
+        let more = (count as usize).min(self.left(task));
+        let Ok(marked) = u32::try_from(self.marked(task) as u64 + more as u64) else {
+            return Err(AllocError);
+        };
+        if (task as usize) < self.heaps.len() {
+            self.heaps.at_mut(task as usize).marked = Some(marked);
+        }
+        Ok(())
+    }
+
+    /// What the end of the task's leaf collection leaves.
+    pub(crate) fn collected(&self, task: u32) -> Result<Collected, AllocError>
+        requires { Steady self.now.ledger }
+        ensures heap { IfOk result (λ parts. with_collected (heap_of self.now.ledger task) parts ≡ collected self.now.ledger.machine (heap_of self.now.ledger task)) }
+        ensures numbers { IfOk result (λ parts. (parts.taken, parts.given, parts.left) ≡ end_numbers self.now.ledger.machine (heap_of self.now.ledger task)) }
+    {
+        match self.heap(task) {
+            Some(heap) => collect(self.alloc, self.machine.state(), heap),
+            None => collect(self.alloc, self.machine.state(), &fresh_heap(self.alloc)),
+        }
+    }
+
+    /// The task's leaf collection ends, which leaves this.
+    pub(crate) fn put_collected(&mut self, task: u32, parts: Collected)
+        requires { with_collected (heap_of self.old.ledger task) parts ≡ collected self.old.ledger.machine (heap_of self.old.ledger task) }
+        ensures { self.new ≡ record self.old { ledger = with_heap self.old.ledger task (collected self.old.ledger.machine) } }
+    {
+        if (task as usize) < self.heaps.len() {
+            parts.put_into(self.heaps.at_mut(task as usize));
+        }
+    }
+
+    /// What the sweep of the heap leaves.
+    pub(crate) fn swept(&self, task: u32) -> Result<Swept, AllocError>
+        requires { Steady self.now.ledger }
+        ensures heap { IfOk result (λ parts. with_swept (heap_of self.now.ledger task) parts ≡ swept_heap (heap_of self.now.ledger task)) }
+        ensures number { IfOk result (λ parts. parts.given ≡ sweep_number self.now.ledger.machine (heap_of self.now.ledger task)) }
+    {
+        match self.heap(task) {
+            Some(heap) => sweep(self.alloc, self.machine.state(), heap),
+            None => sweep(self.alloc, self.machine.state(), &fresh_heap(self.alloc)),
+        }
+    }
+
+    /// The heap is swept, which leaves this.
+    pub(crate) fn put_swept(&mut self, task: u32, parts: Swept)
+        requires { with_swept (heap_of self.old.ledger task) parts ≡ swept_heap (heap_of self.old.ledger task) }
+        ensures { self.new ≡ record self.old { ledger = with_heap self.old.ledger task swept_heap } }
+    {
+        if (task as usize) < self.heaps.len() {
+            parts.put_into(self.heaps.at_mut(task as usize));
+        }
+    }
+}

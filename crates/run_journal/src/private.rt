@@ -1,0 +1,63 @@
+// Which steps are private.
+
+ghost use Rattle.std.specs.Prelude.{◌≡◌, ◌&&◌, not, Option, Some, None, slice_get};
+ghost use Rattle.run_ledger.specs.Steps.{touched, is_open, owns};
+ghost use Rattle.run_journal.specs.Book.{is_own, is_own_line, is_own_by};
+
+use crate::accounts::Accounts;
+use hh_lang::{Instr, Program};
+use hh_model::{Frame, Name, State, Task};
+
+// The object that an instruction reads or writes.
+fn touched(frame: &Frame, instr: Instr) -> Option<Name>
+    ensures { result ≡ touched frame.now instr }
+{
+    match instr {
+        Instr::Getr(_, object, _)
+        | Instr::Geti(_, object, _)
+        | Instr::Putr(object, _, _)
+        | Instr::Puti(object, _, _)
+        | Instr::Cntr(_, object)
+        | Instr::Cnti(_, object)
+        | Instr::Freeze(object)
+        | Instr::Cas(_, object, _, _, _) => frame.reference(object),
+        _ => None,
+    }
+}
+
+// An output, a fork and the return that ends the task.
+fn is_open(task: &Task, instr: Instr) -> bool
+    ensures { result ≡ is_open task.now instr }
+{
+    match instr {
+        Instr::Out(_) | Instr::Par(_, _) => true,
+        Instr::Ret => task.below.is_empty(),
+        _ => false,
+    }
+}
+
+// Whether the task owns the object, or there is none.
+fn owns(machine: &State, task: u32, name: Option<Name>) -> bool
+    ensures { result ≡ owns machine.now.tasks task name }
+{
+    match name {
+        None => true,
+        Some(name) => machine.owner(name.task) == task,
+    }
+}
+
+/// Whether the task's next step is no output, no fork and no end of the task, and reads or writes no object that another
+/// task owns.
+pub(crate) fn is_own(program: &Program, machine: &State, t: u32) -> bool
+    ensures { result ≡ is_own program.now machine.now t }
+{
+    let Some(task) = machine.tasks.get(t as usize) else {
+        return false;
+    };
+    match program.line(task.top.function, task.top.next) {
+        None => false,
+        Some(line) => {
+            !is_open(task, line.instr) && owns(machine, t, touched(&task.top, line.instr))
+        }
+    }
+}

@@ -1,0 +1,81 @@
+// The steps of one entry.
+
+ghost use Rattle.std.specs.Prelude.{◌≡◌, ◌≤◌, ◌+◌, ◌||◌, ◌&&◌, not, is_some, if◌then◌else◌, Option, Some, None, true, false, OnOk, IfOk};
+ghost use Rattle.run_ledger.specs.Steps.{task_step, task_steps, is_due, is_in_need, is_private, standing};
+ghost use Rattle.run_journal.specs.Book.{Steady, StaysSteady, stood, after_stood, is_own};
+ghost use Rattle.run_journal.specs.declared.ran.Stood.TheVariants.{More, Last};
+
+use crate::accounts::Accounts;
+use crate::private::is_own;
+use std::alloc::AllocError;
+
+/// Whether the next step of a task can stand in an entry, and whether a further one can behind it.
+#[derive(Clone, Copy)]
+pub(crate) enum Stood {
+    /// It can't: it is due or in need.
+    Not,
+    /// It stands, and none behind it.
+    Last,
+    /// It stands, and a further one can.
+    More,
+}
+
+// How a step stood that was taken: by whether it was the task's own matter, and whether the machine ended with it.
+fn stood_by(own: bool, ended: bool) -> Stood
+    ensures { result ≡ (if own && not ended then More else Last) }
+{
+    if own && !ended {
+        Stood::More
+    } else {
+        Stood::Last
+    }
+}
+
+impl<'p> Accounts<'p> {
+    // Whether the machine has ended.
+    fn has_ended(&self) -> bool
+        ensures { result ≡ is_some self.now.ledger.machine.end }
+    {
+        self.machine.end().is_some()
+    }
+
+    // Whether the next step of the task is its own matter.
+    fn is_own(&self, t: u32) -> bool
+        ensures { result ≡ is_own self.now.program self.now.ledger.machine t }
+    {
+        is_own(self.program, self.machine.state(), t)
+    }
+
+    // One step of the entry, if it can stand in it.
+    fn stand(&mut self, t: u32) -> Result<Stood, AllocError>
+        requires before { Steady self.old.ledger }
+        requires after { (is_due self.old.limits self.old.program self.old.ledger t || is_in_need self.old.program self.old.ledger t) ≡ false → Steady (task_step self.old.program self.old.ledger t) }
+        ensures stood { IfOk result (λ how. how ≡ stood self.old.limits self.old.program self.old.ledger t) }
+        ensures after { IfOk result (λ how. self.new ≡ record self.old { ledger = after_stood self.old.program self.old.ledger t how }) }
+    {
+        if self.is_due(t) || self.is_in_need(t) {
+            return Ok(Stood::Not);
+        }
+        let own = self.is_own(t);
+        self.step(t)?;
+        let ended = self.has_ended();
+        Ok(stood_by(own, ended))
+    }
+
+    /// Takes the first of so many steps of a task, as many as can stand in one entry, and says how many those are.
+    pub(crate) fn ran(&mut self, t: u32, steps: u32) -> Result<u32, AllocError>
+        requires { StaysSteady self.old.limits self.old.program self.old.ledger t steps }
+        ensures standing { IfOk result (λ count. count ≡ standing self.old.limits self.old.program self.old.ledger t steps) }
+        ensures most { IfOk result (λ count. count ≤ steps) }
+        ensures after { IfOk result (λ count. self.new ≡ record self.old { ledger = task_steps self.old.program self.old.ledger t count }) }
+    {
+        for done in 0..steps {
+            match self.stand(t)? {
+                Stood::Not => return Ok(done),
+                Stood::Last => return Ok(done + 1),
+                Stood::More => {}
+            }
+        }
+        Ok(steps)
+    }
+}

@@ -1,0 +1,70 @@
+// A journal replayed on the machine that never collects.
+
+ghost use Rattle.std.specs.Prelude.{◌≡◌, Option, Some, None, false, IfOk, OnOk, IfErr};
+ghost use Rattle.run_ledger.specs.Journals.{ledger_of, end_of, first_refused, refused_as_run};
+ghost use Rattle.run_journal.specs.Replay.{ReplayFails};
+
+use crate::book::Book;
+use crate::enter::ApplyError;
+use hh_lang::Program;
+use run_ledger::{Refused, RefusedAt, RunEnd};
+use run_trace::{Entry, Settings};
+use std::alloc::Global;
+
+/// Why a journal isn't that of a whole run.
+#[derive(Clone, Copy, PartialEq, Eq, Debug)]
+pub enum ReplayError {
+    /// This entry is the first that is refused; or none is, and the journal stops before an end of the run: then the number
+    /// is one past its last entry, and the cause `Short`.
+    RefusedAt(RefusedAt),
+    /// Want of memory.
+    NoMemory,
+}
+
+/// The accounts of a legal journal: how its run ended, if it did, what it has written out, and more.
+pub fn replayed<'p>(
+    alloc: Global,
+    program: &'p Program,
+    settings: Settings,
+    journal: &[Entry],
+) -> Result<Book<'p>, ReplayError>
+    ensures book { IfOk result (λ b. b ≡ record { program = program.entry.now; limits = settings; ledger = ledger_of program.entry.now settings journal.now; stopped = false }) }
+    ensures legal { OnOk result (first_refused program.entry.now settings journal.now ≡ None) }
+    ensures fails { IfErr result (ReplayFails (first_refused program.entry.now settings journal.now)) }
+{
+    let Ok(mut book) = Book::open(alloc, program, settings) else {
+        return Err(ReplayError::NoMemory);
+    };
+    let mut index = 1;
+    for entry in journal {
+        match book.apply(*entry) {
+            Ok(()) => index += 1,
+            Err(ApplyError::Refused(cause)) => {
+                return Err(ReplayError::RefusedAt(RefusedAt { index, cause }));
+            }
+            Err(ApplyError::NoMemory) => return Err(ReplayError::NoMemory),
+        }
+    }
+    Ok(book)
+}
+
+/// How the run of a journal ended, where the journal is legal and has an end.
+pub fn model_replay(
+    alloc: Global,
+    program: &Program,
+    settings: Settings,
+    journal: &[Entry],
+) -> Result<RunEnd, ReplayError>
+    ensures whole { OnOk result (refused_as_run program.now settings journal.now ≡ None) }
+    ensures end { IfOk result (λ e. end_of program.now settings journal.now ≡ Some e) }
+    ensures fails { IfErr result (ReplayFails (refused_as_run program.now settings journal.now)) }
+{
+    let book = replayed(alloc, program, settings, journal)?;
+    match book.end() {
+        Some(end) => Ok(end),
+        None => Err(ReplayError::RefusedAt(RefusedAt {
+            index: journal.len() as u64 + 1,
+            cause: Refused::Short,
+        })),
+    }
+}

@@ -1,0 +1,207 @@
+// The steps of tasks, with what they change of the accounts.
+
+ghost use Rattle.hh_model.specs.Effect.{row_of};
+ghost use Rattle.std.specs.Prelude.{◌≡◌, ℕ, ◌+◌, ◌<◌, ◌^◌, Option, Some, None, true, false, length, slice_get, slice_set, OnOk, IfOk};
+ghost use Rattle.run_ledger.specs.Heaps.{heap_of, or_fresh, fresh, with_heap, let_go, merged, emptied};
+ghost use Rattle.run_ledger.specs.Steps.{allocated_in, allocated_by, is_in_need, task_step, at_fork, at_join, join_heaps, moved_to, settled};
+ghost use Rattle.hh_model.specs.Step.{step, is_waiting};
+ghost use Rattle.run_journal.specs.Book.{Steady, Forks, Joins, AreOwned};
+
+use crate::accounts::{Accounts, fresh_heap};
+use hh_model::{Machine, Name, State, Status};
+use ledger_heaps::{merge, place, within};
+use listed::Listed;
+use run_ledger::{Heap, RunEnd};
+use std::alloc::{AllocError, Global};
+use std::mem;
+
+// How many objects a task has allocated.
+fn objects_of(machine: &Machine, t: u32) -> usize
+    requires { machine.now.steps < 2 ^ 30 }
+    ensures value { result ≡ length (row_of (slice_get machine.now.state.store t)) }
+    ensures fits { result < 2 ^ 32 }
+{
+    machine.reached();
+    match machine.state().store.get(t as usize) {
+        Some(row) => row.len(),
+        None => 0,
+    }
+}
+
+impl<'p> Accounts<'p> {
+    // What the task's next step allocates is held from now on.
+    fn allocate(&mut self, t: u32) -> Result<(), AllocError>
+        requires steady { Steady self.old.ledger }
+        requires placed { is_in_need self.old.program self.old.ledger t ≡ false }
+        ensures { OnOk result (self.new ≡ record self.old { ledger = allocated_in self.old.program self.old.ledger t }) }
+    {
+        let Some(words) = self.asked(t) else {
+            return Ok(());
+        };
+        let name = Name {
+            task: t,
+            count: objects_of(&self.machine, t) as u32,
+        };
+        if (t as usize) < self.heaps.len() {
+            place(self.alloc, self.heaps.at_mut(t as usize), name, words)?;
+        }
+        Ok(())
+    }
+
+    // Nobody holds the task any more.
+    fn let_go(&mut self, t: u32)
+        ensures { self.new ≡ record self.old { ledger = with_heap self.old.ledger t let_go } }
+    {
+        if (t as usize) < self.heaps.len() {
+            self.heaps.at_mut(t as usize).worker = None;
+        }
+    }
+
+    // A fork: what is reached within the parent's heap is set down, and the children begin with nothing.
+    fn fork(&mut self, t: u32) -> Result<(), AllocError>
+        requires { AreOwned self.old.ledger.machine.tasks self.old.ledger.heaps }
+        ensures { OnOk result (self.new ≡ record self.old { ledger = at_fork self.old.ledger t }) }
+    {
+        let names = within(self.alloc, self.machine.state(), &self.heaps, t)?;
+        fork_heaps(self.alloc, &mut self.heaps, t, names)
+    }
+
+    // The parent's heap gets all that its children's hold, of which the task is one.
+    fn join(&mut self, parent: u32, t: u32) -> Result<(), AllocError>
+        requires { (u : ℕ) → (heap_of self.old.ledger u).since < 2 ^ 62 }
+        ensures { OnOk result (self.new ≡ record self.old { ledger = at_join self.old.ledger t (Some parent) }) }
+    {
+        let left = if t % 2 == 1 { t } else { t.saturating_sub(1) };
+        if parent < left && left as usize + 1 < self.heaps.len() {
+            join_three(self.alloc, &mut self.heaps, parent, left)
+        } else {
+            // no run comes here, since children are numbered in pairs after their parent
+            Err(AllocError)
+        }
+    }
+
+    // The task has taken a step, and stands where it stands.
+    fn settle(&mut self, t: u32) -> Result<(), AllocError>
+        requires since { (u : ℕ) → (heap_of self.old.ledger u).since < 2 ^ 62 }
+        requires owned { is_waiting (slice_get self.old.ledger.machine.tasks t) ≡ true → AreOwned self.old.ledger.machine.tasks self.old.ledger.heaps }
+        ensures { OnOk result (self.new ≡ record self.old { ledger = settled self.old.ledger t self.old.ledger.machine.end }) }
+    {
+        if let Some(end) = self.machine.end() {
+            self.end = Some(RunEnd::Machine(end));
+            return Ok(());
+        }
+        let Some(task) = self.machine.state().tasks.get(t as usize) else {
+            return Ok(());
+        };
+        let parent = task.parent;
+        match task.status {
+            Status::Running => Ok(()),
+            Status::Waiting => self.fork(t),
+            Status::Ended(_, _) => {
+                self.let_go(t);
+                Ok(())
+            }
+            Status::Joined => match parent {
+                Some(parent) => self.join(parent, t),
+                None => Ok(()),
+            },
+        }
+    }
+
+    // The machine takes a step that it can take.
+    fn advance(&mut self, t: u32) -> Result<(), AllocError>
+        requires { self.old.ledger.steps < 2 ^ 30 }
+        ensures { OnOk result (self.new ≡ record self.old { ledger = record self.old.ledger { machine = step self.old.program self.old.ledger.machine t; steps = self.old.ledger.steps + 1 } }) }
+    {
+        match self.machine.step(t) {
+            Ok(()) => {
+                self.steps += 1;
+                Ok(())
+            }
+            Err(_) => Err(AllocError),
+        }
+    }
+
+    /// One step of a task, with its accounts.
+    pub(crate) fn step(&mut self, t: u32) -> Result<(), AllocError>
+        requires before { Steady self.old.ledger }
+        requires after { Steady (task_step self.old.program self.old.ledger t) }
+        requires placed { is_in_need self.old.program self.old.ledger t ≡ false }
+        ensures { OnOk result (self.new ≡ record self.old { ledger = task_step self.old.program self.old.ledger t }) }
+    {
+        if !self.machine.state().can_step(t) {
+            self.steps += 1;
+            return Ok(());
+        }
+        self.allocate(t)?;
+        self.advance(t)?;
+        self.settle(t)
+    }
+}
+
+// The heap of a task that forks, of which these names are reached, and those of its children.
+fn fork_heaps(
+    alloc: Global,
+    heaps: &mut Listed<Heap>,
+    t: u32,
+    names: Listed<Name>,
+) -> Result<(), AllocError>
+    ensures { OnOk result (Forks heaps.old heaps.new t names) }
+{
+    heaps.push_pair(fresh_heap(alloc), fresh_heap(alloc))?;
+    if (t as usize) < heaps.len() {
+        let heap = heaps.at_mut(t as usize);
+        heap.worker = None;
+        heap.snapshot = names;
+        heap.marked = None;
+        heap.swept = false;
+    }
+    Ok(())
+}
+
+// Takes a heap out, and leaves one that holds nothing.
+fn take_heap(alloc: Global, heaps: &mut Listed<Heap>, at: usize) -> Heap
+    requires { at < length heaps.old }
+    ensures heap { slice_get heaps.old at ≡ Some result }
+    ensures rest { heaps.new ≡ slice_set heaps.old at fresh }
+{
+    mem::replace(heaps.at_mut(at), fresh_heap(alloc))
+}
+
+// Merges two heaps into one that stands in the list.
+fn merge_into(
+    alloc: Global,
+    heaps: &mut Listed<Heap>,
+    parent: usize,
+    left: &mut Heap,
+    right: &mut Heap,
+) -> Result<(), AllocError>
+    requires there { parent < length heaps.old }
+    requires since { (or_fresh (slice_get heaps.old parent)).since + left.old.since + right.old.since < 2 ^ 64 }
+    ensures parent { OnOk result (heaps.new ≡ slice_set heaps.old parent (merged (or_fresh (slice_get heaps.old parent)) left.old right.old)) }
+    ensures left { OnOk result (left.new ≡ emptied left.old) }
+    ensures right { OnOk result (right.new ≡ emptied right.old) }
+{
+    merge(alloc, heaps.at_mut(parent), left, right)
+}
+
+// The heap of a parent gets all that those of its children hold, the next two from the left one on.
+fn join_three(
+    alloc: Global,
+    heaps: &mut Listed<Heap>,
+    parent: u32,
+    left: u32,
+) -> Result<(), AllocError>
+    requires since { (u : ℕ) → (or_fresh (slice_get heaps.old u)).since < 2 ^ 62 }
+    requires above { parent < left }
+    requires there { left + 1 < length heaps.old }
+    ensures { OnOk result (Joins heaps.old heaps.new parent left) }
+{
+    let at = left as usize;
+    let mut first = take_heap(alloc, heaps, at);
+    let mut second = take_heap(alloc, heaps, at + 1);
+    merge_into(alloc, heaps, parent as usize, &mut first, &mut second)?;
+    heaps.set(at, first);
+    heaps.set(at + 1, second);
+    Ok(())
+}
