@@ -1,9 +1,9 @@
 -- The heaps of a join, written in place.
-use Rattle.std.proofs.Common.{◌≡◌, ℕ, ◌+◌, ◌<◌, ◌^◌, zero, suc, List, [], ◌∷◌, Option, Some, None, length, slice_get, slice_set, refl, ap, ap₂, sym, ◌∙◌, arith}
-use Rattle.listed.proofs.Members.{got_same, got_other}
+use Rattle.std.proofs.Common.{◌≡◌, ℕ, ◌+◌, ◌<◌, ◌^◌, zero, suc, List, [], ◌∷◌, Some, length, slice_get, slice_set, refl, ap, ap₂, sym, ◌∙◌, arith}
+use Rattle.listed.proofs.Members.{got_other}
 use Rattle.run_ledger.specs.declared.data.Heap.{Heap}
 use Rattle.run_ledger.specs.declared.data.Ledger.{Ledger}
-use Rattle.run_ledger.specs.Heaps.{fresh, merged, emptied, heap_of, or_fresh, with_heap, with_heap_at}
+use Rattle.run_ledger.specs.Heaps.{fresh, merged, emptied, or_fresh, with_heap, with_heap_at}
 use Rattle.run_ledger.specs.Steps.{join_heaps}
 use Rattle.run_journal.specs.Book.{Joins}
 

@@ -1,9 +1,8 @@
 -- What is so of every machine that has taken few steps.
-use Rattle.std.proofs.Common.{◌≡◌, ℕ, ◌+◌, ◌<◌, ◌≤◌, ◌^◌, List, Some, length, slice_get, ap, sym, subst, ◌∙◌, arith}
-use Rattle.hh_model.specs.declared.data.State.{State}
+use Rattle.std.proofs.Common.{◌≡◌, ℕ, ◌<◌, ◌^◌, List, Some, length, slice_get, ap, arith}
 use Rattle.hh_model.specs.declared.data.Object.{Object}
 use Rattle.hh_model.specs.Effect.{row_of}
-use Rattle.hh_model.specs.Machine.{Progress, IsReached, IsSound}
+use Rattle.hh_model.specs.Machine.{Progress, IsReached}
 use Rattle.hh_model.proofs.Counts.{reached_sound}
 
 pub few_objects : (g : Progress) (t : ℕ) (row : List Object) → IsReached g → g.steps < 2 ^ 30 → slice_get g.state.store t ≡ Some row → length row < 2 ^ 32

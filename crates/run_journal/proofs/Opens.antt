@@ -1,5 +1,5 @@
 -- Books that go on from legal journals.
-use Rattle.std.proofs.Common.{◌≡◌, ℕ, ◌≤◌, ◌&&◌, Bool, true, false, Option, Some, None, List, [], ◌∷◌, ◌++◌, is_none, is_some, refl, ap, ap₂, sym, subst, ◌∙◌, arith}
+use Rattle.std.proofs.Common.{◌≡◌, ℕ, ◌≤◌, ◌&&◌, true, false, None, [], ◌∷◌, ◌++◌, is_none, is_some, refl, ap, sym, subst, ◌∙◌}
 use Rattle.run_trace.specs.declared.entry.Kind.{Kind}
 use Rattle.run_trace.specs.declared.entry.Kind.TheVariants.{Ran}
 use Rattle.run_trace.specs.Entry.{Event, IsKind}
@@ -8,10 +8,10 @@ use Rattle.hh_lang.specs.Form.{ProgramText}
 use Rattle.run_ledger.specs.declared.data.Ledger.{Ledger}
 use Rattle.run_ledger.specs.Heaps.{heap_of}
 use Rattle.run_ledger.specs.Entries.{refusal, after}
-use Rattle.run_ledger.specs.Journals.{opening, is_legal, is_legal_from, ledger_of}
+use Rattle.run_ledger.specs.Journals.{opening, ledger_of}
 use Rattle.run_ledger.proofs.Cuts.{after_cut, joined_legal}
 use Rattle.run_journal.specs.Book.{Steady, StaysSteady}
-use Rattle.run_journal.specs.Opened.{Opened, IsOpened, IsLegalLedger}
+use Rattle.run_journal.specs.Opened.{IsLegalLedger}
 use Rattle.run_journal.proofs.Steadies.{legal_steady, legal_stays}
 
 module _ (p : ProgramText) (s : Limits) where

@@ -1,31 +1,28 @@
 -- The counts of the accounts of every legal journal fit their types.
-use Rattle.std.proofs.Common.{◌≡◌, ℕ, zero, suc, ◌+◌, ◌-◌, ◌*◌, ◌<◌, ◌≤◌, ◌^◌, ◌&&◌, ◌||◌, Bool, true, false, cond, Option, Some, None, List, [], ◌∷◌, ◌++◌, length, slice_get, slice_set, sum_by, min, nat_le, nat_lt, is_none, is_some, Contains, ◌⊎◌, inl, inr, refl, ap, ap₂, sym, subst, ◌∙◌, arith, length-append, length-set}
+use Rattle.std.proofs.Common.{◌≡◌, ℕ, zero, suc, ◌+◌, ◌*◌, ◌<◌, ◌≤◌, ◌^◌, ◌||◌, Bool, true, false, cond, Option, Some, None, List, [], ◌∷◌, ◌++◌, length, slice_get, slice_set, sum_by, nat_lt, is_none, is_some, inl, inr, refl, ap, ap₂, sym, subst, ◌∙◌, arith, length-append, length-set}
 use Rattle.std.proofs.lemmas.Bool.{false≢true, and_parts}
-use Rattle.std.proofs.lemmas.List.Sums.{sum_by-append, sum_by-cons}
-use Rattle.listed.proofs.Members.{In, got_same, got_other, in_from_contains}
+use Rattle.std.proofs.lemmas.List.Sums.{sum_by-cons}
+use Rattle.listed.proofs.Members.{In, in_from_contains}
 use Rattle.run_trace.specs.declared.entry.Kind.{Kind}
 use Rattle.run_trace.specs.declared.entry.Kind.TheVariants.{Took, Ran, Chunk, Begin, End as EndOf, PutOff, Mark, More, Sweep, Fuel}
 use Rattle.run_trace.specs.Entry.{Event}
-use Rattle.run_trace.specs.Settings.{Limits, AreLimits, field_limit}
+use Rattle.run_trace.specs.Settings.{Limits, AreLimits}
 use Rattle.hh_lang.specs.Form.{ProgramText}
 use Rattle.hh_model.specs.declared.data.Name.{Name}
-use Rattle.hh_model.specs.declared.data.Task.{Task}
 use Rattle.hh_model.specs.declared.data.State.{State}
-use Rattle.hh_model.specs.Step.{step, can_step, asked, owner_of}
-use Rattle.hh_model.specs.Store.{IsStored}
+use Rattle.hh_model.specs.Step.{step, can_step, asked}
 use Rattle.hh_model.proofs.Carried.{next_name}
 use Rattle.run_ledger.specs.declared.data.Heap.{Heap}
 use Rattle.run_ledger.specs.declared.data.Ledger.{Ledger}
 use Rattle.run_ledger.specs.declared.data.RunEnd.TheVariants.{Pool}
-use Rattle.run_ledger.specs.Heaps.{heap_of, heap_at, or_fresh, fresh, held_in, words_at, words_in, units_in, in_use, is_small, units, lacks_room, placed, with_heap, with_heap_at, let_go, forked_heap, merged, emptied, collected, swept_heap}
+use Rattle.run_ledger.specs.Heaps.{heap_of, heap_at, or_fresh, fresh, held_in, words_at, units_in, in_use, is_small, lacks_room, placed, with_heap, with_heap_at, let_go, forked_heap, merged, emptied, collected, swept_heap}
 use Rattle.run_ledger.specs.Steps.{allocated_in, allocated_by, stepped_to, task_step, task_steps, is_due, is_in_need, is_private, standing, on_asked}
-use Rattle.run_ledger.specs.Entries.{refusal, kind_refusal, after_kind, after, chunk_units, with_chunk}
-use Rattle.run_ledger.specs.Journals.{opening, after_all, ledger_of, is_legal, is_legal_from}
+use Rattle.run_ledger.specs.Entries.{refusal, after_kind, after, chunk_units, with_chunk}
+use Rattle.run_ledger.specs.Journals.{opening, ledger_of, is_legal, is_legal_from}
 use Rattle.run_ledger.proofs.Machine.{stepped_machine}
-use Rattle.run_ledger.proofs.Sound.{SoundLedger, Keeps, names_of, collecting}
+use Rattle.run_ledger.proofs.Sound.{SoundLedger, names_of, collecting}
 use Rattle.run_ledger.proofs.Moves.{Moves}
 use Rattle.run_ledger.proofs.Steps.{SoundAt, heap_of_task, can_tells, task_step_sound}
-use Rattle.run_ledger.proofs.Grown.{Grown}
 use Rattle.run_ledger.proofs.Weights.{weight, weight_additive, total, total_set, Additive, moves_total, collected_weight, swept_weight}
 use Rattle.run_ledger.proofs.Stocks.{StockedLedger, G, L, with_heap_any, chunk_lighter, allocated_total, task_step_stocked, legal_stocked}
 use Rattle.run_ledger.proofs.Booked.{BookedLedger, task_steps_booked}
@@ -33,7 +30,7 @@ use Rattle.run_ledger.proofs.Space.{legal_booked}
 use Rattle.run_ledger.proofs.Journals.{legal_sound, entry_tells, out_tells}
 use Rattle.run_ledger.proofs.Cuts.{after_cut, cut_legal}
 use Rattle.run_ledger.proofs.Bounds.{asked_bounds, stands_by, ran_tells, task_steps_steps, steps_are_bounded}
-use Rattle.run_journal.specs.Book.{Standing, Steady, StaysSteady, AreOwned}
+use Rattle.run_journal.specs.Book.{Steady, StaysSteady}
 use Rattle.run_journal.proofs.Stepped.{small_enough, placed_is}
 
 sum_same : {A : Type 0} (f g : A → ℕ) (xs : List A) → ((x : A) → In xs x → f x ≡ g x) → sum_by f xs ≡ sum_by g xs

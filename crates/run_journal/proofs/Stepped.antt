@@ -1,6 +1,6 @@
 -- One step of a task, put together from its parts.
-use Rattle.std.proofs.Common.{◌≡◌, ℕ, ◌+◌, ◌-◌, ◌*◌, ◌/◌, ◌<◌, ◌≤◌, ◌^◌, ◌==◌, not, Bool, true, false, cond, zero, suc, List, [], ◌∷◌, ◌++◌, Option, Some, None, length, slice_get, slice_set, Contains, inl, inr, refl, ap, ap₂, sym, subst, ◌∙◌, arith, nat_lt, nat_le}
-use Rattle.std.proofs.lemmas.Bool.{false≢true, cases_eq, eqb-true, leb-true, ltb-false, cond-true, cond-false}
+use Rattle.std.proofs.Common.{◌≡◌, ℕ, ◌+◌, ◌-◌, ◌<◌, ◌≤◌, ◌^◌, ◌==◌, not, Bool, true, false, cond, List, [], ◌∷◌, ◌++◌, Option, Some, None, slice_get, slice_set, inl, inr, refl, ap, ap₂, sym, subst, ◌∙◌, arith, nat_lt}
+use Rattle.std.proofs.lemmas.Bool.{false≢true, cases_eq, eqb-true, leb-true, cond-true, cond-false}
 use Rattle.std.proofs.lemmas.Option.{same_Some}
 use Rattle.listed.proofs.Members.{In, got_same, got_other, got_front, got_within, contains_from_in, in_from_contains}
 use Rattle.hh_lang.specs.Form.{ProgramText}
@@ -10,12 +10,11 @@ use Rattle.hh_model.specs.declared.data.State.{State}
 use Rattle.hh_model.specs.declared.data.End.{End}
 use Rattle.hh_model.specs.declared.data.Status.{Status}
 use Rattle.hh_model.specs.declared.data.Status.TheVariants.{Running, Waiting, Ended, Joined}
-use Rattle.hh_model.specs.Effect.{row_of}
-use Rattle.hh_model.specs.Step.{step, can_step, asked, is_waiting, owner_of}
+use Rattle.hh_model.specs.Step.{step, can_step, asked, is_waiting}
 use Rattle.run_ledger.specs.declared.data.Heap.{Heap}
 use Rattle.run_ledger.specs.declared.data.Ledger.{Ledger}
 use Rattle.run_ledger.specs.Heaps.{heap_of, or_fresh, heap_at, fresh, with_heap, with_heap_at, held_in, placed, is_small, lacks_room, units, units_in, within, forked_heap}
-use Rattle.run_ledger.specs.Steps.{allocated_in, allocated_by, task_step, stepped_to, settled, moved_to, moved_on, at_fork, is_in_need, on_asked}
+use Rattle.run_ledger.specs.Steps.{allocated_in, allocated_by, task_step, settled, moved_to, moved_on, at_fork, is_in_need, on_asked}
 use Rattle.run_journal.specs.Book.{Standing, Steady, AreOwned, Forks}
 
 with_machine : (l : Ledger) (t : ℕ) (f : Heap → Heap) (o : Option Heap) → (with_heap_at l t f o).machine ≡ l.machine

@@ -6,8 +6,6 @@ use Rattle.hh_lang.specs.Form.{ProgramText}
 use Rattle.run_ledger.specs.declared.data.Ledger.{Ledger}
 use Rattle.run_ledger.specs.declared.data.Refused.{Refused}
 use Rattle.run_ledger.specs.declared.data.Refused.TheVariants.{Stopped}
-use Rattle.run_ledger.specs.declared.data.RunEnd.{RunEnd}
-use Rattle.run_ledger.specs.declared.data.RefusedAt.{RefusedAt}
 use Rattle.run_ledger.specs.Entries.{refusal}
 use Rattle.run_ledger.specs.Journals.{is_legal, ledger_of}
 

@@ -1,5 +1,5 @@
 use Rattle.std.proofs.Common.{◌≡◌, ◌+◌, drop, false}
-use Rattle.run_ledger.specs.Journals.{opening, after_all, ledger_of, first_refused_from, first_refused}
+use Rattle.run_ledger.specs.Journals.{after_all, ledger_of, first_refused_from, first_refused}
 use Rattle.run_journal.proofs.replay.replayed.Given as goal
 
 abbrev pub invariant-loop-entry : goal.invariant-loop-entry

@@ -1,5 +1,4 @@
-use Rattle.std.proofs.Common.{◌≡◌, ◌<◌, ◌^◌, rules, arith}
-use Rattle.hh_model.proofs.Counts.{reached_sound}
+use Rattle.std.proofs.Common.{rules, arith}
 use Rattle.run_journal.proofs.Machines.{few_objects}
 use Rattle.run_journal.proofs.steps.objects_of.Goals as goal
 

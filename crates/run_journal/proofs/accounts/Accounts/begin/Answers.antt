@@ -1,4 +1,4 @@
-use Rattle.std.proofs.Common.{◌≡◌, sym, subst}
+use Rattle.std.proofs.Common.{sym, subst}
 use Rattle.hh_model.specs.declared.data.State.{State}
 use Rattle.run_journal.specs.Book.{Standing, AreOwned}
 use Rattle.run_journal.proofs.accounts.Accounts.begin.Goals as goal

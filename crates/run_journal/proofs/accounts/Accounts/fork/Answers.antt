@@ -1,10 +1,6 @@
-use Rattle.std.proofs.Common.{◌≡◌, ◌∙◌, ◌++◌, ◌∷◌, [], None, refl, ap, sym, subst, List}
+use Rattle.std.proofs.Common.{sym, subst}
 use Rattle.std.proofs.lemmas.Result.{on_ok_weaker}
-use Rattle.hh_model.specs.declared.data.Name.{Name}
 use Rattle.hh_model.specs.declared.data.State.{State}
-use Rattle.run_ledger.specs.declared.data.Ledger.{Ledger}
-use Rattle.run_ledger.specs.Heaps.{with_heap, forked_heap, fresh, within}
-use Rattle.run_ledger.specs.Steps.{at_fork}
 use Rattle.run_journal.specs.Book.{Standing, AreOwned}
 use Rattle.run_journal.proofs.Stepped.{fork_is}
 use Rattle.run_journal.proofs.accounts.Accounts.fork.Goals as goal

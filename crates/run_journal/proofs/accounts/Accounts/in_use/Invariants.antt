@@ -1,5 +1,5 @@
 use Rattle.std.proofs.Common.{◌≡◌, ◌+◌, drop, sum_by}
-use Rattle.run_ledger.specs.Heaps.{in_use, units_in}
+use Rattle.run_ledger.specs.Heaps.{units_in}
 use Rattle.run_journal.proofs.accounts.Accounts.in_use.Given as goal
 
 abbrev pub invariant-loop-heap : goal.invariant-loop-heap

@@ -1,5 +1,4 @@
-use Rattle.std.proofs.Common.{◌≡◌, ◌-◌, ◌≤◌}
-use Rattle.run_journal.specs.Book.{Standing}
+use Rattle.std.proofs.Common.{◌≡◌}
 use Rattle.run_journal.proofs.Standings.{Ran}
 use Rattle.run_journal.proofs.accounts.Accounts.ran.Given as goal
 

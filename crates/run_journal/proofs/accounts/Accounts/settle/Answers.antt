@@ -1,8 +1,7 @@
-use Rattle.std.proofs.Common.{◌≡◌, ◌∙◌, refl, ap, sym, subst, true, None, slice_get, rules}
+use Rattle.std.proofs.Common.{◌≡◌, ◌∙◌, ap, true, None, slice_get, rules}
 use Rattle.std.proofs.lemmas.Result.{on_ok_weaker}
 use Rattle.hh_model.specs.Step.{is_waiting}
 use Rattle.run_ledger.specs.declared.data.Ledger.{Ledger}
-use Rattle.run_journal.specs.Book.{Standing}
 use Rattle.run_journal.proofs.Stepped.{settled_fork}
 use Rattle.run_journal.proofs.accounts.Accounts.settle.Goals as goal
 

@@ -1,4 +1,4 @@
-use Rattle.std.proofs.Common.{◌≡◌, ◌∙◌, ap, sym, false, is_some, rules}
+use Rattle.std.proofs.Common.{◌≡◌, ◌∙◌, ap, false, is_some, rules}
 use Rattle.run_ledger.specs.Steps.{task_step, is_due, is_in_need}
 use Rattle.run_journal.specs.Book.{Standing}
 use Rattle.run_journal.proofs.Standings.{stood_is}

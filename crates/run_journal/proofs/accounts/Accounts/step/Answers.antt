@@ -1,9 +1,6 @@
-use Rattle.std.proofs.Common.{◌≡◌, ◌∙◌, refl, ap, sym, subst, true, rules}
-use Rattle.run_ledger.specs.Steps.{task_step, settled, allocated_in}
+use Rattle.std.proofs.Common.{◌≡◌, refl, true, rules}
 use Rattle.hh_model.specs.Step.{can_step}
-use Rattle.run_ledger.specs.declared.data.Ledger.{Ledger}
-use Rattle.run_journal.specs.Book.{Standing, AreOwned}
-use Rattle.run_journal.proofs.Stepped.{steps_by, since_few, settled_owned, step_is, advanced, stepped_owned}
+use Rattle.run_journal.proofs.Stepped.{steps_by, since_few, stepped_owned}
 use Rattle.std.proofs.lemmas.Result.{on_ok_weaker}
 use Rattle.run_journal.proofs.accounts.Accounts.step.Goals as goal
 

@@ -1,4 +1,4 @@
-use Rattle.std.proofs.Common.{◌≡◌, sym, subst}
+use Rattle.std.proofs.Common.{sym, subst}
 use Rattle.std.proofs.lemmas.Bool.{false≢true}
 use Rattle.run_trace.specs.Entry.{IsKind}
 use Rattle.run_journal.specs.Book.{Standing}

@@ -1,4 +1,4 @@
-use Rattle.std.proofs.Common.{◌≡◌, ◌∙◌, ap}
+use Rattle.std.proofs.Common.{◌∙◌, ap}
 use Rattle.run_journal.specs.Opened.{Opened}
 use Rattle.run_journal.proofs.Opens.{ledger_steady}
 use Rattle.run_journal.proofs.book.Book.owed.Goals as goal
