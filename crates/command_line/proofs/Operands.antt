@@ -1,17 +1,16 @@
 -- Words that don't begin with a hyphen go to positional arguments.
-use Rattle.std.proofs.Common.{◌≡◌, ◌∙◌, ◌&&◌, ◌==◌, ℕ, Bool, cond, codes, true, false, refl, sym, ap, ap₂, subst, List, [], ◌∷◌, Option, Some, None, true≢false}
-use Rattle.std.specs.Prelude.{fold, option_and_then, is_some, not}
+use Rattle.std.proofs.Common.{◌≡◌, ◌∙◌, ◌&&◌, ℕ, Bool, cond, codes, true, false, refl, sym, ap, ap₂, List, [], ◌∷◌, Option, Some, None, true≢false}
+use Rattle.std.specs.Prelude.{option_and_then, is_some}
 use Rattle.std.specs.Option.{option_map_or}
 use Rattle.std.specs.Str.{bytes_eq}
 use Rattle.clap.specs.Lexer.{long_of, long_of_rest, short_of, short_of_rest, strip_byte}
-use Rattle.clap.specs.Walk.{Held, Row, Rule, Step, Text, Walk, after_step, arg_by_index, finished, idle, is_empty, long_or_other, nothing_held, option, plain_word, rows_after, settled, short_or_plain, to_positional, trailing, value, walk, walk_from, walked, word_met}
+use Rattle.clap.specs.Walk.{Held, Row, Rule, Step, Text, Walk, after_step, arg_by_index, finished, idle, is_empty, long_or_other, nothing_held, option, plain_word, rows_after, settled, short_or_plain, to_positional, trailing, value, walk_from, walked, word_met}
 use Rattle.clap.specs.Simple.{Shape}
 use Rattle.clap.specs.Kinds.{Kinds, or_else}
 use Rattle.clap.specs.Faults.{check_fault, defaults_fault, fault_of, flag_word_fault, level_fault, positional_fault, settle_fault, step_fault, stray_fault, turn_fault, use_fault, walk_fault, word_fault}
 use Rattle.clap.specs.ValueTests.{is_unsigned_in}
 use Rattle.clap.specs.declared.error.kind.ErrorKind.TheVariants as kind
 use Rattle.clap.proofs.OnLiterals.{clap_on_literals}
-use Rattle.command_line.specs.App.{app}
 use Rattle.command_line.specs.CommandLine.{asked, command_line}
 use Rattle.command_line.specs.Operands.{IsOperand, OperandsMake, OperandsNameFiles, OptionsSet, Sets}
 use Rattle.command_line.specs.declared.line.CommandLine.{CommandLine}
@@ -170,7 +169,7 @@ module _ (id word : Text) (operand : IsOperand word) where
   value_met : word_met model_rules [] false (option id) 1 word (waiting_held id) ≡ taken_word id word
   value_met =
       let first : word_met model_rules [] false (option id) 1 word (waiting_held id) ≡ long_or_other model_rules (option id) word None (waiting_held id) =
-          ap₂ (λ (b : Bool) (l : Option (Text × Option Text)). cond b (waiting_held id, trailing 1) (long_or_other model_rules (option id) word l (waiting_held id))) (no_dashes word operand) (no_long word operand) in
+      ap₂ (λ (b : Bool) (l : Option (Text × Option Text)). cond b (waiting_held id, trailing 1) (long_or_other model_rules (option id) word l (waiting_held id))) (no_dashes word operand) (no_long word operand) in
       first ∙ ap (λ (o : Option Text). short_or_plain model_rules (option id) word o (waiting_held id)) (no_short word operand)
 
   value_walked : walked model_rules [] (waiting_at id) word ≡ taken_at id word
@@ -180,8 +179,8 @@ module _ (id word : Text) (operand : IsOperand word) where
   value_turn : turn_fault model_shape [] (waiting_at id) word ≡ step_fault model_shape 1 (taken_word id word).0 (taken_word id word).1
   value_turn =
       let none : word_fault model_shape [] false (option id) word (waiting_held id) ≡ [] =
-          ap₂ (λ (b : Bool) (l : Option (Text × Option Text)). cond b [] (flag_word_fault model_rules false l word (waiting_held id))) (no_dashes word operand) (no_long word operand)
-          ∙ ap (λ (o : Option Text). option_map_or (λ flags. Rattle.clap.specs.Faults.bundle_fault model_rules false flags (waiting_held id)) o []) (no_short word operand) in
+      ap₂ (λ (b : Bool) (l : Option (Text × Option Text)). cond b [] (flag_word_fault model_rules false l word (waiting_held id))) (no_dashes word operand) (no_long word operand)
+      ∙ ap (λ (o : Option Text). option_map_or (λ flags. Rattle.clap.specs.Faults.bundle_fault model_rules false flags (waiting_held id)) o []) (no_short word operand) in
       ap₂ (λ (k : Kinds) (m : Held × Step). or_else k (step_fault model_shape 1 m.0 m.1)) none value_met
 
 abbrev value_kinds_then : Bool → Kinds
@@ -203,11 +202,11 @@ sets : (flag id : Text) (least most : ℕ) (limits : ℕ → Limits) (word : Tex
 unfolding walk_fault
 sets flag id least most limits word h line waits none kinds said =
     let level_is : level_fault model_shape [] nothing_held (flag ∷ word ∷ []) false [] ≡ value_kinds_then (is_unsigned_in least most word) =
-        ap₂ (λ (k : Kinds) (w : Walk). level model_shape (or_else k (or_else (turn_fault model_shape [] w word) [])) (walked model_rules [] w word)) none waits
-        ∙ ap₂ (λ (k : Kinds) (w : Walk). level model_shape (or_else [] (or_else k [])) w) (value_turn id word h) (value_walked id word h)
-        ∙ kinds in
+    ap₂ (λ (k : Kinds) (w : Walk). level model_shape (or_else k (or_else (turn_fault model_shape [] w word) [])) (walked model_rules [] w word)) none waits
+    ∙ ap₂ (λ (k : Kinds) (w : Walk). level model_shape (or_else [] (or_else k [])) w) (value_turn id word h) (value_walked id word h)
+    ∙ kinds in
     let rows_are : rows_after model_rules [] (flag ∷ word ∷ []) ≡ finished model_rules (taken_at id word).held =
-        ap (λ (w : Walk). finished model_rules (walked model_rules [] w word).held) waits ∙ ap (λ (w : Walk). finished model_rules w.held) (value_walked id word h) in
+    ap (λ (w : Walk). finished model_rules (walked model_rules [] w word).held) waits ∙ ap (λ (w : Walk). finished model_rules w.held) (value_walked id word h) in
     line ∙ ap₂ (line_by (codes "model")) level_is rows_are
     ∙ ap (λ (x : Option CommandLine). cond (is_empty (or_else (value_kinds_then (is_unsigned_in least most word)) [])) x None) said
     ∙ by_value (is_unsigned_in least most word) _
