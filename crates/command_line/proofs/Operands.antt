@@ -1,20 +1,23 @@
 -- Words that don't begin with a hyphen go to positional arguments.
-use Rattle.std.proofs.Common.{◌≡◌, ◌∙◌, ◌&&◌, ◌==◌, ℕ, Bool, cond, codes, true, false, refl, sym, ap, ap₂, subst, List, [], ◌∷◌, Option, Some, None, true≢false}
-use Rattle.std.specs.Prelude.{fold, option_and_then, is_some, not}
+use Rattle.std.proofs.Common.{◌≡◌, ◌∙◌, ◌&&◌, ℕ, Bool, cond, codes, true, false, refl, sym, ap, ap₂, List, [], ◌∷◌, Option, Some, None, true≢false}
+use Rattle.std.specs.Prelude.{option_and_then, is_some}
 use Rattle.std.specs.Option.{option_map_or}
 use Rattle.std.specs.Str.{bytes_eq}
 use Rattle.clap.specs.Lexer.{long_of, long_of_rest, short_of, short_of_rest, strip_byte}
-use Rattle.clap.specs.Walk.{Held, Row, Rule, Step, Text, Walk, after_step, arg_by_index, finished, idle, is_empty, long_or_other, nothing_held, rows_after, settled, short_or_plain, to_positional, trailing, value, walk, walk_from, walked, word_met}
+use Rattle.clap.specs.Walk.{Held, Row, Rule, Step, Text, Walk, after_step, arg_by_index, finished, idle, is_empty, long_or_other, nothing_held, option, plain_word, rows_after, settled, short_or_plain, to_positional, trailing, value, walk_from, walked, word_met}
 use Rattle.clap.specs.Simple.{Shape}
 use Rattle.clap.specs.Kinds.{Kinds, or_else}
 use Rattle.clap.specs.Faults.{check_fault, defaults_fault, fault_of, flag_word_fault, level_fault, positional_fault, settle_fault, step_fault, stray_fault, turn_fault, use_fault, walk_fault, word_fault}
 use Rattle.clap.specs.ValueTests.{is_unsigned_in}
 use Rattle.clap.specs.declared.error.kind.ErrorKind.TheVariants as kind
 use Rattle.clap.proofs.OnLiterals.{clap_on_literals}
-use Rattle.command_line.specs.App.{app}
 use Rattle.command_line.specs.CommandLine.{asked, command_line}
-use Rattle.command_line.specs.Operands.{IsOperand, OperandsMake, OperandsNameFiles}
-use Rattle.command_line.proofs.Taken.{asked_at, check_shape, make_shape, run_shape}
+use Rattle.command_line.specs.Operands.{IsOperand, OperandsMake, OperandsNameFiles, OptionsSet, Sets}
+use Rattle.command_line.specs.declared.line.CommandLine.{CommandLine}
+use Rattle.command_line.specs.declared.line.CommandLine.TheVariants.{Model}
+use Rattle.run_trace.specs.Settings.{Limits, usual_limits}
+use Rattle.std.specs.Str.Parse.{digits_value, without_leading_plus}
+use Rattle.command_line.proofs.Taken.{check_shape, make_shape, model_shape, run_shape}
 
 no_dashes : (word : Text) → IsOperand word → bytes_eq word (45 ∷ 45 ∷ []) ≡ false
 no_dashes word h = go (bytes_eq word (45 ∷ 45 ∷ [])) refl
@@ -61,7 +64,7 @@ level s walk_kinds w = or_else walk_kinds
     (or_else (defaults_fault (settled s.rules w.held).rows s.rules) (check_fault s (finished s.rules w.held) false)))
 
 -- a command's line, by the faults of its own level and its matches
-abbrev line_by : Text → Kinds → List Row → Option Rattle.command_line.specs.declared.line.CommandLine.CommandLine
+abbrev line_by : Text → Kinds → List Row → Option CommandLine
 line_by name kinds rows = cond (is_empty (or_else kinds [])) (asked name rows) None
 
 module _ (s : Shape) (file : Text) (operand : IsOperand file) where
@@ -142,3 +145,91 @@ numbers_made seed size h1 h2 =
     line_of_make seed size
     ∙ ap₂ (line_by (codes "make")) (make_level seed size h1 h2 ∙ values_level seed size h1 h2) (make_rows seed size h1 h2)
     ∙ by_both (is_unsigned_in 0 4294967295 seed) (is_unsigned_in 1 1000 size) _
+
+-- ---- the options of `model`
+
+abbrev model_rules : List Rule
+model_rules = model_shape.rules
+
+-- the option waits for its value
+abbrev waiting_held : Text → Held
+waiting_held id = record { rows = []; pending = Some (id, []); skip = 0 }
+
+abbrev waiting_at : Text → Walk
+waiting_at id = record { held = waiting_held id; waiting = option id; position = 1; is_trailing = false; stopped = None }
+
+-- and gets it
+abbrev taken_word : Text → Text → Held × Step
+taken_word id word = plain_word model_rules (option id) word (waiting_held id)
+
+abbrev taken_at : Text → Text → Walk
+taken_at id word = after_step model_rules word (waiting_at id) (taken_word id word).0 (taken_word id word).1
+
+module _ (id word : Text) (operand : IsOperand word) where
+  value_met : word_met model_rules [] false (option id) 1 word (waiting_held id) ≡ taken_word id word
+  value_met =
+      let first : word_met model_rules [] false (option id) 1 word (waiting_held id) ≡ long_or_other model_rules (option id) word None (waiting_held id) =
+      ap₂ (λ (b : Bool) (l : Option (Text × Option Text)). cond b (waiting_held id, trailing 1) (long_or_other model_rules (option id) word l (waiting_held id))) (no_dashes word operand) (no_long word operand) in
+      first ∙ ap (λ (o : Option Text). short_or_plain model_rules (option id) word o (waiting_held id)) (no_short word operand)
+
+  value_walked : walked model_rules [] (waiting_at id) word ≡ taken_at id word
+  unfolding walked
+  value_walked = ap (λ (m : Held × Step). after_step model_rules word (waiting_at id) m.0 m.1) value_met
+
+  value_turn : turn_fault model_shape [] (waiting_at id) word ≡ step_fault model_shape 1 (taken_word id word).0 (taken_word id word).1
+  value_turn =
+      let none : word_fault model_shape [] false (option id) word (waiting_held id) ≡ [] =
+      ap₂ (λ (b : Bool) (l : Option (Text × Option Text)). cond b [] (flag_word_fault model_rules false l word (waiting_held id))) (no_dashes word operand) (no_long word operand)
+      ∙ ap (λ (o : Option Text). option_map_or (λ flags. Rattle.clap.specs.Faults.bundle_fault model_rules false flags (waiting_held id)) o []) (no_short word operand) in
+      ap₂ (λ (k : Kinds) (m : Held × Step). or_else k (step_fault model_shape 1 m.0 m.1)) none value_met
+
+abbrev value_kinds_then : Bool → Kinds
+value_kinds_then b = or_else (value_kinds_by b) []
+
+by_value : {X : Type 0} (b : Bool) (x : Option X) → cond (is_empty (or_else (value_kinds_then b) [])) x None ≡ cond b x None
+by_value true x = refl
+by_value false x = refl
+
+sets : (flag id : Text) (least most : ℕ) (limits : ℕ → Limits) (word : Text) → IsOperand word
+    → command_line (codes "model" ∷ flag ∷ word ∷ []) ≡ line_by (codes "model") (level_fault model_shape [] nothing_held (flag ∷ word ∷ []) false []) (rows_after model_rules [] (flag ∷ word ∷ []))
+    → walked model_rules [] (walk_from nothing_held) flag ≡ waiting_at id
+    → turn_fault model_shape [] (walk_from nothing_held) flag ≡ []
+    → level model_shape (or_else [] (or_else (step_fault model_shape 1 (taken_word id word).0 (taken_word id word).1) [])) (taken_at id word) ≡ value_kinds_then (is_unsigned_in least most word)
+    → asked (codes "model") (finished model_rules (taken_at id word).held)
+    ≡ Some (Model None (record { settings = limits (digits_value 10 (without_leading_plus word)); report = false; trace = false }))
+    → command_line (codes "model" ∷ flag ∷ word ∷ [])
+    ≡ cond (is_unsigned_in least most word) (Some (Model None (record { settings = limits (digits_value 10 (without_leading_plus word)); report = false; trace = false }))) None
+unfolding walk_fault
+sets flag id least most limits word h line waits none kinds said =
+    let level_is : level_fault model_shape [] nothing_held (flag ∷ word ∷ []) false [] ≡ value_kinds_then (is_unsigned_in least most word) =
+    ap₂ (λ (k : Kinds) (w : Walk). level model_shape (or_else k (or_else (turn_fault model_shape [] w word) [])) (walked model_rules [] w word)) none waits
+    ∙ ap₂ (λ (k : Kinds) (w : Walk). level model_shape (or_else [] (or_else k [])) w) (value_turn id word h) (value_walked id word h)
+    ∙ kinds in
+    let rows_are : rows_after model_rules [] (flag ∷ word ∷ []) ≡ finished model_rules (taken_at id word).held =
+    ap (λ (w : Walk). finished model_rules (walked model_rules [] w word).held) waits ∙ ap (λ (w : Walk). finished model_rules w.held) (value_walked id word h) in
+    line ∙ ap₂ (line_by (codes "model")) level_is rows_are
+    ∙ ap (λ (x : Option CommandLine). cond (is_empty (or_else (value_kinds_then (is_unsigned_in least most word)) [])) x None) said
+    ∙ by_value (is_unsigned_in least most word) _
+
+workers_set : Sets (codes "--workers") 1 64 (λ n. record usual_limits { workers = n })
+unfolding clap_on_literals
+workers_set word h = sets (codes "--workers") (codes "workers") 1 64 (λ n. record usual_limits { workers = n }) word h refl refl refl refl refl
+
+fuel_set : Sets (codes "--fuel") 1 1000000000 (λ n. record usual_limits { fuel = n })
+unfolding clap_on_literals
+fuel_set word h = sets (codes "--fuel") (codes "fuel") 1 1000000000 (λ n. record usual_limits { fuel = n }) word h refl refl refl refl refl
+
+chunks_set : Sets (codes "--chunks") 2 65536 (λ n. record usual_limits { chunks = n })
+unfolding clap_on_literals
+chunks_set word h = sets (codes "--chunks") (codes "chunks") 2 65536 (λ n. record usual_limits { chunks = n }) word h refl refl refl refl refl
+
+leaf_set : Sets (codes "--leaf") 16 1000000 (λ n. record usual_limits { leaf = n })
+unfolding clap_on_literals
+leaf_set word h = sets (codes "--leaf") (codes "leaf") 16 1000000 (λ n. record usual_limits { leaf = n }) word h refl refl refl refl refl
+
+inner_set : Sets (codes "--inner") 16 1000000 (λ n. record usual_limits { inner = n })
+unfolding clap_on_literals
+inner_set word h = sets (codes "--inner") (codes "inner") 16 1000000 (λ n. record usual_limits { inner = n }) word h refl refl refl refl refl
+
+pub options_set : OptionsSet
+options_set = (workers_set, fuel_set, chunks_set, leaf_set, inner_set)

@@ -41,7 +41,7 @@ check_shape = nth 0 whole.subs
 abbrev pub run_shape : Shape
 run_shape = nth 1 whole.subs
 
-abbrev model_shape : Shape
+abbrev pub model_shape : Shape
 model_shape = nth 2 whole.subs
 
 abbrev pub make_shape : Shape

@@ -1,7 +1,7 @@
 // What the definition of a command line says.
 
 ghost use Rattle.command_line.specs.Examples.{FilesAreNamed, NumbersAreRead, OptionsAreRead, OthersAreRefused};
-ghost use Rattle.command_line.specs.Operands.{OperandsMake, OperandsNameFiles};
+ghost use Rattle.command_line.specs.Operands.{OperandsMake, OperandsNameFiles, OptionsSet};
 
 /// What some words ask for, and some that are refused.
 pub fn words_are_read()
@@ -15,4 +15,5 @@ pub fn words_are_read()
 pub fn operands_are_read()
     ensures files { OperandsNameFiles }
     ensures numbers { OperandsMake }
+    ensures options { OptionsSet }
 {}
