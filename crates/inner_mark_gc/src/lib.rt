@@ -6,3 +6,6 @@ mod marking;
 
 pub use laws::{marking_goes_on, marking_stays_of, snapshot_is_of_roots};
 pub use marking::Marking;
+
+#[cfg(test)]
+mod tests;

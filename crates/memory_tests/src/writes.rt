@@ -1,6 +1,6 @@
 // Writes of references into an object of a root that has two children.
 
-ghost use Rattle.std.specs.Prelude.{◌≡◌, ◌<◌, ◌∷◌, [], IfOk, OnOk, None, Some, length, slice_index_or};
+ghost use Rattle.std.specs.Prelude.{◌≡◌, ℕ, ◌<◌, ◌∷◌, [], IfOk, OnOk, None, Some, length, slice_index_or};
 ghost use Rattle.object_layout.specs.Cell.{IsPlace};
 ghost use Rattle.object_layout.specs.Chunks.{object_of};
 ghost use Rattle.chunk_pool.specs.Chunks.{owner_of};
@@ -44,6 +44,7 @@ fn three_sets(rt: &HostRuntime) -> Result<Vec<SetOf>, Fail> {
 // A chunk of a task.
 fn taken(pool: &mut Pool, owner: u32) -> Result<Chunk, Fail>
     ensures owner { IfOk result (λ chunk. owner_of pool.new chunk.number ≡ Some owner) }
+    ensures others { (n o : ℕ) → owner_of pool.old n ≡ Some o → owner_of pool.new n ≡ Some o }
     ensures chunk { IfOk result (λ chunk. chunk ≡ record { number = chunk.number; size = 1024; cells = [] }) }
 {
     let Ok(chunk) = pool.take(owner, 1) else {
