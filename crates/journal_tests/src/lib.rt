@@ -39,7 +39,12 @@ mod tests {
         let Ok(read) = read_trace_input(alloc, input.as_bytes()) else {
             return Ok(format!(in alloc; "unread")?);
         };
-        match model_replay(alloc, &read.program, settings, read.trace.entries.as_slice()) {
+        match model_replay(
+            alloc,
+            &read.program,
+            settings,
+            read.trace.entries.as_slice(),
+        ) {
             Ok(end) => Ok(end_text(alloc, end)?),
             Err(ReplayError::RefusedAt(refused)) => Ok(refused_text(alloc, refused)?),
             Err(ReplayError::NoMemory) => Ok(format!(in alloc; "memory")?),
@@ -67,11 +72,29 @@ mod tests {
         let marking =
             "0 took 1\n0 ran 1 2\n0 ran 1 2\n0 mark 0\n0 some 0 64\n0 sweep 0 0\n0 ran 1 1\n0 ran 1 1\n0 took 2\n0 ran 2 1\n0 took 0\n0 ran 0 1\n0 ran 0 1\n";
         let cases = [
-            (usual, PRINTS, "0 took 0\n0 ran 0 2\n", "0 ran 0 1\n", "end: done\n"),
+            (
+                usual,
+                PRINTS,
+                "0 took 0\n0 ran 0 2\n",
+                "0 ran 0 1\n",
+                "end: done\n",
+            ),
             (small, COLLECTS, TO_BEGIN, collection, "end: done\n"),
             (small, MARKS, TO_FORK, marking, "end: done\n"),
-            (spent, PRINTS, "0 took 0\n0 ran 0 2\n", "0 fuel\n", "end: fuel 2\n"),
-            (tight, COLLECTS, TO_BEGIN, "0 putoff 1\n", "end: trace refused short\n"),
+            (
+                spent,
+                PRINTS,
+                "0 took 0\n0 ran 0 2\n",
+                "0 fuel\n",
+                "end: fuel 2\n",
+            ),
+            (
+                tight,
+                COLLECTS,
+                TO_BEGIN,
+                "0 putoff 1\n",
+                "end: trace refused short\n",
+            ),
         ];
         for (settings, program, before, rest, line) in cases {
             let text = told(rt.alloc(), settings, program, before, rest)?;
@@ -98,10 +121,22 @@ mod tests {
             (usual, PRINTS, took, "0 chunk 0\n", "entry 2 notneeded 0"),
             (usual, PRINTS, took, "0 begin 0\n", "entry 2 notdue 0"),
             (usual, PRINTS, took, "0 putoff 0\n", "entry 2 notdue 0"),
-            (usual, PRINTS, took, "0 end 0 0 0 0\n", "entry 2 notcollecting"),
+            (
+                usual,
+                PRINTS,
+                took,
+                "0 end 0 0 0 0\n",
+                "entry 2 notcollecting",
+            ),
             (usual, PRINTS, took, "0 mark 0\n", "entry 2 notwaiting"),
             (usual, PRINTS, took, "0 fuel\n", "entry 2 notspent 0"),
-            (usual, MARKS, TO_FORK, "0 took 1\n0 took 2\n", "entry 6 holding 1"),
+            (
+                usual,
+                MARKS,
+                TO_FORK,
+                "0 took 1\n0 took 2\n",
+                "entry 6 holding 1",
+            ),
             (usual, MARKS, TO_FORK, "0 mark 0\n", "entry 5 notdue 19"),
         ];
         for (settings, program, before, rest, cause) in cases {
@@ -122,20 +157,54 @@ mod tests {
         let cases = [
             (small, COLLECTS, "0 chunk 1\n", "", "entry 11 due 16"),
             (tight, COLLECTS, begun, "", "entry 11 poolshort 2"),
-            (enough, COLLECTS, "0 putoff 1\n", "", "entry 11 poolenough 2"),
+            (
+                enough,
+                COLLECTS,
+                "0 putoff 1\n",
+                "",
+                "entry 11 poolenough 2",
+            ),
             (small, COLLECTS, begun, "0 ran 1 1\n", "entry 12 collecting"),
             (small, COLLECTS, begun, "1 ran 1 1\n", "entry 12 notout"),
-            (small, COLLECTS, begun, "0 end 1 1 1 15\n", "entry 12 count 15 16"),
-            (small, COLLECTS, begun, "0 end 1 2 1 15\n", "entry 12 count 2 1"),
+            (
+                small,
+                COLLECTS,
+                begun,
+                "0 end 1 1 1 15\n",
+                "entry 12 count 15 16",
+            ),
+            (
+                small,
+                COLLECTS,
+                begun,
+                "0 end 1 2 1 15\n",
+                "entry 12 count 2 1",
+            ),
             (small, MARKS, "0 mark 0\n", "0 mark 0\n", "entry 6 marking"),
             (small, MARKS, "0 some 0 64\n", "", "entry 5 notmarking"),
-            (small, MARKS, "0 mark 0\n0 some 0 1\n", "0 sweep 0 0\n", "entry 7 left 1"),
+            (
+                small,
+                MARKS,
+                "0 mark 0\n0 some 0 1\n",
+                "0 sweep 0 0\n",
+                "entry 7 left 1",
+            ),
             (small, MARKS, marked, "0 some 0 1\n", "entry 7 marked"),
             (small, MARKS, marked, "0 sweep 0 5\n", "entry 7 count 5 0"),
-            (small, MARKS, marked, "0 sweep 0 0\n0 mark 0\n", "entry 8 swept"),
+            (
+                small,
+                MARKS,
+                marked,
+                "0 sweep 0 0\n0 mark 0\n",
+                "entry 8 swept",
+            ),
         ];
         for (settings, program, first, rest, cause) in cases {
-            let before = if program == COLLECTS { TO_BEGIN } else { TO_FORK };
+            let before = if program == COLLECTS {
+                TO_BEGIN
+            } else {
+                TO_FORK
+            };
             let more = format!(in rt.alloc(); "{first}{rest}")?;
             let text = told(rt.alloc(), settings, program, before, more.as_str())?;
             let line = format!(in rt.alloc(); "end: trace refused {cause}\n")?;
