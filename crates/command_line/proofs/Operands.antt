@@ -1,5 +1,6 @@
 -- Words that don't begin with a hyphen go to positional arguments.
 use Rattle.std.proofs.Common.{◌≡◌, ◌∙◌, ◌&&◌, ℕ, Bool, cond, codes, true, false, refl, sym, ap, ap₂, List, [], ◌∷◌, Option, Some, None, true≢false}
+use Rattle.std.proofs.lemmas.Slice.Eq.{bytes_eq-Decides}
 use Rattle.std.specs.Prelude.{option_and_then, is_some}
 use Rattle.std.specs.Option.{option_map_or}
 use Rattle.std.specs.Str.{bytes_eq}
@@ -7,7 +8,7 @@ use Rattle.clap.specs.Lexer.{long_of, long_of_rest, short_of, short_of_rest, str
 use Rattle.clap.specs.Walk.{Held, Row, Rule, Step, Text, Walk, after_step, arg_by_index, finished, idle, is_empty, long_or_other, nothing_held, option, plain_word, rows_after, settled, short_or_plain, to_positional, trailing, value, walk_from, walked, word_met}
 use Rattle.clap.specs.Simple.{Shape}
 use Rattle.clap.specs.Kinds.{Kinds, or_else}
-use Rattle.clap.specs.Faults.{check_fault, defaults_fault, fault_of, flag_word_fault, level_fault, positional_fault, settle_fault, step_fault, stray_fault, turn_fault, use_fault, walk_fault, word_fault}
+use Rattle.clap.specs.Faults.{check_fault, defaults_fault, flag_word_fault, level_fault, positional_fault, settle_fault, step_fault, stray_fault, turn_fault, walk_fault, word_fault, bundle_fault}
 use Rattle.clap.specs.ValueTests.{is_unsigned_in}
 use Rattle.clap.specs.declared.error.kind.ErrorKind.TheVariants as kind
 use Rattle.clap.proofs.OnLiterals.{clap_on_literals}
@@ -25,7 +26,7 @@ no_dashes word h = go (bytes_eq word (45 ∷ 45 ∷ [])) refl
     go : (b : Bool) → bytes_eq word (45 ∷ 45 ∷ []) ≡ b → b ≡ false
     go false e = refl
     go true e =
-        let is : word ≡ 45 ∷ 45 ∷ [] = (Rattle.std.proofs.lemmas.Slice.Eq.bytes_eq-Decides word (45 ∷ 45 ∷ [])).0 e in
+        let is : word ≡ 45 ∷ 45 ∷ [] = (bytes_eq-Decides word (45 ∷ 45 ∷ [])).0 e in
         absurd (true≢false (ap is_some (ap (strip_byte 45) (sym is) ∙ h)))
 
 no_long : (word : Text) → IsOperand word → long_of word ≡ None
@@ -54,7 +55,7 @@ module _ (s : Shape) (word : Text) (operand : IsOperand word) where
   turn_is h position =
       let none : word_fault s [] false idle word h ≡ [] =
       ap₂ (λ (b : Bool) (l : Option (Text × Option Text)). cond b [] (flag_word_fault s.rules s.args_override_self l word h)) (no_dashes word operand) (no_long word operand)
-      ∙ ap (λ (o : Option Text). option_map_or (λ flags. Rattle.clap.specs.Faults.bundle_fault s.rules s.args_override_self flags h) o []) (no_short word operand) in
+      ∙ ap (λ (o : Option Text). option_map_or (λ flags. bundle_fault s.rules s.args_override_self flags h) o []) (no_short word operand) in
       ap₂ (λ (k : Kinds) (m : Held × Step). or_else k (step_fault s position m.0 m.1)) none (met_is h position)
 
 -- one level, by its walk
@@ -180,7 +181,7 @@ module _ (id word : Text) (operand : IsOperand word) where
   value_turn =
       let none : word_fault model_shape [] false (option id) word (waiting_held id) ≡ [] =
       ap₂ (λ (b : Bool) (l : Option (Text × Option Text)). cond b [] (flag_word_fault model_rules false l word (waiting_held id))) (no_dashes word operand) (no_long word operand)
-      ∙ ap (λ (o : Option Text). option_map_or (λ flags. Rattle.clap.specs.Faults.bundle_fault model_rules false flags (waiting_held id)) o []) (no_short word operand) in
+      ∙ ap (λ (o : Option Text). option_map_or (λ flags. bundle_fault model_rules false flags (waiting_held id)) o []) (no_short word operand) in
       ap₂ (λ (k : Kinds) (m : Held × Step). or_else k (step_fault model_shape 1 m.0 m.1)) none value_met
 
 abbrev value_kinds_then : Bool → Kinds

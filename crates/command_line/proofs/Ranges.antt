@@ -1,7 +1,6 @@
 -- Numbers of matches in their ranges.
 use Rattle.std.proofs.Common.{◌≡◌, ◌≤◌, ℕ, Bool, cond, codes, true, false, refl, ap, arith, List, Option, Some, None}
-use Rattle.std.specs.Prelude.{⊤}
-use Rattle.std.specs.Option.{option_map_or}
+use Rattle.std.specs.Option.{option_map_or, option_and_then}
 use Rattle.std.specs.Str.{bytes_eq}
 use Rattle.std.specs.Str.Parse.{digits_value, without_leading_plus}
 use Rattle.std.proofs.lemmas.Slice.Eq.{bytes_eq-Decides}
@@ -54,6 +53,6 @@ asked_size name rows h = by_check (bytes_eq name (codes "check"))
     by_check true = tt
     by_check false = by_run (bytes_eq name (codes "run"))
 
-pub found_size : (o : Option (Text × List Row)) → FitsFound o → HasSize (Rattle.std.specs.Prelude.option_and_then (λ p. asked p.0 p.1) o)
+pub found_size : (o : Option (Text × List Row)) → FitsFound o → HasSize (option_and_then (λ p. asked p.0 p.1) o)
 found_size None h = tt
 found_size (Some p) h = asked_size p.0 p.1 h

@@ -2,19 +2,19 @@
 use Rattle.std.proofs.Common.{◌≡◌, ◌∙◌, ◌<◌, ◌+◌, ◌++◌, ◌&&◌, ◌||◌, ◌⊎◌, ◌==◌, ℕ, Bool, cond, true, false, not, zero, suc, refl, sym, ap, subst, arith, inl, inr, List, [], ◌∷◌, length, drop, Option, Some, None, is_some, nat_lt, true≢false}
 use Rattle.std.specs.Prelude.{⊤, unwrap_or, find, fold, slice_get, encode_utf8, option_and_then}
 use Rattle.std.specs.List.{list_any}
-use Rattle.std.specs.Option.{option_map_or}
+use Rattle.std.specs.Option.{option_map_or, option_map}
 use Rattle.std.specs.Str.{bytes_eq, chars}
 use Rattle.std.proofs.lemmas.List.{length-append}
 use Rattle.std.proofs.lemmas.Slice.Eq.{bytes_eq-Decides}
 use Rattle.clap.specs.Facts.{explicit_source, unwrap_or_range}
-use Rattle.clap.specs.Walk.{Held, Names, Outcome, Row, Rule, Step, Text, Waiting, Walk, action_of, after_flag, after_step, arg_by_id, arg_by_index, arg_by_long, arg_by_short, at_row, attached_value, bundle_met, bundle_step, default_rows, finished, flag_met, has_row, is_empty, is_pending, long_met, long_or_other, long_word, more_values, most_values, one_of, option, option_met, option_word, plain_word, positional_held, pushed, reacted, reading_by, row_text, settled, settled_rows, short_met, short_or_plain, short_word, subcommand_met, subcommand_or_other, takes_several, takes_values, to_positional, used, used_as, value, values_or_missing, walk, walk_from, walked, with_default, with_values, without, word_met}
+use Rattle.clap.specs.Walk.{Held, Names, Outcome, Row, Rule, Step, Text, Waiting, Walk, action_of, after_flag, after_step, arg_by_id, arg_by_index, arg_by_long, arg_by_short, at_row, attached_value, bundle_met, bundle_step, default_rows, finished, flag_met, has_row, is_empty, is_pending, long_met, long_or_other, more_values, most_values, one_of, option, option_met, option_word, plain_word, positional_held, pushed, reacted, reading_by, row_text, settled, settled_rows, short_met, short_or_plain, subcommand_met, subcommand_or_other, takes_several, takes_values, to_positional, used, used_as, value, values_or_missing, walk, walk_from, walked, with_default, with_values, without, word_met, used_by_id, bundle, walked_from}
 use Rattle.clap.specs.Walk.{next, trailing, subcommand, done, waits, plain, refused, idle, positional}
 use Rattle.clap.specs.Lexer.{long_of, short_of}
 use Rattle.clap.specs.Simple.{Shape}
 use Rattle.clap.specs.Takes.{is_given, value_passes}
-use Rattle.clap.specs.Kinds.{Kinds, check_kinds, or_else, range_kinds, value_kinds}
+use Rattle.clap.specs.Kinds.{Kinds, or_else, range_kinds, value_kinds, request_kinds}
 use Rattle.clap.specs.Faults.{action_fault, check_fault, default_fault, defaults_fault, bundle_fault, bundle_step_fault, flag_word_fault, flags_fault, given_default_fault, level_fault, long_fault, option_fault, other_fault, positional_fault, react_fault, set_fault, settle_fault, short_fault, step_fault, stray_fault, turn_fault, use_fault, values_fault, walk_fault, word_fault}
-use Rattle.clap.specs.Values.{refused_kind}
+use Rattle.clap.specs.Values.{refused_kind, read_as}
 use Rattle.clap.specs.Facts.{parser_of_value}
 use Rattle.clap.specs.declared.builder.action.ArgAction.{ArgAction}
 use Rattle.clap.specs.declared.builder.action.ArgAction.TheVariants.{Set, SetTrue}
@@ -23,7 +23,7 @@ use Rattle.clap.specs.declared.builder.value_parser.Reading.TheVariants.{AsWritt
 use Rattle.clap.specs.declared.error.kind.ErrorKind.{ErrorKind}
 use Rattle.clap.specs.declared.error.kind.ErrorKind.TheVariants as kind
 use Rattle.clap.specs.declared.parser.matches.ValueSource.{ValueSource}
-use Rattle.clap.specs.declared.parser.matches.ValueSource.TheVariants.{CommandLine}
+use Rattle.clap.specs.declared.parser.matches.ValueSource.TheVariants.{CommandLine, DefaultValue}
 
 -- ---- lists
 
@@ -47,7 +47,7 @@ found P p (y ∷ ys) x h e = go (p y) refl (found P p ys x h.1) e
 
 -- ---- kinds
 
-abbrev pub is_none : Kinds → Bool
+abbrev is_none : Kinds → Bool
 is_none [] = true
 is_none (k ∷ ks) = false
 
@@ -55,7 +55,7 @@ pub none_of : (a b : Kinds) → or_else a b ≡ [] → (a ≡ []) × (b ≡ [])
 none_of [] b e = (refl, e)
 none_of (k ∷ ks) b e = absurd (true≢false (sym (ap is_none e)))
 
-some_kind : (k : ErrorKind) (ks : Kinds) → k ∷ ks ≡ [] → ⊥
+pub some_kind : (k : ErrorKind) (ks : Kinds) → k ∷ ks ≡ [] → ⊥
 some_kind k ks e = true≢false (sym (ap is_none e))
 
 pub never_zero : (n : ℕ) → (suc n == 0) ≡ false
@@ -156,7 +156,7 @@ module _ (c : List Rule) where
     settled_passed h k e = go h.pending e
       where
         by_id : (p : Text × List Text) (o : Option Rule) → arg_by_id c p.0 ≡ o → option_map_or (λ a. use_fault again a p.1 h.rows) o [] ≡ []
-            → each IsPassed (Rattle.clap.specs.Walk.used_by_id o p.1 h.rows)
+            → each IsPassed (used_by_id o p.1 h.rows)
         by_id p None at f = k
         by_id p (Some a) at f = used_passed again a (found IsPlain (λ b. bytes_eq b.id p.0) c a plain_rules at).0 p.1 h.rows k f
 
@@ -238,7 +238,7 @@ module _ (c : List Rule) where
         go : (o : Option Text) → option_map_or (λ flags. bundle_fault c again flags h) o [] ≡ [] → IsHeld (short_or_plain c waiting word o h).0
         go None f = plain_same waiting word h k
         go (Some flags) f =
-            after_same waiting word (Rattle.clap.specs.Walk.bundle c flags h).0 (Rattle.clap.specs.Walk.bundle c flags h).1
+            after_same waiting word (bundle c flags h).0 (bundle c flags h).1
             (bundle_passed (length flags) flags h.skip plain (record h { skip = 0 }) k f)
 
     positional_passed : (a : Rule) (word : Text) (h : Held) → IsHeld h → positional_fault c again a h ≡ [] → IsHeld (positional_held c a word h)
@@ -288,7 +288,7 @@ module _ (s : Shape) (plain_rules : each (IsPlain s.rules) s.rules) (names : Nam
       go : (o : Option (Text × List Text))
           → cond (is_some o) [] (or_else (word_fault s names w.is_trailing w.waiting word w.held)
           (step_fault s w.position (word_met s.rules names w.is_trailing w.waiting w.position word w.held).0 (word_met s.rules names w.is_trailing w.waiting w.position word w.held).1)) ≡ []
-          → HasPassed (Rattle.clap.specs.Walk.walked_from s.rules names o w word).held
+          → HasPassed (walked_from s.rules names o w word).held
       go (Some p) f = k
       go None f =
           let parts = none_of (word_fault s names w.is_trailing w.waiting word w.held) _ f in
@@ -308,8 +308,8 @@ module _ (s : Shape) (plain_rules : each (IsPlain s.rules) s.rules) (names : Nam
       → each (IsPassed s.rules) (default_rows a.id (reading_by a) vs rows)
   given_passed a p [] e rows h = h
   given_passed a p (v ∷ vs) e rows h =
-      let parts = none_of (Rattle.clap.specs.Kinds.request_kinds (action_of a)) (values_fault a (v ∷ vs)) e in
-      with_passed s.rules a.id (reading_by a) Rattle.clap.specs.declared.parser.matches.ValueSource.TheVariants.DefaultValue (v ∷ vs)
+      let parts = none_of (request_kinds (action_of a)) (values_fault a (v ∷ vs)) e in
+      with_passed s.rules a.id (reading_by a) DefaultValue (v ∷ vs)
       (passed s.rules a p (v ∷ vs) parts.1) (omega arith) p.reads rows h
 
   default_passed : (a : Rule) → IsPlain s.rules a → (rows : List Row) → default_fault rows a ≡ [] → each (IsPassed s.rules) rows → each (IsPassed s.rules) (with_default rows a)
@@ -366,7 +366,7 @@ module _ (id : Text) where
       go : (b : Bool) (vs : List Text) → has_row id (cond b rows (default_rows a.id (reading_by a) vs rows)) ≡ true
       go true vs = e
       go false [] = e
-      go false (v ∷ vs) = kept_at a.id Rattle.clap.specs.declared.parser.matches.ValueSource.TheVariants.DefaultValue (v ∷ vs) _ rows e
+      go false (v ∷ vs) = kept_at a.id DefaultValue (v ∷ vs) _ rows e
 
   kept_rows : (rest : List Rule) (rows : List Row) → has_row id rows ≡ true → has_row id (fold with_default rows rest) ≡ true
   kept_rows [] rows e = e
@@ -388,7 +388,7 @@ module _ (id : Text) where
     where
       new : (v : Text) (vs : List Text) → has_row id (default_rows a.id (reading_by a) (v ∷ vs) rows) ≡ true
       new v vs = subst (λ (t : Text). has_row id (default_rows t (reading_by a) (v ∷ vs) rows) ≡ true) (sym is)
-          (new_at Rattle.clap.specs.declared.parser.matches.ValueSource.TheVariants.DefaultValue (v ∷ vs) _ refl rows)
+          (new_at DefaultValue (v ∷ vs) _ refl rows)
 
       go : (b : Bool) → has_row a.id rows ≡ b → (vs : List Text) → not (is_empty vs) ≡ true → has_row id (cond b rows (default_rows a.id (reading_by a) vs rows)) ≡ true
       go true t vs f = subst (λ (i : Text). has_row i rows ≡ true) is t
@@ -423,9 +423,9 @@ module _ (id : Text) where
   text_in c (r ∷ rs) h e = go (bytes_eq r.id id) refl (text_in c rs h.1) e
     where
       first : r.id ≡ id → (vs : List Text) → each (Passes c r.id) vs → 0 < length vs
-          → (t : Text) × (Rattle.std.specs.Prelude.option_map (Rattle.clap.specs.Values.read_as r.reading) (slice_get vs 0) ≡ Some t) × Passes c id t
+          → (t : Text) × (option_map (read_as r.reading) (slice_get vs 0) ≡ Some t) × Passes c id t
       first is [] p lt = absurd (omega arith)
-      first is (v ∷ vs) p lt = (v, ap (λ (how : Reading). Some (Rattle.clap.specs.Values.read_as how v)) h.0.reading, subst (λ (i : Text). Passes c i v) is p.0)
+      first is (v ∷ vs) p lt = (v, ap (λ (how : Reading). Some (read_as how v)) h.0.reading, subst (λ (i : Text). Passes c i v) is p.0)
 
       go : (b : Bool) → bytes_eq r.id id ≡ b → (has_row id rs ≡ true → (t : Text) × (one_of id rs ≡ Some t) × Passes c id t) → (b || has_row id rs) ≡ true
           → (t : Text) × (option_and_then row_text (cond b (Some r) (find (λ x. bytes_eq x.id id) rs)) ≡ Some t) × Passes c id t

@@ -1,5 +1,5 @@
 -- What the words of a command line without a fault have.
-use Rattle.std.proofs.Common.{◌≡◌, ◌∙◌, ◌<◌, ◌≤◌, ◌&&◌, ◌||◌, ◌⊎◌, ℕ, Bool, cond, codes, true, false, not, refl, sym, ap, subst, arith, inl, inr, List, [], ◌∷◌, length, Option, Some, None, is_some, true≢false}
+use Rattle.std.proofs.Common.{◌≡◌, ◌∙◌, ◌||◌, ◌⊎◌, ℕ, Bool, cond, codes, true, false, not, refl, sym, ap, inl, inr, List, [], ◌∷◌, length, Option, Some, None, is_some, true≢false, zero, suc}
 use Rattle.std.specs.Prelude.{find, option_map, option_and_then}
 use Rattle.std.specs.Option.{option_map_or}
 use Rattle.std.specs.Str.{bytes_eq}
@@ -18,7 +18,7 @@ use Rattle.command_line.specs.App.{app}
 use Rattle.command_line.specs.CommandLine.{asked, command_line}
 use Rattle.command_line.specs.declared.line.CommandLine.{CommandLine}
 use Rattle.command_line.specs.Values.{FitsCommand, FitsFound, HasFlag, HasNumber}
-use Rattle.command_line.proofs.Rows.{IsPassed, IsPlain, Passes, default_row, each, found, given_row, level_passed, never_zero, none_of, text_in}
+use Rattle.command_line.proofs.Rows.{IsPassed, IsPlain, Passes, default_row, each, found, given_row, level_passed, never_zero, text_in, some_kind}
 
 abbrev pub whole : App
 whole = built app
@@ -32,8 +32,8 @@ is_plain_app = refl
 -- the built subcommands
 abbrev pub nth : ℕ → List Shape → Shape
 nth n [] = app.top
-nth Rattle.std.proofs.Common.zero (s ∷ ss) = s
-nth (Rattle.std.proofs.Common.suc n) (s ∷ ss) = nth n ss
+nth zero (s ∷ ss) = s
+nth (suc n) (s ∷ ss) = nth n ss
 
 abbrev pub check_shape : Shape
 check_shape = nth 0 whole.subs
@@ -158,14 +158,8 @@ fits_model words e =
 -- both are given where neither is missing
 both_given : (a b : Bool) → cond (not a || (not b || false)) (kind.MissingRequiredArgument ∷ []) [] ≡ [] → (a ≡ true) × (b ≡ true)
 both_given true true e = (refl, refl)
-both_given true false e = absurd (none_kind e)
-  where
-    none_kind : kind.MissingRequiredArgument ∷ [] ≡ [] → ⊥
-    none_kind f = true≢false (sym (ap Rattle.command_line.proofs.Rows.is_none f))
-both_given false b e = absurd (none_kind e)
-  where
-    none_kind : kind.MissingRequiredArgument ∷ [] ≡ [] → ⊥
-    none_kind f = true≢false (sym (ap Rattle.command_line.proofs.Rows.is_none f))
+both_given true false e = absurd (some_kind kind.MissingRequiredArgument [] e)
+both_given false b e = absurd (some_kind kind.MissingRequiredArgument [] e)
 
 fits_make : FitsAll make_shape
 fits_make words e =
@@ -215,7 +209,7 @@ taken words e =
   where
     check_met : (b : Bool) → check_fault whole.top (finished whole.top.rules (walk whole.top.rules (names_of whole) nothing_held words).held) b ≡ [] → b ≡ true
     check_met true f = refl
-    check_met false f = absurd (true≢false (sym (ap Rattle.command_line.proofs.Rows.is_none f)))
+    check_met false f = absurd (some_kind kind.MissingSubcommand [] f)
 
 -- ---- the answer
 

@@ -3,7 +3,6 @@ use Rattle.std.proofs.lemmas.Result.{IfOk-weaker}
 use Rattle.clap.specs.Words.{App, app_of, with_rule, with_subcommand}
 use Rattle.command_line.proofs.command.model.Goals as goal
 
--- src/command.rt:69:1
 pub returns : goal.returns
 returns c =
     let g1 = c.in_ok-arg.ensures.globals ∙ ap₂ ◌||◌ c.new.ensures.local c.file.ensures.own in
