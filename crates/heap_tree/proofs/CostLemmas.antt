@@ -73,7 +73,7 @@ module _ (n : ℕ) (par : ℕ → Option ℕ) (dep jmp : ℕ → ℕ) (links : A
     -- the far link leads to one of a higher rank
     over : least < dep (jmp t) → (m : ℕ) → 3 * log ≤ m + rank + 2 → log ≤ rank + suc fuel
         → ((rank' more : ℕ) → jmp t < n → dep (jmp t) + 1 < 2 ^ suc log → HasRank par jmp rank' (jmp t)
-          → (0 < dep (jmp (jmp t)) → span dep jmp (jmp t) < span dep jmp (jmp (jmp t))) → log ≤ rank' + fuel → 3 * log ≤ more + rank' + 2 → Within par dep jmp least more (jmp t))
+        → (0 < dep (jmp (jmp t)) → span dep jmp (jmp t) < span dep jmp (jmp (jmp t))) → log ≤ rank' + fuel → 3 * log ≤ more + rank' + 2 → Within par dep jmp least more (jmp t))
         → Within par dep jmp least m t
     over lt zero big enough go = let l : suc rank ≤ log = low_rank in absurd (omega arith)
     over lt (suc m) big enough go =
@@ -120,7 +120,7 @@ module _ (n : ℕ) (par : ℕ → Option ℕ) (dep jmp : ℕ → ℕ) (links : A
             by_far m t (omega arith) (outside log log next.0 (jmp t) above (omega arith) next.1 (links.longer t made) (omega arith) m (omega arith))
       ]
 
-  -- three times the logarithm of the depth and one
+  -- three times the logarithm of the depth plus one
   pub few_links : (log t : ℕ) → t < n → dep t + 1 < 2 ^ (log + 1) → Within par dep jmp least (3 * log) t
   few_links log t made deep =
       let next : log + 1 ≡ suc log = omega arith in

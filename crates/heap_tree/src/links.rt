@@ -78,8 +78,8 @@ fn step_up<L: Ledger>(entries: &[Entry], at: u32, depth: u32, links: &mut LinkCo
     }
 }
 
-/// The task at a depth on the path from `t` to the root. The links that it follows are at most three times
-/// the logarithm of the depth of `t` and one, to base 2 and rounded down.
+/// The task at a depth on the path from `t` to the root. The links that it follows are no more than three
+/// times the logarithm of the depth of `t` plus one, to base 2 and rounded down.
 pub fn climb<L: Ledger>(entries: &[Entry], t: u32, depth: u32, links: &mut LinkCount<L>) -> u32
     requires linked { IsLinked entries.now }
     requires made { t < length entries.now }

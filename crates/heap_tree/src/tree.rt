@@ -129,8 +129,8 @@ impl Tree {
         path_from::<Brand>(self, t, at_depth, Blank::new(1))
     }
 
-    /// `path`, which counts the links that it follows. They are at most three times the logarithm of the depth
-    /// of `t` and one, to base 2 and rounded down.
+    /// `path`, which counts the links that it follows. They are no more than three times the logarithm of the
+    /// depth of `t` plus one, to base 2 and rounded down.
     pub fn path_counted<L: Ledger>(&self, t: u32, at_depth: u32, links: &mut LinkCount<L>) -> u32
         requires made { t < length self.now }
         requires within { at_depth ≤ depth_of self.now t }
@@ -153,9 +153,14 @@ impl Tree {
         on_path_from::<Brand>(self, reader, owner, Blank::new(1))
     }
 
-    /// `on_path`, which counts the links that it follows. They are at most three times the logarithm of the
-    /// reader's depth and one, to base 2 and rounded down.
-    pub fn on_path_counted<L: Ledger>(&self, reader: u32, owner: u32, links: &mut LinkCount<L>) -> bool
+    /// `on_path`, which counts the links that it follows. They are no more than three times the logarithm of
+    /// the reader's depth plus one, to base 2 and rounded down.
+    pub fn on_path_counted<L: Ledger>(
+        &self,
+        reader: u32,
+        owner: u32,
+        links: &mut LinkCount<L>,
+    ) -> bool
         requires reader { reader < length self.now }
         requires owner { owner < length self.now }
         ensures value { result ≡ is_on_path self.now owner reader }
