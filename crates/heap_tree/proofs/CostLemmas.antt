@@ -1,9 +1,9 @@
 -- How many links a climb follows.
-use Rattle.std.proofs.Common.{◌≡◌, ℕ, zero, suc, ◌+◌, ◌-◌, ◌*◌, ◌^◌, ◌<◌, ◌≤◌, Option, Some, None, ◌⊎◌, inl, inr, refl, sym, ap, subst, ◌∙◌, arith}
+use Rattle.std.proofs.Common.{◌≡◌, ℕ, zero, suc, ◌+◌, ◌-◌, ◌*◌, ◌^◌, ◌<◌, ◌≤◌, Option, Some, ◌⊎◌, inl, inr, refl, sym, ap, subst, ◌∙◌, arith}
 use Rattle.std.proofs.lemmas.Bool.{cases_lt}
 use Rattle.std.proofs.lemmas.Option.{same_Some}
 use Rattle.heap_tree.specs.Links.{AreLinked, HasRank, IsNextLink, span}
-use Rattle.heap_tree.proofs.RankLemmas.{rank_span, exponent_upto, exponent_below, some_power}
+use Rattle.heap_tree.proofs.RankLemmas.{rank_span, exponent_below, some_power}
 
 -- a climb to the depth follows at most so many links
 abbrev pub Within : (ℕ → Option ℕ) → (ℕ → ℕ) → (ℕ → ℕ) → ℕ → ℕ → ℕ → Type 0
@@ -18,6 +18,11 @@ within_next par dep jmp least (suc m) t up lt next w =
       | inl le ↦ absurd (omega arith)
       | inr go ↦ (m, refl, go up next)
     ]
+
+log_above : (i log : ℕ) → 2 ^ i < 2 ^ suc log → i ≤ log
+log_above i log lt =
+    let below : i < suc log = exponent_below i (suc log) lt in
+    omega arith
 
 module _ (n : ℕ) (par : ℕ → Option ℕ) (dep jmp : ℕ → ℕ) (links : AreLinked n par dep jmp) (least : ℕ) where
   there : (m t : ℕ) → dep t ≤ least → Within par dep jmp least m t
@@ -59,18 +64,18 @@ module _ (n : ℕ) (par : ℕ → Option ℕ) (dep jmp : ℕ → ℕ) (links : A
         ])
       ]
 
-  module _ (digits fuel rank t : ℕ) (made : t < n) (deep : dep t < 2 ^ digits) (has : HasRank par jmp rank t) (longer : 0 < dep (jmp t) → span dep jmp t < span dep jmp (jmp t)) where
-    low_rank : suc rank ≤ digits
+  module _ (log fuel rank t : ℕ) (made : t < n) (deep : dep t + 1 < 2 ^ suc log) (has : HasRank par jmp rank t) (longer : 0 < dep (jmp t) → span dep jmp t < span dep jmp (jmp t)) where
+    low_rank : suc rank ≤ log
     low_rank =
         let s : dep t + 1 ≡ dep (jmp t) + 2 ^ suc rank = rank_span n par dep jmp links rank t has in
-        exponent_upto (suc rank) digits (omega arith)
+        log_above (suc rank) log (omega arith)
 
     -- the far link leads to one of a higher rank
-    over : least < dep (jmp t) → (m : ℕ) → 3 * digits ≤ m + rank + 2 → digits ≤ rank + suc fuel
-        → ((rank' more : ℕ) → jmp t < n → dep (jmp t) < 2 ^ digits → HasRank par jmp rank' (jmp t)
-          → (0 < dep (jmp (jmp t)) → span dep jmp (jmp t) < span dep jmp (jmp (jmp t))) → digits ≤ rank' + fuel → 3 * digits ≤ more + rank' + 2 → Within par dep jmp least more (jmp t))
+    over : least < dep (jmp t) → (m : ℕ) → 3 * log ≤ m + rank + 2 → log ≤ rank + suc fuel
+        → ((rank' more : ℕ) → jmp t < n → dep (jmp t) + 1 < 2 ^ suc log → HasRank par jmp rank' (jmp t)
+        → (0 < dep (jmp (jmp t)) → span dep jmp (jmp t) < span dep jmp (jmp (jmp t))) → log ≤ rank' + fuel → 3 * log ≤ more + rank' + 2 → Within par dep jmp least more (jmp t))
         → Within par dep jmp least m t
-    over lt zero big enough go = let l : suc rank ≤ digits = low_rank in absurd (omega arith)
+    over lt zero big enough go = let l : suc rank ≤ log = low_rank in absurd (omega arith)
     over lt (suc m) big enough go =
         let low : jmp t ≤ t = links.jump_low t made in
         let above : jmp t < n = omega arith in
@@ -83,28 +88,28 @@ module _ (n : ℕ) (par : ℕ → Option ℕ) (dep jmp : ℕ → ℕ) (links : A
         by_far m t (omega arith) (go next.0 m above (omega arith) next.1 (links.longer t made) (omega arith) (omega arith))
 
   -- where each far link is longer than the one before, each that is followed gains a rank
-  outside : (digits fuel rank t : ℕ) → t < n → dep t < 2 ^ digits → HasRank par jmp rank t
-      → (0 < dep (jmp t) → span dep jmp t < span dep jmp (jmp t)) → digits ≤ rank + fuel → (m : ℕ) → 3 * digits ≤ m + rank + 2 → Within par dep jmp least m t
-  outside digits zero rank t made deep has longer enough m big =
-      let l : suc rank ≤ digits = low_rank digits zero rank t made deep has longer in
+  outside : (log fuel rank t : ℕ) → t < n → dep t + 1 < 2 ^ suc log → HasRank par jmp rank t
+      → (0 < dep (jmp t) → span dep jmp t < span dep jmp (jmp t)) → log ≤ rank + fuel → (m : ℕ) → 3 * log ≤ m + rank + 2 → Within par dep jmp least m t
+  outside log zero rank t made deep has longer enough m big =
+      let l : suc rank ≤ log = low_rank log zero rank t made deep has longer in
       absurd (omega arith)
-  outside digits (suc fuel) rank t made deep has longer enough m big =
-      let l : suc rank ≤ digits = low_rank digits fuel rank t made deep has longer in
+  outside log (suc fuel) rank t made deep has longer enough m big =
+      let l : suc rank ≤ log = low_rank log fuel rank t made deep has longer in
       elim (cases_lt least (dep (jmp t))) [
         | inr ge ↦ inside rank t has ge m (omega arith)
-        | inl lt ↦ over digits fuel rank t made deep has longer lt m big enough
-            (λ rank' more above deep' has' longer' enough' big'. outside digits fuel rank' (jmp t) above deep' has' longer' enough' more big')
+        | inl lt ↦ over log fuel rank t made deep has longer lt m big enough
+            (λ rank' more above deep' has' longer' enough' big'. outside log fuel rank' (jmp t) above deep' has' longer' enough' more big')
       ]
 
   -- the first far link may be as long as the second
-  from_first : (digits rank t : ℕ) → t < n → dep t < 2 ^ digits → HasRank par jmp rank t → (m : ℕ) → 3 * digits ≡ m → Within par dep jmp least m t
-  from_first digits rank t made deep has zero is =
+  from_first : (log rank t : ℕ) → t < n → dep t + 1 < 2 ^ suc log → HasRank par jmp rank t → (m : ℕ) → 3 * log ≡ m → Within par dep jmp least m t
+  from_first log rank t made deep has zero is =
       let s : dep t + 1 ≡ dep (jmp t) + 2 ^ suc rank = rank_span n par dep jmp links rank t has in
-      let l : suc rank ≤ digits = exponent_upto (suc rank) digits (omega arith) in
+      let l : suc rank ≤ log = log_above (suc rank) log (omega arith) in
       absurd (omega arith)
-  from_first digits rank t made deep has (suc m) is =
+  from_first log rank t made deep has (suc m) is =
       let s : dep t + 1 ≡ dep (jmp t) + 2 ^ suc rank = rank_span n par dep jmp links rank t has in
-      let l : suc rank ≤ digits = exponent_upto (suc rank) digits (omega arith) in
+      let l : suc rank ≤ log = log_above (suc rank) log (omega arith) in
       let some : 1 ≤ 2 ^ suc rank = some_power (suc rank) in
       elim (cases_lt least (dep (jmp t))) [
         | inr ge ↦ inside rank t has ge (suc m) (omega arith)
@@ -112,13 +117,15 @@ module _ (n : ℕ) (par : ℕ → Option ℕ) (dep jmp : ℕ → ℕ) (links : A
             let low : jmp t ≤ t = links.jump_low t made in
             let above : jmp t < n = omega arith in
             let next = links.ranked (jmp t) above (omega arith) in
-            by_far m t (omega arith) (outside digits digits next.0 (jmp t) above (omega arith) next.1 (links.longer t made) (omega arith) m (omega arith))
+            by_far m t (omega arith) (outside log log next.0 (jmp t) above (omega arith) next.1 (links.longer t made) (omega arith) m (omega arith))
       ]
 
-  -- three links for each binary digit of the depth
-  pub few_links : (digits t : ℕ) → t < n → dep t < 2 ^ digits → Within par dep jmp least (3 * digits) t
-  few_links digits t made deep =
+  -- three times the logarithm of the depth plus one
+  pub few_links : (log t : ℕ) → t < n → dep t + 1 < 2 ^ (log + 1) → Within par dep jmp least (3 * log) t
+  few_links log t made deep =
+      let next : log + 1 ≡ suc log = omega arith in
+      let deep' : dep t + 1 < 2 ^ suc log = rw next at deep in
       elim (cases_lt 0 (dep t)) [
-        | inl lt ↦ let r = links.ranked t made lt in from_first digits r.0 t made deep r.1 (3 * digits) refl
-        | inr flat ↦ there (3 * digits) t (omega arith)
+        | inl lt ↦ let r = links.ranked t made lt in from_first log r.0 t made deep' r.1 (3 * log) refl
+        | inr flat ↦ there (3 * log) t (omega arith)
       ]

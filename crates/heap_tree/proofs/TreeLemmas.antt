@@ -211,10 +211,10 @@ module _ (v : List Node) (es : List Entry) (view_is : map node_of es ≡ v) (lin
       omega arith
 
   -- a bound by the depth that is kept is one by the depth that callers see
-  pub cost_seen : (t : ℕ) → t < length v → (P : ℕ → Type 0) → ((digits : ℕ) → depth_at es t < 2 ^ digits → P digits) → (digits : ℕ) → depth_of v t < 2 ^ digits → P digits
-  cost_seen t made P cost digits deep =
+  pub cost_seen : (t : ℕ) → t < length v → (P : ℕ → Type 0) → ((log : ℕ) → depth_at es t + 1 < 2 ^ (log + 1) → P log) → (log : ℕ) → depth_of v t + 1 < 2 ^ (log + 1) → P log
+  cost_seen t made P cost log deep =
       let same : depth_of v t ≡ depth_at es t = ap (λ (w : List Node). depth_of w t) (sym view_is) ∙ depth_seen es t linked (made_entry t made) in
-      cost digits (rw same at deep)
+      cost log (rw same at deep)
 
   pub path_up : (t d r : ℕ) → t < length v → ancestor (parent_at es) (depth_at es t - d) t ≡ Some r → ancestor (parent_of v) (depth_of v t - d) t ≡ Some r
   path_up t d r made up =

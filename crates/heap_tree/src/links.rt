@@ -10,8 +10,8 @@ use std::sync::ledger::Ledger;
 
 /// A task in the tree: beside the link to its parent it keeps one to an ancestor farther up.
 ///
-/// How far that one leads is given by the depth alone. The lengths are such that a climb to any depth takes
-/// a number of links that grows with the logarithm of the depth where it starts.
+/// How far that one leads is given by the depth alone. The lengths are such that a climb to any depth follows
+/// a number of links that grows with the logarithm of the depth where it starts (`climb`).
 #[derive(Clone, Copy)]
 pub struct Entry {
     pub parent: Option<u32>,
@@ -78,8 +78,8 @@ fn step_up<L: Ledger>(entries: &[Entry], at: u32, depth: u32, links: &mut LinkCo
     }
 }
 
-/// The task at a depth on the path from `t` to the root. It follows at most three links for each binary digit
-/// of the depth of `t`.
+/// The task at a depth on the path from `t` to the root. The links that it follows are no more than three
+/// times the logarithm of the depth of `t` plus one, to base 2 and rounded down.
 pub fn climb<L: Ledger>(entries: &[Entry], t: u32, depth: u32, links: &mut LinkCount<L>) -> u32
     requires linked { IsLinked entries.now }
     requires made { t < length entries.now }
@@ -88,7 +88,7 @@ pub fn climb<L: Ledger>(entries: &[Entry], t: u32, depth: u32, links: &mut LinkC
     ensures there { depth_at entries.now result ≡ depth }
     ensures up { ancestor (parent_at entries.now) (depth_at entries.now t - depth) t ≡ Some result }
     ensures counted { links.old ≤ links.new }
-    ensures cost { (digits : ℕ) → depth_at entries.now t < 2 ^ digits → links.new ≤ links.old + 3 * digits }
+    ensures cost { (log : ℕ) → depth_at entries.now t + 1 < 2 ^ (log + 1) → links.new ≤ links.old + 3 * log }
 {
     let mut at = t;
     while entry_at(entries, at).depth > depth {

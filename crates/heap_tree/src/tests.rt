@@ -1,5 +1,11 @@
 // Trees at their edges: the root alone, forks and joins, and a path of 1,000 links.
-use crate::{State, Tree};
+
+ghost use Rattle.std.specs.Prelude.{◌≡◌, ◌+◌, ◌<◌, ◌≤◌, length, IfSome};
+ghost use Rattle.heap_tree.specs.Node.{depth_of};
+
+use crate::{LinkCount, State, Tree};
+use std::marker::Brand;
+use std::sync::ledger::{Blank, Ledger};
 use std::test::Fail;
 
 // Forks a task; its children's numbers.
@@ -77,6 +83,39 @@ fn a_thousand_deep(rt: HostRuntime) -> Result<(), Fail> {
         assert_eq!(rt; on_path(&tree, 1999, 2 * depth - 1), Some(true));
         assert_eq!(rt; on_path(&tree, 1999, 2 * depth), Some(false));
     }
+    Ok(())
+}
+
+// A climb from a depth of at most 1,000 follows 27 links at most.
+fn path_of_27<L: Ledger>(tree: &Tree, t: u32, depth: u32, links: &mut LinkCount<L>) -> u32
+    requires made { t < length tree.now }
+    requires within { depth ≤ depth_of tree.now t }
+    requires shallow { depth_of tree.now t ≤ 1000 }
+    ensures there { depth_of tree.now result ≡ depth }
+    ensures cost { links.new ≤ links.old + 27 }
+{
+    tree.path_counted(t, depth, links)
+}
+
+fn path_from<L: Ledger>(tree: &Tree, t: u32, depth: u32, blank: Blank) -> Option<u32>
+    requires name { blank.name ≡ L.name }
+    requires parts { blank.parts ≡ L.parts }
+    requires some { 0 < blank.parts }
+    ensures { IfSome result (λ r. depth_of tree.now r ≡ depth) }
+{
+    if t >= tree.made() || tree.depth(t) > 1000 || depth > tree.depth(t) {
+        return None;
+    }
+    let mut links = LinkCount::<L>::new(blank);
+    Some(path_of_27(tree, t, depth, &mut links))
+}
+
+#[test]
+fn counted(rt: HostRuntime) -> Result<(), Fail> {
+    let mut tree = Tree::new(rt.alloc())?;
+    forked(&mut tree, 0)?;
+    forked(&mut tree, 2)?;
+    assert_eq!(rt; path_from::<Brand>(&tree, 4, 1, Blank::new(1)), Some(2));
     Ok(())
 }
 

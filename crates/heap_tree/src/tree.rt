@@ -118,8 +118,7 @@ impl Tree {
         entry_at(&self.entries, t).depth
     }
 
-    /// The task at a depth on the path from `t` to the root. It follows no more links than `path_counted`
-    /// counts.
+    /// The task at a depth on the path from `t` to the root. It follows the links that `path_counted` counts.
     pub fn path(&self, t: u32, at_depth: u32) -> u32
         requires made { t < length self.now }
         requires within { at_depth ≤ depth_of self.now t }
@@ -130,8 +129,8 @@ impl Tree {
         path_from::<Brand>(self, t, at_depth, Blank::new(1))
     }
 
-    /// The task at a depth on the path from `t` to the root, and the links that were followed: at most three
-    /// for each binary digit of the depth of `t`.
+    /// `path`, which counts the links that it follows. They are no more than three times the logarithm of the
+    /// depth of `t` plus one, to base 2 and rounded down.
     pub fn path_counted<L: Ledger>(&self, t: u32, at_depth: u32, links: &mut LinkCount<L>) -> u32
         requires made { t < length self.now }
         requires within { at_depth ≤ depth_of self.now t }
@@ -139,12 +138,12 @@ impl Tree {
         ensures there { depth_of self.now result ≡ at_depth }
         ensures made { result < length self.now }
         ensures counted { links.old ≤ links.new }
-        ensures cost { (digits : ℕ) → depth_of self.now t < 2 ^ digits → links.new ≤ links.old + 3 * digits }
+        ensures cost { (log : ℕ) → depth_of self.now t + 1 < 2 ^ (log + 1) → links.new ≤ links.old + 3 * log }
     {
         climb(&self.entries, t, at_depth, links)
     }
 
-    /// Whether `owner` is `reader` or stands above it. It follows no more links than `on_path_counted` counts.
+    /// Whether `owner` is `reader` or stands above it. It follows the links that `on_path_counted` counts.
     pub fn on_path(&self, reader: u32, owner: u32) -> bool
         requires reader { reader < length self.now }
         requires owner { owner < length self.now }
@@ -154,15 +153,20 @@ impl Tree {
         on_path_from::<Brand>(self, reader, owner, Blank::new(1))
     }
 
-    /// Whether `owner` is `reader` or stands above it, and the links that were followed: at most three for each
-    /// binary digit of the reader's depth.
-    pub fn on_path_counted<L: Ledger>(&self, reader: u32, owner: u32, links: &mut LinkCount<L>) -> bool
+    /// `on_path`, which counts the links that it follows. They are no more than three times the logarithm of
+    /// the reader's depth plus one, to base 2 and rounded down.
+    pub fn on_path_counted<L: Ledger>(
+        &self,
+        reader: u32,
+        owner: u32,
+        links: &mut LinkCount<L>,
+    ) -> bool
         requires reader { reader < length self.now }
         requires owner { owner < length self.now }
         ensures value { result ≡ is_on_path self.now owner reader }
         ensures walk { IsTrue result ↔ IsUpFrom (parent_of self.now) reader owner }
         ensures counted { links.old ≤ links.new }
-        ensures cost { (digits : ℕ) → depth_of self.now reader < 2 ^ digits → links.new ≤ links.old + 3 * digits }
+        ensures cost { (log : ℕ) → depth_of self.now reader + 1 < 2 ^ (log + 1) → links.new ≤ links.old + 3 * log }
     {
         let depth = entry_at(&self.entries, owner).depth;
         depth <= entry_at(&self.entries, reader).depth

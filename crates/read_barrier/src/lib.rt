@@ -5,4 +5,4 @@ mod barrier;
 #[cfg(test)]
 mod tests;
 
-pub use barrier::{Stop, check};
+pub use barrier::{Stop, check, check_counted};

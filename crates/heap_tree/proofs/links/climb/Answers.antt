@@ -1,7 +1,7 @@
-use Rattle.std.proofs.Common.{◌≡◌, ◌+◌, ◌-◌, ◌*◌, ◌<◌, ◌≤◌, ℕ, suc, length, arith, ◌∙◌}
+use Rattle.std.proofs.Common.{◌≡◌, ◌+◌, ◌-◌, ◌*◌, ◌<◌, ◌≤◌, suc, length, arith, ◌∙◌}
 use Rattle.heap_tree.specs.Links.{parent_at, depth_at, jump_at}
 use Rattle.heap_tree.proofs.WalkLemmas.{ancestor-add}
-use Rattle.heap_tree.proofs.CostLemmas.{Within, within_next, few_links}
+use Rattle.heap_tree.proofs.CostLemmas.{within_next, few_links}
 use Rattle.heap_tree.proofs.links.climb.Goals as goal
 
 pub loop-links-preserved : goal.loop-links-preserved
@@ -32,9 +32,9 @@ loop-links-preserved g c =
     }
 
 pub returns-clause-cost : goal.returns-clause-cost
-returns-clause-cost g c = λ digits deep.
+returns-clause-cost g c = λ log deep.
     let es = c.args.entries.now in
-    let w = few_links (length es) (parent_at es) (depth_at es) (jump_at es) c.requires.linked.links c.args.depth digits c.args.t c.requires.made deep in
-    let last = c.loop-links.invariant.cost (3 * digits) w in
-    let sum : c.loop-links.links + last.0 ≡ c.args.links.now + 3 * digits = last.2 in
+    let w = few_links (length es) (parent_at es) (depth_at es) (jump_at es) c.requires.linked.links c.args.depth log c.args.t c.requires.made deep in
+    let last = c.loop-links.invariant.cost (3 * log) w in
+    let sum : c.loop-links.links + last.0 ≡ c.args.links.now + 3 * log = last.2 in
     omega arith

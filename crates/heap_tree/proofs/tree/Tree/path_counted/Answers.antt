@@ -21,4 +21,4 @@ returns-clause-there g c =
 pub returns-clause-cost : goal.returns-clause-cost
 returns-clause-cost g c =
     let cost = rw c.deref.ensures.value at c.climb.ensures.cost in
-    cost_seen c.args.self.now c.self.inside.entries.items c.self.view_is c.self.invariant c.args.t c.requires.made (λ (digits : ℕ). c.climb.new.links ≤ c.args.links.now + 3 * digits) cost
+    cost_seen c.args.self.now c.self.inside.entries.items c.self.view_is c.self.invariant c.args.t c.requires.made (λ (log : ℕ). c.climb.new.links ≤ c.args.links.now + 3 * log) cost
