@@ -61,11 +61,19 @@ pub fn is_ready(heap: &LeafHeap, frames: &Frames, roots: &[Addr], chunks: &[Chun
     let Some(small) = small_in_all(heap.chunks()) else {
         return false;
     };
-    are_enough(small, chunks.len())
-        && is_fit_heap(heap)
-        && outside_is_sound(heap, frames, roots)
-        && both_are_apart(heap.chunks(), chunks)
-        && are_new(chunks)
+    if !are_enough(small, chunks.len()) {
+        return false;
+    }
+    if !is_fit_heap(heap) {
+        return false;
+    }
+    if !outside_is_sound(heap, frames, roots) {
+        return false;
+    }
+    if !both_are_apart(heap.chunks(), chunks) {
+        return false;
+    }
+    are_new(chunks)
 }
 
 /// Collects the heap, if all is as a collection asks.
