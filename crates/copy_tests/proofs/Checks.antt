@@ -4,7 +4,7 @@ use Rattle.std.specs.Prelude.{nat_le, All}
 use Rattle.std.proofs.lemmas.Bool.{cases_Bool}
 use Rattle.std.proofs.lemmas.List.Elements.{All-nil, All-cons, All-head, All-tail, All-append}
 use Rattle.object_layout.specs.declared.word.Addr.{Addr}
-use Rattle.object_layout.specs.Cell.{Born, Cell, Hole, IsBorn, IsObject, Mark, Moved, no_cell, size_of}
+use Rattle.object_layout.specs.Cell.{Cell, IsBorn, no_cell, size_of}
 use Rattle.object_layout.specs.Content.{Content}
 use Rattle.object_layout.specs.Place.{cell_at}
 use Rattle.object_layout.specs.Chunks.{cell_of}
@@ -67,10 +67,3 @@ held_each P (x ∷ fs) f = All-append P x.refs (held_by fs) (f 0 (omega arith)) 
 
 pub held_stack : (P : Option Addr → Type 0) (s : Stack) (n : ℕ) → depth_of s ≤ n → ((k : ℕ) → k < n → All P (references_of (frames_of s) k)) → All P (held_by (frames_of s))
 held_stack P s n le f = held_each P (frames_of s) (λ k lt. let e = count_last s.below s.top in f k (omega arith))
-
--- ---- marks
-
-pub born_is_object : (m : Mark) → IsBorn m → IsObject m
-born_is_object (Born b) i = tt
-born_is_object (Moved to) i = absurd i
-born_is_object Hole i = absurd i
