@@ -1,59 +1,60 @@
 -- An answer that was delivered is what the call answers.
-use Rattle.std.proofs.Common.{◌∙◌, ap, ◌⊎◌, ◌≡◌, ℕ, List, refl, sym, subst, inl, inr}
-use Rattle.std.specs.Prelude.{Option, Some, None}
-use Rattle.hh_lang.specs.Form.{ProgramText}
+use Rattle.std.proofs.Common.{◌⊎◌, ◌≡◌, ℕ, List, refl, sym, subst, inl, inr}
+use Rattle.std.specs.Prelude.{Option}
 use Rattle.outside_io.specs.Told.{with_more}
+use Rattle.command_line.specs.declared.line.CommandLine.{CommandLine}
 use Rattle.command_core.specs.declared.answer.Status.{Status}
-use Rattle.command_core.specs.declared.answer.Status.TheVariants.{Done, Words, Source, ReadFault, WriteFault, NoMemory}
+use Rattle.command_core.specs.declared.answer.Status.TheVariants.{Done, Words, Source, Trap, Entangled, Fuel, Pool, ReadFault, WriteFault, NoMemory, Trace}
 use Rattle.command_core.specs.declared.answer.Answer.{Answer}
 use Rattle.command_core.specs.declared.answer.Ran.{Ran}
-use Rattle.command_core.specs.Journal.{IsRun, machine_of}
+use Rattle.command_core.specs.Answers.{AnswersLine}
 use Rattle.command_core.specs.Laws.{NoFaultGivesAll}
-use Rattle.command_core.specs.Answer.{AnswersInput, program_in, IsDone, out_text, AnswersProgram, DeliversBy, Delivers, Delivered, IsAnswered}
+use Rattle.command_core.specs.Delivery.{DeliversBy, Delivers, Delivered, HandsNothing, IsAnswered}
 
-whole : (P : Answer → Type 0) (a : Answer) (r : Ran) (before after : Option (List ℕ)) (s : Status) → IsAnswered s → a.status ≡ s → P a → r.journal ≡ a.journal → r.shared ≡ a.shared → after ≡ with_more before a.bytes → DeliversBy s P r before after
-whole P a r before after Done ok e p j h w = (a, p, e, j, h, w)
-whole P a r before after Words ok e p j h w = (a, p, e, j, h, w)
-whole P a r before after Source ok e p j h w = (a, p, e, j, h, w)
-whole P a r before after ReadFault ok e p j h w = absurd ok
-whole P a r before after WriteFault ok e p j h w = absurd ok
-whole P a r before after NoMemory ok e p j h w = absurd ok
+abbrev Given : (Answer → Type 0) → Ran → Option (List ℕ) → Option (List ℕ) → Status → Type 0
+Given P r before after s = (a : Answer) × P a × (a.status ≡ s) × (r.journal ≡ a.journal) × (r.shared ≡ a.shared) × (after ≡ with_more before a.bytes)
+
+whole : (P : Answer → Type 0) (r : Ran) (before after : Option (List ℕ)) (s : Status) → IsAnswered s → Given P r before after s → DeliversBy s P r before after
+whole P r before after Done ok g = g
+whole P r before after Words ok g = g
+whole P r before after Source ok g = g
+whole P r before after Trap ok g = g
+whole P r before after Entangled ok g = g
+whole P r before after Fuel ok g = g
+whole P r before after Pool ok g = g
+whole P r before after Trace ok g = g
+whole P r before after ReadFault ok g = absurd ok
+whole P r before after WriteFault ok g = absurd ok
+whole P r before after NoMemory ok g = absurd ok
 
 pub delivers : (P : Answer → Type 0) (a : Answer) (r : Ran) (before after : Option (List ℕ)) → P a → IsAnswered a.status → Delivered a r before after → Delivers P r before after
 delivers P a r before after p ok d = elim d.written [
-  | inl w ↦ subst (λ s. DeliversBy s P r before after) (sym w.0) (whole P a r before after a.status ok refl p d.journal d.shared w.1)
+  | inl w ↦ subst (λ s. DeliversBy s P r before after) (sym w.0) (whole P r before after a.status ok (a, p, refl, d.journal, d.shared, w.1))
   | inr w ↦ subst (λ s. DeliversBy s P r before after) (sym w.0) (a, w.1.0, p, d.journal, d.shared, w.1.1)
 ]
 
-pub answered : (o : Option ProgramText) (a : Answer) → AnswersProgram o a → IsAnswered a.status
-answered None a h = subst IsAnswered (sym h.status) tt
-answered (Some p) a h = subst IsAnswered (sym h.status) tt
+-- A COMMAND AND NO FAULT
 
--- A PROGRAM AND NO FAULT
+abbrev GivesAll : CommandLine → List ℕ → Ran → Option (List ℕ) → Option (List ℕ) → Type 0
+GivesAll line input r before after =
+    (r.status ≡ NoMemory) ⊎ ((a : Answer) × AnswersLine line input a × (r.status ≡ a.status) × (r.journal ≡ a.journal) × (r.shared ≡ a.shared) × (after ≡ with_more before a.bytes))
 
-is_done : (o : Option ProgramText) (p : ProgramText) (a : Answer) → o ≡ Some p → AnswersProgram o a → IsDone p a
-is_done None p a e h = absurd (let q : ◌≡◌ {A = Option ProgramText} None (Some p) = e in cc)
-is_done (Some q) p a e h = subst (λ x. IsDone x a) (let s : q ≡ p = cc in s) h
+all_given : (line : CommandLine) (input : List ℕ) (r : Ran) (before after : Option (List ℕ)) (s : Status) → r.status ≡ s → Given (AnswersLine line input) r before after s → GivesAll line input r before after
+all_given line input r before after s e g = inr (g.0, g.1, (let f = g.2 in cc), g.3, g.4, g.5)
 
-all_given : (p : ProgramText) (a : Answer) (r : Ran) (before after : Option (List ℕ)) → IsDone p a → r.journal ≡ a.journal → after ≡ with_more before a.bytes → a.status ≡ r.status
-    → (r.status ≡ Done) × IsRun p r.journal × (after ≡ with_more before (out_text (machine_of p r.journal).outputs))
-all_given p a r before after d j w s = (
-  sym s ∙ d.status,
-  subst (IsRun p) (sym j) d.run,
-  w ∙ ap (with_more before) (d.bytes ∙ ap (λ journal. out_text (machine_of p journal).outputs) (sym j)),
-)
-
-abbrev Gives : ProgramText → Ran → Option (List ℕ) → Option (List ℕ) → Type 0
-Gives p r before after = (r.status ≡ NoMemory) ⊎ ((r.status ≡ Done) × IsRun p r.journal × (after ≡ with_more before (out_text (machine_of p r.journal).outputs)))
-
-by_answer : (s : Status) (input : List ℕ) (p : ProgramText) (r : Ran) (before after : Option (List ℕ)) → r.status ≡ s → DeliversBy s (AnswersInput input) r before after → program_in input ≡ Some p
-    → (r.status ≡ ReadFault → ⊥) → (r.status ≡ WriteFault → ⊥) → Gives p r before after
-by_answer Done input p r before after s d e nr nw = inr (all_given p d.0 r before after (is_done (program_in input) p d.0 e d.1) d.3 d.5 (d.2 ∙ sym s))
-by_answer Words input p r before after s d e nr nw = inr (all_given p d.0 r before after (is_done (program_in input) p d.0 e d.1) d.3 d.5 (d.2 ∙ sym s))
-by_answer Source input p r before after s d e nr nw = inr (all_given p d.0 r before after (is_done (program_in input) p d.0 e d.1) d.3 d.5 (d.2 ∙ sym s))
-by_answer ReadFault input p r before after s d e nr nw = absurd (nr s)
-by_answer WriteFault input p r before after s d e nr nw = absurd (nw s)
-by_answer NoMemory input p r before after s d e nr nw = inl s
+by_status : (line : CommandLine) (input : List ℕ) (r : Ran) (before after : Option (List ℕ)) (s : Status) → r.status ≡ s → DeliversBy s (AnswersLine line input) r before after
+    → (r.status ≡ ReadFault → ⊥) → (r.status ≡ WriteFault → ⊥) → GivesAll line input r before after
+by_status line input r before after Done e d nr nw = all_given line input r before after Done e d
+by_status line input r before after Words e d nr nw = all_given line input r before after Words e d
+by_status line input r before after Source e d nr nw = all_given line input r before after Source e d
+by_status line input r before after Trap e d nr nw = all_given line input r before after Trap e d
+by_status line input r before after Entangled e d nr nw = all_given line input r before after Entangled e d
+by_status line input r before after Fuel e d nr nw = all_given line input r before after Fuel e d
+by_status line input r before after Pool e d nr nw = all_given line input r before after Pool e d
+by_status line input r before after Trace e d nr nw = all_given line input r before after Trace e d
+by_status line input r before after ReadFault e d nr nw = absurd (nr e)
+by_status line input r before after WriteFault e d nr nw = absurd (nw e)
+by_status line input r before after NoMemory e d nr nw = inl e
 
 pub no_fault_gives_all : NoFaultGivesAll
-no_fault_gives_all = λ input p r before after d e nr nw. by_answer r.status input p r before after refl d e nr nw
+no_fault_gives_all = λ line input r before after d nr nw. by_status line input r before after r.status refl d nr nw

@@ -3,8 +3,7 @@ use Rattle.std.proofs.Common.{◌≡◌, ◌≤◌, ◌+◌, ◌-◌, ◌++◌, 
 use Rattle.std.specs.Prelude.{Option, Some, None}
 use Rattle.std.proofs.lemmas.List.{take_all, drop_all, drop-drop, length-drop}
 use Rattle.outside_io.specs.Told.{Gives, with_more}
-use Rattle.command_core.specs.Answer.{text_limit, input_of}
-use Rattle.command_core.specs.Input.{Grows}
+use Rattle.command_core.specs.Input.{input_of, Grows}
 
 none_taken : {A : Type 0} (m : ℕ) → ◌≡◌ {A = List A} [] (take m [])
 none_taken zero = refl
@@ -41,9 +40,9 @@ empty_given [] e = refl
 empty_given (x ∷ xs) e = absurd (omega (arith, e))
 
 -- the source gave nothing more
-pub ended : (all : List ℕ) (before after : Option (List ℕ)) (old new : List ℕ) (n : ℕ) → old ≡ take (length old) all → before ≡ Some (drop (length old) all) → length old ≤ text_limit + 1 → Grows before after old new n → n ≡ 0
-    → (new ≡ input_of all) × (after ≡ Some (drop (text_limit + 1) all))
-ended all before after old new n o b le g z =
+pub ended : (limit : ℕ) (all : List ℕ) (before after : Option (List ℕ)) (old new : List ℕ) (n : ℕ) → old ≡ take (length old) all → before ≡ Some (drop (length old) all) → length old ≤ limit + 1 → Grows before after old new n → n ≡ 0
+    → (new ≡ input_of limit all) × (after ≡ Some (drop (limit + 1) all))
+ended limit all before after old new n o b le g z =
     let given = g.0 in
     let gives = subst (λ l. Gives l after given) b g.3 in
     let none = empty_given given (g.2 ∙ z) in
@@ -51,16 +50,16 @@ ended all before after old new n o b le g z =
     let r = grown all before after old new n o b g in
     let len : length new ≡ length old + length given = ap length g.1 ∙ length-append old given in
     let least : length all ≤ length new = let q = g.2 in omega (arith, short, len) in
-    let limit : length all ≤ text_limit + 1 = omega (arith, short, le) in (
-      r.0 ∙ take_all (length new) all least ∙ sym (take_all (text_limit + 1) all limit),
-      r.1 ∙ ap Some (drop_all (length new) all least ∙ sym (drop_all (text_limit + 1) all limit)),
+    let within : length all ≤ limit + 1 = omega (arith, short, le) in (
+      r.0 ∙ take_all (length new) all least ∙ sym (take_all (limit + 1) all within),
+      r.1 ∙ ap Some (drop_all (length new) all least ∙ sym (drop_all (limit + 1) all within)),
     )
 
 -- one byte past the limit came
-pub filled : (all : List ℕ) (now : Option (List ℕ)) (input : List ℕ) → input ≡ take (length input) all → now ≡ Some (drop (length input) all) → length input ≤ text_limit + 1 → text_limit + 1 ≤ length input
-    → (input ≡ input_of all) × (now ≡ Some (drop (text_limit + 1) all))
-filled all now input i n le ge =
-    let e : length input ≡ text_limit + 1 = omega (arith, le, ge) in
+pub filled : (limit : ℕ) (all : List ℕ) (now : Option (List ℕ)) (input : List ℕ) → input ≡ take (length input) all → now ≡ Some (drop (length input) all) → length input ≤ limit + 1 → limit + 1 ≤ length input
+    → (input ≡ input_of limit all) × (now ≡ Some (drop (limit + 1) all))
+filled limit all now input i n le ge =
+    let e : length input ≡ limit + 1 = omega (arith, le, ge) in
     (i ∙ ap (λ k. take k all) e, n ∙ ap (λ k. Some (drop k all)) e)
 
 -- WRITING

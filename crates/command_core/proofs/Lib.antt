@@ -1,8 +1,5 @@
-pub mod Runs
-pub mod Lines
-pub mod Straight
-pub mod Steps
-pub mod Journals
-pub mod Turns
 pub mod Inputs
+pub mod Texts
+pub mod Runs
+pub mod Answered
 pub mod Deliveries

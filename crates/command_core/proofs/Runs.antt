@@ -1,50 +1,51 @@
--- Steps along the runs and the words of a line.
-use Rattle.std.proofs.Common.{◌≡◌, ◌<◌, ◌≤◌, ◌+◌, ℕ, zero, suc, Bool, true, false, List, [], ◌∷◌, length, take, drop, filter, get_or, arith, refl, ap, sym, ◌∙◌, cond}
-use Rattle.std.proofs.Common.{◌⊎◌, inl, inr}
-use Rattle.std.proofs.lemmas.Bool.{cases_lt}
-use Rattle.std.proofs.lemmas.List.{take_all, drop_all}
-use Rattle.std.specs.List.{slice_split, position_or_len, All}
-use Rattle.std.proofs.lemmas.List.Splits.{slice_split_first, slice_split_none}
-use Rattle.std.proofs.lemmas.List.Sums.{fails_before_first, position_or_len_is}
-use Rattle.command_core.specs.Words.{is_blank, is_word, runs_of}
+-- What is answered of runs.
+use Rattle.std.proofs.Common.{◌∙◌, ◌≡◌, ℕ, List, ◌++◌, ap, sym, subst}
+use Rattle.std.specs.Prelude.{Option, Some, None}
+use Rattle.hh_lang.specs.Form.{ProgramText}
+use Rattle.run_trace.specs.Entry.{Event}
+use Rattle.run_trace.specs.Settings.{Limits, usual_limits}
+use Rattle.run_ledger.specs.declared.data.RunEnd.{RunEnd}
+use Rattle.run_ledger.specs.declared.data.RefusedAt.{RefusedAt}
+use Rattle.run_ledger.specs.Journals.{end_of, refused_as_run}
+use Rattle.run_ledger.specs.Text.{out_text, output_lines, end_line_of, refused_line}
+use Rattle.straight_run.specs.Run.{Held, IsRun}
+use Rattle.straight_run.specs.Laws.{OutputsAreWritten}
+use Rattle.trace_input.specs.declared.input.TraceInput.{TraceInput}
+use Rattle.command_line.specs.declared.line.Options.{Options}
+use Rattle.command_core.specs.declared.answer.Status.{Status}
+use Rattle.command_core.specs.declared.answer.Status.TheVariants.{Trace}
+use Rattle.command_core.specs.declared.answer.Answer.{Answer}
+use Rattle.command_core.specs.Status.{status_of_end}
+use Rattle.command_core.specs.Answers.{IsText, IsAnswerOf, IsWholeRun, AnswersEnded, AnswersJournal, AnswersTrace, limits_for}
 
-pub position_at : {X : Type 0} (p : X → Bool) (xs : List X) (i : ℕ) (d : X) → i < length xs → ((k : ℕ) → k < i → p (get_or xs k d) ≡ false) → p (get_or xs i d) ≡ true → i ≡ position_or_len p xs
-position_at p xs i d lt before here = sym (position_or_len_is p xs i d (omega (arith, lt)) before (λ _. here))
+-- a run, and the answer made of what it left
+pub whole_run : (p : ProgramText) (held : Held) (end : RunEnd) (a : Answer) → OutputsAreWritten → IsRun p usual_limits held → held.end ≡ Some end → IsAnswerOf held end a → IsWholeRun p a
+whole_run p held end a written run e answer = record {
+  held = held;
+  run = run;
+  end = end;
+  ended = run.end ∙ e;
+  status = answer.status;
+  bytes = answer.bytes ∙ ap (λ x. output_lines held.outputs ++ end_line_of x) (sym e) ∙ sym (written p usual_limits held run);
+  journal = answer.journal;
+  shared = answer.shared;
+}
 
-pub position_end : {X : Type 0} (p : X → Bool) (xs : List X) (i : ℕ) (d : X) → length xs ≤ i → ((k : ℕ) → k < i → p (get_or xs k d) ≡ false) → length xs ≡ position_or_len p xs
-position_end p xs i d le before = sym (position_or_len_is p xs (length xs) d (omega arith) (λ k lt. before k (omega (arith, lt, le))) (λ lt. absurd (let h : length xs < length xs = lt in omega arith)))
+-- a journal of a whole run
+pub answers_ended : (o : Options) (t : TraceInput) (s : Limits) (journal : List Event) (end : RunEnd) (named : Status) (bytes : List ℕ) (a : Answer)
+    → s ≡ limits_for o t → journal ≡ t.trace.entries → refused_as_run t.program s journal ≡ None → end_of t.program s journal ≡ Some end
+    → named ≡ status_of_end end → bytes ≡ out_text t.program s o.report o.trace journal → IsText named bytes a → AnswersTrace o t a
+answers_ended o t s journal end named bytes a settings entries none e status text h =
+    let none' : refused_as_run t.program (limits_for o t) t.trace.entries ≡ None = rw (sym settings, sym entries) none in
+    let e' : end_of t.program (limits_for o t) t.trace.entries ≡ Some end = rw (sym settings, sym entries) e in
+    let text' : bytes ≡ out_text t.program (limits_for o t) o.report o.trace t.trace.entries = rw (sym settings, sym entries) text in
+    subst (λ r. AnswersJournal t.program (limits_for o t) o t r a) (sym none')
+    (subst (λ x. AnswersEnded t.program (limits_for o t) o t x a) (sym e')
+    (subst (λ n. IsText n (out_text t.program (limits_for o t) o.report o.trace t.trace.entries) a) status (subst (λ x. IsText named x a) text' h)))
 
-none_pass : {X : Type 0} (p : X → Bool) (xs : List X) → position_or_len p xs ≡ length xs → All (λ x. p x ≡ false) xs
-none_pass p xs e = λ k d lt. fails_before_first p xs k d (let h : k < length xs = lt in omega (arith, e, h))
-
--- the last piece
-pub split_last : {X : Type 0} (p : X → Bool) (xs : List X) → position_or_len p xs ≡ length xs → slice_split p xs ≡ xs ∷ []
-split_last p xs e = slice_split_none p xs (none_pass p xs e)
-
--- a piece that isn't empty is a word
-abbrev pub kept_word : List ℕ → List (List ℕ) → List (List ℕ)
-kept_word w ws = cond (is_word w) (w ∷ ws) ws
-
-cut_short : (line : List ℕ) → position_or_len is_blank line < length line → runs_of line ≡ kept_word (take (position_or_len is_blank line) line) (runs_of (drop (position_or_len is_blank line + 1) line))
-cut_short line lt = ap (filter is_word) (slice_split_first is_blank line 0 lt)
-
-whole : (line : List ℕ) → position_or_len is_blank line ≡ length line → runs_of line ≡ kept_word (take (position_or_len is_blank line) line) (runs_of (drop (position_or_len is_blank line + 1) line))
-whole line e = ap (filter is_word) (split_last is_blank line e) ∙ rw (e, take_all (length line) line (omega arith), drop_all (length line + 1) line (omega arith)) refl
-
-by_end : (line : List ℕ) → position_or_len is_blank line ≤ length line → (position_or_len is_blank line < length line) ⊎ (length line ≤ position_or_len is_blank line) → runs_of line ≡ kept_word (take (position_or_len is_blank line) line) (runs_of (drop (position_or_len is_blank line + 1) line))
-by_end line le (inl lt) = cut_short line lt
-by_end line le (inr ge) = whole line (omega (arith, le, ge))
-
--- the runs of a line, by the first of them
-pub runs_step : (line : List ℕ) (end : ℕ) → end ≡ position_or_len is_blank line → end ≤ length line → runs_of line ≡ kept_word (take end line) (runs_of (drop (end + 1) line))
-runs_step line end e le = rw e (by_end line (omega (arith, e, le)) (cases_lt (position_or_len is_blank line) (length line)))
-
--- a run that isn't empty is the first one
-pub run_first : (line : List ℕ) (end : ℕ) → end ≡ position_or_len is_blank line → end ≤ length line → 0 < end → runs_of line ≡ take end line ∷ runs_of (drop (end + 1) line)
-run_first line zero e le lt = absurd (omega (arith, lt))
-run_first [] (suc n) e le lt = absurd (omega (arith, le))
-run_first (c ∷ cs) (suc n) e le lt = runs_step (c ∷ cs) (suc n) e le
-
--- an empty run is none
-pub run_none : (line : List ℕ) (end : ℕ) → end ≡ position_or_len is_blank line → end ≡ 0 → runs_of line ≡ runs_of (drop 1 line)
-run_none line end e z = runs_step line 0 (sym z ∙ e) (omega arith)
+-- a journal that is refused
+pub answers_refused : (o : Options) (t : TraceInput) (s : Limits) (journal : List Event) (r : RefusedAt) (bytes : List ℕ) (a : Answer)
+    → s ≡ limits_for o t → journal ≡ t.trace.entries → refused_as_run t.program s journal ≡ Some r → bytes ≡ refused_line r → IsText Trace bytes a → AnswersTrace o t a
+answers_refused o t s journal r bytes a settings entries e text h =
+    let e' : refused_as_run t.program (limits_for o t) t.trace.entries ≡ Some r = rw (sym settings, sym entries) e in
+    subst (λ x. AnswersJournal t.program (limits_for o t) o t x a) (sym e') (subst (λ x. IsText Trace x a) text h)

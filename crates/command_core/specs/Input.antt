@@ -1,6 +1,48 @@
--- Reading an input, and writing bytes.
-use Rattle.std.specs.Prelude.{◌≡◌, ℕ, List, ◌++◌, Option, length, take}
+-- The inputs of commands: whose bytes they are, and how many of them are read.
+use Rattle.std.specs.Prelude.{◌≡◌, ℕ, ◌+◌, Bool, true, false, List, [], ◌++◌, Option, Some, None, length, take}
 use Rattle.outside_io.specs.Told.{Gives, with_more}
+use Rattle.command_line.specs.declared.line.CommandLine.{CommandLine}
+use Rattle.command_line.specs.declared.line.CommandLine.TheVariants.{Check, Run, Model, Make}
+
+-- the most bytes of a program's text, and of a program with a trace
+abbrev pub program_limit : ℕ
+program_limit = 1048576
+
+abbrev pub trace_limit : ℕ
+trace_limit = 16777216
+
+abbrev pub limit_of : CommandLine → ℕ
+limit_of (Check file) = program_limit
+limit_of (Run file) = program_limit
+limit_of (Model file options) = trace_limit
+limit_of (Make seed size) = 0
+
+-- whether a command reads an input
+abbrev pub is_reading : CommandLine → Bool
+is_reading (Check file) = true
+is_reading (Run file) = true
+is_reading (Model file options) = true
+is_reading (Make seed size) = false
+
+abbrev pub reads : Option CommandLine → Bool
+reads None = false
+reads (Some line) = is_reading line
+
+-- the bytes that a source tells: those of the file, or, where none is named, those that are left
+abbrev pub told : Option (List ℕ) → (List ℕ → Option (List ℕ)) → Option (List ℕ) → Option (List ℕ)
+told left named None = left
+told left named (Some file) = named file
+
+-- the bytes that a source tells for a command; `make` reads none
+abbrev pub told_for : Option (List ℕ) → (List ℕ → Option (List ℕ)) → CommandLine → Option (List ℕ)
+told_for left named (Check file) = told left named file
+told_for left named (Run file) = told left named file
+told_for left named (Model file options) = told left named file
+told_for left named (Make seed size) = Some []
+
+-- the input: all of the bytes, or the first ones as far as one past the limit
+abbrev pub input_of : ℕ → List ℕ → List ℕ
+input_of limit whole = take (limit + 1) whole
 
 -- a call of a source gave so many bytes more
 abbrev pub Grows : Option (List ℕ) → Option (List ℕ) → List ℕ → List ℕ → ℕ → Type 0

@@ -1,15 +1,16 @@
 -- What the answers come to.
-use Rattle.std.specs.Prelude.{◌≡◌, ◌≢◌, ◌⊎◌, ℕ, List, Option, Some}
-use Rattle.hh_lang.specs.Form.{ProgramText}
+use Rattle.std.specs.Prelude.{◌≡◌, ◌≢◌, ◌⊎◌, List, ℕ, Option}
 use Rattle.outside_io.specs.Told.{with_more}
-use Rattle.command_core.specs.declared.answer.Status.TheVariants.{Done, ReadFault, WriteFault, NoMemory}
+use Rattle.command_line.specs.declared.line.CommandLine.{CommandLine}
+use Rattle.command_core.specs.declared.answer.Status.TheVariants.{ReadFault, WriteFault, NoMemory}
+use Rattle.command_core.specs.declared.answer.Answer.{Answer}
 use Rattle.command_core.specs.declared.answer.Ran.{Ran}
-use Rattle.command_core.specs.Journal.{IsRun, machine_of}
-use Rattle.command_core.specs.Answer.{AnswersInput, Delivers, program_in, out_text}
+use Rattle.command_core.specs.Answers.{AnswersLine}
+use Rattle.command_core.specs.Delivery.{Delivers}
 
--- an input that is a program, and no fault: the run is done and all bytes were written, or memory was wanting
+-- a command and its input, and no fault: its answer was given with all its bytes, or memory was wanting
 abbrev pub NoFaultGivesAll : Type 0
 NoFaultGivesAll =
-    (input : List ℕ) (p : ProgramText) (r : Ran) (before after : Option (List ℕ)) → Delivers (AnswersInput input) r before after → program_in input ≡ Some p
+    (line : CommandLine) (input : List ℕ) (r : Ran) (before after : Option (List ℕ)) → Delivers (AnswersLine line input) r before after
     → r.status ≢ ReadFault → r.status ≢ WriteFault
-    → (r.status ≡ NoMemory) ⊎ ((r.status ≡ Done) × IsRun p r.journal × (after ≡ with_more before (out_text (machine_of p r.journal).outputs)))
+    → (r.status ≡ NoMemory) ⊎ ((a : Answer) × AnswersLine line input a × (r.status ≡ a.status) × (r.journal ≡ a.journal) × (r.shared ≡ a.shared) × (after ≡ with_more before a.bytes))

@@ -1,10 +1,5 @@
-pub mod Words
-pub mod Statements
-pub mod Program
-pub mod Journal
-pub mod Course
-pub mod Shared
-pub mod Drive
-pub mod Answer
+pub mod Status
 pub mod Input
+pub mod Answers
+pub mod Delivery
 pub mod Laws

@@ -2,24 +2,18 @@
 #![tactic(auto)]
 
 mod answer;
-mod course;
-mod driver;
-mod entry;
+mod answers;
+mod deliver;
 mod input;
 mod laws;
-mod reader;
-mod shared;
-mod spoken;
-mod statements;
-mod text;
+mod refusals;
 mod top_call;
-mod words;
 
 pub use answer::{Answer, Ran, Status};
-pub use entry::{Entry, Kind};
-pub use laws::no_fault_gives_all;
-pub use shared::Shared;
+pub use laws::{no_fault_gives_all, statuses_of_ends};
 pub use top_call::command;
 
+#[cfg(test)]
+mod examples;
 #[cfg(test)]
 mod tests;

@@ -1,30 +1,34 @@
 // Whole calls, over sources and sinks in memory.
 
 use crate::answer::{Ran, Status};
-use crate::entry::{Entry, Kind};
 use crate::top_call::command;
 use hh_model::End;
 use outside_io::{EmptyGate, MemSink, MemSource};
+use run_ledger::RunEnd;
+use run_trace::{Entry, Kind};
 use std::alloc::Global;
 use std::sync::Wait;
 use std::test::Fail;
 use std::thread::Threads;
 
-const SEVEN: &[u8] = b"fn main\nset i0 7\nout i0\nret\nend";
+const SEVEN: &str = "fn main\nset i0 7\nout i0\nret\nend";
 
-fn took() -> Entry {
-    Entry {
-        worker: 0,
-        kind: Kind::Took(0),
-    }
-}
+// Its left child's collection is due once it has allocated 16 words.
+const COLLECTS: &str =
+    "fn left\nset i0 0\nset i1 14\nnewm r1 i0 i1\nputr r0 i0 r1\nnil r1\nnewm r2 i0 i1\nret\nend\nfn right\nset i0 0\nnil r1\nputr r0 i0 r1\nret\nend\nfn main\nset i0 1\nset i1 0\nnewm r0 i0 i1\npar left right\nset i2 0\ngetr r3 r0 i2\nnil r4\nsame i3 r3 r4\nout i3\nret\nend\n";
 
-fn ran(steps: u32) -> Entry {
-    Entry {
-        worker: 0,
-        kind: Kind::Ran(0, steps),
-    }
-}
+const BEFORE_END: &str =
+    "trace 1\n0 took 0\n0 ran 0 2\n0 chunk 0\n0 ran 0 2\n0 took 1\n1 took 2\n0 ran 1 2\n0 chunk 1\n0 ran 1 2\n0 ran 1 1\n0 begin 1\n1 ran 2 3\n";
+
+// It forks over two objects of 19 words together, and the left child overwrites the reference to one.
+const MARKS: &str =
+    "fn left\nset i0 0\ngetr r1 r0 i0\nnil r2\nputr r0 i0 r2\ngeti i0 r1 i0\nret\nend\nfn right\nret\nend\nfn main\nset i0 1\nset i1 0\nnewm r0 i0 i1\nset i0 0\nset i1 14\nnewm r1 i0 i1\nset i2 5\nputi r1 i0 i2\nputr r0 i0 r1\nnil r1\npar left right\nout i0\nret\nend\n";
+
+// Its left child writes an object of its own into the parent's, and its right child reads that field.
+const ENTANGLES: &str =
+    "fn left\nset i0 0\nset i1 1\nnewm r1 i0 i1\nputr r0 i0 r1\nret\nend\nfn right\nset i0 0\ngetr r1 r0 i0\nret\nend\nfn main\nset i0 1\nset i1 0\nnewm r0 i0 i1\npar left right\nret\nend\n";
+
+const MAKES_1023_FIELDS: &str = "fn main\nset i0 0\nset i1 1023\nnewm r0 i0 i1\nret\nend\n";
 
 fn word_list(alloc: Global, words: &[&str]) -> Result<Vec<String>, Fail> {
     let mut list = Vec::new(alloc);
@@ -34,8 +38,13 @@ fn word_list(alloc: Global, words: &[&str]) -> Result<Vec<String>, Fail> {
     Ok(list)
 }
 
+// What comes from standard input, and from each file too.
 fn source_of(alloc: Global, text: &[u8]) -> Result<MemSource, Fail> {
-    Ok(MemSource::new(text.to_vec(alloc)?, Vec::new(alloc), 65536, Vec::new(alloc)))
+    Ok(MemSource::new(text.to_vec(alloc)?, text.to_vec(alloc)?, 65536, Vec::new(alloc)))
+}
+
+fn sink(alloc: Global) -> MemSink {
+    MemSink::new(alloc, 65536, Vec::new(alloc))
 }
 
 fn call<R: AllocGlobal + Threads + Wait + Sync>(
@@ -48,160 +57,383 @@ fn call<R: AllocGlobal + Threads + Wait + Sync>(
     Ok(command(rt, rt.alloc(), words.as_slice(), source, sink, &EmptyGate))
 }
 
-#[test]
-fn seven(rt: HostRuntime) -> Result<(), Fail> {
-    let mut source = source_of(rt.alloc(), SEVEN)?;
-    let mut sink = MemSink::new(rt.alloc(), 65536, Vec::new(rt.alloc()));
-    let outcome = call(&rt, &["run"], &mut source, &mut sink)?;
-    assert_eq!(rt; outcome.status, Status::Done);
-    assert_eq!(rt; sink.written(), b"7\nend: done\n".as_slice());
-    assert_eq!(rt;
-        outcome.journal.as_slice(),
-        [took(), ran(2), ran(1)].as_slice()
-    );
-    match &outcome.shared {
-        None => assert!(rt; false, "a run hands its shared value back"),
-        Some(shared) => {
-            assert_eq!(rt; shared.outputs(), [7].as_slice());
-            assert_eq!(rt; shared.steps(), 3);
-            assert_eq!(rt; shared.ended(), Some(End::Done));
-            assert_eq!(rt; shared.journal().len(), 0);
-        }
-    }
-    Ok(())
-}
-
-#[test]
-fn failing_sink(rt: HostRuntime) -> Result<(), Fail> {
-    let alloc = rt.alloc();
-    let mut source = source_of(alloc, SEVEN)?;
-    let mut sink = MemSink::new(alloc, 3, vec![in alloc; 2]?);
-    let outcome = call(&rt, &["run"], &mut source, &mut sink)?;
-    assert_eq!(rt; outcome.status, Status::WriteFault);
-    assert_eq!(rt; sink.written(), b"7\ne".as_slice());
-    assert_eq!(rt;
-        outcome.journal.as_slice(),
-        [took(), ran(2), ran(1)].as_slice()
-    );
-    assert_eq!(rt; outcome.status.code(), 9);
-    Ok(())
-}
-
-#[test]
-fn slow_sink(rt: HostRuntime) -> Result<(), Fail> {
-    let mut source = source_of(rt.alloc(), SEVEN)?;
-    let mut sink = MemSink::new(rt.alloc(), 1, Vec::new(rt.alloc()));
-    let outcome = call(&rt, &["run"], &mut source, &mut sink)?;
-    assert_eq!(rt; outcome.status, Status::Done);
-    assert_eq!(rt; sink.written(), b"7\nend: done\n".as_slice());
-    Ok(())
-}
-
-#[test]
-fn failing_source(rt: HostRuntime) -> Result<(), Fail> {
-    let alloc = rt.alloc();
-    let mut source = MemSource::new(SEVEN.to_vec(alloc)?, Vec::new(alloc), 4, vec![in alloc; 2]?);
-    let mut sink = MemSink::new(alloc, 65536, Vec::new(alloc));
-    let outcome = call(&rt, &["run"], &mut source, &mut sink)?;
-    assert_eq!(rt; outcome.status, Status::ReadFault);
-    assert_eq!(rt; outcome.status.code(), 8);
-    assert_eq!(rt; sink.written().len(), 0);
-    assert_eq!(rt; source.left().len(), SEVEN.len() - 4);
-    Ok(())
-}
-
-// Words that are refused leave the source as it was.
-fn are_refused<R: AllocGlobal + Threads + Wait + Sync>(
+// The exit status of a command line, and what it writes.
+pub(crate) fn said<R: AllocGlobal + Threads + Wait + Sync>(
     rt: &R,
     words: &[&str],
-) -> Result<bool, Fail> {
-    let mut source = source_of(rt.alloc(), SEVEN)?;
-    let mut sink = MemSink::new(rt.alloc(), 65536, Vec::new(rt.alloc()));
-    let outcome = call(rt, words, &mut source, &mut sink)?;
-    let written = sink.written() == b"end: words refused\n".as_slice();
-    let left = source.left().len() == SEVEN.len();
-    Ok(outcome.status == Status::Words && written && left)
+    input: &str,
+) -> Result<(u8, Vec<u8>), Fail> {
+    let mut source = source_of(rt.alloc(), input.as_bytes())?;
+    let mut sink = sink(rt.alloc());
+    let ran = call(rt, words, &mut source, &mut sink)?;
+    Ok((ran.status.code(), sink.written().to_vec(rt.alloc())?))
 }
 
 #[test]
-fn bad_words(rt: HostRuntime) -> Result<(), Fail> {
-    assert!(rt; are_refused(&rt, &["walk"])?);
-    assert!(rt; are_refused(&rt, &[])?);
-    assert!(rt; are_refused(&rt, &["run", "run"])?);
-    assert!(rt; are_refused(&rt, &["runs"])?);
-    assert_eq!(rt; Status::Words.code(), 2);
+fn seven(rt: HostRuntime) -> Result<(), Fail> {
+    let mut source = source_of(rt.alloc(), SEVEN.as_bytes())?;
+    let mut sink = sink(rt.alloc());
+    let ran = call(&rt, &["run"], &mut source, &mut sink)?;
+    assert_eq!(rt; ran.status, Status::Done);
+    assert_eq!(rt; sink.written(), b"7\nend: done\n".as_slice());
+    let journal = [
+        Entry::new(0, Kind::Took(0)),
+        Entry::new(0, Kind::Ran(0, 2)),
+        Entry::new(0, Kind::Ran(0, 1)),
+    ];
+    assert_eq!(rt; ran.journal.as_slice(), journal.as_slice());
+    let shared = ran.shared.as_ref().ok_or("a run hands its shared value back")?;
+    assert_eq!(rt; shared.outputs(), [7].as_slice());
+    assert_eq!(rt; shared.steps(), 3);
+    assert_eq!(rt; shared.ended(), Some(RunEnd::Machine(End::Done)));
+    assert_eq!(rt; shared.journal().len(), 0);
     Ok(())
 }
 
 #[test]
-fn refused_texts(rt: HostRuntime) -> Result<(), Fail> {
-    let texts = [
-        b"".as_slice(),
-        b"fn main\nend\nx".as_slice(),
-        b"fn main\nend\nfn g\nend".as_slice(),
-        b"fn main\nset i16 7\nend".as_slice(),
-        b"fn main\nset i0 9223372036854775808\nend".as_slice(),
-        b"fn main\nout r0\nend".as_slice(),
-        b"fn main\nmov i0 i1\nend".as_slice(),
-        b"fn main\nret".as_slice(),
-        b"fn main\nset i01 7\nend".as_slice(),
-        b"fn other\nend".as_slice(),
-        b"fn main\nend # \xff".as_slice(),
+fn programs_run(rt: HostRuntime) -> Result<(), Fail> {
+    let cases = [
+        ("fn main\nend", 0, "end: done\n"),
+        (
+            "# first\n\r\n fn\tmain # opens\nout i15 #x\nend\r\n\n",
+            0,
+            "0\nend: done\n",
+        ),
+        (
+            "fn main\nset i10 -9223372036854775808\nout i10\nset i10 007\nout i10\nend",
+            0,
+            "-9223372036854775808\n7\nend: done\n",
+        ),
+        ("fn f\nout i1\nend\nfn main\nret\nout i0\nend", 0, "end: done\n"),
+        ("", 3, "end: source refused line 1 nomain\n"),
+        ("fn main\nret", 3, "end: source refused line 2 noend\n"),
+        (
+            "fn main\nset i0 1\nmov i0 i1\nend",
+            3,
+            "end: source refused line 3 word\n",
+        ),
+        (
+            "fn g\ncall main\nend\nfn main\nend",
+            3,
+            "end: source refused line 2 word\n",
+        ),
+        (
+            "fn main\nmov i0 i1\nout r0\nend",
+            3,
+            "end: source refused line 3 operand\n",
+        ),
     ];
-    for text in texts {
-        let mut source = source_of(rt.alloc(), text)?;
-        let mut sink = MemSink::new(rt.alloc(), 65536, Vec::new(rt.alloc()));
-        let outcome = call(&rt, &["run"], &mut source, &mut sink)?;
-        assert_eq!(rt; outcome.status, Status::Source);
-        assert_eq!(rt; outcome.status.code(), 3);
-        assert_eq!(rt; sink.written(), b"end: source refused\n".as_slice());
-        assert_eq!(rt; outcome.journal.len(), 0);
+    for (text, status, bytes) in cases {
+        let (code, written) = said(&rt, &["run", "p.hh"], text)?;
+        assert_eq!(rt; code, status);
+        assert_eq!(rt; written.as_slice(), bytes.as_bytes());
     }
     Ok(())
 }
 
 #[test]
-fn accepted_texts(rt: HostRuntime) -> Result<(), Fail> {
-    let texts = [
-        (b"fn main\nend".as_slice(), b"end: done\n".as_slice()),
+fn texts_are_checked(rt: HostRuntime) -> Result<(), Fail> {
+    let cases = [
+        (SEVEN, 0, "end: accepted\n"),
+        (ENTANGLES, 0, "end: accepted\n"),
         (
-            b"# first\n\r\n fn\tmain # opens\nout i15 #x\nend\r\n\n".as_slice(),
-            b"0\nend: done\n".as_slice(),
+            "fn main\nset i0 7\nout i0\nret\nend\nx",
+            3,
+            "end: source refused line 6 word\n",
+        ),
+        ("fn main", 3, "end: source refused line 1 noend\n"),
+        ("fn main\n", 3, "end: source refused line 2 noend\n"),
+        (
+            "fn main\nset i16 1\nend",
+            3,
+            "end: source refused line 2 operand\n",
         ),
         (
-            b"fn main\nset i10 -9223372036854775808\nout i10\nset i10 007\nout i10\nend".as_slice(),
-            b"-9223372036854775808\n7\nend: done\n".as_slice(),
+            "fn main\nset i0 9223372036854775808\nend",
+            3,
+            "end: source refused line 2 operand\n",
         ),
         (
-            b"fn main\nret\nout i0\nend".as_slice(),
-            b"end: done\n".as_slice(),
+            "fn main\npar main x\nend",
+            3,
+            "end: source refused line 2 noname\n",
+        ),
+        (
+            "fn main\njmp a\nend\nfn g\nlab a\nend",
+            3,
+            "end: source refused line 2 nolabel\n",
+        ),
+        (
+            "fn dbl\nadd i0 i0 i0\nret\nend\nfn main\nset i0 0\nset i1 10\npfor x\nout i0\nret\nend",
+            3,
+            "end: source refused line 8 noname\n",
+        ),
+        (
+            "fn main\nend\nfn main\nend",
+            3,
+            "end: source refused line 3 twonames\n",
         ),
     ];
-    for (text, bytes) in texts {
-        let mut source = source_of(rt.alloc(), text)?;
-        let mut sink = MemSink::new(rt.alloc(), 65536, Vec::new(rt.alloc()));
-        let outcome = call(&rt, &["run"], &mut source, &mut sink)?;
-        assert_eq!(rt; outcome.status, Status::Done);
-        assert_eq!(rt; sink.written(), bytes);
+    for (text, status, bytes) in cases {
+        let (code, written) = said(&rt, &["check"], text)?;
+        assert_eq!(rt; code, status);
+        assert_eq!(rt; written.as_slice(), bytes.as_bytes());
     }
     Ok(())
 }
 
 #[test]
-fn longest_texts(rt: HostRuntime) -> Result<(), Fail> {
-    for size in [1048576, 1048577] {
-        let mut text = SEVEN.to_vec(rt.alloc())?;
-        text.resize(size, b'\n')?;
-        let mut source = source_of(rt.alloc(), text.as_slice())?;
-        let mut sink = MemSink::new(rt.alloc(), 65536, Vec::new(rt.alloc()));
-        let outcome = call(&rt, &["run"], &mut source, &mut sink)?;
-        let status = if size == 1048576 {
-            Status::Done
-        } else {
-            Status::Source
-        };
-        assert_eq!(rt; outcome.status, status);
-        assert_eq!(rt; source.left().len(), 0);
+fn bytes_that_are_no_text(rt: HostRuntime) -> Result<(), Fail> {
+    for word in ["check", "run", "model"] {
+        let mut source = source_of(rt.alloc(), &[255])?;
+        let mut sink = sink(rt.alloc());
+        let ran = call(&rt, &[word], &mut source, &mut sink)?;
+        assert_eq!(rt; ran.status, Status::Source);
+        assert_eq!(rt; sink.written(), b"end: source refused line 1 notutf8\n".as_slice());
+    }
+    Ok(())
+}
+
+// What `model` says of a program with a journal in two parts.
+fn modelled<R: AllocGlobal + Threads + Wait + Sync>(
+    rt: &R,
+    words: &[&str],
+    program: &str,
+    before: &str,
+    rest: &str,
+) -> Result<(u8, Vec<u8>), Fail> {
+    let input = format!(in rt.alloc(); "{program}{before}{rest}")?;
+    said(rt, words, input.as_str())
+}
+
+#[test]
+fn journals_are_replayed(rt: HostRuntime) -> Result<(), Fail> {
+    let cases = [
+        (
+            ["model", "--workers=2", "--leaf=16", "--report"].as_slice(),
+            COLLECTS,
+            BEFORE_END,
+            "0 end 1 1 1 16\n0 ran 1 2\n1 ran 2 1\n1 took 0\n1 ran 0 5\n1 ran 0 1\n",
+            0,
+            "1\nreport tasks 3 steps 21 turns 18\nreport leaf 1 putoff 0 freed 0\nreport inner 0 freed 0\nreport chunks 2 peak 3\nreport held 3 words 35\nend: done\n",
+        ),
+        (
+            ["model", "--workers=2", "--leaf=16", "--report"].as_slice(),
+            COLLECTS,
+            BEFORE_END,
+            "0 end 1 1 1 15\n0 ran 1 2\n1 ran 2 1\n1 took 0\n1 ran 0 5\n1 ran 0 1\n",
+            11,
+            "end: trace refused entry 13 count 15 16\n",
+        ),
+        (
+            ["model", "--inner", "16", "--report"].as_slice(),
+            MARKS,
+            "trace 1\n0 took 0\n0 ran 0 2\n0 chunk 0\n0 ran 0 9\n0 took 1\n0 ran 1 2\n0 ran 1 2\n0 mark 0\n0 some 0 64\n0 sweep 0 0\n",
+            "0 ran 1 1\n0 ran 1 1\n0 took 2\n0 ran 2 1\n0 took 0\n0 ran 0 1\n0 ran 0 1\n",
+            0,
+            "5\nreport tasks 3 steps 20 turns 17\nreport leaf 0 putoff 0 freed 0\nreport inner 1 freed 0\nreport chunks 1 peak 1\nreport held 2 words 19\nend: done\n",
+        ),
+        (
+            ["model", "--report"].as_slice(),
+            ENTANGLES,
+            "trace 1\n0 took 0\n0 ran 0 2\n0 chunk 0\n0 ran 0 2\n0 took 2\n0 ran 2 2\n0 ran 2 1\n",
+            "0 took 1\n0 ran 1 2\n0 chunk 1\n0 ran 1 2\n0 ran 1 1\n0 took 0\n0 ran 0 1\n",
+            0,
+            "report tasks 3 steps 13 turns 14\nreport leaf 0 putoff 0 freed 0\nreport inner 0 freed 0\nreport chunks 2 peak 2\nreport held 2 words 6\nend: done\n",
+        ),
+        (
+            ["model", "--trace"].as_slice(),
+            ENTANGLES,
+            "trace 2\n0 took 0\n0 ran 0 2\n0 chunk 0\n0 ran 0 2\n0 took 1\n0 ran 1 2\n0 chunk 1\n0 ran 1 2\n",
+            "0 ran 1 1 # ends\n\n0 took 2\n0 ran 2 2",
+            5,
+            "trace 2\n0 took 0\n0 ran 0 2\n0 chunk 0\n0 ran 0 2\n0 took 1\n0 ran 1 2\n0 chunk 1\n0 ran 1 2\n0 ran 1 1\n0 took 2\n0 ran 2 2\nend: entangled reader 2 owner 1\n",
+        ),
+        (
+            ["model"].as_slice(),
+            MAKES_1023_FIELDS,
+            "trace 1\n0 took 0\n",
+            "0 ran 0 3\n",
+            4,
+            "end: trap size task 0 line 4\n",
+        ),
+        (
+            ["model"].as_slice(),
+            MAKES_1023_FIELDS,
+            "trace 2\n0 took 0\n",
+            "0 ran 0 3\n",
+            11,
+            "end: trace refused entry 2 long 2\n",
+        ),
+        (
+            ["model", "--fuel", "1"].as_slice(),
+            SEVEN,
+            "\ntrace 1\n0 took 0\n0 ran 0 2\n",
+            "0 fuel\n",
+            6,
+            "7\nend: fuel 2\n",
+        ),
+        (
+            ["model", "--chunks", "2"].as_slice(),
+            "fn main\nset i0 0\nset i1 1022\nlab a\nnewm r0 i0 i1\njmp a\nend\n",
+            "trace 1\n0 took 0\n0 ran 0 2\n0 chunk 0\n0 ran 0 2\n",
+            "0 chunk 0\n0 ran 0 2\n0 chunk 0\n",
+            7,
+            "end: pool 2\n",
+        ),
+    ];
+    for (words, program, before, rest, status, bytes) in cases {
+        let (code, written) = modelled(&rt, words, program, before, rest)?;
+        assert_eq!(rt; code, status);
+        assert_eq!(rt; written.as_slice(), bytes.as_bytes());
+    }
+    Ok(())
+}
+
+#[test]
+fn traces_are_refused(rt: HostRuntime) -> Result<(), Fail> {
+    let cases = [
+        ("\ntrace 1\n0 took 0\n0 ran 0 3\n", 11, "end: trace refused entry 2 long 2\n"),
+        ("\ntrace 1\n0 took 0\n0 ran 0 2\n", 11, "end: trace refused short\n"),
+        ("\ntrace 1\n0 took 0\n0 ran 0\n", 11, "end: trace refused line 8\n"),
+        (
+            "\ntrace 1\n0 took 0\n0 ran 0 2\n0 ran 0 1\n0 fuel\n",
+            11,
+            "end: trace refused entry 4 over\n",
+        ),
+        ("\ntrace 1\n1 took 0\n", 11, "end: trace refused entry 1 noworker\n"),
+        ("\ntrace 9\n", 11, "end: trace refused line 6\n"),
+        ("\ntrace 1\n64 took 0\n", 11, "end: trace refused line 7\n"),
+        ("\ntrace 1\n0 ran 0 258\n", 11, "end: trace refused line 7\n"),
+        ("\ntrace 1\n0 some 0 0\n", 11, "end: trace refused line 7\n"),
+        ("\ntrace 1\n0 took 4294967296\n", 11, "end: trace refused line 7\n"),
+        ("\ntrace 1\n0 sweep 0\n", 11, "end: trace refused line 7\n"),
+        ("", 11, "end: trace refused line 5\n"),
+        ("\nx\ntrace 9\n", 3, "end: source refused line 6 word\n"),
+        ("\nfn f\nfreeze r0\nend\ntrace 1\nx", 11, "end: trace refused line 9\n"),
+    ];
+    for (trace, status, bytes) in cases {
+        let (code, written) = modelled(&rt, &["model"], SEVEN, trace, "")?;
+        assert_eq!(rt; code, status);
+        assert_eq!(rt; written.as_slice(), bytes.as_bytes());
+    }
+    Ok(())
+}
+
+#[test]
+fn a_program_is_made(rt: HostRuntime) -> Result<(), Fail> {
+    let text =
+        "fn f0\nmovr r3 r0\nset i2 2\nset i3 0\nnewm r0 i2 i3\nmovr r2 r0\nset i5 496\nset i2 0\nset i3 21\nset i7 7\nset i8 1\nlab a\nnewm r5 i2 i3\nputi r5 i2 i7\nsub i7 i7 i8\njz i7 b\njmp a\nlab b\nset i4 0\nputr r3 i4 r5\nset i3 1\nnewm r6 i2 i3\nputi r6 i2 i5\nputr r3 i4 r6\ngetr r7 r3 i4\ngeti i0 r7 i2\nnil r0\nret\nend\nfn main\nset i2 2\nset i3 0\nnewm r0 i2 i3\nmovr r9 r0\ncall f0\nset i4 0\ngetr r4 r9 i4\ngeti i6 r4 i4\nout i6\nret\nend\n";
+    let mut source = source_of(rt.alloc(), SEVEN.as_bytes())?;
+    let mut sink = sink(rt.alloc());
+    let ran = call(&rt, &["make", "1", "1"], &mut source, &mut sink)?;
+    assert_eq!(rt; ran.status.code(), 0);
+    assert_eq!(rt; sink.written(), text.as_bytes());
+    assert_eq!(rt; source.left().len(), SEVEN.len());
+    let (code, written) = said(&rt, &["check"], text)?;
+    assert_eq!(rt; code, 0);
+    assert_eq!(rt; written.as_slice(), b"end: accepted\n".as_slice());
+    Ok(())
+}
+
+#[test]
+fn words_are_refused(rt: HostRuntime) -> Result<(), Fail> {
+    let cases = [
+        [].as_slice(),
+        ["walk"].as_slice(),
+        ["run", "--workers", "65"].as_slice(),
+        ["run", "--fuel", "0"].as_slice(),
+        ["run", "a", "b"].as_slice(),
+        ["replay"].as_slice(),
+        ["make", "1", "1", "--run"].as_slice(),
+        ["make", "1", "0"].as_slice(),
+        ["model", "--leaf", "15"].as_slice(),
+        ["--help"].as_slice(),
+    ];
+    for words in cases {
+        let mut source = source_of(rt.alloc(), SEVEN.as_bytes())?;
+        let mut sink = sink(rt.alloc());
+        let ran = call(&rt, words, &mut source, &mut sink)?;
+        assert_eq!(rt; ran.status, Status::Words);
+        assert_eq!(rt; ran.status.code(), 2);
+        assert_eq!(rt; sink.written(), b"end: words refused\n".as_slice());
+        assert_eq!(rt; source.left().len(), SEVEN.len());
+    }
+    Ok(())
+}
+
+// A call over as many line feeds, and what it leaves of them.
+fn feeds<R: AllocGlobal + Threads + Wait + Sync>(
+    rt: &R,
+    word: &str,
+    size: usize,
+) -> Result<(u8, Vec<u8>, usize), Fail> {
+    let mut text = Vec::new(rt.alloc());
+    text.resize(size, b'\n')?;
+    let mut source = MemSource::new(text, Vec::new(rt.alloc()), 65536, Vec::new(rt.alloc()));
+    let mut sink = sink(rt.alloc());
+    let ran = call(rt, &[word], &mut source, &mut sink)?;
+    Ok((ran.status.code(), sink.written().to_vec(rt.alloc())?, source.left().len()))
+}
+
+#[test]
+fn longest_inputs(rt: HostRuntime) -> Result<(), Fail> {
+    let cases = [
+        ("run", 1_048_576, 0, "end: source refused line 1048577 nomain\n"),
+        ("run", 1_048_577, 0, "end: source refused line 0 toolong\n"),
+        ("check", 1_048_576, 0, "end: source refused line 1048577 nomain\n"),
+        ("check", 1_048_579, 2, "end: source refused line 0 toolong\n"),
+        ("model", 16_777_216, 0, "end: source refused line 16777217 nomain\n"),
+        ("model", 16_777_217, 0, "end: source refused line 0 toolong\n"),
+    ];
+    for (word, size, left, bytes) in cases {
+        let (code, written, rest) = feeds(&rt, word, size)?;
+        assert_eq!(rt; code, 3);
+        assert_eq!(rt; written.as_slice(), bytes.as_bytes());
+        assert_eq!(rt; rest, left);
+    }
+    Ok(())
+}
+
+#[test]
+fn failing_sinks(rt: HostRuntime) -> Result<(), Fail> {
+    let alloc = rt.alloc();
+    let whole = b"7\nend: done\n".as_slice();
+    for failing in 1..=13 {
+        let mut source = source_of(alloc, SEVEN.as_bytes())?;
+        let mut sink = MemSink::new(alloc, 1, vec![in alloc; failing]?);
+        let ran = call(&rt, &["run"], &mut source, &mut sink)?;
+        let count = (failing as usize - 1).min(12);
+        assert_eq!(rt; sink.written(), &whole[..count]);
+        let status = if failing < 13 { 9 } else { 0 };
+        assert_eq!(rt; ran.status.code(), status);
+        assert_eq!(rt; ran.journal.len(), 3);
+    }
+    Ok(())
+}
+
+#[test]
+fn failing_sources(rt: HostRuntime) -> Result<(), Fail> {
+    let alloc = rt.alloc();
+    // Without a file the fourth call finds the end; with one the first call finds it.
+    for (words, failing, status) in [
+        (["run"].as_slice(), 1, 8),
+        (["run"].as_slice(), 2, 8),
+        (["run"].as_slice(), 3, 8),
+        (["run"].as_slice(), 4, 0),
+        (["run", "p"].as_slice(), 1, 8),
+        (["check", "p"].as_slice(), 2, 8),
+        (["model", "p"].as_slice(), 4, 8),
+        (["check", "p"].as_slice(), 5, 0),
+        (["make", "1", "1"].as_slice(), 1, 0),
+    ] {
+        let text = SEVEN.as_bytes().to_vec(alloc)?;
+        let named = SEVEN.as_bytes().to_vec(alloc)?;
+        let mut source = MemSource::new(text, named, 16, vec![in alloc; failing]?);
+        let mut sink = sink(alloc);
+        let ran = call(&rt, words, &mut source, &mut sink)?;
+        assert_eq!(rt; ran.status.code(), status);
+        assert_eq!(rt; sink.written().is_empty(), status == 8);
     }
     Ok(())
 }
@@ -218,15 +450,19 @@ fn a_thousand_lines(rt: HostRuntime) -> Result<(), Fail> {
     }
     text.extend_from_slice(b"end")?;
     let mut source = source_of(alloc, text.as_slice())?;
-    let mut sink = MemSink::new(alloc, 65536, Vec::new(alloc));
-    let outcome = call(&rt, &["run"], &mut source, &mut sink)?;
-    assert_eq!(rt; outcome.status, Status::Done);
-    let journal = outcome.journal.as_slice();
+    let mut sink = sink(alloc);
+    let ran = call(&rt, &["run"], &mut source, &mut sink)?;
+    assert_eq!(rt; ran.status, Status::Done);
+    let first = [
+        Entry::new(0, Kind::Took(0)),
+        Entry::new(0, Kind::Ran(0, 256)),
+        Entry::new(0, Kind::Ran(0, 256)),
+        Entry::new(0, Kind::Ran(0, 89)),
+        Entry::new(0, Kind::Ran(0, 1)),
+    ];
+    let journal = ran.journal.as_slice();
     assert_eq!(rt; journal.len(), 404);
-    assert_eq!(rt;
-        &journal[..5],
-        [took(), ran(256), ran(256), ran(89), ran(1)].as_slice()
-    );
+    assert_eq!(rt; &journal[..5], first.as_slice());
     assert_eq!(rt; sink.written().len(), 400 * 2 + 10);
     Ok(())
 }

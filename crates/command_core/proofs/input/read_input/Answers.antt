@@ -1,22 +1,20 @@
-use Rattle.std.proofs.Common.{arith, rules}
-use Rattle.command_core.proofs.Inputs.{grown, ended, filled}
+use Rattle.std.proofs.Common.{rules}
 use Rattle.command_core.proofs.input.read_input.Goals as goal
 
-pub loop-source-preserved : goal.loop-source-preserved
-loop-source-preserved g c = (
-  λ left e. let i = c.loop-source.invariant.0 left e in grown left (g.S.Source.left c.loop-source.source) (g.S.Source.left c.take_more.new.source) c.loop-source.input.items c.take_more.new.input.items c.in_ok-take_more.field-0 i.0 i.1 c.in_ok-take_more.ensures.grows,
-  c.in_ok-take_more.ensures.within,
-  omega (arith, c.loop-source.invariant.2, c.take_more.ensures.never_falls),
-)
+pub returns-in-Check-clause-input : goal.returns-in-Check-clause-input
+returns-in-Check-clause-input g c = rw c.in-Check.is c.read_file.ensures.input
 
-pub returns-then-branch-eq0-clause-input : goal.returns-then-branch-eq0-clause-input
-returns-then-branch-eq0-clause-input g c = λ left e. let i = c.loop-source.invariant.0 left e in let r = ended left (g.S.Source.left c.loop-source.source) (g.S.Source.left c.take_more.new.source) c.loop-source.input.items c.take_more.new.input.items c.in_ok-take_more.field-0 i.0 i.1 c.loop-source.invariant.1 c.in_ok-take_more.ensures.grows c.if-branch-eq0.true in r.0
+pub returns-in-Check-clause-taken : goal.returns-in-Check-clause-taken
+returns-in-Check-clause-taken g c = rw c.in-Check.is (search rules)
 
-pub returns-then-branch-eq0-clause-taken : goal.returns-then-branch-eq0-clause-taken
-returns-then-branch-eq0-clause-taken g c = λ left e. let i = c.loop-source.invariant.0 left e in let r = ended left (g.S.Source.left c.loop-source.source) (g.S.Source.left c.take_more.new.source) c.loop-source.input.items c.take_more.new.input.items c.in_ok-take_more.field-0 i.0 i.1 c.loop-source.invariant.1 c.in_ok-take_more.ensures.grows c.if-branch-eq0.true in r.1
+pub returns-in-Run-clause-input : goal.returns-in-Run-clause-input
+returns-in-Run-clause-input g c = rw c.in-Run.is c.read_file-in-Run.ensures.input
 
-pub returns-clause-input : goal.returns-clause-input
-returns-clause-input g c = λ left e. let i = c.loop-source.invariant.0 left e in let r = filled left (g.S.Source.left c.loop-source.source) c.loop-source.input.items i.0 i.1 c.loop-source.invariant.1 (search rules) in r.0
+pub returns-in-Run-clause-taken : goal.returns-in-Run-clause-taken
+returns-in-Run-clause-taken g c = rw c.in-Run.is (search rules)
 
-pub returns-clause-taken : goal.returns-clause-taken
-returns-clause-taken g c = λ left e. let i = c.loop-source.invariant.0 left e in let r = filled left (g.S.Source.left c.loop-source.source) c.loop-source.input.items i.0 i.1 c.loop-source.invariant.1 (search rules) in r.1
+pub returns-in-Model-clause-input : goal.returns-in-Model-clause-input
+returns-in-Model-clause-input g c = rw c.in-Model.is c.read_file-in-Model.ensures.input
+
+pub returns-in-Model-clause-taken : goal.returns-in-Model-clause-taken
+returns-in-Model-clause-taken g c = rw c.in-Model.is (search rules)

@@ -1,0 +1,141 @@
+-- What each command answers to its input: the bytes, the status, and what is handed back.
+use Rattle.std.specs.Prelude.{◌≡◌, ℕ, ◌<◌, false, Bool, Option, Some, None, List, [], ◌∷◌, ◌++◌, Result, Ok, Err, length, nat_le, codes}
+use Rattle.std.specs.Fmt.{decimal}
+use Rattle.hh_lang.specs.Form.{ProgramText}
+use Rattle.run_trace.specs.Settings.{Limits, usual_limits}
+use Rattle.run_ledger.specs.declared.data.RunEnd.{RunEnd}
+use Rattle.run_ledger.specs.declared.data.RefusedAt.{RefusedAt}
+use Rattle.run_ledger.specs.Journals.{end_of, refused_as_run}
+use Rattle.run_ledger.specs.Text.{end_line, end_words, out_text, output_lines, refused_line}
+use Rattle.program_reader.specs.declared.cause.Cause.TheVariants.{TooLong, Word}
+use Rattle.program_reader.specs.declared.cause.Refused.{Refused}
+use Rattle.program_reader.specs.Cause.{text_of_cause}
+use Rattle.program_reader.specs.Program.{reading_of}
+use Rattle.program_make.specs.Text.{made_text}
+use Rattle.trace_input.specs.declared.input.InputFault.{InputFault}
+use Rattle.trace_input.specs.declared.input.InputFault.TheVariants.{Source as SourceFault, BadLine}
+use Rattle.trace_input.specs.declared.input.TraceInput.{TraceInput}
+use Rattle.trace_input.specs.Input.{input_fault, IsInput}
+use Rattle.straight_run.specs.Ready.{first_unready}
+use Rattle.straight_run.specs.Run.{Held, IsRun}
+use Rattle.command_line.specs.declared.line.Options.{Options}
+use Rattle.command_line.specs.declared.line.CommandLine.{CommandLine}
+use Rattle.command_line.specs.declared.line.CommandLine.TheVariants.{Check, Run, Model, Make}
+use Rattle.command_core.specs.declared.answer.Status.{Status}
+use Rattle.command_core.specs.declared.answer.Status.TheVariants.{Done, Words, Source, Trace}
+use Rattle.command_core.specs.declared.answer.Answer.{Answer}
+use Rattle.command_core.specs.Status.{status_of_end}
+use Rattle.command_core.specs.Input.{program_limit, trace_limit}
+
+-- bytes alone; nothing of a run is handed back
+pub record IsText (named : Status) (bytes : List ℕ) (a : Answer) : Type 0 where
+  pub status : a.status ≡ named
+  pub written : a.bytes ≡ bytes
+  pub journal : a.journal ≡ []
+  pub shared : a.shared ≡ None
+
+-- REFUSED WORDS AND TEXTS
+
+-- words that are no command line
+abbrev pub AnswersWords : Answer → Type 0
+AnswersWords = IsText Words (end_line (codes "words refused" ∷ []))
+
+-- a text that is no program
+abbrev pub source_line : Refused → List ℕ
+source_line r = end_line (codes "source refused line" ∷ decimal r.line ∷ text_of_cause r.cause ∷ [])
+
+abbrev pub AnswersRefused : Refused → Answer → Type 0
+AnswersRefused r = IsText Source (source_line r)
+
+-- more bytes than the limit
+abbrev pub too_long : Refused
+too_long = record { line = 0; cause = TooLong }
+
+-- CHECK
+
+abbrev pub AnswersReading : Result ProgramText Refused → Answer → Type 0
+AnswersReading (Ok p) = IsText Done (end_line (codes "accepted" ∷ []))
+AnswersReading (Err r) = AnswersRefused r
+
+-- an input within the limit has an answer of its own, and any other is too long
+abbrev pub Unless : Bool → (Answer → Type 0) → Answer → Type 0
+Unless false P = AnswersRefused too_long
+Unless _ P = P
+
+abbrev pub AnswersCheck : List ℕ → Answer → Type 0
+AnswersCheck input = Unless (nat_le (length input) program_limit) (AnswersReading (reading_of input))
+
+-- RUN
+
+-- a run of the usual limits: the bytes and the status are those of its journal, by the definitions alone; the journal is
+-- handed back, moved out of the shared value
+pub record IsWholeRun (p : ProgramText) (a : Answer) : Type 0 where
+  pub held : Held
+  pub run : IsRun p usual_limits held
+  pub end : RunEnd
+  pub ended : end_of p usual_limits held.journal ≡ Some end
+  pub status : a.status ≡ status_of_end end
+  pub bytes : a.bytes ≡ out_text p usual_limits false false held.journal
+  pub journal : a.journal ≡ held.journal
+  pub shared : a.shared ≡ Some (record held { journal = [] })
+
+-- the same by what was run: its outputs and the end line
+pub record IsAnswerOf (held : Held) (end : RunEnd) (a : Answer) : Type 0 where
+  pub status : a.status ≡ status_of_end end
+  pub bytes : a.bytes ≡ output_lines held.outputs ++ end_line (end_words end)
+  pub journal : a.journal ≡ held.journal
+  pub shared : a.shared ≡ Some (record held { journal = [] })
+
+-- a program is run where each of its instructions is one that runs; else the first other one is refused as a word
+abbrev pub AnswersProgram : ProgramText → Option ℕ → Answer → Type 0
+AnswersProgram p None = IsWholeRun p
+AnswersProgram p (Some at) = AnswersRefused (record { line = at; cause = Word })
+
+abbrev pub AnswersProgramRead : Result ProgramText Refused → Answer → Type 0
+AnswersProgramRead (Ok p) = AnswersProgram p (first_unready p)
+AnswersProgramRead (Err r) = AnswersRefused r
+
+abbrev pub AnswersRun : List ℕ → Answer → Type 0
+AnswersRun input = Unless (nat_le (length input) program_limit) (AnswersProgramRead (reading_of input))
+
+-- MODEL
+
+-- a bad line of a trace
+abbrev pub bad_line : ℕ → List ℕ
+bad_line n = end_line (codes "trace refused line" ∷ decimal n ∷ [])
+
+abbrev pub AnswersEnded : ProgramText → Limits → Options → TraceInput → Option RunEnd → Answer → Type 0
+AnswersEnded p s o t None a = ⊥
+AnswersEnded p s o t (Some end) a = IsText (status_of_end end) (out_text p s o.report o.trace t.trace.entries) a
+
+-- a journal that is refused, or that is one of a whole run
+abbrev pub AnswersJournal : ProgramText → Limits → Options → TraceInput → Option RefusedAt → Answer → Type 0
+AnswersJournal p s o t (Some r) a = IsText Trace (refused_line r) a
+AnswersJournal p s o t None a = AnswersEnded p s o t (end_of p s t.trace.entries) a
+
+abbrev pub limits_for : Options → TraceInput → Limits
+limits_for o t = record o.settings { version = t.trace.version }
+
+abbrev pub AnswersTrace : Options → TraceInput → Answer → Type 0
+AnswersTrace o t a = AnswersJournal t.program (limits_for o t) o t (refused_as_run t.program (limits_for o t) t.trace.entries) a
+
+abbrev pub AnswersTraceInput : Options → List ℕ → Option InputFault → Answer → Type 0
+AnswersTraceInput o input (Some (SourceFault r)) a = AnswersRefused r a
+AnswersTraceInput o input (Some (BadLine n)) a = IsText Trace (bad_line n) a
+AnswersTraceInput o input None a = (t : TraceInput) × IsInput input t × AnswersTrace o t a
+
+abbrev pub AnswersModel : Options → List ℕ → Answer → Type 0
+AnswersModel o input = Unless (nat_le (length input) trace_limit) (AnswersTraceInput o input (input_fault input))
+
+-- MAKE
+
+abbrev pub AnswersMake : ℕ → ℕ → Answer → Type 0
+AnswersMake seed size = IsText Done (made_text seed size)
+
+-- EACH COMMAND
+
+abbrev pub AnswersLine : CommandLine → List ℕ → Answer → Type 0
+AnswersLine (Check file) input = AnswersCheck input
+AnswersLine (Run file) input = AnswersRun input
+AnswersLine (Model file options) input = AnswersModel options input
+AnswersLine (Make seed size) input = AnswersMake seed size

@@ -1,0 +1,38 @@
+-- Statuses and their numbers.
+use Rattle.std.specs.Prelude.{◌≡◌, ℕ}
+use Rattle.hh_model.specs.declared.data.End.{End}
+use Rattle.hh_model.specs.declared.data.End.TheVariants.{Done as MachineDone, Trapped, Entangled as MachineEntangled}
+use Rattle.run_ledger.specs.declared.data.RunEnd.{RunEnd}
+use Rattle.run_ledger.specs.declared.data.RunEnd.TheVariants.{Machine, Fuel as FuelEnd, Pool as PoolEnd}
+use Rattle.run_ledger.specs.Text.{end_status}
+use Rattle.command_core.specs.declared.answer.Status.{Status}
+use Rattle.command_core.specs.declared.answer.Status.TheVariants.{Done, Words, Source, Trap, Entangled, Fuel, Pool, ReadFault, WriteFault, NoMemory, Trace}
+
+-- exit statuses
+abbrev pub code_of_status : Status → ℕ
+code_of_status Done = 0
+code_of_status Words = 2
+code_of_status Source = 3
+code_of_status Trap = 4
+code_of_status Entangled = 5
+code_of_status Fuel = 6
+code_of_status Pool = 7
+code_of_status ReadFault = 8
+code_of_status WriteFault = 9
+code_of_status NoMemory = 10
+code_of_status Trace = 11
+
+-- the status of a run by its end
+abbrev pub status_of_machine : End → Status
+status_of_machine MachineDone = Done
+status_of_machine (Trapped kind t at) = Trap
+status_of_machine (MachineEntangled reader owner) = Entangled
+
+abbrev pub status_of_end : RunEnd → Status
+status_of_end (Machine e) = status_of_machine e
+status_of_end (FuelEnd steps) = Fuel
+status_of_end (PoolEnd chunks) = Pool
+
+-- its number is that of the end
+abbrev pub StatusesOfEnds : Type 0
+StatusesOfEnds = (e : RunEnd) → code_of_status (status_of_end e) ≡ end_status e

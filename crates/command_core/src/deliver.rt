@@ -1,0 +1,59 @@
+// Writes an answer.
+
+ghost use Rattle.std.specs.Prelude.{◌≡◌, OnOk, OnErr};
+ghost use Rattle.outside_io.specs.Fault.{HasRisen};
+ghost use Rattle.outside_io.specs.Told.{with_more};
+ghost use Rattle.command_core.specs.Input.{WroteSome};
+ghost use Rattle.command_core.specs.Delivery.{IsAnswered, Delivered, HandsNothing};
+
+use crate::answer::{Answer, Ran, Status};
+use listed::Listed;
+use outside_io::{Failed, Sink};
+use std::alloc::Global;
+
+// Writes all bytes to a sink.
+fn write_all<K: Sink>(sink: &mut K, bytes: &[u8]) -> Result<(), Failed>
+    ensures all { OnOk result (K.written sink.new ≡ with_more (K.written sink.old) bytes.now) }
+    ensures some { OnErr result (WroteSome (K.written sink.old) (K.written sink.new) bytes.now) }
+    ensures failed { OnErr result (HasRisen (K.faults sink.old) (K.faults sink.new)) }
+{
+    let mut at = 0;
+    while at < bytes.len() {
+        at += sink.put(&bytes[at..])?;
+    }
+    Ok(())
+}
+
+/// What is handed back where nothing was answered.
+pub(crate) fn nothing(alloc: Global, status: Status) -> Ran
+    ensures { HandsNothing status result }
+{
+    Ran {
+        status,
+        journal: Listed::new(alloc),
+        shared: None,
+    }
+}
+
+/// Writes an answer.
+pub(crate) fn deliver<K: Sink>(answer: Answer, sink: &mut K) -> Ran
+    requires { IsAnswered answer.status }
+    ensures delivered { Delivered answer result (K.written sink.old) (K.written sink.new) }
+    ensures fault { result.status ≡ Status.WriteFault → HasRisen (K.faults sink.old) (K.faults sink.new) }
+{
+    let Answer {
+        status,
+        bytes,
+        journal,
+        shared,
+    } = answer;
+    let status = match write_all(sink, bytes.as_slice()) {
+        Ok(()) => status,
+        Err(Failed) => Status::WriteFault,
+    };
+    Ran {
+        status,
+        journal,
+        shared,
+    }
+}
