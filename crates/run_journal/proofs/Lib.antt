@@ -1,5 +1,4 @@
 pub mod Joined
-pub mod Lines
 pub mod Machines
 pub mod Opens
 pub mod Replays
