@@ -9,9 +9,11 @@ mod enter;
 mod pace;
 mod private;
 mod ran;
+mod reads;
 mod replay;
 mod steps;
 
 pub use book::Book;
 pub use enter::ApplyError;
+pub use reads::Kept;
 pub use replay::{ReplayError, model_replay, replayed};
