@@ -3,7 +3,8 @@
 
 #[cfg(test)]
 mod tests {
-    use run_journal::{ReplayError, end_text, model_replay, refused_text};
+    use run_journal::{ReplayError, model_replay};
+    use run_report::{end_text, refused_text};
     use run_trace::{Settings, Version};
     use std::alloc::Global;
     use std::test::Fail;

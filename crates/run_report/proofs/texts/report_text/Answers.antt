@@ -1,7 +1,7 @@
 use Rattle.std.proofs.Common.{◌∙◌}
 use Rattle.std.proofs.lemmas.Result.{IfOk-weaker}
-use Rattle.run_journal.proofs.Lines.{five_lines}
-use Rattle.run_journal.proofs.texts.report_text.Goals as goal
+use Rattle.run_report.proofs.Lines.{five_lines}
+use Rattle.run_report.proofs.texts.report_text.Goals as goal
 
 pub returns : goal.returns
 returns c =
