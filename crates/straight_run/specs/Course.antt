@@ -70,7 +70,7 @@ pub record Returns (p : ProgramText) (s : Limits) (old new : Course) : Type 0 wh
   pub shared : IsShared p s old
   pub end : (task_step p (ledger_at p s old) 0).end ≡ Some (Machine Done)
   pub outputs : new.outputs ≡ (task_step p (ledger_at p s old) 0).machine.outputs
-  pub place : new.place ≡ old.place + 1
+  pub steps : new.place ≡ (task_step p (ledger_at p s old) 0).steps
 
 -- one step that is an output or the last return; or none, where a private one comes next
 abbrev pub Opens : ProgramText → Course → Course → Opened → Type 0

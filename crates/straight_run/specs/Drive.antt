@@ -1,6 +1,6 @@
 -- A run on its way, and its journal.
-use Rattle.std.specs.Prelude.{◌≡◌, ◌<◌, true, None, [], length}
-use Rattle.run_trace.specs.Settings.{Limits}
+use Rattle.std.specs.Prelude.{◌≡◌, ◌<◌, true, [], length}
+use Rattle.run_trace.specs.Settings.{Limits, AreLimits}
 use Rattle.hh_lang.specs.Form.{ProgramText}
 use Rattle.run_ledger.specs.declared.data.Ledger.{Ledger}
 use Rattle.run_ledger.specs.declared.data.WorkerPace.{WorkerPace}
@@ -17,6 +17,7 @@ IsCalm x = (x.marks ≡ []) × ((s : Limits) (l : Ledger) → owed s l x ≡ Not
 
 -- the run goes on, and the accounts of its journal are where its task stands
 pub record Follows (p : ProgramText) (s : Limits) (d : Drive) : Type 0 where
+  pub limits : AreLimits s
   pub legal : is_legal p s d.journal ≡ true
   pub ledger : ledger_of p s d.journal ≡ ledger_at p s d.course
   pub paced : is_paced p s d.journal ≡ true

@@ -32,12 +32,12 @@ pub enum Opened {
 }
 
 // What stands at a place of main.
-fn main_line(program: &Program, place: u32) -> Line
+fn main_line(program: &Program, place: u32) -> &Line
     requires { place < length (main_lines program.now) }
-    ensures { slice_get (main_lines program.now) place ≡ Some result }
+    ensures { slice_get (main_lines program.now) place ≡ Some result.now }
 {
     program.form();
-    *program
+    program
         .functions()
         .at(program.main() as usize)
         .code

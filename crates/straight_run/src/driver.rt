@@ -46,8 +46,11 @@ impl Drive {
 
     // The run with its task taken.
     fn begin(alloc: Global, program: &Program, settings: Settings) -> Result<Drive, AllocError>
+        requires { IsReady program.now }
         ensures { IfOk result (Follows program.now settings) }
     {
+        program.form();
+        let _ = settings.workers();
         let mut drive = Drive::new(alloc);
         drive.enter(Kind::Took(0))?;
         Ok(drive)
