@@ -6,6 +6,8 @@ mod driver;
 mod laws;
 mod ready;
 mod shared;
+#[cfg(test)]
+mod tests;
 
 pub use driver::run_program;
 pub use laws::{outputs_are_written, unready_is_found};
