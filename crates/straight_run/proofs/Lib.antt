@@ -3,3 +3,4 @@ pub mod Steps
 pub mod Entered
 pub mod Turns
 pub mod Unready
+pub mod Accepted
