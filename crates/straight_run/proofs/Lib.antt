@@ -1,0 +1,6 @@
+pub mod Mains
+pub mod Steps
+pub mod Entered
+pub mod Turns
+pub mod Unready
+pub mod Accepted
