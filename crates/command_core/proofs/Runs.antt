@@ -36,9 +36,9 @@ pub answers_ended : (o : Options) (t : TraceInput) (s : Limits) (journal : List 
     → s ≡ limits_for o t → journal ≡ t.trace.entries → refused_as_run t.program s journal ≡ None → end_of t.program s journal ≡ Some end
     → named ≡ status_of_end end → bytes ≡ out_text t.program s o.report o.trace journal → IsText named bytes a → AnswersTrace o t a
 answers_ended o t s journal end named bytes a settings entries none e status text h =
-    let none' : refused_as_run t.program (limits_for o t) t.trace.entries ≡ None = rw (sym settings, sym entries) none in
-    let e' : end_of t.program (limits_for o t) t.trace.entries ≡ Some end = rw (sym settings, sym entries) e in
-    let text' : bytes ≡ out_text t.program (limits_for o t) o.report o.trace t.trace.entries = rw (sym settings, sym entries) text in
+    let none' = subst (λ x. refused_as_run t.program x t.trace.entries ≡ None) settings (subst (λ j. refused_as_run t.program s j ≡ None) entries none) in
+    let e' = subst (λ x. end_of t.program x t.trace.entries ≡ Some end) settings (subst (λ j. end_of t.program s j ≡ Some end) entries e) in
+    let text' = subst (λ x. bytes ≡ out_text t.program x o.report o.trace t.trace.entries) settings (subst (λ j. bytes ≡ out_text t.program s o.report o.trace j) entries text) in
     subst (λ r. AnswersJournal t.program (limits_for o t) o t r a) (sym none')
     (subst (λ x. AnswersEnded t.program (limits_for o t) o t x a) (sym e')
     (subst (λ n. IsText n (out_text t.program (limits_for o t) o.report o.trace t.trace.entries) a) status (subst (λ x. IsText named x a) text' h)))
@@ -47,5 +47,5 @@ answers_ended o t s journal end named bytes a settings entries none e status tex
 pub answers_refused : (o : Options) (t : TraceInput) (s : Limits) (journal : List Event) (r : RefusedAt) (bytes : List ℕ) (a : Answer)
     → s ≡ limits_for o t → journal ≡ t.trace.entries → refused_as_run t.program s journal ≡ Some r → bytes ≡ refused_line r → IsText Trace bytes a → AnswersTrace o t a
 answers_refused o t s journal r bytes a settings entries e text h =
-    let e' : refused_as_run t.program (limits_for o t) t.trace.entries ≡ Some r = rw (sym settings, sym entries) e in
+    let e' = subst (λ x. refused_as_run t.program x t.trace.entries ≡ Some r) settings (subst (λ j. refused_as_run t.program s j ≡ Some r) entries e) in
     subst (λ x. AnswersJournal t.program (limits_for o t) o t x a) (sym e') (subst (λ x. IsText Trace x a) text h)

@@ -108,17 +108,20 @@ fn answer_run(alloc: Global, input: &[u8]) -> Result<Answer, AllocError>
 }
 
 // Replays a trace.
-fn answer_trace(
-    alloc: Global,
-    options: Options,
-    read: &TraceInput,
-) -> Result<Answer, AllocError>
+fn answer_trace(alloc: Global, options: Options, read: &TraceInput) -> Result<Answer, AllocError>
     ensures { IfOk result (AnswersTrace options read.now) }
 {
     let TraceInput { program, trace } = read;
     let settings = options.settings.with_version(trace.version);
     let journal = trace.entries.as_slice();
-    match whole_run(alloc, program, settings, journal, options.report, options.trace) {
+    match whole_run(
+        alloc,
+        program,
+        settings,
+        journal,
+        options.report,
+        options.trace,
+    ) {
         Ok(run) => Ok(bytes_alone(alloc, Status::of_end(run.end), run.text)),
         Err(ReplayError::RefusedAt(refused)) => {
             let text = refused_text(alloc, refused)?;

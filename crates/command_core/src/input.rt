@@ -52,11 +52,7 @@ fn take_more<S: Source>(
 }
 
 // Reads all that a source has left, or one byte more than the limit.
-fn read_left<S: Source>(
-    alloc: Global,
-    source: &mut S,
-    limit: usize,
-) -> Result<Vec<u8>, ReadError>
+fn read_left<S: Source>(alloc: Global, source: &mut S, limit: usize) -> Result<Vec<u8>, ReadError>
     requires { limit ≤ trace_limit }
     ensures within { IfOk result (λ input. length input.items ≤ limit + 1) }
     ensures input { IfOk result (λ input. (whole : List ℕ) → S.left source.old ≡ Some whole → input.items ≡ input_of limit whole) }

@@ -40,7 +40,12 @@ fn word_list(alloc: Global, words: &[&str]) -> Result<Vec<String>, Fail> {
 
 // What comes from standard input, and from each file too.
 fn source_of(alloc: Global, text: &[u8]) -> Result<MemSource, Fail> {
-    Ok(MemSource::new(text.to_vec(alloc)?, text.to_vec(alloc)?, 65536, Vec::new(alloc)))
+    Ok(MemSource::new(
+        text.to_vec(alloc)?,
+        text.to_vec(alloc)?,
+        65536,
+        Vec::new(alloc),
+    ))
 }
 
 fn sink(alloc: Global) -> MemSink {
@@ -82,7 +87,10 @@ fn seven(rt: HostRuntime) -> Result<(), Fail> {
         Entry::new(0, Kind::Ran(0, 1)),
     ];
     assert_eq!(rt; ran.journal.as_slice(), journal.as_slice());
-    let shared = ran.shared.as_ref().ok_or("a run hands its shared value back")?;
+    let shared = ran
+        .shared
+        .as_ref()
+        .ok_or("a run hands its shared value back")?;
     assert_eq!(rt; shared.outputs(), [7].as_slice());
     assert_eq!(rt; shared.steps(), 3);
     assert_eq!(rt; shared.ended(), Some(RunEnd::Machine(End::Done)));
@@ -104,7 +112,11 @@ fn programs_run(rt: HostRuntime) -> Result<(), Fail> {
             0,
             "-9223372036854775808\n7\nend: done\n",
         ),
-        ("fn f\nout i1\nend\nfn main\nret\nout i0\nend", 0, "end: done\n"),
+        (
+            "fn f\nout i1\nend\nfn main\nret\nout i0\nend",
+            0,
+            "end: done\n",
+        ),
         ("", 3, "end: source refused line 1 nomain\n"),
         ("fn main\nret", 3, "end: source refused line 2 noend\n"),
         (
@@ -189,7 +201,10 @@ fn bytes_that_are_no_text(rt: HostRuntime) -> Result<(), Fail> {
         let mut sink = sink(rt.alloc());
         let ran = call(&rt, &[word], &mut source, &mut sink)?;
         assert_eq!(rt; ran.status, Status::Source);
-        assert_eq!(rt; sink.written(), b"end: source refused line 1 notutf8\n".as_slice());
+        assert_eq!(rt;
+            sink.written(),
+            b"end: source refused line 1 notutf8\n".as_slice()
+        );
     }
     Ok(())
 }
@@ -293,24 +308,52 @@ fn journals_are_replayed(rt: HostRuntime) -> Result<(), Fail> {
 #[test]
 fn traces_are_refused(rt: HostRuntime) -> Result<(), Fail> {
     let cases = [
-        ("\ntrace 1\n0 took 0\n0 ran 0 3\n", 11, "end: trace refused entry 2 long 2\n"),
-        ("\ntrace 1\n0 took 0\n0 ran 0 2\n", 11, "end: trace refused short\n"),
-        ("\ntrace 1\n0 took 0\n0 ran 0\n", 11, "end: trace refused line 8\n"),
+        (
+            "\ntrace 1\n0 took 0\n0 ran 0 3\n",
+            11,
+            "end: trace refused entry 2 long 2\n",
+        ),
+        (
+            "\ntrace 1\n0 took 0\n0 ran 0 2\n",
+            11,
+            "end: trace refused short\n",
+        ),
+        (
+            "\ntrace 1\n0 took 0\n0 ran 0\n",
+            11,
+            "end: trace refused line 8\n",
+        ),
         (
             "\ntrace 1\n0 took 0\n0 ran 0 2\n0 ran 0 1\n0 fuel\n",
             11,
             "end: trace refused entry 4 over\n",
         ),
-        ("\ntrace 1\n1 took 0\n", 11, "end: trace refused entry 1 noworker\n"),
+        (
+            "\ntrace 1\n1 took 0\n",
+            11,
+            "end: trace refused entry 1 noworker\n",
+        ),
         ("\ntrace 9\n", 11, "end: trace refused line 6\n"),
         ("\ntrace 1\n64 took 0\n", 11, "end: trace refused line 7\n"),
-        ("\ntrace 1\n0 ran 0 258\n", 11, "end: trace refused line 7\n"),
+        (
+            "\ntrace 1\n0 ran 0 258\n",
+            11,
+            "end: trace refused line 7\n",
+        ),
         ("\ntrace 1\n0 some 0 0\n", 11, "end: trace refused line 7\n"),
-        ("\ntrace 1\n0 took 4294967296\n", 11, "end: trace refused line 7\n"),
+        (
+            "\ntrace 1\n0 took 4294967296\n",
+            11,
+            "end: trace refused line 7\n",
+        ),
         ("\ntrace 1\n0 sweep 0\n", 11, "end: trace refused line 7\n"),
         ("", 11, "end: trace refused line 5\n"),
         ("\nx\ntrace 9\n", 3, "end: source refused line 6 word\n"),
-        ("\nfn f\nfreeze r0\nend\ntrace 1\nx", 11, "end: trace refused line 9\n"),
+        (
+            "\nfn f\nfreeze r0\nend\ntrace 1\nx",
+            11,
+            "end: trace refused line 9\n",
+        ),
     ];
     for (trace, status, bytes) in cases {
         let (code, written) = modelled(&rt, &["model"], SEVEN, trace, "")?;
@@ -373,18 +416,47 @@ fn feeds<R: AllocGlobal + Threads + Wait + Sync>(
     let mut source = MemSource::new(text, Vec::new(rt.alloc()), 65536, Vec::new(rt.alloc()));
     let mut sink = sink(rt.alloc());
     let ran = call(rt, &[word], &mut source, &mut sink)?;
-    Ok((ran.status.code(), sink.written().to_vec(rt.alloc())?, source.left().len()))
+    Ok((
+        ran.status.code(),
+        sink.written().to_vec(rt.alloc())?,
+        source.left().len(),
+    ))
 }
 
 #[test]
 fn longest_inputs(rt: HostRuntime) -> Result<(), Fail> {
     let cases = [
-        ("run", 1_048_576, 0, "end: source refused line 1048577 nomain\n"),
+        (
+            "run",
+            1_048_576,
+            0,
+            "end: source refused line 1048577 nomain\n",
+        ),
         ("run", 1_048_577, 0, "end: source refused line 0 toolong\n"),
-        ("check", 1_048_576, 0, "end: source refused line 1048577 nomain\n"),
-        ("check", 1_048_579, 2, "end: source refused line 0 toolong\n"),
-        ("model", 16_777_216, 0, "end: source refused line 16777217 nomain\n"),
-        ("model", 16_777_217, 0, "end: source refused line 0 toolong\n"),
+        (
+            "check",
+            1_048_576,
+            0,
+            "end: source refused line 1048577 nomain\n",
+        ),
+        (
+            "check",
+            1_048_579,
+            2,
+            "end: source refused line 0 toolong\n",
+        ),
+        (
+            "model",
+            16_777_216,
+            0,
+            "end: source refused line 16777217 nomain\n",
+        ),
+        (
+            "model",
+            16_777_217,
+            0,
+            "end: source refused line 0 toolong\n",
+        ),
     ];
     for (word, size, left, bytes) in cases {
         let (code, written, rest) = feeds(&rt, word, size)?;
