@@ -424,7 +424,7 @@ fn feeds<R: AllocGlobal + Threads + Wait + Sync>(
 }
 
 #[test]
-fn longest_inputs(rt: HostRuntime) -> Result<(), Fail> {
+fn longest_programs(rt: HostRuntime) -> Result<(), Fail> {
     let cases = [
         (
             "run",
@@ -445,18 +445,6 @@ fn longest_inputs(rt: HostRuntime) -> Result<(), Fail> {
             2,
             "end: source refused line 0 toolong\n",
         ),
-        (
-            "model",
-            16_777_216,
-            0,
-            "end: source refused line 16777217 nomain\n",
-        ),
-        (
-            "model",
-            16_777_217,
-            0,
-            "end: source refused line 0 toolong\n",
-        ),
     ];
     for (word, size, left, bytes) in cases {
         let (code, written, rest) = feeds(&rt, word, size)?;
@@ -464,6 +452,23 @@ fn longest_inputs(rt: HostRuntime) -> Result<(), Fail> {
         assert_eq!(rt; written.as_slice(), bytes.as_bytes());
         assert_eq!(rt; rest, left);
     }
+    Ok(())
+}
+
+#[test]
+fn longest_traces(rt: HostRuntime) -> Result<(), Fail> {
+    let (code, written, rest) = feeds(&rt, "model", 16_777_216)?;
+    assert_eq!(rt; (code, rest), (3, 0));
+    assert_eq!(rt;
+        written.as_slice(),
+        b"end: source refused line 16777217 nomain\n".as_slice()
+    );
+    let (code, written, rest) = feeds(&rt, "model", 16_777_217)?;
+    assert_eq!(rt; (code, rest), (3, 0));
+    assert_eq!(rt;
+        written.as_slice(),
+        b"end: source refused line 0 toolong\n".as_slice()
+    );
     Ok(())
 }
 
