@@ -1,5 +1,5 @@
 pub mod Joined
-pub mod Lines
+pub mod Keeps
 pub mod Machines
 pub mod Opens
 pub mod Replays

@@ -21,7 +21,7 @@ use std::marker::Model;
 /// memory: from then on each further entry is refused as stopped.
 #[derive(Drop)]
 pub struct Book<'p> {
-    accounts: Accounts<'p>,
+    pub(crate) accounts: Accounts<'p>,
     stopped: bool,
 }
 

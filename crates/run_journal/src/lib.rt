@@ -1,4 +1,4 @@
-// Journals replayed: the accounts that are kept entry by entry, how the run of a journal ended, and what is written of it.
+// Journals replayed: the accounts that are kept entry by entry, and how the run of a journal ended.
 #![tactic(auto)]
 
 mod accounts;
@@ -9,11 +9,11 @@ mod enter;
 mod pace;
 mod private;
 mod ran;
+mod reads;
 mod replay;
 mod steps;
-mod texts;
 
 pub use book::Book;
 pub use enter::ApplyError;
+pub use reads::Kept;
 pub use replay::{ReplayError, model_replay, replayed};
-pub use texts::{end_status, end_text, outputs_text, refused_text, report_text};

@@ -1,6 +1,0 @@
-use Rattle.std.proofs.Common.{◌≡◌, take}
-use Rattle.run_ledger.specs.Text.{output_lines}
-use Rattle.run_journal.proofs.texts.outputs_text.Given as goal
-
-abbrev pub invariant-loop-output : goal.invariant-loop-output
-invariant-loop-output l = l.text.items ≡ output_lines (take l.output-index l.outputs)

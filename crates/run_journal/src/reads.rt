@@ -1,0 +1,108 @@
+// What is read of a book for a report.
+
+ghost use Rattle.std.specs.Prelude.{◌≡◌, ◌<◌, ◌^◌, false, length};
+ghost use Rattle.run_ledger.specs.Heaps.{heap_of, held_in, words_in, words_sum};
+ghost use Rattle.run_ledger.specs.Report.{kept};
+ghost use Rattle.run_journal.specs.Book.{Steady};
+ghost use Rattle.run_journal.specs.Kept.{IsCountable, kept_of};
+
+use crate::accounts::Accounts;
+use crate::book::Book;
+use ledger_heaps::words_in;
+use run_ledger::Heap;
+
+/// What is held in the heaps of tasks that don't run.
+#[derive(Clone, Copy, PartialEq, Eq, Debug)]
+pub struct Kept {
+    /// How many objects.
+    pub objects: u64,
+    /// Their words.
+    pub words: u64,
+}
+
+// How many objects the heap holds.
+fn objects_in(heap: &Heap) -> u64
+    requires { length (held_in heap.now) < 2 ^ 62 }
+    ensures { result ≡ length (held_in heap.now) }
+{
+    let mut objects = heap.large.len() as u64;
+    for names in heap.chunks.as_slice() {
+        objects += names.len() as u64;
+    }
+    objects
+}
+
+impl<'p> Accounts<'p> {
+    // What is held in the task's heap, unless the task runs.
+    fn kept_in(&self, task: u32, heap: &Heap) -> Kept
+        requires objects { length (held_in heap.now) < 2 ^ 62 }
+        requires words { words_in self.now.ledger.machine heap.now < 2 ^ 62 }
+        ensures objects { result.objects ≡ length (kept_of self.now.ledger.machine.tasks task heap.now) }
+        ensures words { result.words ≡ words_sum self.now.ledger.machine (kept_of self.now.ledger.machine.tasks task heap.now) }
+    {
+        if self.is_running(task) {
+            return Kept {
+                objects: 0,
+                words: 0,
+            };
+        }
+        Kept {
+            objects: objects_in(heap),
+            words: words_in(self.machine.state(), heap),
+        }
+    }
+
+    // What is held in the heaps of tasks that don't run.
+    fn kept(&self) -> Kept
+        requires steady { Steady self.now.ledger }
+        requires countable { IsCountable self.now.ledger }
+        ensures objects { result.objects ≡ length (kept self.now.ledger) }
+        ensures words { result.words ≡ words_sum self.now.ledger.machine (kept self.now.ledger) }
+    {
+        let mut kept = Kept {
+            objects: 0,
+            words: 0,
+        };
+        for (task, heap) in self.heaps.as_slice().iter().enumerate() {
+            let here = self.kept_in(task as u32, heap);
+            kept.objects += here.objects;
+            kept.words += here.words;
+        }
+        kept
+    }
+
+    // How many tasks were made.
+    fn tasks(&self) -> usize
+        ensures { result ≡ length self.now.ledger.machine.tasks }
+    {
+        self.machine.state().tasks.len()
+    }
+}
+
+impl<'p> Book<'p> {
+    /// The tasks made, the first one too.
+    pub fn tasks(&self) -> usize
+        ensures { result ≡ length self.now.ledger.machine.tasks }
+    {
+        self.accounts.tasks()
+    }
+
+    /// The words of all that a task's heap holds.
+    pub fn words(&self, task: u32) -> u64
+        requires { self.now.stopped ≡ false }
+        ensures { result ≡ words_in self.now.ledger.machine (heap_of self.now.ledger task) }
+    {
+        self.accounts.bounds();
+        self.accounts.words(task)
+    }
+
+    /// What is held in the heaps of tasks that don't run.
+    pub fn kept(&self) -> Kept
+        requires { self.now.stopped ≡ false }
+        ensures objects { result.objects ≡ length (kept self.now.ledger) }
+        ensures words { result.words ≡ words_sum self.now.ledger.machine (kept self.now.ledger) }
+    {
+        self.accounts.bounds();
+        self.accounts.kept()
+    }
+}

@@ -1,0 +1,15 @@
+use Rattle.std.proofs.Common.{◌≡◌, ◌+◌, drop, false}
+use Rattle.run_ledger.specs.Journals.{opening, after_all, ledger_of, first_refused_from, first_refused}
+use Rattle.run_report.specs.Totals.{joined, totals_from}
+use Rattle.run_report.proofs.counting.count.Given as goal
+
+abbrev pub invariant-loop-entry : goal.invariant-loop-entry
+invariant-loop-entry l = record {
+  program : l.book.program ≡ l.fn.program;
+  limits : l.book.limits ≡ l.fn.settings;
+  stopped : l.book.stopped ≡ false;
+  index : l.index ≡ l.entry-index + 1;
+  accounts : after_all l.book.program l.book.limits l.book.ledger (drop l.entry-index l.journal) ≡ ledger_of l.book.program l.book.limits l.journal;
+  refused : first_refused_from l.book.program l.book.limits l.book.ledger l.index (drop l.entry-index l.journal) ≡ first_refused l.book.program l.book.limits l.journal;
+  totals : joined l.totals (totals_from l.book.program l.book.limits l.book.ledger (drop l.entry-index l.journal)) ≡ totals_from l.book.program l.book.limits (opening l.book.program l.book.limits) l.journal;
+}

@@ -1,0 +1,110 @@
+// A journal replayed, with the totals of its entries.
+
+ghost use Rattle.std.specs.Prelude.{◌≡◌, Option, None, false, IfOk, OnOk, IfErr};
+ghost use Rattle.run_ledger.specs.Entries.{refusal, after};
+ghost use Rattle.run_ledger.specs.Journals.{opening, ledger_of, first_refused};
+ghost use Rattle.run_journal.specs.Book.{FailsFor};
+ghost use Rattle.run_journal.specs.Replay.{ReplayFails};
+ghost use Rattle.run_report.specs.Totals.{joined, cleared_words, entry_totals, totals_from, report_from};
+
+use crate::totals::Totals;
+use hh_lang::Program;
+use run_journal::{ApplyError, Book, ReplayError};
+use run_ledger::{RefusedAt, Report};
+use run_trace::{Entry, Kind, Settings};
+use std::alloc::Global;
+
+/// The accounts of a journal, and the totals of its entries.
+#[derive(Drop)]
+pub(crate) struct Counted<'p> {
+    pub(crate) book: Book<'p>,
+    pub(crate) totals: Totals,
+}
+
+// The words of the heap that an entry collects or sweeps, and 0 for another entry.
+fn cleared_words(book: &Book, kind: Kind) -> u64
+    requires { book.now.stopped ≡ false }
+    ensures { result ≡ cleared_words book.now.ledger kind }
+{
+    match kind {
+        Kind::End(task, _, _, _) => book.words(task),
+        Kind::Sweep(task, _) => book.words(task),
+        _ => 0,
+    }
+}
+
+// Enters an entry, and adds what it counts to the totals.
+fn enter(book: &mut Book, totals: Totals, entry: Entry) -> Result<Totals, ApplyError>
+    requires { book.old.stopped ≡ false }
+    ensures legal { OnOk result (refusal book.old.program book.old.limits book.old.ledger entry ≡ None) }
+    ensures entered { OnOk result (book.new ≡ record book.old { ledger = after book.old.program book.old.limits book.old.ledger entry }) }
+    ensures counts { IfOk result (λ sums. sums ≡ joined totals (entry_totals book.old.program book.old.limits book.old.ledger entry)) }
+    ensures fails { IfErr result (FailsFor (refusal book.old.program book.old.limits book.old.ledger entry)) }
+{
+    let kind = entry.kind();
+    let before = cleared_words(book, kind);
+    match book.apply(entry) {
+        Err(error) => Err(error),
+        Ok(()) => {
+            let lost = before.saturating_sub(cleared_words(book, kind));
+            match totals.join(Totals::counted(kind, lost, book.in_use())) {
+                Ok(sums) => Ok(sums),
+                Err(_) => Err(ApplyError::NoMemory),
+            }
+        }
+    }
+}
+
+/// The accounts of a legal journal, and the totals of its entries.
+pub(crate) fn count<'p>(
+    alloc: Global,
+    program: &'p Program,
+    settings: Settings,
+    journal: &[Entry],
+) -> Result<Counted<'p>, ReplayError>
+    ensures book { IfOk result (λ c. c.book ≡ record { program = program.entry.now; limits = settings; ledger = ledger_of program.entry.now settings journal.now; stopped = false }) }
+    ensures totals { IfOk result (λ c. c.totals ≡ totals_from program.entry.now settings (opening program.entry.now settings) journal.now) }
+    ensures legal { OnOk result (first_refused program.entry.now settings journal.now ≡ None) }
+    ensures fails { IfErr result (ReplayFails (first_refused program.entry.now settings journal.now)) }
+{
+    let Ok(mut book) = Book::open(alloc, program, settings) else {
+        return Err(ReplayError::NoMemory);
+    };
+    let mut totals = Totals::none();
+    let mut index = 1;
+    for entry in journal {
+        match enter(&mut book, totals, *entry) {
+            Ok(sums) => {
+                totals = sums;
+                index += 1;
+            }
+            Err(ApplyError::Refused(cause)) => {
+                return Err(ReplayError::RefusedAt(RefusedAt { index, cause }));
+            }
+            Err(ApplyError::NoMemory) => return Err(ReplayError::NoMemory),
+        }
+    }
+    Ok(Counted { book, totals })
+}
+
+/// The report of accounts, of so many entries with these totals.
+pub(crate) fn report(book: &Book, turns: usize, totals: Totals) -> Report
+    requires { book.now.stopped ≡ false }
+    ensures { result ≡ report_from book.now.ledger turns totals }
+{
+    let kept = book.kept();
+    Report {
+        tasks: book.tasks() as u64,
+        steps: book.steps(),
+        turns: turns as u64,
+        leaf: totals.leaf,
+        putoff: totals.putoff,
+        leaf_freed: totals.leaf_freed,
+        inner: totals.inner,
+        inner_freed: totals.inner_freed,
+        chunks: book.in_use(),
+        peak: totals.peak,
+        held: kept.objects,
+        words: kept.words,
+    }
+}

@@ -1,0 +1,12 @@
+// What a journal comes to: its report, whether it keeps the pace of inner collections, and what is written of its run.
+#![tactic(auto)]
+
+mod counting;
+mod paced;
+mod texts;
+mod totals;
+mod whole;
+
+pub use paced::is_paced;
+pub use texts::{end_status, end_text, outputs_text, refused_text, report_text};
+pub use whole::{WholeRun, out_text, report_of, whole_run};

@@ -1,0 +1,85 @@
+// The totals of a journal, added up entry by entry.
+
+ghost use Rattle.std.specs.Prelude.{◌≡◌, ◌+◌, IfOk};
+ghost use Rattle.run_report.specs.Totals.{no_totals, joined, counted};
+
+use run_trace::Kind;
+use std::alloc::AllocError;
+
+/// What the entries of a journal come to, in numbers.
+#[derive(Clone, Copy, PartialEq, Eq, Debug)]
+pub(crate) struct Totals {
+    /// The leaf collections that ended.
+    pub(crate) leaf: u64,
+    /// Those that were put off.
+    pub(crate) putoff: u64,
+    /// The words that leaf collections dropped.
+    pub(crate) leaf_freed: u64,
+    /// The sweeps.
+    pub(crate) inner: u64,
+    /// The words that sweeps dropped.
+    pub(crate) inner_freed: u64,
+    /// The most chunks in use after any entry.
+    pub(crate) peak: u64,
+}
+
+// A sum. One past 64 bits, to which no legal journal comes, is told as want of memory.
+fn sum(a: u64, b: u64) -> Result<u64, AllocError>
+    ensures { IfOk result (λ both. both ≡ a + b) }
+{
+    match a.checked_add(b) {
+        Some(both) => Ok(both),
+        None => Err(AllocError),
+    }
+}
+
+impl Totals {
+    /// The totals of no entry.
+    pub(crate) fn none() -> Totals
+        ensures { result ≡ no_totals }
+    {
+        Totals {
+            leaf: 0,
+            putoff: 0,
+            leaf_freed: 0,
+            inner: 0,
+            inner_freed: 0,
+            peak: 0,
+        }
+    }
+
+    /// What an entry counts, with which the heap lost so many words, and behind which so many chunks are in use.
+    pub(crate) fn counted(kind: Kind, lost: u64, used: u64) -> Totals
+        ensures { result ≡ counted kind lost used }
+    {
+        let mut totals = Totals::none();
+        totals.peak = used;
+        match kind {
+            Kind::End(_, _, _, _) => {
+                totals.leaf = 1;
+                totals.leaf_freed = lost;
+            }
+            Kind::PutOff(_) => totals.putoff = 1,
+            Kind::Sweep(_, _) => {
+                totals.inner = 1;
+                totals.inner_freed = lost;
+            }
+            _ => {}
+        }
+        totals
+    }
+
+    /// The totals of two parts of a journal together.
+    pub(crate) fn join(self, other: Totals) -> Result<Totals, AllocError>
+        ensures { IfOk result (λ totals. totals ≡ joined self other) }
+    {
+        Ok(Totals {
+            leaf: sum(self.leaf, other.leaf)?,
+            putoff: sum(self.putoff, other.putoff)?,
+            leaf_freed: sum(self.leaf_freed, other.leaf_freed)?,
+            inner: sum(self.inner, other.inner)?,
+            inner_freed: sum(self.inner_freed, other.inner_freed)?,
+            peak: self.peak.max(other.peak),
+        })
+    }
+}
