@@ -1,3 +1,4 @@
+pub mod Holds
 pub mod Joined
 pub mod Lines
 pub mod Machines
@@ -6,3 +7,5 @@ pub mod Replays
 pub mod Standings
 pub mod Steadies
 pub mod Stepped
+pub mod Uses
+pub mod Went

@@ -1,7 +1,6 @@
 -- The counts of the accounts of every legal journal fit their types.
-use Rattle.std.proofs.Common.{◌≡◌, ℕ, zero, suc, ◌+◌, ◌*◌, ◌<◌, ◌≤◌, ◌^◌, ◌||◌, Bool, true, false, cond, Option, Some, None, List, [], ◌∷◌, ◌++◌, length, slice_get, slice_set, sum_by, nat_lt, is_none, is_some, inl, inr, refl, ap, ap₂, sym, subst, ◌∙◌, arith, length-append, length-set}
+use Rattle.std.proofs.Common.{◌≡◌, ℕ, zero, suc, ◌+◌, ◌*◌, ◌<◌, ◌≤◌, ◌^◌, ◌||◌, Bool, true, false, cond, Option, Some, None, List, [], ◌∷◌, ◌++◌, length, slice_get, slice_set, nat_lt, is_none, is_some, inl, inr, refl, ap, sym, subst, ◌∙◌, arith, length-append, length-set}
 use Rattle.std.proofs.lemmas.Bool.{false≢true, and_parts}
-use Rattle.std.proofs.lemmas.List.Sums.{sum_by-cons}
 use Rattle.listed.proofs.Members.{In, in_from_contains}
 use Rattle.run_trace.specs.declared.entry.Kind.{Kind}
 use Rattle.run_trace.specs.declared.entry.Kind.TheVariants.{Took, Ran, Chunk, Begin, End as EndOf, PutOff, Mark, More, Sweep, Fuel}
@@ -25,28 +24,15 @@ use Rattle.run_ledger.proofs.Moves.{Moves}
 use Rattle.run_ledger.proofs.Steps.{SoundAt, heap_of_task, can_tells, task_step_sound}
 use Rattle.run_ledger.proofs.Weights.{weight, weight_additive, total, total_set, Additive, moves_total, collected_weight, swept_weight}
 use Rattle.run_ledger.proofs.Stocks.{StockedLedger, G, L, with_heap_any, chunk_lighter, allocated_total, task_step_stocked, legal_stocked}
-use Rattle.run_ledger.proofs.Booked.{BookedLedger, task_steps_booked}
+use Rattle.run_ledger.proofs.Booked.{BookedLedger, total_same, task_steps_booked}
+use Rattle.run_ledger.proofs.Chunks.{sum_same}
 use Rattle.run_ledger.proofs.Space.{legal_booked}
 use Rattle.run_ledger.proofs.Journals.{legal_sound, entry_tells, out_tells}
 use Rattle.run_ledger.proofs.Cuts.{after_cut, cut_legal}
 use Rattle.run_ledger.proofs.Bounds.{asked_bounds, stands_by, ran_tells, task_steps_steps, steps_are_bounded}
 use Rattle.run_journal.specs.Book.{Steady, StaysSteady}
 use Rattle.run_journal.proofs.Stepped.{small_enough, placed_is}
-
-sum_same : {A : Type 0} (f g : A → ℕ) (xs : List A) → ((x : A) → In xs x → f x ≡ g x) → sum_by f xs ≡ sum_by g xs
-sum_same f g [] same = refl
-sum_same f g (x ∷ xs) same = sum_by-cons f x xs ∙ (ap₂ (λ a b. a + b) (same x (inl refl)) (sum_same f g xs (λ y i. same y (inr i))) ∙ sym (sum_by-cons g x xs))
-
-total_same : (f g : Heap → ℕ) (heaps : List Heap) → ((u : ℕ) (h : Heap) → slice_get heaps u ≡ Some h → f h ≡ g h) → total f heaps ≡ total g heaps
-total_same f g [] same = refl
-total_same f g (h ∷ heaps) same =
-    sum_by-cons f h heaps ∙ (ap₂ (λ a b. a + b) (same zero h refl) (total_same f g heaps (λ u k e. same (suc u) k e)) ∙ sym (sum_by-cons g h heaps))
-
--- one heap has no more than all
-one_of : (f : Heap → ℕ) (heaps : List Heap) (u : ℕ) → f fresh ≡ 0 → f (or_fresh (slice_get heaps u)) ≤ total f heaps
-one_of f [] u z = omega arith
-one_of f (h ∷ heaps) zero z = let a = sum_by-cons f h heaps in omega arith
-one_of f (h ∷ heaps) (suc u) z = let a = sum_by-cons f h heaps in let b = one_of f heaps u z in omega arith
+use Rattle.run_journal.proofs.Uses.{one_of, step_used}
 
 abbrev since_in : Heap → ℕ
 since_in h = h.since
@@ -316,14 +302,20 @@ module _ (p : ProgramText) (s : Limits) (A : AreLimits s) where
 
   -- while a task takes steps that can stand in one entry
   pub legal_stays : (journal : List Event) (t k : ℕ) → is_legal p s journal ≡ true → is_some (heap_of (ledger_of p s journal) t).begun ≡ false → k ≤ 257 → StaysSteady s p (ledger_of p s journal) t k
-  legal_stays journal t k legal idle few i le =
+  legal_stays journal t k legal idle few =
       let l = ledger_of p s journal in
       let F : Firm t l = record { sound = (legal_sound p s journal legal, collects (heap_at l t) idle); stocked = legal_stocked p s journal legal; booked = legal_booked p s journal legal; light = legal_light journal legal } in
-      let G = steps_firm i k l t F le in
       let a = steps_few journal legal in
-      let b = task_steps_steps p i l t in
       let c = standing_most k l t in
-      steady_by (task_steps p l t i) G.sound.0 G.booked G.light (omega arith)
+      record {
+        steady = λ i le.
+            let G = steps_firm i k l t F le in
+            let b = task_steps_steps p i l t in
+            steady_by (task_steps p l t i) G.sound.0 G.booked G.light (omega arith);
+        used = λ i le fine.
+            let G = steps_firm i k l t F le in
+            step_used p s (task_steps p l t i) t G.sound G.stocked G.booked fine;
+      }
     where
       collects : (o : Option Heap) → is_some (or_fresh o).begun ≡ false → collecting o ≡ false
       collects None e = refl

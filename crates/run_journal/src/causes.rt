@@ -5,7 +5,7 @@ ghost use Rattle.run_trace.specs.declared.entry.Kind.TheVariants.{Took, Chunk, B
 ghost use Rattle.run_ledger.specs.Entries.{kind_refusal, on_running, on_waiting, on_marking, on_due, is_pool_enough, is_out, refused_unless, counted, ends_as};
 ghost use Rattle.run_ledger.specs.Heaps.{heap_of, left_in, marked_in};
 ghost use Rattle.run_ledger.specs.declared.data.Refused.TheVariants.{NotOut, NotCollecting, Left};
-ghost use Rattle.run_journal.specs.Book.{Steady};
+ghost use Rattle.run_journal.specs.Book.{Steady, Agrees};
 
 use crate::accounts::Accounts;
 use run_ledger::Refused;
@@ -66,14 +66,15 @@ impl<'p> Accounts<'p> {
 
     // Whether the chunks that are free are enough for a leaf collection of the task.
     fn is_pool_enough(&self, task: u32) -> bool
-        requires { Steady self.now.ledger }
+        requires steady { Steady self.now.ledger }
+        requires agrees { Agrees self.now }
         ensures { result ≡ is_pool_enough self.now.limits self.now.ledger task }
     {
         self.in_use() + self.take(task) <= self.limits.chunks() as u64
     }
 
     pub(crate) fn took_cause(&self, worker: u32, task: u32) -> Option<Refused>
-        requires { Steady self.now.ledger }
+        requires { Agrees self.now }
         ensures { result ≡ kind_refusal self.now.program self.now.limits self.now.ledger worker (Took task) }
     {
         if !self.is_ready(task) {
@@ -101,7 +102,8 @@ impl<'p> Accounts<'p> {
     }
 
     pub(crate) fn begin_cause(&self, worker: u32, task: u32) -> Option<Refused>
-        requires { Steady self.now.ledger }
+        requires steady { Steady self.now.ledger }
+        requires agrees { Agrees self.now }
         ensures { result ≡ kind_refusal self.now.program self.now.limits self.now.ledger worker (Begin task) }
     {
         if let Some(cause) = self.due_cause(worker, task) {
@@ -114,7 +116,8 @@ impl<'p> Accounts<'p> {
     }
 
     pub(crate) fn put_off_cause(&self, worker: u32, task: u32) -> Option<Refused>
-        requires { Steady self.now.ledger }
+        requires steady { Steady self.now.ledger }
+        requires agrees { Agrees self.now }
         ensures { result ≡ kind_refusal self.now.program self.now.limits self.now.ledger worker (PutOff task) }
     {
         if let Some(cause) = self.due_cause(worker, task) {

@@ -1,13 +1,13 @@
 // What an entry changes, but for the steps of tasks.
 
-ghost use Rattle.std.specs.Prelude.{◌≡◌, Option, Some, None, ◌<◌, ◌^◌, true, OnOk, OnErr, IfOk};
+ghost use Rattle.std.specs.Prelude.{◌≡◌, Option, Some, None, ◌<◌, ◌^◌, true, OnOk, OnErr, IfOk, slice_set};
 ghost use Rattle.run_trace.specs.declared.entry.Kind.TheVariants.{Took, Chunk, Begin, End, PutOff, Mark, More, Sweep, Fuel};
 ghost use Rattle.run_ledger.specs.Entries.{after_kind, chunk_units};
 ghost use Rattle.hh_model.specs.Step.{asked};
 ghost use Rattle.run_ledger.specs.Steps.{on_asked};
 ghost use Rattle.run_ledger.specs.Heaps.{is_small, heap_of, with_heap, collected, end_numbers, swept_heap, sweep_number};
 ghost use Rattle.ledger_heaps.specs.Parts.{with_collected, with_swept};
-ghost use Rattle.run_journal.specs.Book.{Steady};
+ghost use Rattle.run_journal.specs.Book.{Steady, Agrees};
 
 use crate::accounts::{Accounts, fresh_heap, units_of};
 use ledger_heaps::{Collected, Swept, collect, sweep, within};
@@ -17,11 +17,13 @@ use std::alloc::AllocError;
 
 impl<'p> Accounts<'p> {
     pub(crate) fn took(&mut self, worker: u32, task: u32)
-        ensures { self.new ≡ record self.old { ledger = after_kind self.old.program self.old.limits self.old.ledger worker (Took task) } }
+        requires { worker < 64 }
+        ensures { self.new ≡ record self.old { ledger = after_kind self.old.program self.old.limits self.old.ledger worker (Took task); taken = slice_set self.old.taken worker (Some task) } }
     {
         if (task as usize) < self.heaps.len() {
             self.heaps.at_mut(task as usize).worker = Some(worker);
         }
+        self.taken[worker as usize] = Some(task);
     }
 
     pub(crate) fn put_off(&mut self, worker: u32, task: u32)
@@ -70,7 +72,8 @@ impl<'p> Accounts<'p> {
     #[tactic(auto, using(ledger_heaps::proofs::Lists::set_again))]
     /// A chunk is asked for: the run ends where too few are free.
     pub(crate) fn chunk(&mut self, worker: u32, task: u32) -> Result<(), AllocError>
-        requires { Steady self.old.ledger }
+        requires steady { Steady self.old.ledger }
+        requires agrees { Agrees self.old }
         ensures ok { OnOk result (self.new ≡ record self.old { ledger = after_kind self.old.program self.old.limits self.old.ledger worker (Chunk task) }) }
         ensures err { OnErr result (self.new ≡ self.old) }
     {
