@@ -2,8 +2,10 @@ pub mod Holds
 pub mod Joined
 pub mod Lines
 pub mod Machines
+pub mod Numbers
 pub mod Opens
 pub mod Replays
+pub mod Snaps
 pub mod Standings
 pub mod Steadies
 pub mod Stepped

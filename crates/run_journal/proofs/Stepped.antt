@@ -10,12 +10,13 @@ use Rattle.hh_model.specs.declared.data.State.{State}
 use Rattle.hh_model.specs.declared.data.End.{End}
 use Rattle.hh_model.specs.declared.data.Status.{Status}
 use Rattle.hh_model.specs.declared.data.Status.TheVariants.{Running, Waiting, Ended, Joined}
-use Rattle.hh_model.specs.Step.{step, can_step, asked, is_waiting}
+use Rattle.hh_model.specs.Step.{step, can_step, asked, is_joined, is_waiting}
 use Rattle.run_ledger.specs.declared.data.Heap.{Heap}
 use Rattle.run_ledger.specs.declared.data.Ledger.{Ledger}
 use Rattle.run_ledger.specs.Heaps.{heap_of, or_fresh, heap_at, fresh, with_heap, with_heap_at, held_in, in_use, placed, is_small, lacks_room, units, units_in, within, forked_heap}
 use Rattle.run_ledger.specs.Steps.{allocated_in, allocated_by, task_step, settled, moved_to, moved_on, at_fork, is_in_need, on_asked}
-use Rattle.run_journal.specs.Book.{Standing, Steady, AreOwned, Forks, next_large, used_by, used_after, went_on}
+use Rattle.run_journal.proofs.Snaps.{settled_paired}
+use Rattle.run_journal.specs.Book.{Standing, Steady, AreOwned, ArePaired, Forks, next_large, used_by, used_after, went_on}
 
 with_machine : (l : Ledger) (t : ℕ) (f : Heap → Heap) (o : Option Heap) → (with_heap_at l t f o).machine ≡ l.machine
 with_machine l t f None = refl
@@ -192,6 +193,16 @@ stepped_owned s s1 s2 s3 t used can e1 e2 e3 S w =
     subst (λ (q : Ledger). AreOwned q.machine.tasks q.heaps) (sym same)
     (settled_owned k t k.machine.end (ap (λ (q : Ledger). is_waiting (slice_get q.machine.tasks t)) (sym same) ∙ w)
     (subst (λ (q : Ledger). AreOwned q.machine.tasks q.heaps) (sym (step_is s.program s.ledger t can)) S.owned))
+
+pub stepped_paired : (s s1 s2 s3 : Standing) (t used : ℕ) → can_step s.ledger.machine t ≡ true
+    → s1 ≡ record s { ledger = allocated_in s.program s.ledger t } → s2 ≡ record s1 { ledger = advanced s1.program s1.ledger t } → s3 ≡ record s2 { used = used }
+    → Steady (task_step s.program s.ledger t) → is_joined (slice_get s3.ledger.machine.tasks t) ≡ true → ArePaired s3.ledger
+stepped_paired s s1 s2 s3 t used can e1 e2 e3 S j =
+    let k = advanced s.program (allocated_in s.program s.ledger t) t in
+    let same : s3.ledger ≡ k = ap (λ (q : Standing). q.ledger) (e3 ∙ ap (λ (q : Standing). record q { used = used }) (e2 ∙ ap (λ (q : Standing). record q { ledger = advanced q.program q.ledger t }) e1)) in
+    subst ArePaired (sym same)
+    (settled_paired k t k.machine.end (ap (λ (q : Ledger). is_joined (slice_get q.machine.tasks t)) (sym same) ∙ j)
+    (subst ArePaired (sym (step_is s.program s.ledger t can)) S.paired))
 
 -- a fork, by what is computed of it
 pub fork_is : (v s : Standing) → v ≡ s → (t : ℕ) (m : State) → m ≡ v.ledger.machine → (names : List Name)

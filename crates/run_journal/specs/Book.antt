@@ -15,7 +15,7 @@ use Rattle.hh_model.specs.declared.data.Strand.{Strand}
 use Rattle.hh_model.specs.declared.data.Task.{Task}
 use Rattle.hh_model.specs.declared.data.State.{State}
 use Rattle.hh_model.specs.Effect.{row_of}
-use Rattle.hh_model.specs.Step.{step, can_step, asked, fetched, owner_of, strand_of}
+use Rattle.hh_model.specs.Step.{step, can_step, asked, fetched, owner_of, strand_of, parents, is_left}
 use Rattle.run_ledger.specs.declared.data.Ledger.{Ledger}
 use Rattle.run_ledger.specs.declared.data.Heap.{Heap}
 use Rattle.run_ledger.specs.Heaps.{fresh, with_heap, forked_heap, heap_of, or_fresh, begun_in, held_in, is_small, units, words_at, words_in, units_in, in_use}
@@ -52,15 +52,25 @@ taken_after taken w _ = taken
 abbrev pub AreOwned : List Task → List Heap → Type 0
 AreOwned tasks heaps = (t : ℕ) (n : Name) → Contains (held_in (or_fresh (slice_get heaps t))) n → owner_of tasks n.task ≡ t
 
+-- the left one of the two children of whom t is one
+abbrev pub left_of : ℕ → ℕ
+left_of t = if is_left t then t else t - 1
+
+-- each task that has a parent is one of two children with numbers in a row, above their parent's, and both have a heap
+abbrev pub ArePaired : Ledger → Type 0
+ArePaired l = (t p : ℕ) → parents l.machine.tasks t ≡ Some p → (p < left_of t) × (left_of t + 1 < length l.heaps)
+
 -- the counts of accounts fit their types; the accounts of every legal journal are so
 pub record Steady (l : Ledger) : Type 0 where
   pub steps : l.steps < 2 ^ 30
   pub heaps : length l.heaps < 2 ^ 31
-  pub words : (t : ℕ) → words_in l.machine (heap_of l t) < 2 ^ 61
+  pub words : (t : ℕ) → words_in l.machine (heap_of l t) < 2 ^ 27
   pub units : (t : ℕ) → units_in l.machine (heap_of l t) < 2 ^ 20
   pub in_use : in_use l < 2 ^ 20
   pub since : (t : ℕ) → (heap_of l t).since < 2 ^ 61
+  pub snapshot : (t : ℕ) → length (heap_of l t).snapshot < 2 ^ 31
   pub owned : AreOwned l.machine.tasks l.heaps
+  pub paired : ArePaired l
 
 -- the next step of a running task is no output, no fork and no end of the task, and reads or writes no object that another
 -- task owns

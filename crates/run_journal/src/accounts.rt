@@ -218,10 +218,12 @@ impl<'p> Accounts<'p> {
         }
     }
 
+    #[tactic(auto, using(crate::proofs::Numbers::take_few))]
     /// How many chunks a leaf collection of the heap takes.
     pub(crate) fn take(&self, task: u32) -> u64
         requires { Steady self.now.ledger }
-        ensures { result ≡ take_of self.now.ledger.machine (heap_of self.now.ledger task) }
+        ensures value { result ≡ take_of self.now.ledger.machine (heap_of self.now.ledger task) }
+        ensures fits { result < 2 ^ 32 }
     {
         match self.heap(task) {
             Some(heap) => take_of(self.machine.state(), heap),

@@ -1,6 +1,6 @@
 // Why an entry is refused, but for the steps of tasks.
 
-ghost use Rattle.std.specs.Prelude.{◌≡◌, ◌==◌, Option, Some, None, is_some, IfOk};
+ghost use Rattle.std.specs.Prelude.{◌≡◌, ◌==◌, ◌<◌, ◌^◌, Option, Some, None, is_some};
 ghost use Rattle.run_trace.specs.declared.entry.Kind.TheVariants.{Took, Chunk, Begin, End, PutOff, Mark, More, Sweep, Fuel};
 ghost use Rattle.run_ledger.specs.Entries.{kind_refusal, on_running, on_waiting, on_marking, on_due, is_pool_enough, is_out, refused_unless, counted, ends_as};
 ghost use Rattle.run_ledger.specs.Heaps.{heap_of, left_in, marked_in};
@@ -9,7 +9,6 @@ ghost use Rattle.run_journal.specs.Book.{Steady, Agrees};
 
 use crate::accounts::Accounts;
 use run_ledger::Refused;
-use std::alloc::AllocError;
 
 impl<'p> Accounts<'p> {
     // The worker is to be at the task, which isn't to be amid a leaf collection.
@@ -194,32 +193,28 @@ impl<'p> Accounts<'p> {
     }
 }
 
-/// A number of an entry is to say what it should. A number past 32 bits, to which no legal journal comes, is told as want of
-/// memory.
-pub(crate) fn count_cause(said: u32, is: u64) -> Result<Option<Refused>, AllocError>
-    ensures { IfOk result (λ cause. cause ≡ counted said is None) }
+/// A number of an entry is to say what it should.
+pub(crate) fn count_cause(said: u32, is: u64) -> Option<Refused>
+    requires { is < 2 ^ 32 }
+    ensures { result ≡ counted said is None }
 {
     if said as u64 == is {
-        return Ok(None);
-    }
-    match u32::try_from(is) {
-        Ok(is) => Ok(Some(Refused::Count(said, is))),
-        Err(_) => Err(AllocError),
+        None
+    } else {
+        Some(Refused::Count(said, is as u32))
     }
 }
 
 /// The three numbers of the end of a leaf collection are to say what they should.
-pub(crate) fn end_cause(
-    said: (u32, u32, u32),
-    is: (u64, u64, u64),
-) -> Result<Option<Refused>, AllocError>
-    ensures { IfOk result (λ cause. cause ≡ ends_as (said.0, said.1, said.2) (is.0, is.1, is.2)) }
+pub(crate) fn end_cause(said: (u32, u32, u32), is: (u64, u64, u64)) -> Option<Refused>
+    requires { (is.0 < 2 ^ 32) × (is.1 < 2 ^ 32) × (is.2 < 2 ^ 32) }
+    ensures { result ≡ ends_as (said.0, said.1, said.2) (is.0, is.1, is.2) }
 {
-    if let Some(cause) = count_cause(said.0, is.0)? {
-        return Ok(Some(cause));
+    if let Some(cause) = count_cause(said.0, is.0) {
+        return Some(cause);
     }
-    if let Some(cause) = count_cause(said.1, is.1)? {
-        return Ok(Some(cause));
+    if let Some(cause) = count_cause(said.1, is.1) {
+        return Some(cause);
     }
     count_cause(said.2, is.2)
 }

@@ -112,15 +112,12 @@ impl<'p> Accounts<'p> {
         let Ok(parts) = self.collected(task) else {
             return Err(ApplyError::NoMemory);
         };
-        match end_cause(said, (parts.taken, parts.given, parts.left)) {
-            Err(_) => Err(ApplyError::NoMemory),
-            Ok(Some(cause)) => Err(ApplyError::Refused(cause)),
-            Ok(None) => {
-                self.count_collected(task, &parts);
-                self.put_collected(task, parts);
-                Ok(())
-            }
+        if let Some(cause) = end_cause(said, (parts.taken, parts.given, parts.left)) {
+            return Err(ApplyError::Refused(cause));
         }
+        self.count_collected(task, &parts);
+        self.put_collected(task, parts);
+        Ok(())
     }
 
     fn enter_put_off(&mut self, worker: u32, task: u32) -> Result<(), ApplyError>
@@ -152,7 +149,8 @@ impl<'p> Accounts<'p> {
     }
 
     fn enter_more(&mut self, worker: u32, task: u32, count: u32) -> Result<(), ApplyError>
-        requires { Agrees self.old }
+        requires steady { Steady self.old.ledger }
+        requires agrees { Agrees self.old }
         ensures none { OnOk result (kind_refusal self.old.program self.old.limits self.old.ledger worker (More task count) ≡ None) }
         ensures ok { OnOk result (self.new ≡ went_on self.old (after_kind self.old.program self.old.limits self.old.ledger worker (More task count))) }
         ensures err { IfErr result (FailsFor (kind_refusal self.old.program self.old.limits self.old.ledger worker (More task count))) }
@@ -160,10 +158,8 @@ impl<'p> Accounts<'p> {
         if let Some(cause) = self.more_cause(worker, task, count) {
             return Err(ApplyError::Refused(cause));
         }
-        match self.more(worker, task, count) {
-            Ok(()) => Ok(()),
-            Err(_) => Err(ApplyError::NoMemory),
-        }
+        self.more(worker, task, count);
+        Ok(())
     }
 
     fn enter_sweep(&mut self, worker: u32, task: u32, given: u32) -> Result<(), ApplyError>
@@ -179,15 +175,12 @@ impl<'p> Accounts<'p> {
         let Ok(parts) = self.swept(task) else {
             return Err(ApplyError::NoMemory);
         };
-        match count_cause(given, parts.given) {
-            Err(_) => Err(ApplyError::NoMemory),
-            Ok(Some(cause)) => Err(ApplyError::Refused(cause)),
-            Ok(None) => {
-                self.count_swept(&parts);
-                self.put_swept(task, parts);
-                Ok(())
-            }
+        if let Some(cause) = count_cause(given, parts.given) {
+            return Err(ApplyError::Refused(cause));
         }
+        self.count_swept(&parts);
+        self.put_swept(task, parts);
+        Ok(())
     }
 
     fn enter_fuel(&mut self, worker: u32) -> Result<(), ApplyError>
