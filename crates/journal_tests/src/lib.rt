@@ -1,29 +1,20 @@
-// Journals of whole runs, replayed: how they end, and why their entries are refused.
+// Journals of whole runs, replayed: how they end, why their entries are refused, and what is written of them.
 #![tactic(auto)]
 
 #[cfg(test)]
+mod programs;
+#[cfg(test)]
+mod reports;
+
+#[cfg(test)]
 mod tests {
+    use crate::programs::{COLLECTS, MARKS, PRINTS, TO_BEGIN, TO_FORK, limits};
     use run_journal::{ReplayError, model_replay};
     use run_report::{end_text, refused_text};
-    use run_trace::{Settings, Version};
+    use run_trace::Settings;
     use std::alloc::Global;
     use std::test::Fail;
     use trace_input::read_trace_input;
-
-    const PRINTS: &str = "fn main\nset i0 7\nout i0\nret\nend\n";
-
-    // Its left child allocates 16 words, and is then to allocate more.
-    const COLLECTS: &str =
-        "fn left\nset i0 0\nset i1 14\nnewm r1 i0 i1\nputr r0 i0 r1\nnil r1\nnewm r2 i0 i1\nret\nend\nfn right\nset i0 0\nnil r1\nputr r0 i0 r1\nret\nend\nfn main\nset i0 1\nset i1 0\nnewm r0 i0 i1\npar left right\nset i2 0\ngetr r3 r0 i2\nnil r4\nsame i3 r3 r4\nout i3\nret\nend\n";
-
-    const TO_BEGIN: &str =
-        "0 took 0\n0 ran 0 2\n0 chunk 0\n0 ran 0 2\n0 took 1\n1 took 2\n0 ran 1 2\n0 chunk 1\n0 ran 1 2\n0 ran 1 1\n";
-
-    // It forks over two objects of 19 words together.
-    const MARKS: &str =
-        "fn left\nset i0 0\ngetr r1 r0 i0\nnil r2\nputr r0 i0 r2\ngeti i0 r1 i0\nret\nend\nfn right\nret\nend\nfn main\nset i0 1\nset i1 0\nnewm r0 i0 i1\nset i0 0\nset i1 14\nnewm r1 i0 i1\nset i2 5\nputi r1 i0 i2\nputr r0 i0 r1\nnil r1\npar left right\nout i0\nret\nend\n";
-
-    const TO_FORK: &str = "0 took 0\n0 ran 0 2\n0 chunk 0\n0 ran 0 9\n";
 
     // What is written last of the replay of a program's journal, in two parts.
     fn told(
@@ -50,16 +41,6 @@ mod tests {
             Err(ReplayError::RefusedAt(refused)) => Ok(refused_text(alloc, refused)?),
             Err(ReplayError::NoMemory) => Ok(format!(in alloc; "memory")?),
         }
-    }
-
-    fn limits(workers: u32, fuel: u64, chunks: u32, leaf: u32, inner: u32) -> Settings {
-        if workers < 1 || 64 < workers || fuel < 1 || 1_000_000_000 < fuel || chunks < 2 {
-            return Settings::usual();
-        }
-        if 65_536 < chunks || leaf < 16 || 1_000_000 < leaf || inner < 16 || 1_000_000 < inner {
-            return Settings::usual();
-        }
-        Settings::new(Version::One, workers, fuel, chunks, leaf, inner)
     }
 
     #[test]

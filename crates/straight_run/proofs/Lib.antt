@@ -4,3 +4,5 @@ pub mod Entered
 pub mod Turns
 pub mod Unready
 pub mod Accepted
+pub mod Looks
+pub mod Only

@@ -96,7 +96,7 @@ module _ (p : ProgramText) (s : Limits) where
   pub stands_last : (c : Course) (n : ℕ) → IsShared p s c → standing s p (ledger_at p s c) 0 (suc n) ≡ 1
   stands_last c n h = standing_at c n h.asks ∙ ap (λ b. if b then suc (standing s p (task_step p (ledger_at p s c) 0) 0 n) else 1) h.private
 
-  stands_more : (c new : Course) (n : ℕ) → GoesAlone p s c new → standing s p (ledger_at p s c) 0 (suc n) ≡ suc (standing s p (ledger_at p s new) 0 n)
+  pub stands_more : (c new : Course) (n : ℕ) → GoesAlone p s c new → standing s p (ledger_at p s c) 0 (suc n) ≡ suc (standing s p (ledger_at p s new) 0 n)
   stands_more c new n h =
       standing_at c n h.asks ∙ ap (λ b. if b then suc (standing s p (task_step p (ledger_at p s c) 0) 0 n) else 1) h.private ∙ ap (λ l. suc (standing s p l 0 n)) h.step
 
@@ -140,7 +140,7 @@ module _ (p : ProgramText) (form : IsProgram p) (ready : IsReady p) where
       let lt = not_last (main_lines p) old.place (record { instr = Set d k; number = l.number }) (main_is p form ready).ends e (λ r. r) in
       λ s. subst (GoesAlone p s old) (sym n) (set_alone p s old d k l.number e lt)
 
-  straight_at : (i : ℕ) (l : Line) → slice_get (main_lines p) i ≡ Some l → is_straight l.instr ≡ true
+  pub straight_at : (i : ℕ) (l : Line) → slice_get (main_lines p) i ≡ Some l → is_straight l.instr ≡ true
   straight_at i l at = all_at (λ (m : Line). is_straight m.instr ≡ true) (main_lines p) i l (main_is p form ready).straight at
 
   open_by : (c : Course) (instr : Instr) (n : ℕ) → slice_get (main_lines p) c.place ≡ Some (record { instr = instr; number = n }) → is_straight instr ≡ true → ((d : ℕ) (k : ℤ) → instr ≡ Set d k → ⊥) → IsOpenAt p c

@@ -26,7 +26,7 @@ use Rattle.straight_run.proofs.Steps.{stands_last, one_behind}
 use Rattle.straight_run.proofs.Entered.{Stands, Calm, stands_opening, calm_opening, enters, stays_calm}
 
 module _ (p : ProgramText) (s : Limits) (limits : AreLimits s) where
-  hired : nat_lt 0 s.workers ≡ true
+  pub hired : nat_lt 0 s.workers ≡ true
   hired = let w = limits.workers.0 in grind (arith, w)
 
   -- THE TASK IS TAKEN
@@ -34,13 +34,13 @@ module _ (p : ProgramText) (s : Limits) (limits : AreLimits s) where
   abbrev took : Event
   took = record { worker = 0; kind = Took 0 }
 
-  unspent : nat_le s.fuel 0 ≡ false
+  pub unspent : nat_le s.fuel 0 ≡ false
   unspent = let f = limits.fuel.0 in grind (arith, f)
 
   took_unrefused : refusal p s (opening p s) took ≡ None
   took_unrefused = rw (unspent, hired) refl
 
-  abbrev first : Course
+  abbrev pub first : Course
   first = record { ints = replicate 16 (pos 0); place = 0; outputs = [] }
 
   pub begins : IsProgram p → IsReady p → Follows p s (record { journal = [] ++ took ∷ []; course = first; end = None })

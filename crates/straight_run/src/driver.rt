@@ -97,7 +97,7 @@ impl Drive {
     }
 }
 
-/// Runs a program of straight-line code to its end, or until its fuel is spent.
+/// Runs a program of straight-line code to its end, or until its fuel is spent. An error is want of memory.
 pub fn run_program(
     alloc: Global,
     program: &Program,

@@ -10,6 +10,6 @@ mod shared;
 mod tests;
 
 pub use driver::run_program;
-pub use laws::{outputs_are_written, runs_are_accepted, unready_is_found};
+pub use laws::{outputs_are_written, runs_are_accepted, runs_are_determined, unready_is_found};
 pub use ready::first_unready;
 pub use shared::Shared;
