@@ -83,15 +83,16 @@ fn written(
     version: Version,
     journal: &[Entry],
     end: RunEnd,
-    shows: (bool, bool),
+    report: bool,
+    trace: bool,
 ) -> Result<Vec<u8>, AllocError>
     requires { counted.now.book.stopped ≡ false }
-    ensures { IfOk result (λ text. text.items ≡ text_from version counted.now.book.ledger counted.now.totals shows.0 shows.1 journal.now end) }
+    ensures { IfOk result (λ text. text.items ≡ text_from version counted.now.book.ledger counted.now.totals report trace journal.now end) }
 {
     let mut text = outputs_text(alloc, counted.book.outputs())?;
-    let report = report_lines(alloc, shows.0, &counted.book, journal.len(), counted.totals)?;
+    let report = report_lines(alloc, report, &counted.book, journal.len(), counted.totals)?;
     text.extend_from_slice(report.as_bytes())?;
-    let trace = trace_lines(alloc, shows.1, version, journal)?;
+    let trace = trace_lines(alloc, trace, version, journal)?;
     text.extend_from_slice(trace.as_slice())?;
     text.extend_from_slice(end_text(alloc, end)?.as_bytes())?;
     Ok(text)
@@ -125,7 +126,8 @@ pub fn whole_run(
         settings.version(),
         journal,
         end,
-        (report, trace),
+        report,
+        trace,
     ) {
         Ok(text) => Ok(WholeRun {
             end,
