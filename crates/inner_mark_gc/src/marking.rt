@@ -3,7 +3,7 @@
 ghost use Rattle.std.specs.Prelude.{◌≡◌, ℕ, ◌+◌, ◌-◌, ◌<◌, ◌≤◌, ◌↔◌, [], List, All, Contains, IfOk, IsTrue, Some, length, drop, slice_index_or, take, true, vec_capacity};
 ghost use Rattle.object_layout.specs.declared.word.Addr.{Addr};
 ghost use Rattle.inner_mark_gc.specs.Snapshot.{IsClosed, IsHeld, IsSince, IsSound, Leads, object_count, objects_in, Fork};
-ghost use Rattle.inner_mark_gc.specs.Marks.{has_address, marked_of, noted, Finds, HasRoom, IsAllMarked, IsMarking, IsOf};
+ghost use Rattle.inner_mark_gc.specs.Marks.{has_address, marked_of, noted, Finds, HasRoom, IsAllMarked, IsDone, IsMarking, IsOf};
 
 use alloc_path::LeafHeap;
 use object_layout::{Addr, Chunk, is_object_at, next_at};
@@ -88,7 +88,8 @@ impl Marking {
     pub fn ready(&self, heap: &LeafHeap, kept: &[Addr]) -> bool
         requires kept { All (IsHeld heap.now.chunks) kept.now }
         requires own { IsOf heap.now.chunks kept.now self.now }
-        ensures { (f : Fork) → IsSince f kept.now heap.now.chunks → IsMarking f kept.now self.now → (IsTrue result ↔ IsAllMarked f kept.now self.now) }
+        ensures ready { (f : Fork) → IsSince f kept.now heap.now.chunks → IsMarking f kept.now self.now → (IsTrue result ↔ IsAllMarked f kept.now self.now) }
+        ensures done { IsTrue result → IsDone self.now }
     {
         let _ = heap;
         self.marked == self.found.len() && self.has_all(&kept[self.followed..])
