@@ -30,12 +30,15 @@ const ENTANGLES: &str =
 
 const MAKES_1023_FIELDS: &str = "fn main\nset i0 0\nset i1 1023\nnewm r0 i0 i1\nret\nend\n";
 
-fn word_list(alloc: Global, words: &[&str]) -> Result<Vec<String>, Fail> {
-    let mut list = Vec::new(alloc);
-    for word in words {
-        list.push(String::from_str(alloc, word)?)?;
+// The words of a line, with a space between each two.
+fn words_of(alloc: Global, line: &str) -> Result<Vec<String>, Fail> {
+    let mut words = Vec::new(alloc);
+    for word in line.split(' ') {
+        if !word.is_empty() {
+            words.push(String::from_str(alloc, word)?)?;
+        }
     }
-    Ok(list)
+    Ok(words)
 }
 
 // What comes from standard input, and from each file too.
@@ -54,23 +57,23 @@ fn sink(alloc: Global) -> MemSink {
 
 fn call<R: AllocGlobal + Threads + Wait + Sync>(
     rt: &R,
-    words: &[&str],
+    line: &str,
     source: &mut MemSource,
     sink: &mut MemSink,
 ) -> Result<Ran, Fail> {
-    let words = word_list(rt.alloc(), words)?;
+    let words = words_of(rt.alloc(), line)?;
     Ok(command(rt, rt.alloc(), words.as_slice(), source, sink, &EmptyGate))
 }
 
 // The exit status of a command line, and what it writes.
 pub(crate) fn said<R: AllocGlobal + Threads + Wait + Sync>(
     rt: &R,
-    words: &[&str],
+    line: &str,
     input: &str,
 ) -> Result<(u8, Vec<u8>), Fail> {
     let mut source = source_of(rt.alloc(), input.as_bytes())?;
     let mut sink = sink(rt.alloc());
-    let ran = call(rt, words, &mut source, &mut sink)?;
+    let ran = call(rt, line, &mut source, &mut sink)?;
     Ok((ran.status.code(), sink.written().to_vec(rt.alloc())?))
 }
 
@@ -78,7 +81,7 @@ pub(crate) fn said<R: AllocGlobal + Threads + Wait + Sync>(
 fn seven(rt: HostRuntime) -> Result<(), Fail> {
     let mut source = source_of(rt.alloc(), SEVEN.as_bytes())?;
     let mut sink = sink(rt.alloc());
-    let ran = call(&rt, &["run"], &mut source, &mut sink)?;
+    let ran = call(&rt, "run", &mut source, &mut sink)?;
     assert_eq!(rt; ran.status, Status::Done);
     assert_eq!(rt; sink.written(), b"7\nend: done\n".as_slice());
     let journal = [
@@ -136,7 +139,7 @@ fn programs_run(rt: HostRuntime) -> Result<(), Fail> {
         ),
     ];
     for (text, status, bytes) in cases {
-        let (code, written) = said(&rt, &["run", "p.hh"], text)?;
+        let (code, written) = said(&rt, "run p.hh", text)?;
         assert_eq!(rt; code, status);
         assert_eq!(rt; written.as_slice(), bytes.as_bytes());
     }
@@ -187,7 +190,7 @@ fn texts_are_checked(rt: HostRuntime) -> Result<(), Fail> {
         ),
     ];
     for (text, status, bytes) in cases {
-        let (code, written) = said(&rt, &["check"], text)?;
+        let (code, written) = said(&rt, "check", text)?;
         assert_eq!(rt; code, status);
         assert_eq!(rt; written.as_slice(), bytes.as_bytes());
     }
@@ -199,7 +202,7 @@ fn bytes_that_are_no_text(rt: HostRuntime) -> Result<(), Fail> {
     for word in ["check", "run", "model"] {
         let mut source = source_of(rt.alloc(), &[255])?;
         let mut sink = sink(rt.alloc());
-        let ran = call(&rt, &[word], &mut source, &mut sink)?;
+        let ran = call(&rt, word, &mut source, &mut sink)?;
         assert_eq!(rt; ran.status, Status::Source);
         assert_eq!(rt;
             sink.written(),
@@ -212,20 +215,20 @@ fn bytes_that_are_no_text(rt: HostRuntime) -> Result<(), Fail> {
 // What `model` says of a program with a journal in two parts.
 fn modelled<R: AllocGlobal + Threads + Wait + Sync>(
     rt: &R,
-    words: &[&str],
+    line: &str,
     program: &str,
     before: &str,
     rest: &str,
 ) -> Result<(u8, Vec<u8>), Fail> {
     let input = format!(in rt.alloc(); "{program}{before}{rest}")?;
-    said(rt, words, input.as_str())
+    said(rt, line, input.as_str())
 }
 
 #[test]
 fn journals_are_replayed(rt: HostRuntime) -> Result<(), Fail> {
     let cases = [
         (
-            ["model", "--workers=2", "--leaf=16", "--report"].as_slice(),
+            "model --workers=2 --leaf=16 --report",
             COLLECTS,
             BEFORE_END,
             "0 end 1 1 1 16\n0 ran 1 2\n1 ran 2 1\n1 took 0\n1 ran 0 5\n1 ran 0 1\n",
@@ -233,7 +236,7 @@ fn journals_are_replayed(rt: HostRuntime) -> Result<(), Fail> {
             "1\nreport tasks 3 steps 21 turns 18\nreport leaf 1 putoff 0 freed 0\nreport inner 0 freed 0\nreport chunks 2 peak 3\nreport held 3 words 35\nend: done\n",
         ),
         (
-            ["model", "--workers=2", "--leaf=16", "--report"].as_slice(),
+            "model --workers=2 --leaf=16 --report",
             COLLECTS,
             BEFORE_END,
             "0 end 1 1 1 15\n0 ran 1 2\n1 ran 2 1\n1 took 0\n1 ran 0 5\n1 ran 0 1\n",
@@ -241,7 +244,7 @@ fn journals_are_replayed(rt: HostRuntime) -> Result<(), Fail> {
             "end: trace refused entry 13 count 15 16\n",
         ),
         (
-            ["model", "--inner", "16", "--report"].as_slice(),
+            "model --inner 16 --report",
             MARKS,
             "trace 1\n0 took 0\n0 ran 0 2\n0 chunk 0\n0 ran 0 9\n0 took 1\n0 ran 1 2\n0 ran 1 2\n0 mark 0\n0 some 0 64\n0 sweep 0 0\n",
             "0 ran 1 1\n0 ran 1 1\n0 took 2\n0 ran 2 1\n0 took 0\n0 ran 0 1\n0 ran 0 1\n",
@@ -249,7 +252,7 @@ fn journals_are_replayed(rt: HostRuntime) -> Result<(), Fail> {
             "5\nreport tasks 3 steps 20 turns 17\nreport leaf 0 putoff 0 freed 0\nreport inner 1 freed 0\nreport chunks 1 peak 1\nreport held 2 words 19\nend: done\n",
         ),
         (
-            ["model", "--report"].as_slice(),
+            "model --report",
             ENTANGLES,
             "trace 1\n0 took 0\n0 ran 0 2\n0 chunk 0\n0 ran 0 2\n0 took 2\n0 ran 2 2\n0 ran 2 1\n",
             "0 took 1\n0 ran 1 2\n0 chunk 1\n0 ran 1 2\n0 ran 1 1\n0 took 0\n0 ran 0 1\n",
@@ -257,7 +260,7 @@ fn journals_are_replayed(rt: HostRuntime) -> Result<(), Fail> {
             "report tasks 3 steps 13 turns 14\nreport leaf 0 putoff 0 freed 0\nreport inner 0 freed 0\nreport chunks 2 peak 2\nreport held 2 words 6\nend: done\n",
         ),
         (
-            ["model", "--trace"].as_slice(),
+            "model --trace",
             ENTANGLES,
             "trace 2\n0 took 0\n0 ran 0 2\n0 chunk 0\n0 ran 0 2\n0 took 1\n0 ran 1 2\n0 chunk 1\n0 ran 1 2\n",
             "0 ran 1 1 # ends\n\n0 took 2\n0 ran 2 2",
@@ -265,7 +268,7 @@ fn journals_are_replayed(rt: HostRuntime) -> Result<(), Fail> {
             "trace 2\n0 took 0\n0 ran 0 2\n0 chunk 0\n0 ran 0 2\n0 took 1\n0 ran 1 2\n0 chunk 1\n0 ran 1 2\n0 ran 1 1\n0 took 2\n0 ran 2 2\nend: entangled reader 2 owner 1\n",
         ),
         (
-            ["model"].as_slice(),
+            "model",
             MAKES_1023_FIELDS,
             "trace 1\n0 took 0\n",
             "0 ran 0 3\n",
@@ -273,7 +276,7 @@ fn journals_are_replayed(rt: HostRuntime) -> Result<(), Fail> {
             "end: trap size task 0 line 4\n",
         ),
         (
-            ["model"].as_slice(),
+            "model",
             MAKES_1023_FIELDS,
             "trace 2\n0 took 0\n",
             "0 ran 0 3\n",
@@ -281,7 +284,7 @@ fn journals_are_replayed(rt: HostRuntime) -> Result<(), Fail> {
             "end: trace refused entry 2 long 2\n",
         ),
         (
-            ["model", "--fuel", "1"].as_slice(),
+            "model --fuel 1",
             SEVEN,
             "\ntrace 1\n0 took 0\n0 ran 0 2\n",
             "0 fuel\n",
@@ -289,7 +292,7 @@ fn journals_are_replayed(rt: HostRuntime) -> Result<(), Fail> {
             "7\nend: fuel 2\n",
         ),
         (
-            ["model", "--chunks", "2"].as_slice(),
+            "model --chunks 2",
             "fn main\nset i0 0\nset i1 1022\nlab a\nnewm r0 i0 i1\njmp a\nend\n",
             "trace 1\n0 took 0\n0 ran 0 2\n0 chunk 0\n0 ran 0 2\n",
             "0 chunk 0\n0 ran 0 2\n0 chunk 0\n",
@@ -297,8 +300,8 @@ fn journals_are_replayed(rt: HostRuntime) -> Result<(), Fail> {
             "end: pool 2\n",
         ),
     ];
-    for (words, program, before, rest, status, bytes) in cases {
-        let (code, written) = modelled(&rt, words, program, before, rest)?;
+    for (line, program, before, rest, status, bytes) in cases {
+        let (code, written) = modelled(&rt, line, program, before, rest)?;
         assert_eq!(rt; code, status);
         assert_eq!(rt; written.as_slice(), bytes.as_bytes());
     }
@@ -356,7 +359,7 @@ fn traces_are_refused(rt: HostRuntime) -> Result<(), Fail> {
         ),
     ];
     for (trace, status, bytes) in cases {
-        let (code, written) = modelled(&rt, &["model"], SEVEN, trace, "")?;
+        let (code, written) = modelled(&rt, "model", SEVEN, trace, "")?;
         assert_eq!(rt; code, status);
         assert_eq!(rt; written.as_slice(), bytes.as_bytes());
     }
@@ -369,11 +372,11 @@ fn a_program_is_made(rt: HostRuntime) -> Result<(), Fail> {
         "fn f0\nmovr r3 r0\nset i2 2\nset i3 0\nnewm r0 i2 i3\nmovr r2 r0\nset i5 496\nset i2 0\nset i3 21\nset i7 7\nset i8 1\nlab a\nnewm r5 i2 i3\nputi r5 i2 i7\nsub i7 i7 i8\njz i7 b\njmp a\nlab b\nset i4 0\nputr r3 i4 r5\nset i3 1\nnewm r6 i2 i3\nputi r6 i2 i5\nputr r3 i4 r6\ngetr r7 r3 i4\ngeti i0 r7 i2\nnil r0\nret\nend\nfn main\nset i2 2\nset i3 0\nnewm r0 i2 i3\nmovr r9 r0\ncall f0\nset i4 0\ngetr r4 r9 i4\ngeti i6 r4 i4\nout i6\nret\nend\n";
     let mut source = source_of(rt.alloc(), SEVEN.as_bytes())?;
     let mut sink = sink(rt.alloc());
-    let ran = call(&rt, &["make", "1", "1"], &mut source, &mut sink)?;
+    let ran = call(&rt, "make 1 1", &mut source, &mut sink)?;
     assert_eq!(rt; ran.status.code(), 0);
     assert_eq!(rt; sink.written(), text.as_bytes());
     assert_eq!(rt; source.left().len(), SEVEN.len());
-    let (code, written) = said(&rt, &["check"], text)?;
+    let (code, written) = said(&rt, "check", text)?;
     assert_eq!(rt; code, 0);
     assert_eq!(rt; written.as_slice(), b"end: accepted\n".as_slice());
     Ok(())
@@ -382,21 +385,21 @@ fn a_program_is_made(rt: HostRuntime) -> Result<(), Fail> {
 #[test]
 fn words_are_refused(rt: HostRuntime) -> Result<(), Fail> {
     let cases = [
-        [].as_slice(),
-        ["walk"].as_slice(),
-        ["run", "--workers", "65"].as_slice(),
-        ["run", "--fuel", "0"].as_slice(),
-        ["run", "a", "b"].as_slice(),
-        ["replay"].as_slice(),
-        ["make", "1", "1", "--run"].as_slice(),
-        ["make", "1", "0"].as_slice(),
-        ["model", "--leaf", "15"].as_slice(),
-        ["--help"].as_slice(),
+        "",
+        "walk",
+        "run --workers 65",
+        "run --fuel 0",
+        "run a b",
+        "replay",
+        "make 1 1 --run",
+        "make 1 0",
+        "model --leaf 15",
+        "--help",
     ];
-    for words in cases {
+    for line in cases {
         let mut source = source_of(rt.alloc(), SEVEN.as_bytes())?;
         let mut sink = sink(rt.alloc());
-        let ran = call(&rt, words, &mut source, &mut sink)?;
+        let ran = call(&rt, line, &mut source, &mut sink)?;
         assert_eq!(rt; ran.status, Status::Words);
         assert_eq!(rt; ran.status.code(), 2);
         assert_eq!(rt; sink.written(), b"end: words refused\n".as_slice());
@@ -415,7 +418,7 @@ fn feeds<R: AllocGlobal + Threads + Wait + Sync>(
     text.resize(size, b'\n')?;
     let mut source = MemSource::new(text, Vec::new(rt.alloc()), 65536, Vec::new(rt.alloc()));
     let mut sink = sink(rt.alloc());
-    let ran = call(rt, &[word], &mut source, &mut sink)?;
+    let ran = call(rt, word, &mut source, &mut sink)?;
     Ok((
         ran.status.code(),
         sink.written().to_vec(rt.alloc())?,
@@ -479,7 +482,7 @@ fn failing_sinks(rt: HostRuntime) -> Result<(), Fail> {
     for failing in 1..=13 {
         let mut source = source_of(alloc, SEVEN.as_bytes())?;
         let mut sink = MemSink::new(alloc, 1, vec![in alloc; failing]?);
-        let ran = call(&rt, &["run"], &mut source, &mut sink)?;
+        let ran = call(&rt, "run", &mut source, &mut sink)?;
         let count = (failing as usize - 1).min(12);
         assert_eq!(rt; sink.written(), &whole[..count]);
         let status = if failing < 13 { 9 } else { 0 };
@@ -493,22 +496,22 @@ fn failing_sinks(rt: HostRuntime) -> Result<(), Fail> {
 fn failing_sources(rt: HostRuntime) -> Result<(), Fail> {
     let alloc = rt.alloc();
     // Without a file the fourth call finds the end; with one the first call finds it.
-    for (words, failing, status) in [
-        (["run"].as_slice(), 1, 8),
-        (["run"].as_slice(), 2, 8),
-        (["run"].as_slice(), 3, 8),
-        (["run"].as_slice(), 4, 0),
-        (["run", "p"].as_slice(), 1, 8),
-        (["check", "p"].as_slice(), 2, 8),
-        (["model", "p"].as_slice(), 4, 8),
-        (["check", "p"].as_slice(), 5, 0),
-        (["make", "1", "1"].as_slice(), 1, 0),
+    for (line, failing, status) in [
+        ("run", 1, 8),
+        ("run", 2, 8),
+        ("run", 3, 8),
+        ("run", 4, 0),
+        ("run p", 1, 8),
+        ("check p", 2, 8),
+        ("model p", 4, 8),
+        ("check p", 5, 0),
+        ("make 1 1", 1, 0),
     ] {
         let text = SEVEN.as_bytes().to_vec(alloc)?;
         let named = SEVEN.as_bytes().to_vec(alloc)?;
         let mut source = MemSource::new(text, named, 16, vec![in alloc; failing]?);
         let mut sink = sink(alloc);
-        let ran = call(&rt, words, &mut source, &mut sink)?;
+        let ran = call(&rt, line, &mut source, &mut sink)?;
         assert_eq!(rt; ran.status.code(), status);
         assert_eq!(rt; sink.written().is_empty(), status == 8);
     }
@@ -528,7 +531,7 @@ fn a_thousand_lines(rt: HostRuntime) -> Result<(), Fail> {
     text.extend_from_slice(b"end")?;
     let mut source = source_of(alloc, text.as_slice())?;
     let mut sink = sink(alloc);
-    let ran = call(&rt, &["run"], &mut source, &mut sink)?;
+    let ran = call(&rt, "run", &mut source, &mut sink)?;
     assert_eq!(rt; ran.status, Status::Done);
     let first = [
         Entry::new(0, Kind::Took(0)),
