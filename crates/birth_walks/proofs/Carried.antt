@@ -1,6 +1,6 @@
 -- Walks over nodes that bear names are walks over the names.
 use Rattle.std.proofs.Common.{◌≡◌, ℕ, zero, suc, List, refl, subst}
-use Rattle.std.specs.Prelude.{◌↔◌, Option}
+use Rattle.std.specs.Prelude.{◌↔◌}
 use Rattle.object_layout.specs.declared.word.Addr.{Addr}
 use Rattle.object_layout.specs.declared.word.Birth.{Birth}
 use Rattle.object_layout.specs.Cell.{Mark, Born, Moved, Hole, IsBorn}
@@ -8,7 +8,6 @@ use Rattle.object_layout.specs.Content.{Content}
 use Rattle.object_layout.specs.Chunks.{cell_of}
 use Rattle.walks.specs.Reached.{IsWalk, IsReached}
 use Rattle.leaf_copy_gc.specs.Survivors.{Starts as StartsCopying, Leads as LeadsCopying}
-use Rattle.inner_mark_gc.specs.Snapshot.{Fork, IsHeld}
 use Rattle.inner_mark_gc.specs.Snapshot.{Starts as StartsMarking, Leads as LeadsMarking}
 use Rattle.birth_walks.specs.Births.{Bears, AreBornOnce, StartsNamed, LeadsNamed, IsReachedByName}
 use Rattle.birth_walks.specs.Laws.{SurvivorsAreNamed, SnapshotIsNamed}
