@@ -167,10 +167,10 @@ module _ (h : Heap) (w i : ℕ) (fits : place_for h w ≡ Some i) where
 
 -- the chunk into which an object goes is in the list, and has room for it
 module _ (h : Heap) (count : ℕ) (place : ℕ → Option ℕ) (entries : ℕ) (keeps : IsKept h.chunks h.current h.reserved count place entries) where
-  current_in : (i : ℕ) → h.current ≡ Some i → (i < length h.chunks) × ((chunk_at h.chunks i).size ≡ 1024)
+  pub current_in : (i : ℕ) → h.current ≡ Some i → (i < length h.chunks) × ((chunk_at h.chunks i).size ≡ 1024)
   current_in i e = rw e at keeps.current
 
-  reserved_in : (i : ℕ) → h.reserved ≡ Some i → (i < length h.chunks) × ((1024 < (chunk_at h.chunks i).size) × ((chunk_at h.chunks i).cells ≡ []))
+  pub reserved_in : (i : ℕ) → h.reserved ≡ Some i → (i < length h.chunks) × ((1024 < (chunk_at h.chunks i).size) × ((chunk_at h.chunks i).cells ≡ []))
   reserved_in i e = rw e at keeps.reserved
 
   module _ (w i : ℕ) (fits : place_for h w ≡ Some i) (some : 0 < w) where

@@ -1,6 +1,6 @@
 -- A task's own heap, as callers see it.
-use Rattle.std.specs.Prelude.{◌≡◌, ℕ, ◌+◌, ◌-◌, ◌*◌, ◌/◌, ◌^◌, ◌<◌, List, [], ◌∷◌, ◌++◌, ◌==◌, if◌then◌else◌, Option, Some, None, length, min, nat_le, option_map}
-use Rattle.object_layout.specs.Cell.{Cell, size_of}
+use Rattle.std.specs.Prelude.{◌≡◌, All, ℕ, ◌+◌, ◌-◌, ◌*◌, ◌/◌, ◌^◌, ◌<◌, List, [], ◌∷◌, ◌++◌, ◌==◌, if◌then◌else◌, Option, Some, None, length, min, nat_le, option_map}
+use Rattle.object_layout.specs.Cell.{Cell, moved_to, size_of}
 use Rattle.object_layout.specs.Content.{Content}
 use Rattle.object_layout.specs.Place.{words_in}
 use Rattle.object_layout.specs.Chunks.{chunk_at, held_words, place_in, push_object}
@@ -108,3 +108,18 @@ pub record IsKept (chunks : List Content) (filled kept : Option ℕ) (count : �
   pub words : count ≡ counted (held_words chunks)
   pub table : (number : ℕ) → place number ≡ place_in chunks number
   pub each : entries ≡ length chunks
+
+-- ---- what a heap keeps between collections
+
+-- no object was moved, and a large one has its chunk to itself
+pub record IsTidy (k : Content) : Type 0 where
+  pub unmoved : All (λ c. moved_to c.mark ≡ None) k.cells
+  pub alone : All (λ c. 1024 < size_of c → length k.cells ≡ 1) k.cells
+
+abbrev pub AreTidy : List Content → Type 0
+AreTidy ks = All IsTidy ks
+
+-- all chunks are so, and no two have one number
+pub record IsSettled (ks : List Content) : Type 0 where
+  pub tidy : AreTidy ks
+  pub apart : AreApart ks

@@ -5,12 +5,12 @@ ghost use Rattle.std.specs.HashMap.{get, hash_map_len, spare};
 ghost use Rattle.object_layout.specs.Chunks.{held_in, held_words, place_in};
 ghost use Rattle.alloc_path.specs.Heap.{counted, exchanged, merged, with_places, AreApart, IsCurrent, IsReserved};
 
-use super::heap::LeafHeap;
+use super::space::Space;
 use object_layout::{Chunk, is_object_at, next_at};
 use std::collections::HashMap;
 use std::mem;
 
-impl LeafHeap {
+impl Space {
     /// Takes all chunks out. It takes no memory, and leaves places for as many.
     pub fn take_chunks(&mut self) -> Vec<Chunk>
         ensures chunks { result.items ≡ self.old.chunks }
@@ -49,7 +49,7 @@ impl LeafHeap {
 
     /// Puts the chunks of two other heaps before its own, and goes on filling its own chunk. It
     /// takes no memory.
-    pub fn merge(&mut self, mut left: LeafHeap, mut right: LeafHeap)
+    pub fn merge(&mut self, mut left: Space, mut right: Space)
         requires apart { AreApart (merged self.old left right).chunks }
         requires slots { length left.chunks + length right.chunks ≤ self.old.slots }
         requires spare { length left.chunks + length right.chunks ≤ self.old.spare }

@@ -1,48 +1,31 @@
-// A leaf heap: chunks, and where the next object goes.
+// A leaf heap: the chunks of a task, between collections.
 
-ghost use Rattle.std.specs.Prelude.{◌≡◌, ◌+◌, ◌-◌, ◌*◌, ◌^◌, ◌<◌, ◌≤◌, [], ◌∷◌, length, option_map, OnOk, OnErr, IfErr, IsOk, None, Some};
+ghost use Rattle.std.specs.Prelude.{◌≡◌, ◌+◌, ◌^◌, ◌<◌, ◌≤◌, [], length, option_map, OnOk, OnErr, IfErr, IsOk, None};
 ghost use Rattle.object_layout.specs.Cell.{size_of, new_cell};
-ghost use Rattle.object_layout.specs.Chunks.{chunk_at, held_words, next_address, place_in, push_object};
-ghost use Rattle.alloc_path.specs.Heap.{added, counted, placed, placed_at, place_for, room_of, with_places, IsFresh, IsReserved};
+ghost use Rattle.object_layout.specs.Chunks.{chunk_at, held_words, next_address};
+ghost use Rattle.alloc_path.specs.Heap.{added, counted, exchanged, merged, placed, place_for, room_of, with_places, AreApart, IsFresh, IsReserved, IsSettled};
 
-use object_layout::{Addr, Birth, Chunk, Header, write_new};
+use super::space::{New, Space};
+use object_layout::{Addr, Chunk};
 use std::alloc::{AllocError, AllocFailed, Global};
-use std::collections::HashMap;
 use std::marker::Model;
+use std::mem;
 
-/// How many words a small chunk has. An object of more words is large.
-const SMALL: u32 = 1024;
-
-/// An object to be placed: its kind and its birth name.
-#[derive(Clone, Copy, PartialEq, Eq, Debug)]
-pub struct New {
-    pub header: Header,
-    pub birth: Birth,
-}
-
-/// The chunks of a task. Small objects go into the last small chunk that was added, one behind the
-/// other; a large object, of more than 1,024 words, goes into a chunk of its own, which is reserved
-/// for it first.
+/// The chunks of a task. No object in them was moved, a large one, of more than 1,024 words, has its
+/// chunk to itself, and no two chunks have one number.
 #[derive(Drop)]
 pub struct LeafHeap {
-    pub(crate) chunks: Vec<Chunk>,
-    pub(crate) table: HashMap<u32, usize>,
-    pub(crate) current: Option<usize>,
-    pub(crate) reserved: Option<usize>,
-    pub(crate) since: u64,
-    pub(crate) words: u64,
+    pub(crate) space: Space,
 }
 
 impl Model for LeafHeap {
-    ghost use Rattle.alloc_path.specs.Heap.{Heap, IsKept};
-    ghost use Rattle.std.specs.Prelude.{◌-◌, nat_eq, vec_capacity, vec_len};
-    ghost use Rattle.std.specs.HashMap.{get, hash_map_len, spare};
+    ghost use Rattle.alloc_path.specs.Heap.{Heap, IsSettled};
 
     ghost Value = { Heap };
 
-    ghost view = { λ h. record { chunks = h.chunks.items; current = h.current; reserved = h.reserved; since = h.since; slots = vec_capacity h.chunks - vec_len h.chunks; spare = spare h.table } };
+    ghost view = { λ h. h.space };
 
-    ghost invariant = { λ h. IsKept h.chunks.items h.current h.reserved h.words (get nat_eq h.table) (hash_map_len h.table) };
+    ghost invariant = { λ h. IsSettled h.space.chunks };
 }
 
 impl LeafHeap {
@@ -51,21 +34,17 @@ impl LeafHeap {
         ensures { result ≡ record { chunks = []; current = None; reserved = None; since = 0; slots = result.slots; spare = result.spare } }
     {
         LeafHeap {
-            chunks: Vec::new(alloc),
-            table: HashMap::new(alloc),
-            current: None,
-            reserved: None,
-            since: 0,
-            words: 0,
+            space: Space::new(alloc),
         }
     }
 
     /// The chunks in the order in which they came: small ones, those of large objects, and the
     /// reserved one.
     pub fn chunks(&self) -> &[Chunk]
-        ensures { result.now ≡ self.now.chunks }
+        ensures chunks { result.now ≡ self.now.chunks }
+        ensures settled { IsSettled self.now.chunks }
     {
-        &self.chunks
+        self.space.chunks()
     }
 
     /// At which place the chunk stands that is reserved for a large object, if one is.
@@ -73,41 +52,35 @@ impl LeafHeap {
         ensures place { result ≡ self.now.reserved }
         ensures empty { IsReserved self.now.chunks result }
     {
-        self.reserved
+        self.space.reserved()
     }
 
     /// The words left in the small chunk that is being filled; 0 where none is.
     pub fn room(&self) -> u32
         ensures { result ≡ room_of self.now }
     {
-        match self.current {
-            None => 0,
-            Some(i) => {
-                let chunk = &self.chunks[i];
-                chunk.size() - chunk.used()
-            }
-        }
+        self.space.room()
     }
 
     /// The words of all objects that were placed since the count was last set to 0.
     pub fn since(&self) -> u64
         ensures { result ≡ self.now.since }
     {
-        self.since
+        self.space.since()
     }
 
     /// The words of all objects in the heap, holes left out.
     pub fn words(&self) -> u64
         ensures { result ≡ counted (held_words self.now.chunks) }
     {
-        self.words
+        self.space.words()
     }
 
     /// Sets the count of words placed to 0.
     pub fn reset_since(&mut self)
         ensures { self.new ≡ record self.old { since = 0 } }
     {
-        self.since = 0;
+        self.space.reset_since();
     }
 
     /// Makes places for so many chunks more, so that they can be added without memory.
@@ -118,8 +91,7 @@ impl LeafHeap {
         ensures more_slots { self.old.slots ≤ self.new.slots }
         ensures more_spare { self.old.spare ≤ self.new.spare }
     {
-        self.chunks.reserve(chunks as usize)?;
-        self.table.reserve(chunks as usize)
+        self.space.make_room(chunks)
     }
 
     /// Adds an empty chunk. A small one is filled from then on; a large one is reserved for a large
@@ -152,15 +124,7 @@ impl LeafHeap {
         ensures slots { self.old.slots ≡ self.new.slots + 1 }
         ensures spare { self.old.spare ≤ self.new.spare + 1 }
     {
-        let place = self.chunks.len();
-        let is_small = chunk.size() == SMALL;
-        let _ = self.table.insert(chunk.number(), place);
-        self.chunks.push_reserved(chunk);
-        if is_small {
-            self.current = Some(place);
-        } else {
-            self.reserved = Some(place);
-        }
+        self.space.add_spare(chunk);
     }
 
     /// Makes sure that so many objects can be placed by `place_spare` without memory. An object
@@ -191,58 +155,35 @@ impl LeafHeap {
         ensures address { let object = new_cell new.header new.birth in result ≡ option_map (λ i. next_address (chunk_at self.old.chunks i)) (place_for self.old (size_of object)) }
         ensures placed { let object = new_cell new.header new.birth in self.new ≡ placed self.old (place_for self.old (size_of object)) object }
     {
-        let words = 2 + new.header.nrefs + new.header.nints;
-        match self.chunk_for(words) {
-            None => None,
-            Some(i) => Some(self.place_in_chunk(i, new)),
-        }
+        self.space.place(new)
     }
 
-    // The place of the chunk into which an object of so many words goes.
-    fn chunk_for(&self, words: u32) -> Option<usize>
-        requires { words < 2 ^ 22 }
-        ensures { result ≡ place_for self.now words }
+    /// Puts the chunks of two other heaps before its own, and goes on filling its own chunk. It
+    /// takes no memory.
+    pub fn merge(&mut self, left: LeafHeap, right: LeafHeap)
+        requires apart { AreApart (merged self.old left right).chunks }
+        requires slots { length left.chunks + length right.chunks ≤ self.old.slots }
+        requires spare { length left.chunks + length right.chunks ≤ self.old.spare }
+        ensures merged { self.new ≡ with_places (merged self.old left right) self.new.slots self.new.spare }
     {
-        if words <= SMALL {
-            return if words <= self.room() {
-                self.current
-            } else {
-                None
-            };
-        }
-        match self.reserved {
-            None => None,
-            Some(i) => {
-                if self.chunks[i].size() == SMALL * ((words + 1023) / 1024) {
-                    Some(i)
-                } else {
-                    None
-                }
-            }
-        }
+        self.space.merge(left.space, right.space);
     }
 
-    // Places an object in the chunk at a place.
-    fn place_in_chunk(&mut self, i: usize, new: New) -> Addr
-        requires refs { new.header.nrefs < 2 ^ 20 }
-        requires ints { new.header.nints < 2 ^ 20 }
-        requires fits { place_for self.old (size_of (new_cell new.header new.birth)) ≡ Some i }
-        ensures address { result ≡ next_address (chunk_at self.old.chunks i) }
-        ensures placed { self.new ≡ placed_at self.old i (new_cell new.header new.birth) }
+    /// Takes the chunks out, for a collection or a sweep; the heap is left without any.
+    pub fn open(&mut self) -> Space
+        ensures space { result ≡ self.old }
+        ensures settled { IsSettled self.old.chunks }
+        ensures left { self.new ≡ record (exchanged self.old [] None None) { since = 0; slots = self.new.slots; spare = self.new.spare } }
     {
-        let words = 2 + new.header.nrefs + new.header.nints;
-        let chunk = &mut self.chunks[i];
-        let offset = chunk.used();
-        let number = chunk.number();
-        write_new(chunk, offset, new.header, new.birth);
-        if words > SMALL {
-            self.reserved = None;
-        }
-        self.since = self.since.saturating_add(words as u64);
-        self.words = self.words.saturating_add(words as u64);
-        Addr {
-            chunk: number,
-            offset,
-        }
+        let none = Space::new(self.space.allocator());
+        mem::replace(&mut self.space, none)
+    }
+
+    /// Puts chunks in the place of those that the heap has, which are let go.
+    pub fn close(&mut self, space: Space)
+        requires { IsSettled space.chunks }
+        ensures { self.new ≡ space }
+    {
+        self.space = space;
     }
 }

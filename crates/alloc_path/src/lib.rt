@@ -2,10 +2,13 @@
 #![tactic(auto)]
 
 mod exchange;
+mod fields;
 mod heap;
 mod own;
+mod space;
 
-pub use heap::{LeafHeap, New};
+pub use heap::LeafHeap;
+pub use space::{New, Space};
 
 #[cfg(test)]
 mod tests;

@@ -1,4 +1,4 @@
-// Reads and writes of the heap's own objects, by their addresses.
+// Reads and writes of the objects of a space, by their addresses.
 
 ghost use Rattle.std.specs.Prelude.{◌≡◌, ◌+◌, ◌^◌, ◌<◌, ◌≤◌, ◌++◌, ◌∷◌, [], length, slice_get, is_some, Some, None};
 ghost use Rattle.object_layout.specs.Cell.{Born, Moved, frozen, header_of, moved_to, size_of, with_int, with_mark, IsBorn, IsObject, IsPlace};
@@ -6,13 +6,13 @@ ghost use Rattle.object_layout.specs.Place.{cell_at, words_in};
 ghost use Rattle.object_layout.specs.Chunks.{cell_of, object_of, place_in, place_of, put_object};
 ghost use Rattle.alloc_path.specs.FieldLaws.{with_ref_of};
 
-use super::heap::LeafHeap;
+use super::space::Space;
 use object_layout::{
-    Addr, Birth, Chunk, Header, Words, birth_at, copy_behind, forward, forwarded_at, freeze,
-    header_at, int_at, ref_at, set_birth, set_int, set_ref,
+    Addr, Birth, Chunk, Header, birth_at, copy_behind, forward, forwarded_at, freeze, header_at,
+    int_at, ref_at, set_birth, set_int, set_ref,
 };
 
-impl LeafHeap {
+impl Space {
     // The place of the chunk of a number.
     fn place_of(&self, number: u32) -> usize
         requires { place_of self.now.chunks number < length self.now.chunks }
@@ -141,25 +141,4 @@ impl LeafHeap {
         let chunk = &mut self.chunks[i];
         set_birth(chunk, object.offset, birth);
     }
-}
-
-impl Words for LeafHeap {
-    ghost use Rattle.object_layout.specs.Chunks.{object_of};
-    ghost use Rattle.alloc_path.specs.FieldLaws.{refs_of_other, refs_of_same, with_ref_of};
-
-    ghost refs_at = { λ h a. (object_of h.chunks a).refs };
-
-    ghost with_ref_at = { with_ref_of };
-
-    fn ref_field(&self, object: Addr, field: u32) -> Option<Addr> {
-        self.own_ref(object, field)
-    }
-
-    fn set_ref_field(&mut self, object: Addr, field: u32, value: Option<Addr>) {
-        self.own_set_ref(object, field, value);
-    }
-
-    ghost refs_at_same = { refs_of_same };
-
-    ghost refs_at_other = { refs_of_other };
 }

@@ -2,7 +2,8 @@
 
 ghost use Rattle.std.specs.Prelude.{◌≡◌, ◌^◌, ◌<◌, true};
 
-use super::heap::{LeafHeap, New};
+use super::heap::LeafHeap;
+use super::space::New;
 use object_layout::{Addr, Birth, Chunk, Header, int_at};
 use std::test::Fail;
 
@@ -37,7 +38,6 @@ fn fields_of_own_objects(rt: HostRuntime) -> Result<(), Fail> {
     heap.freeze(FIRST);
     assert_eq!(rt; heap.own_header(FIRST).mutable, false);
     assert_eq!(rt; heap.own_birth(FIRST), Birth { task: 3, count: 5 });
-    assert_eq!(rt; heap.own_forwarded(FIRST), None);
     Ok(())
 }
 
@@ -54,17 +54,19 @@ fn moved_objects(rt: HostRuntime) -> Result<(), Fail> {
     heap.add(Chunk::new(rt.alloc(), 7, 1)?)?;
     assert_eq!(rt; heap.place(new(0, 1, 5))?, Some(FIRST));
     heap.own_set_int(FIRST, 0, 9);
+    let mut space = heap.open();
+    assert_eq!(rt; (heap.chunks().len(), heap.words()), (0, 0));
     let mut to = Chunk::new(rt.alloc(), 8, 1)?;
-    assert_eq!(rt; heap.own_copy(FIRST, &mut to), 0);
+    assert_eq!(rt; space.own_copy(FIRST, &mut to), 0);
     assert_eq!(rt; int_at(&to, 0, 0), 9);
     let there = Addr {
         chunk: 8,
         offset: 0,
     };
-    heap.own_forward(FIRST, there);
-    assert_eq!(rt; heap.own_forwarded(FIRST), Some(there));
-    heap.own_set_birth(FIRST, Birth { task: 3, count: 6 });
-    assert_eq!(rt; heap.own_birth(FIRST), Birth { task: 3, count: 6 });
+    space.own_forward(FIRST, there);
+    assert_eq!(rt; space.own_forwarded(FIRST), Some(there));
+    space.own_set_birth(FIRST, Birth { task: 3, count: 6 });
+    assert_eq!(rt; space.own_birth(FIRST), Birth { task: 3, count: 6 });
     Ok(())
 }
 
@@ -125,9 +127,11 @@ fn merged_heaps(rt: HostRuntime) -> Result<(), Fail> {
         (1024, 3, 3)
     );
     assert_eq!(rt; parent.own_int(FIRST, 0), 0);
-    let chunks = parent.take_chunks();
-    assert_eq!(rt; (chunks.len(), parent.room(), parent.words()), (2, 0, 0));
-    parent.put_chunks(chunks, Some(0), None);
+    let mut space = parent.open();
+    let chunks = space.take_chunks();
+    assert_eq!(rt; (chunks.len(), space.words()), (2, 0));
+    space.put_chunks(chunks, Some(0), None);
+    parent.close(space);
     assert_eq!(rt; (parent.room(), parent.words()), (1021, 3));
     Ok(())
 }

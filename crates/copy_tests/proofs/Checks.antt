@@ -4,25 +4,14 @@ use Rattle.std.specs.Prelude.{nat_le, All}
 use Rattle.std.proofs.lemmas.Bool.{cases_Bool}
 use Rattle.std.proofs.lemmas.List.Elements.{All-nil, All-cons, All-head, All-tail, All-append}
 use Rattle.object_layout.specs.declared.word.Addr.{Addr}
-use Rattle.object_layout.specs.Cell.{Cell, IsBorn, no_cell, size_of}
+use Rattle.object_layout.specs.Cell.{Cell, no_cell, size_of}
 use Rattle.object_layout.specs.Content.{Content}
 use Rattle.object_layout.specs.Place.{cell_at}
 use Rattle.object_layout.specs.Chunks.{cell_of}
-use Rattle.alloc_path.specs.Heap.{AreApart, IsFresh}
-use Rattle.alloc_path.proofs.HeapLemmas.{fresh_cons, fresh_head, fresh_tail}
 use Rattle.task_frames.specs.declared.frames.Frame.{Frame}
 use Rattle.task_frames.specs.Stack.{Stack, depth_of, frames_of, references_of}
-use Rattle.leaf_copy_gc.specs.Survivors.{held_by, IsClosed, IsSound}
+use Rattle.leaf_copy_gc.specs.Survivors.{held_by, IsClosed}
 use Rattle.copy_tests.specs.Fit.{IsFit}
-
--- ---- numbers
-
-fresh_both : (ks ls : List Content) (n : ℕ) → IsFresh ks n → IsFresh ls n → IsFresh (ks ++ ls) n
-fresh_both [] ls n f g = g
-fresh_both (k ∷ ks) ls n f g = fresh_cons k (ks ++ ls) n (fresh_head k ks n f) (fresh_both ks ls n (fresh_tail k ks n f) g)
-
-pub apart_more : (xs : List Content) (k : Content) (ks ls : List Content) (n : ℕ) → xs ≡ k ∷ ks → n ≡ k.number → IsFresh ks n → IsFresh ls n → AreApart (ks ++ ls) → AreApart (xs ++ ls)
-apart_more xs k ks ls n e q f g a = subst (λ (ys : List Content). AreApart (ys ++ ls)) (sym e) (subst (IsFresh (ks ++ ls)) q (fresh_both ks ls n f g), a)
 
 -- ---- cells
 
@@ -49,11 +38,8 @@ each_of P (k ∷ ks) z e a =
       | inr t ↦ rw t (each_of P ks z (All-tail (EachCell P) k ks e) a)
     ]
 
-abbrev LeadsToObjects : List Content → Cell → Type 0
-LeadsToObjects h c = IsBorn c.mark → All (IsSound h) c.refs
-
-pub closed_from : (h : List Content) → ((k : ℕ) (d : Content) → k < length h → All (IsFit h (slice_index_or h k d)) (slice_index_or h k d).cells) → IsClosed h
-closed_from h f a born = each_of (LeadsToObjects h) h (λ b. absurd b) (λ k d lt. λ j e less. (f k d lt j e less).closed) a born
+pub closed_from : (h : List Content) → ((k : ℕ) (d : Content) → k < length h → All (IsFit h) (slice_index_or h k d).cells) → IsClosed h
+closed_from h f a born = each_of (IsFit h) h (λ b. absurd b) (λ k d lt. f k d lt) a born
 
 -- ---- frames
 

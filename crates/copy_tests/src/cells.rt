@@ -1,33 +1,15 @@
-// Whether the objects of a heap are as a collection asks, and how many words the small ones take.
+// Whether references within a heap lead to objects, and how many words the small objects take.
 
 ghost use Rattle.std.specs.Prelude.{◌≡◌, ◌<◌, ◌≤◌, length, All, IfSome, IsTrue, None};
 ghost use Rattle.object_layout.specs.Cell.{moved_to, size_of, IsBorn};
 ghost use Rattle.object_layout.specs.Place.{cell_at, IsCellAt};
 ghost use Rattle.leaf_copy_gc.specs.Survivors.{IsClosed, IsSound};
 ghost use Rattle.leaf_copy_gc.specs.Laid.{small_in, small_words};
-ghost use Rattle.leaf_copy_gc.specs.Collected.{AreTidy};
 ghost use Rattle.copy_tests.specs.Fit.{IsFit};
 
 use crate::soundness::is_sound;
 use alloc_path::LeafHeap;
-use object_layout::{Chunk, header_at, is_born_at, is_object_at, next_at, ref_at};
-
-// Whether the object there was not moved.
-fn is_unmoved(chunk: &Chunk, at: u32) -> bool
-    requires { IsCellAt chunk.now.cells at }
-    ensures { IsTrue result → moved_to (cell_at chunk.now.cells at).mark ≡ None }
-{
-    is_born_at(chunk, at) || !is_object_at(chunk, at)
-}
-
-// Whether what lies there is small, or alone in its chunk.
-fn is_alone(chunk: &Chunk, at: u32) -> bool
-    requires { IsCellAt chunk.now.cells at }
-    ensures { IsTrue result → 1024 < size_of (cell_at chunk.now.cells at) → length chunk.now.cells ≡ 1 }
-{
-    let next = next_at(chunk, at);
-    next - at <= 1024 || at == 0 && next == chunk.used()
-}
+use object_layout::{Chunk, header_at, is_born_at, next_at, ref_at};
 
 // Whether each reference of the object there leads to an object.
 fn leads_to_objects(heap: &LeafHeap, chunk: &Chunk, at: u32) -> bool
@@ -43,19 +25,17 @@ fn leads_to_objects(heap: &LeafHeap, chunk: &Chunk, at: u32) -> bool
     true
 }
 
-// Whether what lies there is as a collection asks.
+// Whether what lies there is no object, or one whose references all lead to objects.
 fn is_fit(heap: &LeafHeap, chunk: &Chunk, at: u32) -> bool
     requires { IsCellAt chunk.now.cells at }
-    ensures { IsTrue result → IsFit heap.now.chunks chunk.now (cell_at chunk.now.cells at) }
+    ensures { IsTrue result → IsFit heap.now.chunks (cell_at chunk.now.cells at) }
 {
-    is_unmoved(chunk, at)
-        && is_alone(chunk, at)
-        && (!is_born_at(chunk, at) || leads_to_objects(heap, chunk, at))
+    !is_born_at(chunk, at) || leads_to_objects(heap, chunk, at)
 }
 
 // Whether all that lies in a chunk is.
 fn is_fit_chunk(heap: &LeafHeap, chunk: &Chunk) -> bool
-    ensures { IsTrue result → All (IsFit heap.now.chunks chunk.now) chunk.now.cells }
+    ensures { IsTrue result → All (IsFit heap.now.chunks) chunk.now.cells }
 {
     let used = chunk.used();
     let mut at = 0;
@@ -68,10 +48,9 @@ fn is_fit_chunk(heap: &LeafHeap, chunk: &Chunk) -> bool
     true
 }
 
-/// Whether no object was moved, each large one is alone in its chunk, and all references within the heap lead to objects.
+/// Whether all references within the heap lead to objects.
 pub fn is_fit_heap(heap: &LeafHeap) -> bool
-    ensures tidy { IsTrue result → AreTidy heap.now.chunks }
-    ensures closed { IsTrue result → IsClosed heap.now.chunks }
+    ensures { IsTrue result → IsClosed heap.now.chunks }
 {
     for chunk in heap.chunks() {
         if !is_fit_chunk(heap, chunk) {

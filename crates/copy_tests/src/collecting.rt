@@ -6,7 +6,7 @@ ghost use Rattle.leaf_copy_gc.specs.Lists.{AreReserved, IsCollected};
 ghost use Rattle.copy_tests.specs.Fit.{IsReady};
 
 use crate::cells::{is_fit_heap, small_in_all};
-use crate::numbers::{are_new, both_are_apart};
+use crate::numbers::{are_apart, are_fresh, are_new};
 use crate::soundness::outside_is_sound;
 use alloc_path::LeafHeap;
 use leaf_copy_gc::{Moved, ToChunks, copy};
@@ -70,7 +70,10 @@ pub fn is_ready(heap: &LeafHeap, frames: &Frames, roots: &[Addr], chunks: &[Chun
     if !outside_is_sound(heap, frames, roots) {
         return false;
     }
-    if !both_are_apart(heap.chunks(), chunks) {
+    if !are_apart(chunks) {
+        return false;
+    }
+    if !are_fresh(heap.chunks(), chunks) {
         return false;
     }
     are_new(chunks)

@@ -1,6 +1,6 @@
 // Whether chunks have numbers of their own, and whether they are new.
 
-ghost use Rattle.std.specs.Prelude.{◌++◌, IsTrue};
+ghost use Rattle.std.specs.Prelude.{All, IsTrue};
 ghost use Rattle.alloc_path.specs.Heap.{AreApart, IsFresh};
 ghost use Rattle.leaf_copy_gc.specs.Laid.{AreNew};
 
@@ -26,23 +26,16 @@ pub fn are_apart(chunks: &[Chunk]) -> bool
     }
 }
 
-/// The same of two lists together.
-pub fn both_are_apart(chunks: &[Chunk], more: &[Chunk]) -> bool
-    ensures { IsTrue result → AreApart (chunks.now ++ more.now) }
+/// Whether no chunk has the number of one of the others.
+pub fn are_fresh(chunks: &[Chunk], others: &[Chunk]) -> bool
+    ensures { IsTrue result → All (λ k. IsFresh chunks.now k.number) others.now }
 {
-    match chunks.split_first() {
-        None => are_apart(more),
-        Some((first, rest)) => {
-            let number = first.number();
-            if !is_fresh(rest, number) {
-                return false;
-            }
-            if !is_fresh(more, number) {
-                return false;
-            }
-            both_are_apart(rest, more)
+    for chunk in others {
+        if !is_fresh(chunks, chunk.number()) {
+            return false;
         }
     }
+    true
 }
 
 /// Whether these are empty chunks of 1,024 words.

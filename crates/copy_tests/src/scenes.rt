@@ -6,11 +6,11 @@ ghost use Rattle.object_layout.specs.Chunks.{cell_of};
 ghost use Rattle.leaf_copy_gc.specs.Survivors.{IsLive};
 
 use crate::collecting::{collect, prepare};
-use crate::numbers::{are_apart, is_fresh};
+use crate::numbers::is_fresh;
 use crate::soundness::is_live;
 use alloc_path::{LeafHeap, New};
 use leaf_copy_gc::Moved;
-use object_layout::{Addr, Birth, Chunk, Header, drop_at, is_object_at};
+use object_layout::{Addr, Birth, Chunk, Header};
 use std::alloc::Global;
 use std::test::Fail;
 use task_frames::Frames;
@@ -119,24 +119,6 @@ pub fn born(heap: &LeafHeap, object: Addr) -> Result<u32, Fail> {
         return Err("another task")?;
     }
     Ok(birth.count)
-}
-
-// Drops the first object of a heap of one small chunk, which is filled on behind it.
-pub fn drop_first(heap: &mut LeafHeap) -> Result<(), Fail> {
-    let mut chunks = heap.take_chunks();
-    if chunks.len() != 1 {
-        return Err("not one chunk")?;
-    }
-    let chunk = &mut chunks[0];
-    if chunk.used() == 0 || !is_object_at(chunk, 0) {
-        return Err("no object")?;
-    }
-    drop_at(chunk, 0);
-    if !are_apart(&chunks) || chunks[0].size() != 1024 {
-        return Err("a large chunk")?;
-    }
-    heap.put_chunks(chunks, Some(0), None);
-    Ok(())
 }
 
 // Collects a heap into so many new chunks, with the numbers from a first on.

@@ -2,8 +2,7 @@
 
 use crate::collecting::{collect, prepare};
 use crate::scenes::{
-    add, at, born, count, counts, drop_first, lead, moved_at, number, one_frame, place, reference,
-    run,
+    add, at, born, count, counts, lead, moved_at, number, one_frame, place, reference, run,
 };
 use alloc_path::LeafHeap;
 use std::test::Fail;
@@ -95,19 +94,13 @@ fn large_objects(rt: HostRuntime) -> Result<(), Fail> {
     Ok(())
 }
 
-// A heap with a hole, and then a collection of which nothing is left: the new chunk is given back.
+// A collection of which nothing is left: the new chunk is given back.
 #[test]
-fn a_hole_and_nothing_left(rt: HostRuntime) -> Result<(), Fail> {
+fn nothing_left(rt: HostRuntime) -> Result<(), Fail> {
     let mut heap = LeafHeap::new(rt.alloc());
     let mut frames = one_frame(rt.alloc());
     add(rt.alloc(), &mut heap, 7, 1)?;
     assert_eq!(rt; place(&mut heap, 0, 1, 0)?, at(7, 0));
-    assert_eq!(rt; place(&mut heap, 0, 1, 1)?, at(7, 3));
-    drop_first(&mut heap)?;
-    frames.set_reference(0, Some(at(7, 3)));
-    let moved = run(rt.alloc(), &mut heap, &mut frames, &[], 20, 1)?;
-    assert_eq!(rt; counts(&moved), (1, 1, 3, 1, 1));
-    frames.set_reference(0, None);
     let moved = run(rt.alloc(), &mut heap, &mut frames, &[], 30, 1)?;
     assert_eq!(rt; counts(&moved), (0, 2, 0, 0, 2));
     assert_eq!(rt; heap.room(), 0);

@@ -4,19 +4,20 @@ use Rattle.std.specs.Prelude.{reverse}
 use Rattle.std.proofs.lemmas.List.{length-map, reverse-reverse}
 use Rattle.object_layout.specs.Content.{Content}
 use Rattle.object_layout.specs.Chunks.{chunk_at}
-use Rattle.alloc_path.specs.Heap.{AreApart, Heap, IsReserved, IsCurrent, exchanged, with_places}
+use Rattle.alloc_path.specs.Heap.{AreApart, AreTidy, Heap, IsReserved, IsCurrent, IsSettled, exchanged, with_places}
 use Rattle.listed.proofs.Members.{In, in_append_left}
 use Rattle.leaf_copy_gc.specs.declared.lists.Survivor.{Survivor}
 use Rattle.leaf_copy_gc.specs.Survivors.{olds, with_chunks, Once, HaveNames}
 use Rattle.leaf_copy_gc.specs.Laid.{before, smalls, AreNew}
 use Rattle.leaf_copy_gc.specs.Redirected.{led_chunk}
 use Rattle.leaf_copy_gc.specs.Exchanged.{emptied, goes, stays, unreserved, reserved_of, reserved_place, named, last_place, CanName}
-use Rattle.leaf_copy_gc.specs.Collected.{AreTidy, IsLeft, keeps, leaves, laying_of, redirection}
+use Rattle.leaf_copy_gc.specs.Collected.{IsLeft, keeps, leaves, laying_of, redirection}
 use Rattle.leaf_copy_gc.proofs.Numbers as nums
 use Rattle.leaf_copy_gc.proofs.Numbers.{numbers, Distinct, Within}
 use Rattle.leaf_copy_gc.proofs.Rebuilt as rebuilt
 use Rattle.leaf_copy_gc.proofs.Rebuilt.{marked_chunk, NoneThere}
 use Rattle.leaf_copy_gc.proofs.Naming as naming
+use Rattle.leaf_copy_gc.proofs.Tidied as tidied
 
 module _ (h g : List Content) (ss : List Survivor) (news : List Content) (r : Option ℕ) (laid : List Content)
     (left : IsLeft h g (olds ss) (redirection h ss (reverse news))) (tidy : AreTidy h) (apart : AreApart (h ++ news)) (new : AreNew news)
@@ -89,6 +90,15 @@ module _ (h g : List Content) (ss : List Survivor) (news : List Content) (r : Op
   kept_count =
       ap (λ (xs : List Content). length xs) stay_is
       ∙ (length-map (filter (keeps ss) (unreserved h r)) (marked_chunk ss (redirection h ss (reverse news))) ∙ sym (length-map (filter (keeps ss) (unreserved h r)) (led_chunk (redirection h ss (reverse news)))))
+
+  pub settled : IsSettled (laid ++ (map (led_chunk (redirection h ss (reverse news))) (filter (keeps ss) (unreserved h r)) ++ reserved_of h r))
+  settled = record {
+    tidy = tidied.all_tidy (redirection h ss (reverse news)) h ss news r tidy new (within_at r reserved) laid is;
+    apart = nums.distinct_apart _ (naming.goal_once h ss (redirection h ss (reverse news)) r laid tidy once_h once names laid_apart laid_once (within_at r reserved) (none_before r reserved_is (none_at r reserved)));
+  }
+
+  pub settled_now : (E M N : Heap) → E.chunks ≡ laid ++ (filter stays (unreserved g r) ++ reserved_of g r) → M ≡ with_chunks E (fold named E.chunks ss) → N ≡ record M { since = 0 } → IsSettled N.chunks
+  settled_now E M N e m n = subst IsSettled (sym (ap (λ (x : Heap). x.chunks) n ∙ (ap (λ (x : Heap). x.chunks) m ∙ (ap (λ (ks : List Content). fold named ks ss) e ∙ named_is)))) settled
 
   -- ---- the heap, field by field
 

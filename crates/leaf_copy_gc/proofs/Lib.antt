@@ -17,5 +17,6 @@ mod Extent
 mod Rebuilt
 mod Naming
 mod Order
+mod Tidied
 mod Collecting
 mod Reading

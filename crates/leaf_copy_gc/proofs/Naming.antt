@@ -11,13 +11,14 @@ use Rattle.object_layout.specs.Place.{cell_at}
 use Rattle.object_layout.specs.Chunks.{cell_of, chunk_at, place_of, place_in, put_object}
 use Rattle.object_layout.proofs.ChunkLaws as laws
 use Rattle.remembered_set.specs.Moved.{same_address}
+use Rattle.alloc_path.specs.Heap.{AreTidy, IsTidy}
 use Rattle.alloc_path.proofs.HeapLemmas.{none_there}
 use Rattle.listed.proofs.Members.{In, contains_from_in, in_from_kept, in_append_cases}
 use Rattle.leaf_copy_gc.specs.declared.lists.Survivor.{Survivor}
 use Rattle.leaf_copy_gc.specs.Survivors.{IsLive, olds, old_of, Once, HaveNames}
 use Rattle.leaf_copy_gc.specs.Redirected.{led, led_chunk}
 use Rattle.leaf_copy_gc.specs.Exchanged.{unreserved, reserved_of, named, CanName}
-use Rattle.leaf_copy_gc.specs.Collected.{AreAlike, AreTidy, IsTidy, keeps}
+use Rattle.leaf_copy_gc.specs.Collected.{AreAlike, keeps}
 use Rattle.leaf_copy_gc.proofs.ListLemmas.{in_map, read_in}
 use Rattle.leaf_copy_gc.proofs.Puts as puts
 use Rattle.leaf_copy_gc.proofs.Larges as larges
@@ -362,6 +363,14 @@ module _ (h : List Content) (ss : List Survivor) (f : Option Addr → Option Add
         | inl x ↦ apart n i (nums.in_unreserved h d r n (nums.in_filtered (keeps ss) (unreserved h r) n x))
         | inr x ↦ apart n i (nums.in_reserved h d r within n x)
       ]))
+
+  pub goal_once : Distinct (numbers Goal)
+  goal_once =
+      let kept = filter (keeps ss) (unreserved h r) in
+      subst Distinct
+      (sym (nums.alike_numbers Now Goal (alike_behind laid (map (marked_chunk ss f) kept ++ reserved_of h r) (map (led_chunk f) kept ++ reserved_of h r)
+      (alike_append (map (marked_chunk ss f) kept) (map (led_chunk f) kept) (reserved_of h r) (alike_marked kept)))))
+      now_once
 
   pub same : fold named Now ss ≡ Goal
   same =

@@ -1,7 +1,8 @@
 -- The numbers of chunks, each once.
-use Rattle.std.proofs.Common.{◌≡◌, ℕ, zero, suc, ◌<◌, Bool, true, false, cond, List, [], ◌∷◌, ◌++◌, length, map, filter, refl, sym, ap, ◌∙◌, subst, arith, inl, inr, Option, Some, None}
+use Rattle.std.proofs.Common.{◌≡◌, ℕ, zero, suc, ◌<◌, Bool, true, false, cond, List, [], ◌∷◌, ◌++◌, length, map, filter, refl, sym, ap, ◌∙◌, subst, arith, inl, inr, Option, Some, None, All}
 use Rattle.std.specs.Prelude.{remove, nat_lt, reverse}
 use Rattle.std.proofs.lemmas.List.{reverse-append}
+use Rattle.std.proofs.lemmas.List.Elements.{All-head, All-tail}
 use Rattle.object_layout.specs.declared.word.Addr.{Addr}
 use Rattle.object_layout.specs.Cell.{Cell, size_of}
 use Rattle.object_layout.specs.Content.{Content}
@@ -67,6 +68,18 @@ pub distinct_apart_parts : (xs ys : List ℕ) → Distinct (xs ++ ys) → (n : �
 distinct_apart_parts [] ys d n i j = i
 distinct_apart_parts (x ∷ xs) ys d n (inl e) j = d.0 (in_append_right xs ys x (subst (In ys) (sym e) j))
 distinct_apart_parts (x ∷ xs) ys d n (inr i) j = distinct_apart_parts xs ys d.1 n i j
+
+fresh_in : (h ks : List Content) (n : ℕ) → All (λ k. IsFresh h k.number) ks → In (numbers ks) n → IsFresh h n
+fresh_in h [] n a i = absurd i
+fresh_in h (k ∷ ks) n a (inl e) = subst (IsFresh h) e (All-head (λ x. IsFresh h x.number) k ks a)
+fresh_in h (k ∷ ks) n a (inr i) = fresh_in h ks n (All-tail (λ x. IsFresh h x.number) k ks a) i
+
+-- chunks with fresh numbers stay apart from those that are there
+pub apart_append : (h ks : List Content) → AreApart h → AreApart ks → All (λ k. IsFresh h k.number) ks → AreApart (h ++ ks)
+apart_append h ks a b fresh =
+    distinct_apart (h ++ ks)
+    (subst Distinct (sym (numbers_append h ks))
+    (distinct_append (numbers h) (numbers ks) (apart_distinct h a) (apart_distinct ks b) (λ n i j. fresh_none h n (fresh_in h ks n fresh j) i)))
 
 -- ---- some of the chunks
 

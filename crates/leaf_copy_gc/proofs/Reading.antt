@@ -12,11 +12,11 @@ use Rattle.object_layout.specs.Chunks.{cell_of, chunk_at}
 use Rattle.object_layout.proofs.PlaceLemmas as place
 use Rattle.object_layout.proofs.ChunkLaws as laws
 use Rattle.listed.proofs.Members.{In, in_append_left, in_from_contains, in_kept}
-use Rattle.alloc_path.specs.Heap.{Heap, IsReserved}
+use Rattle.alloc_path.specs.Heap.{AreTidy, Heap, IsReserved, IsSettled, IsTidy}
 use Rattle.leaf_copy_gc.specs.declared.lists.Survivor.{Survivor}
 use Rattle.leaf_copy_gc.specs.Survivors.{IsLive, olds}
 use Rattle.leaf_copy_gc.specs.Exchanged.{reserved_of, unreserved}
-use Rattle.leaf_copy_gc.specs.Collected.{AreSurvivors, AreTidy, IsTidy, collected, keeps, kept_of, laid_of, moves_of, redirection}
+use Rattle.leaf_copy_gc.specs.Collected.{AreSurvivors, collected, keeps, kept_of, laid_of, moves_of, redirection}
 use Rattle.leaf_copy_gc.specs.Laws.{CanTake, LargeAreRead, MovedAreRead}
 use Rattle.leaf_copy_gc.proofs.ListLemmas.{read_in}
 use Rattle.leaf_copy_gc.proofs.Moves as moves
@@ -154,7 +154,7 @@ module _ (h : Heap) (from : List (Option Addr)) (ss : List Survivor) (news : Lis
       (λ a i. leb-true (size_of (cell_of h.chunks a)) 1024 (small a i).1)
 
   once_news : Distinct (numbers (reverse news))
-  once_news = nums.distinct_reverse news (nums.distinct_right (numbers h.chunks) (numbers news) (subst Distinct (nums.numbers_append h.chunks news) (nums.apart_distinct (h.chunks ++ news) t.apart)))
+  once_news = nums.distinct_reverse news (nums.apart_distinct news t.apart)
 
   pub moved_read : (old new : Addr) → Contains (moves_of h.chunks ss (reverse news)) (old, new) → cell_of (collected h ss (reverse news)).chunks new ≡ led (redirection h.chunks ss (reverse news)) (cell_of h.chunks old)
   moved_read old new c =
@@ -196,9 +196,12 @@ none_of ks None w = tt
 none_of ks (Some i) w = w.1.1
 
 module _ (h : Heap) (from : List (Option Addr)) (ss : List Survivor) (news : List Content) (s : AreSurvivors h.chunks from ss) (t : CanTake h.chunks news)
-    (tidy : AreTidy h.chunks) (reserved : IsReserved h.chunks h.reserved) where
+    (settled : IsSettled h.chunks) (reserved : IsReserved h.chunks h.reserved) where
+  tidy : AreTidy h.chunks
+  tidy = settled.tidy
+
   all_once : Distinct (numbers h.chunks ++ numbers news)
-  all_once = subst Distinct (nums.numbers_append h.chunks news) (nums.apart_distinct (h.chunks ++ news) t.apart)
+  all_once = subst Distinct (nums.numbers_append h.chunks news) (nums.apart_distinct (h.chunks ++ news) (nums.apart_append h.chunks news settled.apart t.apart t.fresh))
 
   once_h : Distinct (numbers h.chunks)
   once_h = nums.distinct_left (numbers h.chunks) (numbers news) all_once
@@ -255,4 +258,4 @@ module _ (h : Heap) (from : List (Option Addr)) (ss : List Survivor) (news : Lis
                 let dead = subst (λ (c : Cell). IsBorn c.mark) none born in absurd dead
 
 pub large_are_read : LargeAreRead
-large_are_read h from ss news s t tidy reserved a c big = large_read h from ss news s t tidy reserved a (in_from_contains (olds ss) a c) big
+large_are_read h from ss news s t settled reserved a c big = large_read h from ss news s t settled reserved a (in_from_contains (olds ss) a c) big

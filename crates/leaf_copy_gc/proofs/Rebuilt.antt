@@ -9,6 +9,7 @@ use Rattle.object_layout.specs.Cell.{Cell, Moved, moved_to, size_of, with_mark}
 use Rattle.object_layout.specs.Content.{Content}
 use Rattle.object_layout.specs.Place.{cell_at}
 use Rattle.object_layout.specs.Chunks.{cell_of, chunk_at}
+use Rattle.alloc_path.specs.Heap.{AreTidy, IsTidy}
 use Rattle.remembered_set.specs.Moved.{same_address}
 use Rattle.listed.proofs.Members.{In, contains_from_in, in_from_contains}
 use Rattle.leaf_copy_gc.specs.declared.lists.Survivor.{Survivor}
@@ -16,7 +17,7 @@ use Rattle.leaf_copy_gc.specs.Survivors.{olds}
 use Rattle.leaf_copy_gc.specs.Laid.{is_small}
 use Rattle.leaf_copy_gc.specs.Redirected.{led}
 use Rattle.leaf_copy_gc.specs.Exchanged.{emptied, goes, stays, unreserved, reserved_of}
-use Rattle.leaf_copy_gc.specs.Collected.{AreAlike, AreTidy, IsTidy, keeps, leaves}
+use Rattle.leaf_copy_gc.specs.Collected.{AreAlike, keeps, leaves}
 use Rattle.leaf_copy_gc.proofs.Puts as puts
 use Rattle.leaf_copy_gc.proofs.Moves as moves
 use Rattle.leaf_copy_gc.proofs.Numbers.{numbers, Distinct}

@@ -1,9 +1,9 @@
 -- What a collection makes of a heap.
-use Rattle.std.specs.Prelude.{◌≡◌, ◌+◌, ◌<◌, ◌↔◌, ◌&&◌, Bool, false, List, [], ◌∷◌, ◌++◌, Option, None, All, Contains, filter, length, map, nat_le, not, reverse}
+use Rattle.std.specs.Prelude.{◌≡◌, ◌+◌, ◌↔◌, ◌&&◌, Bool, false, List, [], ◌∷◌, ◌++◌, Option, Contains, filter, length, map, nat_le, not, reverse}
 use Rattle.std.specs.List.{list_any}
 use Rattle.std.specs.List.Sorted.{IsSorted}
 use Rattle.object_layout.specs.declared.word.Addr.{Addr}
-use Rattle.object_layout.specs.Cell.{Moved, moved_to, size_of, with_mark}
+use Rattle.object_layout.specs.Cell.{Moved, size_of, with_mark}
 use Rattle.object_layout.specs.Content.{Content}
 use Rattle.object_layout.specs.Place.{cell_at}
 use Rattle.object_layout.specs.Chunks.{cell_of}
@@ -48,16 +48,6 @@ pub record IsLeft (h g : List Content) (ss : List Addr) (f : Option Addr → Opt
   pub alike : AreAlike h g
   pub large : (a : Addr) → Contains ss a → is_small h a ≡ false → cell_of g a ≡ led f (with_mark (cell_of h a) (Moved a))
   pub others : (a : Addr) → (Contains ss a → ⊥) → cell_of g a ≡ cell_of h a
-
--- ---- what a heap must be like
-
--- no object was moved, and a large one has its chunk to itself
-pub record IsTidy (k : Content) : Type 0 where
-  pub unmoved : All (λ c. moved_to c.mark ≡ None) k.cells
-  pub alone : All (λ c. 1024 < size_of c → length k.cells ≡ 1) k.cells
-
-abbrev pub AreTidy : List Content → Type 0
-AreTidy h = All IsTidy h
 
 -- ---- what a heap becomes
 

@@ -1,18 +1,19 @@
 -- What is read in a heap once it was collected.
-use Rattle.std.specs.Prelude.{◌≡◌, false, ◌+◌, ◌*◌, ◌/◌, ◌≤◌, List, ◌++◌, Option, Contains, length, reverse}
+use Rattle.std.specs.Prelude.{◌≡◌, false, ◌+◌, ◌*◌, ◌/◌, ◌≤◌, List, Option, All, Contains, length, reverse}
 use Rattle.object_layout.specs.declared.word.Addr.{Addr}
 use Rattle.object_layout.specs.Content.{Content}
 use Rattle.object_layout.specs.Chunks.{cell_of}
-use Rattle.alloc_path.specs.Heap.{AreApart, Heap, IsReserved}
+use Rattle.alloc_path.specs.Heap.{AreApart, Heap, IsFresh, IsReserved, IsSettled}
 use Rattle.leaf_copy_gc.specs.declared.lists.Survivor.{Survivor}
 use Rattle.leaf_copy_gc.specs.Survivors.{olds}
 use Rattle.leaf_copy_gc.specs.Laid.{AreNew, is_small, small_words}
 use Rattle.leaf_copy_gc.specs.Redirected.{led}
-use Rattle.leaf_copy_gc.specs.Collected.{AreSurvivors, AreTidy, collected, moves_of, redirection}
+use Rattle.leaf_copy_gc.specs.Collected.{AreSurvivors, collected, moves_of, redirection}
 
 -- so many chunks are new, numbered apart, and enough for the heap
 pub record CanTake (h : List Content) (news : List Content) : Type 0 where
-  pub apart : AreApart (h ++ news)
+  pub apart : AreApart news
+  pub fresh : All (λ k. IsFresh h k.number) news
   pub new : AreNew news
   pub enough : 2 * ((small_words h + 1023) / 1024) ≤ length news + 1
 
@@ -28,6 +29,6 @@ MovedAreRead =
 abbrev pub LargeAreRead : Type 0
 LargeAreRead =
     (h : Heap) (from : List (Option Addr)) (ss : List Survivor) (news : List Content)
-    → AreSurvivors h.chunks from ss → CanTake h.chunks news → AreTidy h.chunks → IsReserved h.chunks h.reserved
+    → AreSurvivors h.chunks from ss → CanTake h.chunks news → IsSettled h.chunks → IsReserved h.chunks h.reserved
     → (a : Addr) → Contains (olds ss) a → is_small h.chunks a ≡ false
     → cell_of (collected h ss (reverse news)).chunks a ≡ led (redirection h.chunks ss (reverse news)) (cell_of h.chunks a)

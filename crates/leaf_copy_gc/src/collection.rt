@@ -1,17 +1,16 @@
 // A whole collection of a heap.
 
 ghost use Rattle.std.specs.Prelude.{◌≡◌, ◌+◌, ◌*◌, ◌/◌, ◌≤◌, ◌++◌, length, vec_len, vec_capacity, All};
-ghost use Rattle.alloc_path.specs.Heap.{AreApart};
+ghost use Rattle.alloc_path.specs.Heap.{AreApart, AreTidy, IsFresh, IsSettled};
 ghost use Rattle.leaf_copy_gc.specs.Survivors.{outside, IsClosed, IsSound};
 ghost use Rattle.leaf_copy_gc.specs.Laid.{small_words, AreNew};
 ghost use Rattle.leaf_copy_gc.specs.Exchanged.{counted32};
-ghost use Rattle.leaf_copy_gc.specs.Collected.{AreTidy};
 ghost use Rattle.leaf_copy_gc.specs.Lists.{AreReserved, IsCollected};
 
 use crate::evacuation::evacuate;
 use crate::exchange::{counted, exchange, name_all, units_of};
 use crate::lists::{Moved, ToChunks};
-use alloc_path::LeafHeap;
+use alloc_path::{LeafHeap, Space};
 use object_layout::{Addr, Chunk};
 use outside_io::{Gate, Point};
 use task_frames::Frames;
@@ -32,19 +31,22 @@ pub fn copy<G: Gate>(
 ) -> Moved
     requires closed { IsClosed heap.old.chunks }
     requires outside { All (IsSound heap.old.chunks) (outside frames.old roots.now) }
-    requires tidy { AreTidy heap.old.chunks }
-    requires apart { AreApart (heap.old.chunks ++ to_chunks.chunks.items) }
+    requires apart { AreApart to_chunks.chunks.items }
+    requires fresh { All (λ k. IsFresh heap.old.chunks k.number) to_chunks.chunks.items }
     requires new { AreNew to_chunks.chunks.items }
     requires enough { 2 * ((small_words heap.old.chunks + 1023) / 1024) ≤ length to_chunks.chunks.items + 1 }
     requires reserved { AreReserved heap.old (vec_len to_chunks.chunks) to_chunks }
     ensures { IsCollected heap.old frames.old roots.now to_chunks.chunks.items heap.new frames.new result }
 {
     gate.pass(worker, task, Point::AfterBegin);
-    collect(heap, frames, roots, to_chunks)
+    let mut space = heap.open();
+    let moved = collect(&mut space, frames, roots, to_chunks);
+    heap.close(space);
+    moved
 }
 
 // The collection itself.
-fn collect(heap: &mut LeafHeap, frames: &mut Frames, roots: &[Addr], to_chunks: ToChunks) -> Moved
+fn collect(heap: &mut Space, frames: &mut Frames, roots: &[Addr], to_chunks: ToChunks) -> Moved
     requires closed { IsClosed heap.old.chunks }
     requires outside { All (IsSound heap.old.chunks) (outside frames.old roots.now) }
     requires tidy { AreTidy heap.old.chunks }
@@ -52,7 +54,8 @@ fn collect(heap: &mut LeafHeap, frames: &mut Frames, roots: &[Addr], to_chunks: 
     requires new { AreNew to_chunks.chunks.items }
     requires enough { 2 * ((small_words heap.old.chunks + 1023) / 1024) ≤ length to_chunks.chunks.items + 1 }
     requires reserved { AreReserved heap.old (vec_len to_chunks.chunks) to_chunks }
-    ensures { IsCollected heap.old frames.old roots.now to_chunks.chunks.items heap.new frames.new result }
+    ensures collected { IsCollected heap.old frames.old roots.now to_chunks.chunks.items heap.new frames.new result }
+    ensures settled { IsSettled heap.new.chunks }
 {
     let ToChunks {
         mut chunks,

@@ -9,14 +9,14 @@ ghost use Rattle.leaf_copy_gc.specs.Laid.{is_small, next_place, opened, placed, 
 ghost use Rattle.leaf_copy_gc.specs.Copying.{copied, copied_one, survivor_cell, Copying, IsReady};
 
 use crate::lists::Survivor;
-use alloc_path::LeafHeap;
+use alloc_path::Space;
 use object_layout::{Addr, Chunk};
 
 /// How many words a small object has at most.
 pub(crate) const SMALL: u32 = 1024;
 
 // How many words the object at an address takes.
-pub(crate) fn size_at(heap: &LeafHeap, object: Addr) -> u32
+pub(crate) fn size_at(heap: &Space, object: Addr) -> u32
     requires { IsObject (cell_of heap.now.chunks object).mark }
     ensures { result ≡ size_of (cell_of heap.now.chunks object) }
 {
@@ -51,7 +51,7 @@ fn open(laid: &mut Vec<Chunk>, spare: &mut Vec<Chunk>, size: u32)
 }
 
 // Copies an object behind those of the last new chunk, and leaves its new address.
-fn copy_last(heap: &mut LeafHeap, survivor: Survivor, laid: &mut [Chunk]) -> Addr
+fn copy_last(heap: &mut Space, survivor: Survivor, laid: &mut [Chunk]) -> Addr
     requires object { IsObject (cell_of heap.old.chunks survivor.old).mark }
     requires room { size_of (cell_of heap.old.chunks survivor.old) ≤ room_in laid.old }
     requires begins { (next_place laid.old).offset < 1024 }
@@ -67,7 +67,7 @@ fn copy_last(heap: &mut LeafHeap, survivor: Survivor, laid: &mut [Chunk]) -> Add
 }
 
 // Copies an object behind those of a new chunk.
-fn copy_to(heap: &LeafHeap, object: Addr, chunk: &mut Chunk) -> Addr
+fn copy_to(heap: &Space, object: Addr, chunk: &mut Chunk) -> Addr
     requires object { IsObject (cell_of heap.now.chunks object).mark }
     requires room { words_in chunk.old.cells + size_of (cell_of heap.now.chunks object) ≤ chunk.old.size }
     ensures address { result ≡ next_address chunk.old }
@@ -82,7 +82,7 @@ fn copy_to(heap: &LeafHeap, object: Addr, chunk: &mut Chunk) -> Addr
 
 // Copies one small survivor.
 fn copy_one(
-    heap: &mut LeafHeap,
+    heap: &mut Space,
     survivor: Survivor,
     laid: &mut Vec<Chunk>,
     spare: &mut Vec<Chunk>,
@@ -107,7 +107,7 @@ fn copy_one(
 
 // Copies one survivor, if it is small.
 fn copy_small(
-    heap: &mut LeafHeap,
+    heap: &mut Space,
     survivor: Survivor,
     laid: &mut Vec<Chunk>,
     spare: &mut Vec<Chunk>,
@@ -131,7 +131,7 @@ fn copy_small(
 
 /// Copies the small survivors in this order.
 pub fn copy_all(
-    heap: &mut LeafHeap,
+    heap: &mut Space,
     found: &[Survivor],
     laid: &mut Vec<Chunk>,
     spare: &mut Vec<Chunk>,

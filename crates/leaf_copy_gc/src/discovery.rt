@@ -9,12 +9,12 @@ ghost use Rattle.object_layout.specs.declared.word.Addr.{Addr};
 ghost use Rattle.task_frames.specs.Stack.{frames_of};
 
 use crate::lists::Survivor;
-use alloc_path::LeafHeap;
+use alloc_path::Space;
 use object_layout::{Addr, Birth};
 use task_frames::Frames;
 
 // The birth name of the object at an address, if it lies in the heap and bears it still.
-fn birth_of(heap: &LeafHeap, object: Addr) -> Option<Birth>
+fn birth_of(heap: &Space, object: Addr) -> Option<Birth>
     requires { IsTarget heap.now.chunks (Some object) }
     ensures { result ≡ birth_in (cell_of heap.now.chunks object).mark }
 {
@@ -28,7 +28,7 @@ fn birth_of(heap: &LeafHeap, object: Addr) -> Option<Birth>
 }
 
 // Takes the object at an address among those found, if it lies in the heap and is not found yet.
-fn visit(heap: &mut LeafHeap, reference: Option<Addr>, found: &mut Vec<Survivor>)
+fn visit(heap: &mut Space, reference: Option<Addr>, found: &mut Vec<Survivor>)
     requires target { IsTarget heap.old.chunks reference }
     requires room { vec_len found.old + live_count heap.old.chunks ≤ vec_capacity found.old }
     ensures visited { ◌≡◌ {A = Search} (record { heap = heap.new.chunks; found = found.new.items }) (visited (record { heap = heap.old.chunks; found = found.old.items }) reference) }
@@ -48,7 +48,7 @@ fn visit(heap: &mut LeafHeap, reference: Option<Addr>, found: &mut Vec<Survivor>
 }
 
 // Follows each of these references.
-fn visit_all(heap: &mut LeafHeap, references: &[Option<Addr>], found: &mut Vec<Survivor>)
+fn visit_all(heap: &mut Space, references: &[Option<Addr>], found: &mut Vec<Survivor>)
     requires targets { All (IsTarget heap.old.chunks) references.now }
     requires room { vec_len found.old + live_count heap.old.chunks ≤ vec_capacity found.old }
     ensures visited { ◌≡◌ {A = Search} (record { heap = heap.new.chunks; found = found.new.items }) (fold visited (record { heap = heap.old.chunks; found = found.old.items }) references.now) }
@@ -62,7 +62,7 @@ fn visit_all(heap: &mut LeafHeap, references: &[Option<Addr>], found: &mut Vec<S
 }
 
 // Follows each reference of an object.
-fn visit_refs(heap: &mut LeafHeap, object: Addr, found: &mut Vec<Survivor>)
+fn visit_refs(heap: &mut Space, object: Addr, found: &mut Vec<Survivor>)
     requires object { IsObject (cell_of heap.old.chunks object).mark }
     requires targets { All (IsTarget heap.old.chunks) (cell_of heap.old.chunks object).refs }
     requires room { vec_len found.old + live_count heap.old.chunks ≤ vec_capacity found.old }
@@ -78,7 +78,7 @@ fn visit_refs(heap: &mut LeafHeap, object: Addr, found: &mut Vec<Survivor>)
 }
 
 // Follows the references of all frames.
-fn visit_frames(heap: &mut LeafHeap, frames: &Frames, found: &mut Vec<Survivor>)
+fn visit_frames(heap: &mut Space, frames: &Frames, found: &mut Vec<Survivor>)
     requires targets { All (IsTarget heap.old.chunks) (held_by (frames_of frames.now)) }
     requires room { vec_len found.old + live_count heap.old.chunks ≤ vec_capacity found.old }
     ensures visited { ◌≡◌ {A = Search} (record { heap = heap.new.chunks; found = found.new.items }) (fold visited (record { heap = heap.old.chunks; found = found.old.items }) (held_by (frames_of frames.now))) }
@@ -93,7 +93,7 @@ fn visit_frames(heap: &mut LeafHeap, frames: &Frames, found: &mut Vec<Survivor>)
 }
 
 // Follows the roots.
-fn visit_roots(heap: &mut LeafHeap, roots: &[Addr], found: &mut Vec<Survivor>)
+fn visit_roots(heap: &mut Space, roots: &[Addr], found: &mut Vec<Survivor>)
     requires targets { All (IsTarget heap.old.chunks) (map as_reference roots.now) }
     requires room { vec_len found.old + live_count heap.old.chunks ≤ vec_capacity found.old }
     ensures visited { ◌≡◌ {A = Search} (record { heap = heap.new.chunks; found = found.new.items }) (fold visited (record { heap = heap.old.chunks; found = found.old.items }) (map as_reference roots.now)) }
@@ -108,7 +108,7 @@ fn visit_roots(heap: &mut LeafHeap, roots: &[Addr], found: &mut Vec<Survivor>)
 
 /// Finds what the references of the frames and the roots lead to within the heap: exactly what survives. Each
 /// survivor is marked as moved to where it is.
-pub fn discover(heap: &mut LeafHeap, frames: &Frames, roots: &[Addr], found: &mut Vec<Survivor>)
+pub fn discover(heap: &mut Space, frames: &Frames, roots: &[Addr], found: &mut Vec<Survivor>)
     requires closed { IsClosed heap.old.chunks }
     requires outside { All (IsSound heap.old.chunks) (outside frames.now roots.now) }
     requires empty { found.old.items ≡ [] }

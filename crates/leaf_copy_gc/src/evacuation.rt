@@ -11,14 +11,14 @@ use crate::copying::copy_all;
 use crate::discovery::discover;
 use crate::lists::Survivor;
 use crate::redirect::{follow_chunks, follow_frames, follow_larges};
-use alloc_path::LeafHeap;
+use alloc_path::Space;
 use object_layout::{Addr, Chunk};
 use task_frames::Frames;
 
 /// Finds what survives, copies what is small of it into new chunks in order of birth, and leads all references
 /// there. The old chunks are left with the new addresses in them.
 pub fn evacuate(
-    heap: &mut LeafHeap,
+    heap: &mut Space,
     frames: &mut Frames,
     roots: &[Addr],
     found: &mut Vec<Survivor>,

@@ -8,7 +8,7 @@ ghost use Rattle.leaf_copy_gc.specs.Exchanged.{counted32, emptied, goes, last_pl
 
 use crate::copying::SMALL;
 use crate::lists::Survivor;
-use alloc_path::LeafHeap;
+use alloc_path::Space;
 use object_layout::{Chunk, is_born_at, is_object_at, next_at};
 
 // Whether the chunk holds a large object that was found.
@@ -77,7 +77,7 @@ fn place_of_last(chunks: &[Chunk]) -> Option<usize>
 }
 
 // Gives a survivor that is in the heap its birth name again.
-fn name(heap: &mut LeafHeap, survivor: Survivor)
+fn name(heap: &mut Space, survivor: Survivor)
     requires { CanName heap.old.chunks (survivor ∷ []) }
     ensures { heap.new ≡ with_chunks heap.old (named heap.old.chunks survivor) }
 {
@@ -87,7 +87,7 @@ fn name(heap: &mut LeafHeap, survivor: Survivor)
 }
 
 /// Gives the survivors that are in the heap their birth names again.
-pub fn name_all(heap: &mut LeafHeap, found: &[Survivor])
+pub fn name_all(heap: &mut Space, found: &[Survivor])
     requires { CanName heap.old.chunks found.now }
     ensures { heap.new ≡ with_chunks heap.old (fold named heap.old.chunks found.now) }
 {
@@ -98,7 +98,7 @@ pub fn name_all(heap: &mut LeafHeap, found: &[Survivor])
 
 /// Takes the old chunks out, and puts in the new ones, those of large objects that were found, and the reserved one.
 pub fn exchange(
-    heap: &mut LeafHeap,
+    heap: &mut Space,
     mut laid: Vec<Chunk>,
     reserved: Option<usize>,
     back: &mut Vec<Chunk>,

@@ -11,12 +11,12 @@ ghost use Rattle.leaf_copy_gc.specs.Redirected.{followed_at, followed_large, fol
 
 use crate::copying::{SMALL, size_at};
 use crate::lists::Survivor;
-use alloc_path::LeafHeap;
+use alloc_path::Space;
 use object_layout::{Addr, Chunk, header_at, next_at, ref_at, set_ref};
 use task_frames::Frames;
 
 // Where the object of a reference is now.
-fn follow(heap: &LeafHeap, reference: Option<Addr>) -> Option<Addr>
+fn follow(heap: &Space, reference: Option<Addr>) -> Option<Addr>
     requires { IsTarget heap.now.chunks reference }
     ensures value { result ≡ followed_ref heap.now.chunks reference }
     ensures place { IsPlace reference → IsPlace result }
@@ -34,7 +34,7 @@ fn follow(heap: &LeafHeap, reference: Option<Addr>) -> Option<Addr>
 }
 
 // Leads the references of an object of a new chunk.
-fn follow_refs(chunk: &mut Chunk, at: u32, heap: &LeafHeap)
+fn follow_refs(chunk: &mut Chunk, at: u32, heap: &Space)
     requires object { IsObjectAt chunk.old.cells at }
     requires targets { All (IsTarget heap.now.chunks) (cell_at chunk.old.cells at).refs }
     ensures { chunk.new ≡ record chunk.old { cells = put_cell chunk.old.cells at (led (followed_ref heap.now.chunks) (cell_at chunk.old.cells at)) } }
@@ -46,7 +46,7 @@ fn follow_refs(chunk: &mut Chunk, at: u32, heap: &LeafHeap)
 }
 
 // Leads the references of all objects of a new chunk.
-fn follow_chunk(chunk: &mut Chunk, heap: &LeafHeap)
+fn follow_chunk(chunk: &mut Chunk, heap: &Space)
     requires { All (HasTargets heap.now.chunks) chunk.old.cells }
     ensures { chunk.new ≡ led_chunk (followed_ref heap.now.chunks) chunk.old }
 {
@@ -59,7 +59,7 @@ fn follow_chunk(chunk: &mut Chunk, heap: &LeafHeap)
 }
 
 /// Leads the references of all objects of the new chunks.
-pub fn follow_chunks(chunks: &mut [Chunk], heap: &LeafHeap)
+pub fn follow_chunks(chunks: &mut [Chunk], heap: &Space)
     requires { All (λ k. All (HasTargets heap.now.chunks) k.cells) chunks.old }
     ensures { chunks.new ≡ map (led_chunk (followed_ref heap.now.chunks)) chunks.old }
 {
@@ -69,7 +69,7 @@ pub fn follow_chunks(chunks: &mut [Chunk], heap: &LeafHeap)
 }
 
 // Leads the references of an object of the heap.
-fn follow_object(heap: &mut LeafHeap, object: Addr)
+fn follow_object(heap: &mut Space, object: Addr)
     requires { HasTargets heap.old.chunks (cell_of heap.old.chunks object) }
     ensures { heap.new ≡ with_chunks heap.old (followed_at heap.old.chunks object) }
 {
@@ -80,7 +80,7 @@ fn follow_object(heap: &mut LeafHeap, object: Addr)
 }
 
 // Leads these references.
-fn follow_all(references: &mut [Option<Addr>], heap: &LeafHeap)
+fn follow_all(references: &mut [Option<Addr>], heap: &Space)
     requires { All (IsTarget heap.now.chunks) references.old }
     ensures { references.new ≡ map (followed_ref heap.now.chunks) references.old }
 {
@@ -90,7 +90,7 @@ fn follow_all(references: &mut [Option<Addr>], heap: &LeafHeap)
 }
 
 /// Leads the references of all frames.
-pub fn follow_frames(frames: &mut Frames, heap: &LeafHeap)
+pub fn follow_frames(frames: &mut Frames, heap: &Space)
     requires { All (IsTarget heap.now.chunks) (held_by (frames_of frames.old)) }
     ensures { frames_of frames.new ≡ map (led_frame (followed_ref heap.now.chunks)) (frames_of frames.old) }
 {
@@ -102,7 +102,7 @@ pub fn follow_frames(frames: &mut Frames, heap: &LeafHeap)
 }
 
 // Leads the references of an object of the heap, if it is large.
-fn follow_if_large(heap: &mut LeafHeap, survivor: Survivor)
+fn follow_if_large(heap: &mut Space, survivor: Survivor)
     requires { HasTargets heap.old.chunks (cell_of heap.old.chunks survivor.old) }
     ensures { heap.new ≡ with_chunks heap.old (followed_large heap.old.chunks survivor) }
 {
@@ -112,7 +112,7 @@ fn follow_if_large(heap: &mut LeafHeap, survivor: Survivor)
 }
 
 /// Leads the references of the large survivors, where they are.
-pub fn follow_larges(heap: &mut LeafHeap, found: &[Survivor])
+pub fn follow_larges(heap: &mut Space, found: &[Survivor])
     requires { CanFollow heap.old.chunks found.now }
     ensures { heap.new ≡ with_chunks heap.old (fold followed_large heap.old.chunks found.now) }
 {

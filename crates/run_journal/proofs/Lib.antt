@@ -1,8 +1,13 @@
+pub mod Holds
 pub mod Joined
 pub mod Keeps
 pub mod Machines
+pub mod Numbers
 pub mod Opens
 pub mod Replays
+pub mod Snaps
 pub mod Standings
 pub mod Steadies
 pub mod Stepped
+pub mod Uses
+pub mod Went

@@ -1,17 +1,21 @@
 -- Books that go on from legal journals.
-use Rattle.std.proofs.Common.{◌≡◌, ℕ, ◌≤◌, ◌&&◌, true, false, None, [], ◌∷◌, ◌++◌, is_none, is_some, refl, ap, sym, subst, ◌∙◌}
+use Rattle.std.proofs.Common.{◌≡◌, ℕ, zero, suc, ◌<◌, ◌≤◌, ◌&&◌, not, true, false, Option, Some, None, List, [], ◌∷◌, ◌++◌, length, replicate, slice_get, nat_lt, nat_le, is_none, is_some, refl, ap, sym, subst, ◌∙◌, arith, length-set}
+use Rattle.std.proofs.lemmas.Bool.{ltb-true}
 use Rattle.run_trace.specs.declared.entry.Kind.{Kind}
-use Rattle.run_trace.specs.declared.entry.Kind.TheVariants.{Ran}
+use Rattle.run_trace.specs.declared.entry.Kind.TheVariants.{Took, Ran, Chunk, Begin, End as EndOf, PutOff, Mark, More, Sweep, Fuel}
 use Rattle.run_trace.specs.Entry.{Event, IsKind}
 use Rattle.run_trace.specs.Settings.{Limits, AreLimits}
 use Rattle.hh_lang.specs.Form.{ProgramText}
 use Rattle.run_ledger.specs.declared.data.Ledger.{Ledger}
 use Rattle.run_ledger.specs.Heaps.{heap_of}
-use Rattle.run_ledger.specs.Entries.{refusal, after}
+use Rattle.run_ledger.specs.Entries.{refusal, after, is_fuel}
 use Rattle.run_ledger.specs.Journals.{opening, ledger_of}
 use Rattle.run_ledger.proofs.Cuts.{after_cut, joined_legal}
-use Rattle.run_journal.specs.Book.{Steady, StaysSteady}
+use Rattle.run_ledger.proofs.Sound.{SoundLedger}
+use Rattle.run_ledger.proofs.Journals.{none_where, none_unless, entry_tells, legal_sound}
+use Rattle.run_journal.specs.Book.{Standing, Agrees, Steady, StaysSteady, went_on, taken_after}
 use Rattle.run_journal.specs.Opened.{IsLegalLedger}
+use Rattle.run_journal.proofs.Holds.{kind_tells}
 use Rattle.run_journal.proofs.Steadies.{legal_steady, legal_stays}
 
 module _ (p : ProgramText) (s : Limits) where
@@ -34,3 +38,39 @@ module _ (p : ProgramText) (s : Limits) where
         joined_legal p s L.0 (e ∷ []) (opening p s) L.1 (ap (λ o. is_none o && true) here),
         ap (λ q. after p s q e) L.2 ∙ sym (after_cut p s L.0 (e ∷ []) (opening p s)),
       )
+
+-- before the first entry nothing is in use, and no worker has taken a task
+pub opening_agrees : (p : ProgramText) (s : Limits) → Agrees (record { program = p; limits = s; ledger = opening p s; used = 0; taken = replicate 64 None })
+opening_agrees p s = record { used = refl; places = refl; taken = none }
+  where
+    none : (t w : ℕ) → (heap_of (opening p s) t).worker ≡ Some w → slice_get (replicate 64 None) w ≡ Some (Some t)
+    none zero w e = absurd cc
+    none (suc t) w e = absurd cc
+
+-- what is kept beside the accounts, after an entry
+pub accounts_agree : (s : Standing) → AreLimits s.limits → IsLegalLedger s.program s.limits s.ledger → Agrees s → (e : Event) → refusal s.program s.limits s.ledger e ≡ None
+    → Agrees (record (went_on s (after s.program s.limits s.ledger e)) { taken = taken_after s.taken e.worker e.kind })
+accounts_agree s limits L A e none =
+    let h : is_none (refusal s.program s.limits s.ledger e) ≡ true = ap is_none none in
+    let tells = entry_tells s.program s.limits s.ledger e h in
+    let S : SoundLedger s.ledger = subst SoundLedger (sym L.2) (legal_sound s.program s.limits L.0 L.1) in
+    let few : e.worker < s.limits.workers = ltb-true e.worker s.limits.workers (none_unless (nat_lt e.worker s.limits.workers) _ _ (none_where (nat_le s.limits.fuel s.ledger.steps && not (is_fuel e.kind)) _ _ (none_where (is_some s.ledger.end) _ _ h).1).1).0 in
+    let most : s.limits.workers ≤ 64 = limits.workers.1 in
+    let places : length s.taken ≡ 64 = A.places in
+    record {
+      used = refl;
+      places = as_long s.taken e.worker e.kind ∙ A.places;
+      taken = kind_tells s.program s.limits s.ledger s.taken A.taken S e.worker e.kind (omega arith) tells.2;
+    }
+  where
+    as_long : (taken : List (Option ℕ)) (w : ℕ) (kind : Kind) → length (taken_after taken w kind) ≡ length taken
+    as_long taken w (Took t) = length-set taken w (Some t)
+    as_long taken w (Ran t k) = refl
+    as_long taken w (Chunk t) = refl
+    as_long taken w (Begin t) = refl
+    as_long taken w (EndOf t a g n) = refl
+    as_long taken w (PutOff t) = refl
+    as_long taken w (Mark t) = refl
+    as_long taken w (More t n) = refl
+    as_long taken w (Sweep t g) = refl
+    as_long taken w Fuel = refl

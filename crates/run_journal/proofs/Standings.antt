@@ -13,7 +13,8 @@ use Rattle.run_ledger.specs.Steps.{task_step, task_steps, is_due, is_in_need, is
 use Rattle.run_ledger.proofs.Machine.{task_step_machine}
 use Rattle.run_journal.specs.declared.ran.Stood.{Stood}
 use Rattle.run_journal.specs.declared.ran.Stood.TheVariants.{Not, Last, More}
-use Rattle.run_journal.specs.Book.{Standing, Steady, StaysSteady, stood, after_stood, is_own, is_own_by, is_own_line}
+use Rattle.run_ledger.specs.Heaps.{in_use}
+use Rattle.run_journal.specs.Book.{Standing, Steady, StaysSteady, stood, after_stood, is_own, is_own_by, is_own_line, used_after, went_on}
 
 -- PRIVATE STEPS
 
@@ -95,12 +96,17 @@ module _ (s : Limits) (p : ProgramText) (l : Ledger) (t k done : ℕ) (now : Led
   rest_is = ap (standing s p now t) left_is
 
   pub ran_steady : StaysSteady s p l t k → Steady now
-  ran_steady S = subst Steady (sym R.is) (S done (let e = R.rest in omega arith))
+  ran_steady S = subst Steady (sym R.is) (S.steady done (let e = R.rest in omega arith))
+
+  pub ran_used : StaysSteady s p l t k → (is_due s p now t || is_in_need p now t) ≡ false → used_after p now t ≡ in_use (task_step p now t)
+  ran_used S fine =
+      subst (λ q. used_after p q t ≡ in_use (task_step p q t)) (sym R.is)
+      (S.used done (let e = R.rest in omega arith) (ap (λ q. is_due s p q t || is_in_need p q t) (sym R.is) ∙ fine))
 
   pub ran_steady_after : StaysSteady s p l t k → (is_due s p now t || is_in_need p now t) ≡ false → Steady (task_step p now t)
   ran_steady_after S fine =
       subst Steady (steps_more p l t done ∙ ap (λ q. task_step p q t) (sym R.is))
-      (S (done + 1) (let e = R.rest in let f = stands_some s p t now (k - (done + 1)) fine in let g = rest_is in omega arith))
+      (S.steady (done + 1) (let e = R.rest in let f = stands_some s p t now (k - (done + 1)) fine in let g = rest_is in omega arith))
 
   pub ran_not : Not ≡ stood s p now t → done ≡ standing s p l t k
   ran_not e = let a = stands_not s p t now (k - done) e in let b = R.rest in omega arith
@@ -121,14 +127,29 @@ pub ran_all : (s : Limits) (p : ProgramText) (l : Ledger) (t k : ℕ) (now : Led
 ran_all s p l t k now R = let e = R.rest in let z : standing s p now t (k - k) ≡ 0 = ap (standing s p now t) (let q : k - k ≡ 0 = omega arith in q) in omega arith
 
 -- the same, by the accounts at the entry and those that the loop has come to
-module _ (a b : Standing) (t k done : ℕ) (el : b.limits ≡ a.limits) (ep : b.program ≡ a.program) (R : Ran a.limits a.program a.ledger t k done b.ledger) (lt : done < k) where
+module _ (a b : Standing) (t k done : ℕ) (is : b ≡ went_on a b.ledger) (R : Ran a.limits a.program a.ledger t k done b.ledger) (lt : done < k) where
+  el : b.limits ≡ a.limits
+  el = ap (λ (q : Standing). q.limits) is
+
+  ep : b.program ≡ a.program
+  ep = ap (λ (q : Standing). q.program) is
+
+  pub used_at : b.used ≡ in_use b.ledger
+  used_at = ap (λ (q : Standing). q.used) is
+
   pub steady_at : StaysSteady a.limits a.program a.ledger t k → Steady b.ledger
   steady_at S = ran_steady a.limits a.program a.ledger t k done b.ledger R lt S
 
+  stands_as : (is_due b.limits b.program b.ledger t || is_in_need b.program b.ledger t) ≡ false → (is_due a.limits a.program b.ledger t || is_in_need a.program b.ledger t) ≡ false
+  stands_as fine = ap₂ (λ s p. is_due s p b.ledger t || is_in_need p b.ledger t) (sym el) (sym ep) ∙ fine
+
   pub steady_after_at : StaysSteady a.limits a.program a.ledger t k → (is_due b.limits b.program b.ledger t || is_in_need b.program b.ledger t) ≡ false → Steady (task_step b.program b.ledger t)
   steady_after_at S fine =
-      subst (λ p. Steady (task_step p b.ledger t)) (sym ep)
-      (ran_steady_after a.limits a.program a.ledger t k done b.ledger R lt S (ap₂ (λ s p. is_due s p b.ledger t || is_in_need p b.ledger t) (sym el) (sym ep) ∙ fine))
+      subst (λ p. Steady (task_step p b.ledger t)) (sym ep) (ran_steady_after a.limits a.program a.ledger t k done b.ledger R lt S (stands_as fine))
+
+  pub used_after_at : StaysSteady a.limits a.program a.ledger t k → (is_due b.limits b.program b.ledger t || is_in_need b.program b.ledger t) ≡ false → used_after b.program b.ledger t ≡ in_use (task_step b.program b.ledger t)
+  used_after_at S fine =
+      subst (λ p. used_after p b.ledger t ≡ in_use (task_step p b.ledger t)) (sym ep) (ran_used a.limits a.program a.ledger t k done b.ledger R lt S (stands_as fine))
 
   module _ (how : Stood) (h : how ≡ stood b.limits b.program b.ledger t) where
     stood_as : (w : Stood) → how ≡ w → w ≡ stood a.limits a.program b.ledger t
@@ -140,28 +161,24 @@ module _ (a b : Standing) (t k done : ℕ) (el : b.limits ≡ a.limits) (ep : b.
     pub last_at : how ≡ Last → done + 1 ≡ standing a.limits a.program a.ledger t k
     last_at e = ran_last a.limits a.program a.ledger t k done b.ledger R lt (stood_as Last e)
 
-    module _ (new : Standing) (n : new ≡ record b { ledger = after_stood b.program b.ledger t how }) where
-      new_is : (w : Stood) → how ≡ w → new ≡ record a { ledger = after_stood a.program b.ledger t w }
+    module _ (new : Standing) (n : new ≡ went_on b (after_stood b.program b.ledger t how)) where
+      new_is : (w : Stood) → how ≡ w → new ≡ went_on a (after_stood a.program b.ledger t w)
       new_is w e =
-          n ∙ (ap (λ v. record b { ledger = after_stood b.program b.ledger t v }) e
-          ∙ ap₂ (λ s p. record { program = p; limits = s; ledger = after_stood p b.ledger t w }) el ep)
+          n ∙ (ap (λ v. went_on b (after_stood b.program b.ledger t v)) e ∙ ap (λ (q : Standing). went_on q (after_stood q.program b.ledger t w)) is)
 
-      pub new_not : how ≡ Not → new ≡ record a { ledger = task_steps a.program a.ledger t done }
-      new_not e = new_is Not e ∙ ap (λ l. record a { ledger = l }) R.is
+      pub new_not : how ≡ Not → new ≡ went_on a (task_steps a.program a.ledger t done)
+      new_not e = new_is Not e ∙ ap (went_on a) R.is
 
-      pub new_last : how ≡ Last → new ≡ record a { ledger = task_steps a.program a.ledger t (done + 1) }
-      new_last e = new_is Last e ∙ ap (λ l. record a { ledger = l }) (ran_next a.limits a.program a.ledger t k done b.ledger R lt)
+      pub new_last : how ≡ Last → new ≡ went_on a (task_steps a.program a.ledger t (done + 1))
+      new_last e = new_is Last e ∙ ap (went_on a) (ran_next a.limits a.program a.ledger t k done b.ledger R lt)
 
       pub new_more : how ≡ More → Ran a.limits a.program a.ledger t k (done + 1) new.ledger
       new_more e =
           subst (Ran a.limits a.program a.ledger t k (done + 1)) (sym (ap (λ (q : Standing). q.ledger) (new_is More e)))
           (ran_more a.limits a.program a.ledger t k done b.ledger R lt (stood_as More e))
 
-      pub new_program : new.program ≡ a.program
-      new_program = ap (λ (q : Standing). q.program) n ∙ ep
-
-      pub new_limits : new.limits ≡ a.limits
-      new_limits = ap (λ (q : Standing). q.limits) n ∙ el
+      pub new_went : how ≡ More → new ≡ went_on a new.ledger
+      new_went e = let q = new_is More e in q ∙ ap (went_on a) (sym (ap (λ (x : Standing). x.ledger) q))
 
 -- how a step stood that was taken
 pub stood_is : (s : Limits) (p : ProgramText) (l : Ledger) (t : ℕ) (own ended : Bool) → is_due s p l t ≡ false → is_in_need p l t ≡ false → own ≡ is_own p l.machine t

@@ -1,8 +1,7 @@
 -- The counts of the accounts of every legal journal fit their types.
-use Rattle.std.proofs.Common.{◌≡◌, ℕ, zero, suc, ◌+◌, ◌*◌, ◌<◌, ◌≤◌, ◌^◌, ◌||◌, Bool, true, false, cond, Option, Some, None, List, [], ◌∷◌, ◌++◌, length, slice_get, slice_set, sum_by, nat_lt, is_none, is_some, inl, inr, refl, ap, ap₂, sym, subst, ◌∙◌, arith, length-append, length-set}
+use Rattle.std.proofs.Common.{◌≡◌, ℕ, zero, suc, ◌+◌, ◌*◌, ◌<◌, ◌≤◌, ◌^◌, ◌||◌, Bool, true, false, cond, Option, Some, None, List, [], ◌∷◌, ◌++◌, length, slice_get, slice_set, nat_lt, is_none, is_some, inl, inr, refl, ap, sym, subst, ◌∙◌, arith, length-append, length-set}
 use Rattle.std.proofs.lemmas.Bool.{false≢true, and_parts}
-use Rattle.std.proofs.lemmas.List.Sums.{sum_by-cons}
-use Rattle.listed.proofs.Members.{In, in_from_contains}
+use Rattle.listed.proofs.Members.{in_from_contains}
 use Rattle.run_trace.specs.declared.entry.Kind.{Kind}
 use Rattle.run_trace.specs.declared.entry.Kind.TheVariants.{Took, Ran, Chunk, Begin, End as EndOf, PutOff, Mark, More, Sweep, Fuel}
 use Rattle.run_trace.specs.Entry.{Event}
@@ -15,38 +14,25 @@ use Rattle.hh_model.proofs.Carried.{next_name}
 use Rattle.run_ledger.specs.declared.data.Heap.{Heap}
 use Rattle.run_ledger.specs.declared.data.Ledger.{Ledger}
 use Rattle.run_ledger.specs.declared.data.RunEnd.TheVariants.{Pool}
-use Rattle.run_ledger.specs.Heaps.{heap_of, heap_at, or_fresh, fresh, held_in, words_at, units_in, in_use, is_small, lacks_room, placed, with_heap, with_heap_at, let_go, forked_heap, merged, emptied, collected, swept_heap}
+use Rattle.run_ledger.specs.Heaps.{heap_of, heap_at, or_fresh, fresh, words_in, units_in, in_use, is_small, lacks_room, placed, with_heap, with_heap_at, let_go, forked_heap, merged, emptied, collected, swept_heap}
 use Rattle.run_ledger.specs.Steps.{allocated_in, allocated_by, stepped_to, task_step, task_steps, is_due, is_in_need, is_private, standing, on_asked}
 use Rattle.run_ledger.specs.Entries.{refusal, after_kind, after, chunk_units, with_chunk}
 use Rattle.run_ledger.specs.Journals.{opening, ledger_of, is_legal, is_legal_from}
-use Rattle.run_ledger.proofs.Machine.{stepped_machine}
 use Rattle.run_ledger.proofs.Sound.{SoundLedger, names_of, collecting}
 use Rattle.run_ledger.proofs.Moves.{Moves}
 use Rattle.run_ledger.proofs.Steps.{SoundAt, heap_of_task, can_tells, task_step_sound}
 use Rattle.run_ledger.proofs.Weights.{weight, weight_additive, total, total_set, Additive, moves_total, collected_weight, swept_weight}
-use Rattle.run_ledger.proofs.Stocks.{StockedLedger, G, L, with_heap_any, chunk_lighter, allocated_total, task_step_stocked, legal_stocked}
+use Rattle.run_ledger.proofs.Stocks.{StockedLedger, L, with_heap_any, chunk_lighter, allocated_total, task_step_stocked, legal_stocked}
 use Rattle.run_ledger.proofs.Booked.{BookedLedger, task_steps_booked}
+use Rattle.run_ledger.proofs.Chunks.{heap_words}
 use Rattle.run_ledger.proofs.Space.{legal_booked}
 use Rattle.run_ledger.proofs.Journals.{legal_sound, entry_tells, out_tells}
 use Rattle.run_ledger.proofs.Cuts.{after_cut, cut_legal}
 use Rattle.run_ledger.proofs.Bounds.{asked_bounds, stands_by, ran_tells, task_steps_steps, steps_are_bounded}
 use Rattle.run_journal.specs.Book.{Steady, StaysSteady}
 use Rattle.run_journal.proofs.Stepped.{small_enough, placed_is}
-
-sum_same : {A : Type 0} (f g : A → ℕ) (xs : List A) → ((x : A) → In xs x → f x ≡ g x) → sum_by f xs ≡ sum_by g xs
-sum_same f g [] same = refl
-sum_same f g (x ∷ xs) same = sum_by-cons f x xs ∙ (ap₂ (λ a b. a + b) (same x (inl refl)) (sum_same f g xs (λ y i. same y (inr i))) ∙ sym (sum_by-cons g x xs))
-
-total_same : (f g : Heap → ℕ) (heaps : List Heap) → ((u : ℕ) (h : Heap) → slice_get heaps u ≡ Some h → f h ≡ g h) → total f heaps ≡ total g heaps
-total_same f g [] same = refl
-total_same f g (h ∷ heaps) same =
-    sum_by-cons f h heaps ∙ (ap₂ (λ a b. a + b) (same zero h refl) (total_same f g heaps (λ u k e. same (suc u) k e)) ∙ sym (sum_by-cons g h heaps))
-
--- one heap has no more than all
-one_of : (f : Heap → ℕ) (heaps : List Heap) (u : ℕ) → f fresh ≡ 0 → f (or_fresh (slice_get heaps u)) ≤ total f heaps
-one_of f [] u z = omega arith
-one_of f (h ∷ heaps) zero z = let a = sum_by-cons f h heaps in omega arith
-one_of f (h ∷ heaps) (suc u) z = let a = sum_by-cons f h heaps in let b = one_of f heaps u z in omega arith
+use Rattle.run_journal.proofs.Snaps.{one_each, Snaps, snaps_set, snaps_allocated, snaps_settled, sound_paired}
+use Rattle.run_journal.proofs.Uses.{one_of, step_used}
 
 abbrev since_in : Heap → ℕ
 since_in h = h.since
@@ -60,7 +46,8 @@ most = 2 ^ 31
 
 -- what is held, and what was allocated since the last collections, came step by step; and each step makes two tasks at most
 record Light (l : Ledger) : Type 0 where
-  words : total (weight (words_at l.machine)) l.heaps ≤ l.steps * most
+  names : total (weight one_each) l.heaps ≤ l.steps
+  snapshots : Snaps l.steps l
   since : total since_in l.heaps ≤ l.steps * most
   heaps : length l.heaps ≤ 2 * l.steps + 1
 
@@ -87,13 +74,6 @@ module _ (p : ProgramText) (s : Limits) (A : AreLimits s) (l : Ledger) (t : ℕ)
   heap : (h : Heap) × (slice_get l.heaps t ≡ Some h)
   heap = heap_of_task l t S.0 (can_tells l.machine t can).1
 
-  abbrev f : Name → ℕ
-  f = words_at (step p l.machine t)
-
-  same_words : total (weight f) l.heaps ≡ total (weight (words_at m)) l.heaps
-  same_words = total_same (weight f) (weight (words_at m)) l.heaps (λ u h e.
-      sum_same f (words_at m) (held_in h) (λ n i. (G p l t S I can).words n (I.stored n (u, subst (λ o. In (names_of o) n) (sym e) i))))
-
   reserved_few : heap.0.reserved < 2 ^ 20
   reserved_few =
       let a = one_of (units_in m) l.heaps t refl in
@@ -115,18 +95,18 @@ module _ (p : ProgramText) (s : Limits) (A : AreLimits s) (l : Ledger) (t : ℕ)
 
   -- after the allocation
   record Placed (q : Ledger) : Type 0 where
-    words : total (weight f) q.heaps ≤ l.steps * most + most
+    names : total (weight one_each) q.heaps ≤ l.steps + 1
     since : total since_in q.heaps ≤ l.steps * most + most
     heaps : length q.heaps ≡ length l.heaps
 
   placed_by : (o : Option ℕ) → asked p m t ≡ o → Placed (allocated_by l t o)
   placed_by None e = record {
-    words = let a = same_words in let c = X.words in omega arith;
+    names = let c = X.names in omega arith;
     since = let c = X.since in omega arith;
     heaps = refl;
   }
   placed_by (Some w) e = record {
-    words = let a = same_words in let c = X.words in let d = allocated_total f l t heap.0 heap.1 w in let g = ((G p l t S I can).new w e).1 in let i = few w e in omega arith;
+    names = let c = X.names in let d = allocated_total one_each l t heap.0 heap.1 w in omega arith;
     since =
         let c = X.since in
         let d = total_set since_in l.heaps t heap.0 (placed heap.0 (next_name t l.machine.store) w) heap.1 in
@@ -166,11 +146,11 @@ module _ (p : ProgramText) (s : Limits) (A : AreLimits s) (l : Ledger) (t : ℕ)
       let moves = (L p l t S I can).2 in
       let sk = steps_k in
       record {
-        words =
-            let a = moves_total (weight f) (weight_additive f) t m.tasks b.heaps k.heaps moves in
-            let c : total (weight (words_at k.machine)) k.heaps ≡ total (weight f) k.heaps = ap (λ (z : State). total (weight (words_at z)) k.heaps) (stepped_machine b t m') in
-            let d : total (weight f) b.heaps ≤ l.steps * most + most = q.words in
-            omega arith;
+        names = let a = moves_total (weight one_each) (weight_additive one_each) t m.tasks b.heaps k.heaps moves in let d : total (weight one_each) b.heaps ≤ l.steps + 1 = q.names in omega arith;
+        snapshots =
+            subst (λ n. Snaps n k) (sym sk)
+            (snaps_settled (l.steps + 1) (record b { machine = m'; steps = b.steps + 1 }) t q.names
+            (snaps_allocated (l.steps + 1) l t (asked p m t) (λ u. let c = X.snapshots u in omega arith)) m'.end);
         since = let a = moves_total since_in since_additive t m.tasks b.heaps k.heaps moves in let d : total since_in b.heaps ≤ l.steps * most + most = q.since in omega arith;
         heaps = let a = moved_long b.heaps k.heaps moves in let d : length b.heaps ≡ length l.heaps = q.heaps in let e : length l.heaps ≤ 2 * l.steps + 1 = X.heaps in omega arith;
       }
@@ -184,7 +164,7 @@ module _ (p : ProgramText) (s : Limits) (A : AreLimits s) where
     light : Light l
 
   idle_light : (l : Ledger) → Light l → Light (record l { steps = l.steps + 1 })
-  idle_light l X = let a = X.words in let b = X.since in let c = X.heaps in record { words = omega arith; since = omega arith; heaps = omega arith }
+  idle_light l X = let a = X.names in let b = X.since in let c = X.heaps in record { names = omega arith; snapshots = λ u. (let d = X.snapshots u in omega arith); since = omega arith; heaps = omega arith }
 
   task_step_light : (l : Ledger) (t : ℕ) → SoundAt t l → StockedLedger l → BookedLedger p s l → Light l → (is_due s p l t || is_in_need p l t) ≡ false → Light (task_step p l t)
   task_step_light l t S I B X fine = by (can_step l.machine t) refl
@@ -218,29 +198,42 @@ module _ (p : ProgramText) (s : Limits) (A : AreLimits s) where
         | inr q ↦ subst (λ j. Firm t (task_steps p (task_step p l t) t j)) (sym q.1) (step_firm l t F q.0)
       ]
 
+  -- the words of one heap are at most those of the chunks in use
+  heap_few : (l : Ledger) → SoundLedger l → BookedLedger p s l → (t : ℕ) (o : Option Heap) → heap_at l t ≡ o → words_in l.machine (or_fresh o) < 2 ^ 27
+  heap_few l S B t None e = omega arith
+  heap_few l S B t (Some h) e =
+      let a = heap_words l.machine h (B.each t h e).full in
+      let b = one_of (units_in l.machine) l.heaps t refl in
+      let c : units_in l.machine (or_fresh (slice_get l.heaps t)) ≡ units_in l.machine h = ap (λ o. units_in l.machine (or_fresh o)) e in
+      let d : in_use l ≤ s.chunks = B.within in
+      let f : s.chunks ≤ 65536 = A.chunks.1 in
+      omega arith
+
   steady_by : (l : Ledger) → SoundLedger l → BookedLedger p s l → Light l → l.steps < 2 ^ 30 → Steady l
   steady_by l S B X few =
       let c : in_use l ≤ s.chunks = B.within in
       let d : s.chunks ≤ 65536 = A.chunks.1 in
-      let x = X.words in
       let y = X.since in
       let z = X.heaps in
       record {
         steps = few;
         heaps = omega arith;
-        words = λ t. let a = one_of (weight (words_at l.machine)) l.heaps t refl in omega arith;
+        words = λ t. heap_few l S B t (heap_at l t) refl;
         units = λ t. let a = one_of (units_in l.machine) l.heaps t refl in omega arith;
         in_use = omega arith;
         since = λ t. let a = one_of since_in l.heaps t refl in omega arith;
+        snapshot = λ t. let a = X.snapshots t in omega arith;
+        paired = sound_paired l S;
         owned = λ t n i. (S.owners t n (in_from_contains (names_of (slice_get l.heaps t)) n i)).1;
       }
 
   -- ENTRIES
 
-  lighter : (l : Ledger) (t : ℕ) (f : Heap → Heap) → ((h : Heap) (g : Name → ℕ) → weight g (f h) ≤ weight g h) → ((h : Heap) → (f h).since ≤ h.since) → Light l → Light (with_heap l t f)
-  lighter l t f less shorter X =
+  lighter : (l : Ledger) (t : ℕ) (f : Heap → Heap) → ((h : Heap) (g : Name → ℕ) → weight g (f h) ≤ weight g h) → ((h : Heap) → (f h).since ≤ h.since) → ((h : Heap) → length (f h).snapshot ≤ length h.snapshot) → Light l → Light (with_heap l t f)
+  lighter l t f less shorter fewer X =
       with_heap_any Light l t f X (λ h e. record {
-        words = let a = total_set (weight (words_at l.machine)) l.heaps t h (f h) e in let b = less h (words_at l.machine) in let c = X.words in omega arith;
+        names = let a = total_set (weight one_each) l.heaps t h (f h) e in let b = less h one_each in let c = X.names in omega arith;
+        snapshots = subst (λ (q : Ledger). Snaps l.steps q) (ap (with_heap_at l t f) e) (snaps_set l.steps l t f (λ g le. let a = fewer g in omega arith) X.snapshots);
         since = let a = total_set since_in l.heaps t h (f h) e in let b = shorter h in let c = X.since in omega arith;
         heaps = let a = length-set l.heaps t (f h) in let c = X.heaps in omega arith;
       })
@@ -249,30 +242,34 @@ module _ (p : ProgramText) (s : Limits) (A : AreLimits s) where
   chunk_since next h true = omega arith
   chunk_since next h false = omega arith
 
+  chunk_snapshot : (next : Option ℕ) (h : Heap) (b : Bool) → length (cond b (record h { chunks = h.chunks ++ [] ∷ []; room = 1024 }) (record h { reserved = chunk_units next })).snapshot ≤ length h.snapshot
+  chunk_snapshot next h true = omega arith
+  chunk_snapshot next h false = omega arith
+
   chunk_light : (l : Ledger) (t : ℕ) (next : Option ℕ) (full : Bool) (end : Ledger) → Light end → Light l → Light (cond full end (with_heap l t (with_chunk next)))
   chunk_light l t next true end E X = E
-  chunk_light l t next false end E X = lighter l t (with_chunk next) (λ h g. chunk_lighter next h g (on_asked next is_small)) (λ h. chunk_since next h (on_asked next is_small)) X
+  chunk_light l t next false end E X = lighter l t (with_chunk next) (λ h g. chunk_lighter next h g (on_asked next is_small)) (λ h. chunk_since next h (on_asked next is_small)) (λ h. chunk_snapshot next h (on_asked next is_small)) X
 
   ended_light : (l : Ledger) (n : ℕ) → Light l → Light (record l { end = Some (Pool n) })
-  ended_light l n X = record { words = X.words; since = X.since; heaps = X.heaps }
+  ended_light l n X = record { names = X.names; snapshots = X.snapshots; since = X.since; heaps = X.heaps }
 
   same_weight : (h : Heap) (g : Name → ℕ) → weight g h ≤ weight g h
   same_weight h g = omega arith
 
   kind_light : (l : Ledger) (w : ℕ) (kind : Kind) → SoundLedger l → StockedLedger l → BookedLedger p s l → is_none (refusal p s l (record { worker = w; kind = kind })) ≡ true → Light l → Light (after_kind p s l w kind)
-  kind_light l w (Took t) S I B h X = lighter l t _ (λ h g. same_weight h g) (λ h. omega arith) X
+  kind_light l w (Took t) S I B h X = lighter l t _ (λ h g. same_weight h g) (λ h. omega arith) (λ h. omega arith) X
   kind_light l w (Ran t k) S I B h X =
       let r = (entry_tells p s l (record { worker = w; kind = Ran t k }) h).2 in
       (steps_firm k k l t (record { sound = (S, (out_tells l w t _ r).1); stocked = I; booked = B; light = X }) (ran_tells p s l w t k h).1).light
   kind_light l w (Chunk t) S I B h X =
       chunk_light l t (asked p l.machine t) (nat_lt s.chunks (in_use l + chunk_units (asked p l.machine t))) (record l { end = Some (Pool (in_use l)) }) (ended_light l (in_use l) X) X
-  kind_light l w (Begin t) S I B h X = lighter l t _ (λ h g. same_weight h g) (λ h. omega arith) X
-  kind_light l w (EndOf t a g n) S I B h X = lighter l t (collected l.machine) (λ h f. collected_weight f l.machine h) (λ h. omega arith) X
-  kind_light l w (PutOff t) S I B h X = lighter l t _ (λ h g. same_weight h g) (λ h. omega arith) X
-  kind_light l w (Mark t) S I B h X = lighter l t _ (λ h g. same_weight h g) (λ h. omega arith) X
-  kind_light l w (More t n) S I B h X = lighter l t _ (λ h g. same_weight h g) (λ h. omega arith) X
-  kind_light l w (Sweep t g) S I B h X = lighter l t swept_heap (λ h f. swept_weight f h) (λ h. omega arith) X
-  kind_light l w Fuel S I B h X = record { words = X.words; since = X.since; heaps = X.heaps }
+  kind_light l w (Begin t) S I B h X = lighter l t _ (λ h g. same_weight h g) (λ h. omega arith) (λ h. omega arith) X
+  kind_light l w (EndOf t a g n) S I B h X = lighter l t (collected l.machine) (λ h f. collected_weight f l.machine h) (λ h. omega arith) (λ h. omega arith) X
+  kind_light l w (PutOff t) S I B h X = lighter l t _ (λ h g. same_weight h g) (λ h. omega arith) (λ h. omega arith) X
+  kind_light l w (Mark t) S I B h X = lighter l t _ (λ h g. same_weight h g) (λ h. omega arith) (λ h. omega arith) X
+  kind_light l w (More t n) S I B h X = lighter l t _ (λ h g. same_weight h g) (λ h. omega arith) (λ h. omega arith) X
+  kind_light l w (Sweep t g) S I B h X = lighter l t swept_heap (λ h f. swept_weight f h) (λ h. omega arith) (λ h. omega arith) X
+  kind_light l w Fuel S I B h X = record { names = X.names; snapshots = X.snapshots; since = X.since; heaps = X.heaps }
 
   light_from : (done rest : List Event) → is_legal p s (done ++ rest) ≡ true → Light (ledger_of p s done) → Light (ledger_of p s (done ++ rest))
   light_from done [] legal X = subst (λ j. Light (ledger_of p s j)) (sym (append_none done)) X
@@ -295,7 +292,11 @@ module _ (p : ProgramText) (s : Limits) (A : AreLimits s) where
       again (x ∷ xs) = ap (λ ys. x ∷ ys) (again xs)
 
   legal_light : (journal : List Event) → is_legal p s journal ≡ true → Light (ledger_of p s journal)
-  legal_light journal legal = light_from [] journal legal (record { words = omega arith; since = omega arith; heaps = omega arith })
+  legal_light journal legal = light_from [] journal legal (record { names = omega arith; snapshots = first; since = omega arith; heaps = omega arith })
+    where
+      first : Snaps 0 (opening p s)
+      first zero = omega arith
+      first (suc u) = omega arith
 
   steps_few : (journal : List Event) → is_legal p s journal ≡ true → (ledger_of p s journal).steps ≤ 1000000256
   steps_few journal legal = let a = steps_are_bounded p s journal legal in let b : s.fuel ≤ 1000000000 = A.fuel.1 in omega arith
@@ -316,14 +317,20 @@ module _ (p : ProgramText) (s : Limits) (A : AreLimits s) where
 
   -- while a task takes steps that can stand in one entry
   pub legal_stays : (journal : List Event) (t k : ℕ) → is_legal p s journal ≡ true → is_some (heap_of (ledger_of p s journal) t).begun ≡ false → k ≤ 257 → StaysSteady s p (ledger_of p s journal) t k
-  legal_stays journal t k legal idle few i le =
+  legal_stays journal t k legal idle few =
       let l = ledger_of p s journal in
       let F : Firm t l = record { sound = (legal_sound p s journal legal, collects (heap_at l t) idle); stocked = legal_stocked p s journal legal; booked = legal_booked p s journal legal; light = legal_light journal legal } in
-      let G = steps_firm i k l t F le in
       let a = steps_few journal legal in
-      let b = task_steps_steps p i l t in
       let c = standing_most k l t in
-      steady_by (task_steps p l t i) G.sound.0 G.booked G.light (omega arith)
+      record {
+        steady = λ i le.
+            let G = steps_firm i k l t F le in
+            let b = task_steps_steps p i l t in
+            steady_by (task_steps p l t i) G.sound.0 G.booked G.light (omega arith);
+        used = λ i le fine.
+            let G = steps_firm i k l t F le in
+            step_used p s (task_steps p l t i) t G.sound G.stocked G.booked fine;
+      }
     where
       collects : (o : Option Heap) → is_some (or_fresh o).begun ≡ false → collecting o ≡ false
       collects None e = refl

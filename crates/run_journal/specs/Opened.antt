@@ -8,6 +8,7 @@ use Rattle.run_ledger.specs.declared.data.Refused.{Refused}
 use Rattle.run_ledger.specs.declared.data.Refused.TheVariants.{Stopped}
 use Rattle.run_ledger.specs.Entries.{refusal}
 use Rattle.run_ledger.specs.Journals.{is_legal, ledger_of}
+use Rattle.run_journal.specs.Book.{Standing, Agrees}
 
 -- the program, the limits and the accounts, and whether an entry was refused or found no memory
 pub record Opened : Type 0 where
@@ -20,9 +21,10 @@ pub record Opened : Type 0 where
 abbrev pub IsLegalLedger : ProgramText → Limits → Ledger → Type 0
 IsLegalLedger p s l = (journal : List Event) × (is_legal p s journal ≡ true) × (l ≡ ledger_of p s journal)
 
--- unless it is stopped, a book has the accounts of a legal journal
-pub record IsOpened (b : Opened) : Type 0 where
-  pub legal : b.stopped ≡ false → IsLegalLedger b.program b.limits b.ledger
+-- unless it is stopped, a book has the accounts of a legal journal, and what it keeps beside them agrees with them
+pub record IsOpened (s : Standing) (stopped : Bool) : Type 0 where
+  pub legal : stopped ≡ false → IsLegalLedger s.program s.limits s.ledger
+  pub agrees : stopped ≡ false → Agrees s
 
 -- why a book refuses an entry
 abbrev pub cause_in : Opened → Event → Option Refused

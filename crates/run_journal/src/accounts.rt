@@ -1,17 +1,17 @@
 // The accounts of a run as a value, and what is looked up in them.
 
-ghost use Rattle.std.specs.Prelude.{◌≡◌, ◌<◌, ◌^◌, ◌+◌, IfOk, Option, Some, None, IsTrue, slice_get, option_copied, length, is_some};
+ghost use Rattle.std.specs.Prelude.{◌≡◌, ◌<◌, ◌^◌, ◌+◌, IfOk, Option, Some, None, IsTrue, slice_get, option_copied, length, is_some, unwrap_or, replicate};
 ghost use Rattle.run_ledger.specs.Heaps.{fresh, heap_at, heap_of, or_fresh, marked_in, left_in, lacks_room, words_in, take_of, in_use, units};
 ghost use Rattle.run_ledger.specs.Steps.{is_due, is_in_need, on_asked, is_private};
 ghost use Rattle.run_ledger.specs.Entries.{is_ready, is_out, is_held_by, held_from};
 ghost use Rattle.run_ledger.specs.Journals.{opening};
 ghost use Rattle.hh_model.specs.Step.{is_running, is_waiting, asked};
 ghost use Rattle.run_trace.specs.Settings.{AreLimits};
-ghost use Rattle.run_journal.specs.Book.{Standing, Steady};
+ghost use Rattle.run_journal.specs.Book.{Standing, Steady, Agrees};
 
 use hh_lang::Program;
 use hh_model::{Machine, State, Status};
-use ledger_heaps::{take_of, units_in, words_in};
+use ledger_heaps::{take_of, words_in};
 use listed::Listed;
 use run_ledger::{Heap, RunEnd};
 use run_trace::Settings;
@@ -28,6 +28,10 @@ pub(crate) struct Accounts<'p> {
     pub(crate) heaps: Listed<Heap>,
     pub(crate) steps: u64,
     pub(crate) end: Option<RunEnd>,
+    /// The chunks in use, in units.
+    pub(crate) used: u64,
+    /// For each worker the task that it took last.
+    pub(crate) taken: [Option<u32>; 64],
 }
 
 impl<'p> Model for Accounts<'p> {
@@ -40,6 +44,8 @@ impl<'p> Model for Accounts<'p> {
       program = a.program.now;
       limits = a.limits;
       ledger = record { machine = a.machine.state; heaps = a.heaps; steps = a.steps; end = a.end };
+      used = a.used;
+      taken = a.taken;
     } };
 
     ghost invariant = { λ a. (a.machine.steps ≤ a.steps) × (a.machine.program ≡ a.program.now) };
@@ -89,7 +95,7 @@ impl<'p> Accounts<'p> {
         program: &'p Program,
         limits: Settings,
     ) -> Result<Accounts<'p>, AllocError>
-        ensures { IfOk result (λ a. a ≡ record { program = program.entry.now; limits = limits; ledger = opening program.entry.now limits }) }
+        ensures { IfOk result (λ a. a ≡ record { program = program.entry.now; limits = limits; ledger = opening program.entry.now limits; used = 0; taken = replicate 64 None }) }
     {
         let machine = Machine::start(alloc, program, limits.version().field_limit())?;
         let mut heaps = Listed::new(alloc);
@@ -102,6 +108,8 @@ impl<'p> Accounts<'p> {
             heaps,
             steps: 0,
             end: None,
+            used: 0,
+            taken: [None; 64],
         })
     }
 
@@ -210,10 +218,12 @@ impl<'p> Accounts<'p> {
         }
     }
 
+    #[tactic(auto, using(crate::proofs::Numbers::take_few))]
     /// How many chunks a leaf collection of the heap takes.
     pub(crate) fn take(&self, task: u32) -> u64
         requires { Steady self.now.ledger }
-        ensures { result ≡ take_of self.now.ledger.machine (heap_of self.now.ledger task) }
+        ensures value { result ≡ take_of self.now.ledger.machine (heap_of self.now.ledger task) }
+        ensures fits { result < 2 ^ 32 }
     {
         match self.heap(task) {
             Some(heap) => take_of(self.machine.state(), heap),
@@ -223,27 +233,34 @@ impl<'p> Accounts<'p> {
 
     /// The chunks in use, in units.
     pub(crate) fn in_use(&self) -> u64
-        requires { Steady self.now.ledger }
+        requires { Agrees self.now }
         ensures { result ≡ in_use self.now.ledger }
     {
-        let mut units = 0;
-        for heap in self.heaps.as_slice() {
-            units += units_in(self.machine.state(), heap);
-        }
-        units
+        self.used
     }
 
+    // The task that the worker took last.
+    fn last_taken(&self, worker: u32) -> Option<u32>
+        ensures { result ≡ unwrap_or (slice_get self.now.taken worker) None }
+    {
+        match self.taken.get(worker as usize) {
+            Some(task) => *task,
+            None => None,
+        }
+    }
+
+    #[tactic(auto, using(crate::proofs::Holds::holds_none, crate::proofs::Holds::holds_last, crate::proofs::Holds::holds_no_more))]
     /// The task that the worker holds.
     pub(crate) fn holding(&self, worker: u32) -> Option<u32>
-        requires { Steady self.now.ledger }
+        requires { Agrees self.now }
         ensures { result ≡ held_from worker 0 self.now.ledger.heaps }
     {
-        for (task, heap) in self.heaps.as_slice().iter().enumerate() {
-            if heap.worker == Some(worker) {
-                return Some(task as u32);
-            }
+        let task = self.last_taken(worker)?;
+        if self.worker(task) == Some(worker) {
+            Some(task)
+        } else {
+            None
         }
-        None
     }
 
     /// The words that the next step of a task allocates, where it allocates.

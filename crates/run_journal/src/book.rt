@@ -32,7 +32,7 @@ impl<'p> Model for Book<'p> {
 
     ghost view = { λ b. record { program = b.accounts.program; limits = b.accounts.limits; ledger = b.accounts.ledger; stopped = b.stopped } };
 
-    ghost invariant = { λ b. IsOpened (record { program = b.accounts.program; limits = b.accounts.limits; ledger = b.accounts.ledger; stopped = b.stopped }) };
+    ghost invariant = { λ b. IsOpened b.accounts b.stopped };
 }
 
 impl<'p> Book<'p> {
@@ -105,7 +105,6 @@ impl<'p> Book<'p> {
         requires { self.now.stopped ≡ false }
         ensures { result ≡ in_use self.now.ledger }
     {
-        self.accounts.bounds();
         self.accounts.in_use()
     }
 

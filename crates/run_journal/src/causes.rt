@@ -1,15 +1,14 @@
 // Why an entry is refused, but for the steps of tasks.
 
-ghost use Rattle.std.specs.Prelude.{◌≡◌, ◌==◌, Option, Some, None, is_some, IfOk};
+ghost use Rattle.std.specs.Prelude.{◌≡◌, ◌==◌, ◌<◌, ◌^◌, Option, Some, None, is_some};
 ghost use Rattle.run_trace.specs.declared.entry.Kind.TheVariants.{Took, Chunk, Begin, End, PutOff, Mark, More, Sweep, Fuel};
 ghost use Rattle.run_ledger.specs.Entries.{kind_refusal, on_running, on_waiting, on_marking, on_due, is_pool_enough, is_out, refused_unless, counted, ends_as};
 ghost use Rattle.run_ledger.specs.Heaps.{heap_of, left_in, marked_in};
 ghost use Rattle.run_ledger.specs.declared.data.Refused.TheVariants.{NotOut, NotCollecting, Left};
-ghost use Rattle.run_journal.specs.Book.{Steady};
+ghost use Rattle.run_journal.specs.Book.{Steady, Agrees};
 
 use crate::accounts::Accounts;
 use run_ledger::Refused;
-use std::alloc::AllocError;
 
 impl<'p> Accounts<'p> {
     // The worker is to be at the task, which isn't to be amid a leaf collection.
@@ -66,14 +65,15 @@ impl<'p> Accounts<'p> {
 
     // Whether the chunks that are free are enough for a leaf collection of the task.
     fn is_pool_enough(&self, task: u32) -> bool
-        requires { Steady self.now.ledger }
+        requires steady { Steady self.now.ledger }
+        requires agrees { Agrees self.now }
         ensures { result ≡ is_pool_enough self.now.limits self.now.ledger task }
     {
         self.in_use() + self.take(task) <= self.limits.chunks() as u64
     }
 
     pub(crate) fn took_cause(&self, worker: u32, task: u32) -> Option<Refused>
-        requires { Steady self.now.ledger }
+        requires { Agrees self.now }
         ensures { result ≡ kind_refusal self.now.program self.now.limits self.now.ledger worker (Took task) }
     {
         if !self.is_ready(task) {
@@ -101,7 +101,8 @@ impl<'p> Accounts<'p> {
     }
 
     pub(crate) fn begin_cause(&self, worker: u32, task: u32) -> Option<Refused>
-        requires { Steady self.now.ledger }
+        requires steady { Steady self.now.ledger }
+        requires agrees { Agrees self.now }
         ensures { result ≡ kind_refusal self.now.program self.now.limits self.now.ledger worker (Begin task) }
     {
         if let Some(cause) = self.due_cause(worker, task) {
@@ -114,7 +115,8 @@ impl<'p> Accounts<'p> {
     }
 
     pub(crate) fn put_off_cause(&self, worker: u32, task: u32) -> Option<Refused>
-        requires { Steady self.now.ledger }
+        requires steady { Steady self.now.ledger }
+        requires agrees { Agrees self.now }
         ensures { result ≡ kind_refusal self.now.program self.now.limits self.now.ledger worker (PutOff task) }
     {
         if let Some(cause) = self.due_cause(worker, task) {
@@ -191,32 +193,28 @@ impl<'p> Accounts<'p> {
     }
 }
 
-/// A number of an entry is to say what it should. A number past 32 bits, to which no legal journal comes, is told as want of
-/// memory.
-pub(crate) fn count_cause(said: u32, is: u64) -> Result<Option<Refused>, AllocError>
-    ensures { IfOk result (λ cause. cause ≡ counted said is None) }
+/// A number of an entry is to say what it should.
+pub(crate) fn count_cause(said: u32, is: u64) -> Option<Refused>
+    requires { is < 2 ^ 32 }
+    ensures { result ≡ counted said is None }
 {
     if said as u64 == is {
-        return Ok(None);
-    }
-    match u32::try_from(is) {
-        Ok(is) => Ok(Some(Refused::Count(said, is))),
-        Err(_) => Err(AllocError),
+        None
+    } else {
+        Some(Refused::Count(said, is as u32))
     }
 }
 
 /// The three numbers of the end of a leaf collection are to say what they should.
-pub(crate) fn end_cause(
-    said: (u32, u32, u32),
-    is: (u64, u64, u64),
-) -> Result<Option<Refused>, AllocError>
-    ensures { IfOk result (λ cause. cause ≡ ends_as (said.0, said.1, said.2) (is.0, is.1, is.2)) }
+pub(crate) fn end_cause(said: (u32, u32, u32), is: (u64, u64, u64)) -> Option<Refused>
+    requires { (is.0 < 2 ^ 32) × (is.1 < 2 ^ 32) × (is.2 < 2 ^ 32) }
+    ensures { result ≡ ends_as (said.0, said.1, said.2) (is.0, is.1, is.2) }
 {
-    if let Some(cause) = count_cause(said.0, is.0)? {
-        return Ok(Some(cause));
+    if let Some(cause) = count_cause(said.0, is.0) {
+        return Some(cause);
     }
-    if let Some(cause) = count_cause(said.1, is.1)? {
-        return Ok(Some(cause));
+    if let Some(cause) = count_cause(said.1, is.1) {
+        return Some(cause);
     }
     count_cause(said.2, is.2)
 }

@@ -1,13 +1,13 @@
 // What an entry changes, but for the steps of tasks.
 
-ghost use Rattle.std.specs.Prelude.{◌≡◌, Option, Some, None, ◌<◌, ◌^◌, true, OnOk, OnErr, IfOk};
+ghost use Rattle.std.specs.Prelude.{◌≡◌, Option, Some, None, ◌+◌, ◌<◌, ◌^◌, true, OnOk, OnErr, IfOk, slice_set, min};
 ghost use Rattle.run_trace.specs.declared.entry.Kind.TheVariants.{Took, Chunk, Begin, End, PutOff, Mark, More, Sweep, Fuel};
 ghost use Rattle.run_ledger.specs.Entries.{after_kind, chunk_units};
 ghost use Rattle.hh_model.specs.Step.{asked};
 ghost use Rattle.run_ledger.specs.Steps.{on_asked};
-ghost use Rattle.run_ledger.specs.Heaps.{is_small, heap_of, with_heap, collected, end_numbers, swept_heap, sweep_number};
+ghost use Rattle.run_ledger.specs.Heaps.{is_small, heap_of, with_heap, collected, end_numbers, swept_heap, sweep_number, left_in, marked_in};
 ghost use Rattle.ledger_heaps.specs.Parts.{with_collected, with_swept};
-ghost use Rattle.run_journal.specs.Book.{Steady};
+ghost use Rattle.run_journal.specs.Book.{Steady, Agrees};
 
 use crate::accounts::{Accounts, fresh_heap, units_of};
 use ledger_heaps::{Collected, Swept, collect, sweep, within};
@@ -17,11 +17,13 @@ use std::alloc::AllocError;
 
 impl<'p> Accounts<'p> {
     pub(crate) fn took(&mut self, worker: u32, task: u32)
-        ensures { self.new ≡ record self.old { ledger = after_kind self.old.program self.old.limits self.old.ledger worker (Took task) } }
+        requires { worker < 64 }
+        ensures { self.new ≡ record self.old { ledger = after_kind self.old.program self.old.limits self.old.ledger worker (Took task); taken = slice_set self.old.taken worker (Some task) } }
     {
         if (task as usize) < self.heaps.len() {
             self.heaps.at_mut(task as usize).worker = Some(worker);
         }
+        self.taken[worker as usize] = Some(task);
     }
 
     pub(crate) fn put_off(&mut self, worker: u32, task: u32)
@@ -70,7 +72,8 @@ impl<'p> Accounts<'p> {
     #[tactic(auto, using(ledger_heaps::proofs::Lists::set_again))]
     /// A chunk is asked for: the run ends where too few are free.
     pub(crate) fn chunk(&mut self, worker: u32, task: u32) -> Result<(), AllocError>
-        requires { Steady self.old.ledger }
+        requires steady { Steady self.old.ledger }
+        requires agrees { Agrees self.old }
         ensures ok { OnOk result (self.new ≡ record self.old { ledger = after_kind self.old.program self.old.limits self.old.ledger worker (Chunk task) }) }
         ensures err { OnErr result (self.new ≡ self.old) }
     {
@@ -93,16 +96,14 @@ impl<'p> Accounts<'p> {
         Ok(())
     }
 
-    /// The task's leaf collection begins. A number past 32 bits, to which no legal journal comes, is told as want of memory.
+    /// The task's leaf collection begins.
     pub(crate) fn begin(&mut self, worker: u32, task: u32) -> Result<(), AllocError>
         requires { Steady self.old.ledger }
         ensures ok { OnOk result (self.new ≡ record self.old { ledger = after_kind self.old.program self.old.limits self.old.ledger worker (Begin task) }) }
         ensures err { OnErr result (self.new ≡ self.old) }
     {
         let survivors = within(self.alloc, self.machine.state(), &self.heaps, task)?;
-        let Ok(chunks) = u32::try_from(self.take(task)) else {
-            return Err(AllocError);
-        };
+        let chunks = self.take(task) as u32;
         if (task as usize) < self.heaps.len() {
             let heap = self.heaps.at_mut(task as usize);
             heap.begun = Some(chunks);
@@ -111,20 +112,25 @@ impl<'p> Accounts<'p> {
         Ok(())
     }
 
-    /// So many objects of the heap more are marked, at most. A number past 32 bits, to which no legal journal comes, is told
-    /// as want of memory.
-    pub(crate) fn more(&mut self, worker: u32, task: u32, count: u32) -> Result<(), AllocError>
-        ensures ok { OnOk result (self.new ≡ record self.old { ledger = after_kind self.old.program self.old.limits self.old.ledger worker (More task count) }) }
-        ensures err { OnErr result (self.new ≡ self.old) }
+    /// So many objects of the heap more are marked, at most.
+    pub(crate) fn more(&mut self, worker: u32, task: u32, count: u32)
+        requires { Steady self.old.ledger }
+        ensures { self.new ≡ record self.old { ledger = after_kind self.old.program self.old.limits self.old.ledger worker (More task count) } }
     {
-        let more = (count as usize).min(self.left(task));
-        let Ok(marked) = u32::try_from(self.marked(task) as u64 + more as u64) else {
-            return Err(AllocError);
-        };
+        let marked = self.marked_by(task, count);
         if (task as usize) < self.heaps.len() {
             self.heaps.at_mut(task as usize).marked = Some(marked);
         }
-        Ok(())
+    }
+
+    #[tactic(auto, using(crate::proofs::Numbers::marked_few))]
+    // How many objects of the heap are marked, once so many more are, at most.
+    fn marked_by(&self, task: u32, count: u32) -> u32
+        requires { Steady self.now.ledger }
+        ensures { result ≡ marked_in (heap_of self.now.ledger task) + min count (left_in (heap_of self.now.ledger task)) }
+    {
+        let more = (count as usize).min(self.left(task)) as u32;
+        self.marked(task) + more
     }
 
     /// What the end of the task's leaf collection leaves.

@@ -5,6 +5,7 @@ mod accounts;
 mod book;
 mod causes;
 mod changes;
+mod counts;
 mod enter;
 mod pace;
 mod private;

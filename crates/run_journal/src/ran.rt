@@ -2,7 +2,8 @@
 
 ghost use Rattle.std.specs.Prelude.{◌≡◌, ◌≤◌, ◌+◌, ◌||◌, ◌&&◌, not, is_some, if◌then◌else◌, Option, Some, None, true, false, OnOk, IfOk};
 ghost use Rattle.run_ledger.specs.Steps.{task_step, task_steps, is_due, is_in_need, is_private, standing};
-ghost use Rattle.run_journal.specs.Book.{Steady, StaysSteady, stood, after_stood, is_own};
+ghost use Rattle.run_ledger.specs.Heaps.{in_use};
+ghost use Rattle.run_journal.specs.Book.{Steady, StaysSteady, stood, after_stood, is_own, used_after, went_on};
 ghost use Rattle.run_journal.specs.declared.ran.Stood.TheVariants.{More, Last};
 
 use crate::accounts::Accounts;
@@ -50,8 +51,10 @@ impl<'p> Accounts<'p> {
     fn stand(&mut self, t: u32) -> Result<Stood, AllocError>
         requires before { Steady self.old.ledger }
         requires after { (is_due self.old.limits self.old.program self.old.ledger t || is_in_need self.old.program self.old.ledger t) ≡ false → Steady (task_step self.old.program self.old.ledger t) }
+        requires used { self.old.used ≡ in_use self.old.ledger }
+        requires next { (is_due self.old.limits self.old.program self.old.ledger t || is_in_need self.old.program self.old.ledger t) ≡ false → used_after self.old.program self.old.ledger t ≡ in_use (task_step self.old.program self.old.ledger t) }
         ensures stood { IfOk result (λ how. how ≡ stood self.old.limits self.old.program self.old.ledger t) }
-        ensures after { IfOk result (λ how. self.new ≡ record self.old { ledger = after_stood self.old.program self.old.ledger t how }) }
+        ensures after { IfOk result (λ how. self.new ≡ went_on self.old (after_stood self.old.program self.old.ledger t how)) }
     {
         if self.is_due(t) || self.is_in_need(t) {
             return Ok(Stood::Not);
@@ -64,10 +67,11 @@ impl<'p> Accounts<'p> {
 
     /// Takes the first of so many steps of a task, as many as can stand in one entry, and says how many those are.
     pub(crate) fn ran(&mut self, t: u32, steps: u32) -> Result<u32, AllocError>
-        requires { StaysSteady self.old.limits self.old.program self.old.ledger t steps }
+        requires steady { StaysSteady self.old.limits self.old.program self.old.ledger t steps }
+        requires used { self.old.used ≡ in_use self.old.ledger }
         ensures standing { IfOk result (λ count. count ≡ standing self.old.limits self.old.program self.old.ledger t steps) }
         ensures most { IfOk result (λ count. count ≤ steps) }
-        ensures after { IfOk result (λ count. self.new ≡ record self.old { ledger = task_steps self.old.program self.old.ledger t count }) }
+        ensures after { IfOk result (λ count. self.new ≡ went_on self.old (task_steps self.old.program self.old.ledger t count)) }
     {
         for done in 0..steps {
             match self.stand(t)? {

@@ -2,10 +2,10 @@
 
 ghost use Rattle.hh_model.specs.Effect.{row_of};
 ghost use Rattle.std.specs.Prelude.{◌≡◌, ℕ, ◌+◌, ◌<◌, ◌^◌, Option, Some, None, true, false, length, slice_get, slice_set, OnOk, IfOk};
-ghost use Rattle.run_ledger.specs.Heaps.{heap_of, or_fresh, fresh, with_heap, let_go, merged, emptied};
+ghost use Rattle.run_ledger.specs.Heaps.{heap_of, in_use, or_fresh, fresh, with_heap, let_go, merged, emptied};
 ghost use Rattle.run_ledger.specs.Steps.{allocated_in, allocated_by, is_in_need, task_step, at_fork, at_join, join_heaps, moved_to, settled};
-ghost use Rattle.hh_model.specs.Step.{step, is_waiting};
-ghost use Rattle.run_journal.specs.Book.{Steady, Forks, Joins, AreOwned};
+ghost use Rattle.hh_model.specs.Step.{step, is_joined, is_waiting};
+ghost use Rattle.run_journal.specs.Book.{Steady, Forks, Joins, AreOwned, ArePaired, left_of, next_large, used_after, went_on};
 
 use crate::accounts::{Accounts, fresh_heap};
 use hh_model::{Machine, Name, State, Status};
@@ -29,6 +29,20 @@ fn objects_of(machine: &Machine, t: u32) -> usize
 }
 
 impl<'p> Accounts<'p> {
+    // The large object that the task's next step allocates, if it does.
+    fn next_large(&self, t: u32) -> Option<Name>
+        requires { self.now.ledger.steps < 2 ^ 30 }
+        ensures { result ≡ next_large self.now.program self.now.ledger t }
+    {
+        match self.asked(t) {
+            Some(words) if 1024 < words => Some(Name {
+                task: t,
+                count: objects_of(&self.machine, t) as u32,
+            }),
+            _ => None,
+        }
+    }
+
     // What the task's next step allocates is held from now on.
     fn allocate(&mut self, t: u32) -> Result<(), AllocError>
         requires steady { Steady self.old.ledger }
@@ -68,22 +82,19 @@ impl<'p> Accounts<'p> {
 
     // The parent's heap gets all that its children's hold, of which the task is one.
     fn join(&mut self, parent: u32, t: u32) -> Result<(), AllocError>
-        requires { (u : ℕ) → (heap_of self.old.ledger u).since < 2 ^ 62 }
+        requires since { (u : ℕ) → (heap_of self.old.ledger u).since < 2 ^ 62 }
+        requires paired { (parent < left_of t) × (left_of t + 1 < length self.old.ledger.heaps) }
         ensures { OnOk result (self.new ≡ record self.old { ledger = at_join self.old.ledger t (Some parent) }) }
     {
         let left = if t % 2 == 1 { t } else { t.saturating_sub(1) };
-        if parent < left && left as usize + 1 < self.heaps.len() {
-            join_three(self.alloc, &mut self.heaps, parent, left)
-        } else {
-            // no run comes here, since children are numbered in pairs after their parent
-            Err(AllocError)
-        }
+        join_three(self.alloc, &mut self.heaps, parent, left)
     }
 
     // The task has taken a step, and stands where it stands.
     fn settle(&mut self, t: u32) -> Result<(), AllocError>
         requires since { (u : ℕ) → (heap_of self.old.ledger u).since < 2 ^ 62 }
         requires owned { is_waiting (slice_get self.old.ledger.machine.tasks t) ≡ true → AreOwned self.old.ledger.machine.tasks self.old.ledger.heaps }
+        requires paired { is_joined (slice_get self.old.ledger.machine.tasks t) ≡ true → ArePaired self.old.ledger }
         ensures { OnOk result (self.new ≡ record self.old { ledger = settled self.old.ledger t self.old.ledger.machine.end }) }
     {
         if let Some(end) = self.machine.end() {
@@ -127,14 +138,19 @@ impl<'p> Accounts<'p> {
         requires before { Steady self.old.ledger }
         requires after { Steady (task_step self.old.program self.old.ledger t) }
         requires placed { is_in_need self.old.program self.old.ledger t ≡ false }
-        ensures { OnOk result (self.new ≡ record self.old { ledger = task_step self.old.program self.old.ledger t }) }
+        requires used { self.old.used ≡ in_use self.old.ledger }
+        requires next { used_after self.old.program self.old.ledger t ≡ in_use (task_step self.old.program self.old.ledger t) }
+        ensures { OnOk result (self.new ≡ went_on self.old (task_step self.old.program self.old.ledger t)) }
     {
         if !self.machine.state().can_step(t) {
             self.steps += 1;
             return Ok(());
         }
+        let large = self.next_large(t);
+        let reserved = self.reserved(t);
         self.allocate(t)?;
         self.advance(t)?;
+        self.count_large(large, reserved);
         self.settle(t)
     }
 }

@@ -12,5 +12,5 @@ loop-at-preserved c =
     record {
       within = omega arith;
       begins = λ less. c.next_at-at.ensures.begins (omega arith);
-      fit = λ rest. c.loop-at.invariant.fit (all_step (IsFit c.args.heap.now.chunks c.args.chunk.now) (cells_from cells c.loop-at.at) (cells_from cells c.next_at-at.result) (cell_at cells c.loop-at.at) c.next_at-at.ensures.rest (c.is_fit.ensures c.if-not-is_fit.false) rest);
+      fit = λ rest. c.loop-at.invariant.fit (all_step (IsFit c.args.heap.now.chunks) (cells_from cells c.loop-at.at) (cells_from cells c.next_at-at.result) (cell_at cells c.loop-at.at) c.next_at-at.ensures.rest (c.is_fit.ensures c.if-not-is_fit.false) rest);
     }

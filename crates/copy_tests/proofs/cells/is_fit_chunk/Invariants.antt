@@ -8,7 +8,7 @@ abbrev pub invariant-loop-at : goal.invariant-loop-at
 invariant-loop-at l = record {
   within : l.at ≤ l.used;
   begins : l.at < l.used → IsCellAt l.chunk.cells l.at;
-  fit : All (IsFit l.heap.chunks l.chunk) (cells_from l.chunk.cells l.at) → All (IsFit l.heap.chunks l.chunk) l.chunk.cells;
+  fit : All (IsFit l.heap.chunks) (cells_from l.chunk.cells l.at) → All (IsFit l.heap.chunks) l.chunk.cells;
 }
 
 abbrev pub decreases-loop-at : goal.decreases-loop-at

@@ -5,4 +5,4 @@ use Rattle.copy_tests.specs.Fit.{IsFit}
 use Rattle.copy_tests.proofs.cells.is_fit_heap.Given as goal
 
 abbrev pub invariant-loop-chunk : goal.invariant-loop-chunk
-invariant-loop-chunk l = (k : ℕ) (d : Content) → k < l.chunk-index → All (IsFit l.heap.chunks (slice_index_or l.heap.chunks k d)) (slice_index_or l.heap.chunks k d).cells
+invariant-loop-chunk l = (k : ℕ) (d : Content) → k < l.chunk-index → All (IsFit l.heap.chunks) (slice_index_or l.heap.chunks k d).cells

@@ -68,8 +68,8 @@ name_all-requires c =
     subst (CanName c.exchange.new.heap.chunks) (sym c.deref-2.ensures.value)
     (subst (λ (ks : List Content). CanName ks ss) (sym chunks) (collecting.can_name h g.chunks ss news r laid c.evacuate.ensures.left c.requires.tidy c.requires.apart c.requires.new s.once s.names c.reserved-reserved.ensures.empty c.evacuate.ensures.laid))
 
-pub returns : goal.returns
-returns c =
+pub returns-clause-collected : goal.returns-clause-collected
+returns-clause-collected c =
     let h : List Content = c.args.heap.now.chunks in
     let g : Heap = c.evacuate.new.heap in
     let ss : List Survivor = c.evacuate.new.found.items in
@@ -104,3 +104,16 @@ give_rest-requires c =
     let same = c.exchange.ensures.back_room in
     let spare = c.evacuate.ensures.room in
     omega arith
+
+pub returns-clause-settled : goal.returns-clause-settled
+returns-clause-settled c =
+    let h : List Content = c.args.heap.now.chunks in
+    let g : Heap = c.evacuate.new.heap in
+    let ss : List Survivor = c.evacuate.new.found.items in
+    let news : List Content = c.args.to_chunks.chunks.items in
+    let laid : List Content = c.evacuate.new.laid.items in
+    let r : Option ℕ = c.reserved-reserved.result in
+    let s = c.evacuate.ensures.survivors in
+    collecting.settled_now h g.chunks ss news r laid c.evacuate.ensures.left c.requires.tidy c.requires.apart c.requires.new s.once s.names c.reserved-reserved.ensures.empty c.evacuate.ensures.laid
+    c.exchange.new.heap c.name_all.new.heap c.reset_since.new.self (ap (λ (x : Heap). x.chunks) c.exchange.ensures.heap)
+    (c.name_all.ensures ∙ ap (λ (xs : List Survivor). with_chunks c.exchange.new.heap (fold named c.exchange.new.heap.chunks xs)) c.deref-2.ensures.value) c.reset_since.ensures

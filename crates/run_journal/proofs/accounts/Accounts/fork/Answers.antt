@@ -12,6 +12,6 @@ within-requires c =
 
 pub returns : goal.returns
 returns c =
-    let v : Standing = record { program = c.self.inside.program.now; limits = c.self.inside.limits; ledger = record { machine = c.self.inside.machine.state; heaps = c.self.inside.heaps; steps = c.self.inside.steps; end = c.self.inside.end } } in
+    let v : Standing = record { program = c.self.inside.program.now; limits = c.self.inside.limits; ledger = record { machine = c.self.inside.machine.state; heaps = c.self.inside.heaps; steps = c.self.inside.steps; end = c.self.inside.end }; used = c.self.inside.used; taken = c.self.inside.taken } in
     on_ok_weaker c.fork_heaps.result
     (λ f. fork_is v c.args.self.now c.self.view_is c.args.t c.state.result.now c.state.ensures c.in_ok-names.names c.in_ok-names.ensures c.fork_heaps.new.heaps f) c.fork_heaps.ensures

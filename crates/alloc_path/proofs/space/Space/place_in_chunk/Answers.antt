@@ -1,0 +1,40 @@
+use Rattle.std.proofs.Common.{◌∙◌, arith, refl}
+use Rattle.object_layout.specs.Cell.{new_cell}
+use Rattle.object_layout.proofs.HoldLemmas.{size_of-new}
+use Rattle.alloc_path.specs.contracts.space.Space.{the_view}
+use Rattle.alloc_path.proofs.HeapLemmas as heap
+use Rattle.alloc_path.proofs.Settled as settled
+use Rattle.alloc_path.proofs.space.Space.place_in_chunk.Goals as goal
+use Rattle.alloc_path.proofs.space.Space.place_in_chunk.Goals.{then-words-gt-SMALL, else-words-gt-SMALL}
+
+pub invariant_of-self : goal.invariant_of-self
+invariant_of-self c =
+    let fits = rw (← c.self.view_is) at c.requires.fits in
+    let size = size_of-new c.args.new.header c.args.new.birth in
+    elim c.if-words-gt-SMALL.branch [
+      | then-words-gt-SMALL w ↦
+          let more = w.if-words-gt-SMALL.true in
+          let sum = rw w.self-inside-is at c.saturating_add-self-inside-2.ensures in
+          rw (w.self-inside-is, c.write_new.ensures)
+          (heap.placed_kept (the_view c.self.inside) _ _ _ c.self.invariant c.args.i c.index_mut-chunk.result.now c.index_mut-chunk.ensures.value (new_cell c.args.new.header c.args.new.birth) refl fits
+          _ (λ l. absurd (omega arith)) (λ l. refl) _ (rw size (sum ∙ omega arith)))
+      | else-words-gt-SMALL w ↦
+          let less = w.if-words-gt-SMALL.false in
+          let sum = rw w.self-inside-is at c.saturating_add-self-inside-2.ensures in
+          rw (w.self-inside-is, c.write_new.ensures)
+          (heap.placed_kept (the_view c.self.inside) _ _ _ c.self.invariant c.args.i c.index_mut-chunk.result.now c.index_mut-chunk.ensures.value (new_cell c.args.new.header c.args.new.birth) refl fits
+          _ (λ l. refl) (λ l. absurd (omega arith)) _ (rw size (sum ∙ omega arith)))
+    ]
+
+pub returns-clause-settled : goal.returns-clause-settled
+returns-clause-settled c = λ s.
+    let fits = rw (← c.self.view_is) at c.requires.fits in
+    let was = rw (← c.self.view_is) at s in
+    elim c.if-words-gt-SMALL.branch [
+      | then-words-gt-SMALL w ↦
+          rw (w.self-inside-is, c.write_new.ensures)
+          (settled.settled_placed (the_view c.self.inside) _ _ _ c.self.invariant c.args.i (new_cell c.args.new.header c.args.new.birth) fits refl c.index_mut-chunk.result.now c.index_mut-chunk.ensures.value was)
+      | else-words-gt-SMALL w ↦
+          rw (w.self-inside-is, c.write_new.ensures)
+          (settled.settled_placed (the_view c.self.inside) _ _ _ c.self.invariant c.args.i (new_cell c.args.new.header c.args.new.birth) fits refl c.index_mut-chunk.result.now c.index_mut-chunk.ensures.value was)
+    ]

@@ -1,0 +1,12 @@
+-- How many units of 1,024 words chunks have.
+use Rattle.std.specs.Prelude.{ℕ, ◌+◌, ◌-◌, ◌^◌, List, [], ◌∷◌, min}
+use Rattle.object_layout.specs.Content.{Content}
+use Rattle.alloc_path.specs.Heap.{units}
+
+abbrev pub unit_count : List Content → ℕ
+unit_count [] = 0
+unit_count (k ∷ ks) = units k.size + unit_count ks
+
+-- a number, as far as 32 bits count
+abbrev pub counted32 : ℕ → ℕ
+counted32 n = min n (2 ^ 32 - 1)

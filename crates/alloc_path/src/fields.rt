@@ -1,0 +1,99 @@
+// Reads and writes of the heap's own objects, by their addresses.
+
+ghost use Rattle.std.specs.Prelude.{◌≡◌, ◌^◌, ◌<◌, length, slice_get, is_some, Some};
+ghost use Rattle.object_layout.specs.Cell.{Born, frozen, header_of, with_int, IsBorn, IsObject, IsPlace};
+ghost use Rattle.object_layout.specs.Chunks.{cell_of, object_of, place_in, put_object};
+ghost use Rattle.alloc_path.specs.FieldLaws.{with_ref_of};
+
+use super::heap::LeafHeap;
+use object_layout::{Addr, Birth, Header, Words};
+
+impl LeafHeap {
+    /// Whether the address lies in a chunk of this heap.
+    pub fn owns(&self, object: Addr) -> bool
+        ensures { result ≡ is_some (place_in self.now.chunks object.chunk) }
+    {
+        self.space.owns(object)
+    }
+
+    /// The kind of an object.
+    pub fn own_header(&self, object: Addr) -> Header
+        requires { IsObject (cell_of self.now.chunks object).mark }
+        ensures kind { result ≡ header_of (object_of self.now.chunks object) }
+        ensures refs { result.nrefs < 2 ^ 20 }
+        ensures ints { result.nints < 2 ^ 20 }
+    {
+        self.space.own_header(object)
+    }
+
+    /// The birth name of an object.
+    pub fn own_birth(&self, object: Addr) -> Birth
+        requires { IsBorn (cell_of self.now.chunks object).mark }
+        ensures { (cell_of self.now.chunks object).mark ≡ Born result }
+    {
+        self.space.own_birth(object)
+    }
+
+    /// A reference of an object: None for nil.
+    pub fn own_ref(&self, object: Addr, field: u32) -> Option<Addr>
+        requires { field < length (object_of self.now.chunks object).refs }
+        ensures value { slice_get (object_of self.now.chunks object).refs field ≡ Some result }
+        ensures place { IsPlace result }
+    {
+        self.space.own_ref(object, field)
+    }
+
+    /// A number of an object.
+    pub fn own_int(&self, object: Addr, field: u32) -> i64
+        requires { field < length (object_of self.now.chunks object).ints }
+        ensures { slice_get (object_of self.now.chunks object).ints field ≡ Some result }
+    {
+        self.space.own_int(object, field)
+    }
+
+    /// Writes a reference of an object.
+    pub fn own_set_ref(&mut self, object: Addr, field: u32, value: Option<Addr>)
+        requires field { field < length (object_of self.old.chunks object).refs }
+        requires place { IsPlace value }
+        ensures { self.new ≡ with_ref_of self.old object field value }
+    {
+        self.space.own_set_ref(object, field, value);
+    }
+
+    /// Writes a number of an object.
+    pub fn own_set_int(&mut self, object: Addr, field: u32, value: i64)
+        requires { field < length (object_of self.old.chunks object).ints }
+        ensures { self.new ≡ record self.old { chunks = put_object self.old.chunks object (with_int (cell_of self.old.chunks object) field value) } }
+    {
+        self.space.own_set_int(object, field, value);
+    }
+
+    /// Makes an object immutable, and changes nothing else of it.
+    pub fn freeze(&mut self, object: Addr)
+        requires { IsObject (cell_of self.old.chunks object).mark }
+        ensures { self.new ≡ record self.old { chunks = put_object self.old.chunks object (frozen (cell_of self.old.chunks object)) } }
+    {
+        self.space.freeze(object);
+    }
+}
+
+impl Words for LeafHeap {
+    ghost use Rattle.object_layout.specs.Chunks.{object_of};
+    ghost use Rattle.alloc_path.specs.FieldLaws.{refs_of_other, refs_of_same, with_ref_of};
+
+    ghost refs_at = { λ h a. (object_of h.chunks a).refs };
+
+    ghost with_ref_at = { with_ref_of };
+
+    fn ref_field(&self, object: Addr, field: u32) -> Option<Addr> {
+        self.own_ref(object, field)
+    }
+
+    fn set_ref_field(&mut self, object: Addr, field: u32, value: Option<Addr>) {
+        self.own_set_ref(object, field, value);
+    }
+
+    ghost refs_at_same = { refs_of_same };
+
+    ghost refs_at_other = { refs_of_other };
+}

@@ -1,0 +1,225 @@
+// The chunks of a heap, and where the next object goes.
+
+ghost use Rattle.std.specs.Prelude.{◌≡◌, ◌+◌, ◌-◌, ◌*◌, ◌^◌, ◌<◌, ◌≤◌, [], ◌∷◌, length, option_map, OnOk, OnErr, IfErr, IsOk, None, Some};
+ghost use Rattle.object_layout.specs.Cell.{size_of, new_cell};
+ghost use Rattle.object_layout.specs.Chunks.{chunk_at, held_words, next_address, place_in, push_object};
+ghost use Rattle.alloc_path.specs.Heap.{added, counted, placed, placed_at, place_for, room_of, with_places, IsCurrent, IsFresh, IsReserved, IsSettled};
+
+use object_layout::{Addr, Birth, Chunk, Header, write_new};
+use std::alloc::{AllocError, AllocFailed, Global};
+use std::collections::HashMap;
+use std::marker::Model;
+
+/// How many words a small chunk has. An object of more words is large.
+const SMALL: u32 = 1024;
+
+/// An object to be placed: its kind and its birth name.
+#[derive(Clone, Copy, PartialEq, Eq, Debug)]
+pub struct New {
+    pub header: Header,
+    pub birth: Birth,
+}
+
+/// The chunks of a heap, in which objects may be moved: what a collection works on. Small objects go
+/// into the last small chunk that was added, one behind the other; a large object, of more than 1,024
+/// words, goes into a chunk of its own, which is reserved for it first.
+#[derive(Drop)]
+pub struct Space {
+    pub(crate) chunks: Vec<Chunk>,
+    pub(crate) table: HashMap<u32, usize>,
+    pub(crate) current: Option<usize>,
+    pub(crate) reserved: Option<usize>,
+    pub(crate) since: u64,
+    pub(crate) words: u64,
+}
+
+impl Model for Space {
+    ghost use Rattle.alloc_path.specs.Heap.{Heap, IsKept};
+    ghost use Rattle.std.specs.Prelude.{◌-◌, nat_eq, vec_capacity, vec_len};
+    ghost use Rattle.std.specs.HashMap.{get, hash_map_len, spare};
+
+    ghost Value = { Heap };
+
+    ghost view = { λ h. record { chunks = h.chunks.items; current = h.current; reserved = h.reserved; since = h.since; slots = vec_capacity h.chunks - vec_len h.chunks; spare = spare h.table } };
+
+    ghost invariant = { λ h. IsKept h.chunks.items h.current h.reserved h.words (get nat_eq h.table) (hash_map_len h.table) };
+}
+
+impl Space {
+    /// A heap without chunks.
+    pub fn new(alloc: Global) -> Space
+        ensures { result ≡ record { chunks = []; current = None; reserved = None; since = 0; slots = result.slots; spare = result.spare } }
+    {
+        Space {
+            chunks: Vec::new(alloc),
+            table: HashMap::new(alloc),
+            current: None,
+            reserved: None,
+            since: 0,
+            words: 0,
+        }
+    }
+
+    // What its lists take memory from.
+    pub(crate) fn allocator(&self) -> Global {
+        *self.chunks.allocator()
+    }
+
+    /// The chunks in the order in which they came: small ones, those of large objects, and the
+    /// reserved one.
+    pub fn chunks(&self) -> &[Chunk]
+        ensures { result.now ≡ self.now.chunks }
+    {
+        &self.chunks
+    }
+
+    /// At which place the small chunk stands that is being filled, if one is.
+    pub fn current(&self) -> Option<usize>
+        ensures place { result ≡ self.now.current }
+        ensures small { IsCurrent self.now.chunks result }
+    {
+        self.current
+    }
+
+    /// At which place the chunk stands that is reserved for a large object, if one is.
+    pub fn reserved(&self) -> Option<usize>
+        ensures place { result ≡ self.now.reserved }
+        ensures empty { IsReserved self.now.chunks result }
+    {
+        self.reserved
+    }
+
+    /// The words left in the small chunk that is being filled; 0 where none is.
+    pub fn room(&self) -> u32
+        ensures { result ≡ room_of self.now }
+    {
+        match self.current {
+            None => 0,
+            Some(i) => {
+                let chunk = &self.chunks[i];
+                chunk.size() - chunk.used()
+            }
+        }
+    }
+
+    /// The words of all objects that were placed since the count was last set to 0.
+    pub fn since(&self) -> u64
+        ensures { result ≡ self.now.since }
+    {
+        self.since
+    }
+
+    /// The words of all objects in the heap, holes left out.
+    pub fn words(&self) -> u64
+        ensures { result ≡ counted (held_words self.now.chunks) }
+    {
+        self.words
+    }
+
+    /// Sets the count of words placed to 0.
+    pub fn reset_since(&mut self)
+        ensures { self.new ≡ record self.old { since = 0 } }
+    {
+        self.since = 0;
+    }
+
+    /// Makes places for so many chunks more, so that they can be added without memory.
+    pub fn make_room(&mut self, chunks: u32) -> Result<(), AllocError>
+        ensures kept { self.new ≡ with_places self.old self.new.slots self.new.spare }
+        ensures slots { OnOk result (chunks ≤ self.new.slots) }
+        ensures spare { OnOk result (chunks ≤ self.new.spare) }
+        ensures more_slots { self.old.slots ≤ self.new.slots }
+        ensures more_spare { self.old.spare ≤ self.new.spare }
+    {
+        self.chunks.reserve(chunks as usize)?;
+        self.table.reserve(chunks as usize)
+    }
+
+    /// Adds an empty chunk without memory, where there are places for it. A small one is filled from
+    /// then on; a large one is reserved for a large object of just its units.
+    pub fn add_spare(&mut self, chunk: Chunk)
+        requires empty { chunk.cells ≡ [] }
+        requires size { 1024 ≤ chunk.size }
+        requires fresh { IsFresh self.old.chunks chunk.number }
+        requires slots { 0 < self.old.slots }
+        requires spare { 0 < self.old.spare }
+        ensures added { self.new ≡ with_places (added self.old chunk) self.new.slots self.new.spare }
+        ensures slots { self.old.slots ≡ self.new.slots + 1 }
+        ensures spare { self.old.spare ≤ self.new.spare + 1 }
+    {
+        let place = self.chunks.len();
+        let is_small = chunk.size() == SMALL;
+        let _ = self.table.insert(chunk.number(), place);
+        self.chunks.push_reserved(chunk);
+        if is_small {
+            self.current = Some(place);
+        } else {
+            self.reserved = Some(place);
+        }
+    }
+
+    /// Places an object, with its references nil and its numbers 0, and says where; None where a
+    /// small object's words exceed the room, or no reserved chunk has just a large object's units.
+    pub fn place(&mut self, new: New) -> Option<Addr>
+        requires refs { new.header.nrefs < 2 ^ 20 }
+        requires ints { new.header.nints < 2 ^ 20 }
+        ensures address { let object = new_cell new.header new.birth in result ≡ option_map (λ i. next_address (chunk_at self.old.chunks i)) (place_for self.old (size_of object)) }
+        ensures placed { let object = new_cell new.header new.birth in self.new ≡ placed self.old (place_for self.old (size_of object)) object }
+        ensures settled { IsSettled self.old.chunks → IsSettled self.new.chunks }
+    {
+        let words = 2 + new.header.nrefs + new.header.nints;
+        match self.chunk_for(words) {
+            None => None,
+            Some(i) => Some(self.place_in_chunk(i, new)),
+        }
+    }
+
+    // The place of the chunk into which an object of so many words goes.
+    fn chunk_for(&self, words: u32) -> Option<usize>
+        requires { words < 2 ^ 22 }
+        ensures { result ≡ place_for self.now words }
+    {
+        if words <= SMALL {
+            return if words <= self.room() {
+                self.current
+            } else {
+                None
+            };
+        }
+        match self.reserved {
+            None => None,
+            Some(i) => {
+                if self.chunks[i].size() == SMALL * ((words + 1023) / 1024) {
+                    Some(i)
+                } else {
+                    None
+                }
+            }
+        }
+    }
+
+    // Places an object in the chunk at a place.
+    fn place_in_chunk(&mut self, i: usize, new: New) -> Addr
+        requires refs { new.header.nrefs < 2 ^ 20 }
+        requires ints { new.header.nints < 2 ^ 20 }
+        requires fits { place_for self.old (size_of (new_cell new.header new.birth)) ≡ Some i }
+        ensures address { result ≡ next_address (chunk_at self.old.chunks i) }
+        ensures placed { self.new ≡ placed_at self.old i (new_cell new.header new.birth) }
+        ensures settled { IsSettled self.old.chunks → IsSettled self.new.chunks }
+    {
+        let words = 2 + new.header.nrefs + new.header.nints;
+        let chunk = &mut self.chunks[i];
+        let offset = chunk.used();
+        let number = chunk.number();
+        write_new(chunk, offset, new.header, new.birth);
+        if words > SMALL {
+            self.reserved = None;
+        }
+        self.since = self.since.saturating_add(words as u64);
+        self.words = self.words.saturating_add(words as u64);
+        Addr {
+            chunk: number,
+            offset,
+        }
+    }
+}

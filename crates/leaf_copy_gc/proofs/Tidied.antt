@@ -1,0 +1,98 @@
+-- What a collection leaves is tidy: no object in it was moved, and a large one has its chunk to itself.
+use Rattle.std.proofs.Common.{◌≡◌, ℕ, zero, suc, ◌<◌, ◌≤◌, Bool, true, false, cond, List, [], ◌∷◌, ◌++◌, length, map, filter, refl, sym, ◌∙◌, subst, arith, inl, inr, Option, Some, None, All}
+use Rattle.std.specs.Prelude.{remove, nat_lt, reverse}
+use Rattle.std.proofs.lemmas.Bool.{leb-true}
+use Rattle.std.proofs.lemmas.List.{length-map}
+use Rattle.std.proofs.lemmas.List.Elements.{All-append, All-cons, All-filter, All-get_or, All-head, All-map, All-nil, All-push, All-tail, All-weaker}
+use Rattle.object_layout.specs.declared.word.Addr.{Addr}
+use Rattle.object_layout.specs.Cell.{Cell, moved_to, size_of}
+use Rattle.object_layout.specs.Content.{Content}
+use Rattle.object_layout.specs.Chunks.{cell_of, no_chunk}
+use Rattle.alloc_path.specs.Heap.{AreTidy, IsTidy}
+use Rattle.alloc_path.proofs.Settled.{unmoved_at}
+use Rattle.listed.proofs.Members.{In}
+use Rattle.leaf_copy_gc.specs.declared.lists.Survivor.{Survivor}
+use Rattle.leaf_copy_gc.specs.Survivors.{olds}
+use Rattle.leaf_copy_gc.specs.Laid.{before, laid_all, laid_one, opened, open_next, placed, room_in, smalls, AreNew, Laying}
+use Rattle.leaf_copy_gc.specs.Redirected.{led, led_chunk}
+use Rattle.leaf_copy_gc.specs.Exchanged.{reserved_of, unreserved}
+use Rattle.leaf_copy_gc.specs.Collected.{keeps, laying_of}
+use Rattle.leaf_copy_gc.proofs.Moves.{in_smalls}
+use Rattle.leaf_copy_gc.proofs.Numbers.{Within, new_reverse}
+
+-- ---- the chunks with small survivors
+
+-- small, and not moved
+abbrev IsLaid : Cell → Type 0
+IsLaid c = (moved_to c.mark ≡ None) × (size_of c ≤ 1024)
+
+abbrev HoldsLaid : Content → Type 0
+HoldsLaid k = All IsLaid k.cells
+
+laid_placed : (ks : List Content) (c : Cell) → IsLaid c → All HoldsLaid ks → All HoldsLaid (placed ks c)
+laid_placed [] c p a = a
+laid_placed (k ∷ []) c p a = All-cons HoldsLaid (record k { cells = k.cells ++ c ∷ [] }) [] (All-push IsLaid k.cells c (All-head HoldsLaid k [] a) p) (All-nil HoldsLaid)
+laid_placed (k ∷ (l ∷ ks)) c p a = All-cons HoldsLaid k (placed (l ∷ ks) c) (All-head HoldsLaid k (l ∷ ks) a) (laid_placed (l ∷ ks) c p (All-tail HoldsLaid k (l ∷ ks) a))
+
+laid_open : (laid spare : List Content) → All HoldsLaid laid → AreNew spare → All HoldsLaid (open_next laid spare).laid × AreNew (open_next laid spare).spare
+laid_open laid [] a n = (a, n)
+laid_open laid (k ∷ ks) a n = (All-push HoldsLaid laid k a (subst (λ (cs : List Cell). All IsLaid cs) (sym n.0.0) (All-nil IsLaid)), n.1)
+
+laid_opened : (y : Laying) (b : Bool) → All HoldsLaid y.laid → AreNew y.spare → All HoldsLaid (cond b (open_next y.laid y.spare) y).laid × AreNew (cond b (open_next y.laid y.spare) y).spare
+laid_opened y true a n = laid_open y.laid y.spare a n
+laid_opened y false a n = (a, n)
+
+all_laid : (y : Laying) (h : List Content) (xs : List Addr) → ((a : Addr) → In xs a → IsLaid (cell_of h a)) → All HoldsLaid y.laid → AreNew y.spare → All HoldsLaid (laid_all y h xs).laid
+all_laid y h [] f a n = a
+all_laid y h (x ∷ xs) f a n =
+    let o = laid_opened y (nat_lt (room_in y.laid) (size_of (cell_of h x))) a n in
+    all_laid (laid_one y (cell_of h x)) h xs (λ b i. f b (inr i)) (laid_placed (opened y (size_of (cell_of h x))).laid (cell_of h x) (f x (inl refl)) o.0) o.1
+
+laid_tidy : (k : Content) → HoldsLaid k → IsTidy k
+laid_tidy k a = record {
+  unmoved = All-weaker IsLaid (λ (c : Cell). moved_to c.mark ≡ None) (λ c p. p.0) k.cells a;
+  alone = All-weaker IsLaid (λ (c : Cell). 1024 < size_of c → length k.cells ≡ 1) (λ c p l. let m : size_of c ≤ 1024 = p.1 in absurd (omega arith)) k.cells a;
+}
+
+-- ---- references are led
+
+led_tidy : (f : Option Addr → Option Addr) (k : Content) → IsTidy k → IsTidy (led_chunk f k)
+led_tidy f k t = record {
+  unmoved = All-map (λ (c : Cell). moved_to c.mark ≡ None) (led f) k.cells t.unmoved;
+  alone =
+      let count : length (map (led f) k.cells) ≡ length k.cells = length-map k.cells (led f) in
+      All-map (λ (c : Cell). 1024 < size_of c → length (map (led f) k.cells) ≡ 1) (led f) k.cells
+      (All-weaker (λ (c : Cell). 1024 < size_of c → length k.cells ≡ 1) (λ (c : Cell). 1024 < size_of (led f c) → length (map (led f) k.cells) ≡ 1)
+      (λ c p l. let n : length (map f c.refs) ≡ length c.refs = length-map c.refs f in count ∙ p (omega arith)) k.cells t.alone);
+}
+
+all_led : (f : Option Addr → Option Addr) (ks : List Content) → AreTidy ks → AreTidy (map (led_chunk f) ks)
+all_led f ks t = All-map IsTidy (led_chunk f) ks (All-weaker IsTidy (λ (k : Content). IsTidy (led_chunk f k)) (led_tidy f) ks t)
+
+-- ---- the others
+
+removed_tidy : (ks : List Content) (i : ℕ) → AreTidy ks → AreTidy (remove ks i)
+removed_tidy [] zero t = t
+removed_tidy [] (suc i) t = t
+removed_tidy (k ∷ ks) zero t = All-tail IsTidy k ks t
+removed_tidy (k ∷ ks) (suc i) t = All-cons IsTidy k (remove ks i) (All-head IsTidy k ks t) (removed_tidy ks i (All-tail IsTidy k ks t))
+
+unreserved_tidy : (ks : List Content) (r : Option ℕ) → AreTidy ks → AreTidy (unreserved ks r)
+unreserved_tidy ks None t = t
+unreserved_tidy ks (Some i) t = removed_tidy ks i t
+
+reserved_tidy : (ks : List Content) (r : Option ℕ) → Within ks r → AreTidy ks → AreTidy (reserved_of ks r)
+reserved_tidy ks None w t = All-nil IsTidy
+reserved_tidy ks (Some i) w t = All-push IsTidy [] _ (All-nil IsTidy) (All-get_or IsTidy ks i no_chunk w t)
+
+pub all_tidy : (f : Option Addr → Option Addr) (h : List Content) (ss : List Survivor) (news : List Content) (r : Option ℕ) → AreTidy h → AreNew news → Within h r
+    → (laid : List Content) → laid ≡ map (led_chunk f) (laying_of h ss (reverse news)).laid
+    → AreTidy (laid ++ (map (led_chunk f) (filter (keeps ss) (unreserved h r)) ++ reserved_of h r))
+all_tidy f h ss news r t new within laid is =
+    let xs = smalls h (olds ss) in
+    let small : (a : Addr) → In (smalls h (olds ss)) a → IsLaid (cell_of h a) = λ a i. (unmoved_at h a t, leb-true (size_of (cell_of h a)) 1024 (in_smalls h (olds ss) a i).1) in
+    let first = all_laid (before (reverse news)) h (smalls h (olds ss)) small (All-nil HoldsLaid) (new_reverse news new) in
+    let one : AreTidy laid = subst AreTidy (sym is) (all_led f (laying_of h ss (reverse news)).laid (All-weaker HoldsLaid IsTidy laid_tidy (laying_of h ss (reverse news)).laid first)) in
+    let two : AreTidy (map (led_chunk f) (filter (keeps ss) (unreserved h r))) = all_led f (filter (keeps ss) (unreserved h r)) (All-filter (keeps ss) IsTidy (unreserved h r) (unreserved_tidy h r t)) in
+    All-append IsTidy laid (map (led_chunk f) (filter (keeps ss) (unreserved h r)) ++ reserved_of h r) one
+    (All-append IsTidy (map (led_chunk f) (filter (keeps ss) (unreserved h r))) (reserved_of h r) two (reserved_tidy h r within t))

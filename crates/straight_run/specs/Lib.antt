@@ -1,0 +1,5 @@
+pub mod Ready
+pub mod Course
+pub mod Run
+pub mod Drive
+pub mod Laws
