@@ -1,13 +1,17 @@
-// Tests of the copying collector on whole heaps: checks of what it asks, and collections.
+// Tests of collections of whole heaps, by copying and by sweeping, with checks of what they ask.
 #![tactic(auto)]
 
 mod cells;
 mod collecting;
 mod numbers;
 mod soundness;
+mod sweeping;
 
 pub use collecting::{collect, is_ready, prepare};
+pub use sweeping::mark_and_sweep;
 
+#[cfg(test)]
+mod inner;
 #[cfg(test)]
 mod registers;
 #[cfg(test)]

@@ -8,6 +8,7 @@ ghost use Rattle.leaf_copy_gc.specs.Survivors.{IsLive};
 use crate::collecting::{collect, prepare};
 use crate::numbers::is_fresh;
 use crate::soundness::is_live;
+use crate::sweeping::mark_and_sweep;
 use alloc_path::{LeafHeap, New};
 use leaf_copy_gc::Moved;
 use object_layout::{Addr, Birth, Chunk, Header};
@@ -75,6 +76,18 @@ pub fn lead(heap: &mut LeafHeap, object: Addr, field: u32, to: Addr) -> Result<(
     Ok(())
 }
 
+// Writes nil over a reference of an object.
+pub fn unlead(heap: &mut LeafHeap, object: Addr, field: u32) -> Result<(), Fail> {
+    if !is_object(heap, object) {
+        return Err("no object")?;
+    }
+    if field >= heap.own_header(object).nrefs {
+        return Err("no such field")?;
+    }
+    heap.own_set_ref(object, field, None);
+    Ok(())
+}
+
 // Writes a number of an object.
 pub fn count(heap: &mut LeafHeap, object: Addr, field: u32, value: i64) -> Result<(), Fail> {
     if !is_object(heap, object) {
@@ -134,6 +147,25 @@ pub fn run(
     match collect(heap, frames, roots, to) {
         Some(moved) => Ok(moved),
         None => Err("not as a collection asks")?,
+    }
+}
+
+// Whether an object lies there.
+pub fn is_there(heap: &LeafHeap, object: Addr) -> bool {
+    is_live(heap.chunks(), object)
+}
+
+// Marks a heap, so many objects at a time, and sweeps it.
+pub fn sweep(
+    alloc: Global,
+    heap: &mut LeafHeap,
+    roots: &[Addr],
+    kept: &[Addr],
+    step: u32,
+) -> Result<(u32, u32, u32), Fail> {
+    match mark_and_sweep(alloc, heap, roots, kept, step) {
+        Some(counts) => Ok(counts),
+        None => Err("not as a sweep asks")?,
     }
 }
 

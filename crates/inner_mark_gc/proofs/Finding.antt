@@ -57,11 +57,12 @@ finds_noted P old new a p only e m f =
     }
 
 pub room_noted : (h : List Content) (old new : Marks) (a : Addr) → HasRoom h old → IsHeld h a → new.found ≡ noted old.found a
-    → length old.found + old.slots ≤ length new.found + new.slots → length old.found + old.spare ≤ length new.found + new.spare → HasRoom h new
-room_noted h old new a r held e s p =
+    → length old.found + old.slots ≤ length new.found + new.slots → length old.found + old.spare ≤ length new.found + new.spare → new.places ≡ old.places → HasRoom h new
+room_noted h old new a r held e s p q =
     let n = noted_is old.found a in
     let slots : object_count h < length old.found + old.slots = r.slots in
     let spare : object_count h < length old.found + old.spare = r.spare in
+    let places : length h ≤ old.places = r.places in
     record {
       each = λ x i. elim (n.each x (subst (λ (xs : List Addr). In xs x) e (in_from_contains new.found x i))) [
         | inl j ↦ r.each x (contains_from_in old.found x j)
@@ -70,6 +71,7 @@ room_noted h old new a r held e s p =
       once = subst Once (sym e) (n.once r.once);
       slots = omega arith;
       spare = omega arith;
+      places = omega arith;
     }
 
 pub still_found : (P : Addr → Type 0) (old new : Marks) → Finds P old new → (a : Addr) → Contains old.found a → Contains new.found a

@@ -58,9 +58,10 @@ marking_goes_on f kept more m l is = record {
 }
 
 pub marking_stays_of : MarkingStaysOf
-marking_stays_of g h kept more m held count of =
+marking_stays_of g h kept more m held count chunks of =
     let slots : object_count g < length m.found + m.slots = of.room.slots in
     let spare : object_count g < length m.found + m.spare = of.room.spare in
+    let places : length g ≤ m.places = of.room.places in
     let sum : length (kept ++ more) ≡ length kept + length more = length-append kept more in
     let few : m.followed ≤ length kept = of.followed in
     record {
@@ -69,6 +70,7 @@ marking_stays_of g h kept more m held count of =
         once = of.room.once;
         slots = omega arith;
         spare = omega arith;
+        places = omega arith;
       };
       marked = of.marked;
       followed = omega arith;

@@ -1,9 +1,13 @@
--- What callers need of the snapshot and of a marking between two calls.
-use Rattle.std.specs.Prelude.{◌≡◌, ◌≤◌, ◌↔◌, List, [], ◌++◌, Contains, length}
+-- What callers need of the snapshot, of a marking between two calls, and of a sweep.
+use Rattle.std.specs.Prelude.{◌≡◌, ◌≤◌, ◌↔◌, ◌⊎◌, true, List, [], ◌++◌, Contains, length, if◌then◌else◌}
 use Rattle.object_layout.specs.declared.word.Addr.{Addr}
+use Rattle.object_layout.specs.Cell.{no_cell}
 use Rattle.object_layout.specs.Content.{Content}
+use Rattle.object_layout.specs.Chunks.{object_of}
+use Rattle.alloc_path.specs.Heap.{AreApart, Heap}
 use Rattle.inner_mark_gc.specs.Snapshot.{Fork, IsHeld, IsInSnapshot, object_count}
-use Rattle.inner_mark_gc.specs.Marks.{IsMarking, IsOf, Marks}
+use Rattle.inner_mark_gc.specs.Marks.{has_address, marked_of, IsAllMarked, IsDone, IsMarking, IsOf, Marks}
+use Rattle.inner_mark_gc.specs.Swept.{has_number, has_object, left_of, number_at, swept}
 
 -- where what was kept is of the snapshot, the snapshot is what the roots alone lead to
 abbrev pub SnapshotIsOfRoots : Type 0
@@ -22,5 +26,30 @@ MarkingGoesOn =
 abbrev pub MarkingStaysOf : Type 0
 MarkingStaysOf =
     (g h : List Content) (kept more : List Addr) (m : Marks)
-    → ((a : Addr) → IsHeld g a → IsHeld h a) → object_count h ≡ object_count g
+    → ((a : Addr) → IsHeld g a → IsHeld h a) → object_count h ≡ object_count g → length h ≡ length g
     → IsOf g kept m → IsOf h (kept ++ more) m
+
+-- where the whole snapshot is marked, all that was found is
+abbrev pub AllMarkedIsDone : Type 0
+AllMarkedIsDone =
+    (f : Fork) (kept : List Addr) (m : Marks) (h : List Content)
+    → IsOf h kept m → IsMarking f kept m → IsAllMarked f kept m → IsDone m
+
+-- once a heap is swept, what is kept is read as it was, and nothing else is there
+abbrev pub SweptAreRead : Type 0
+SweptAreRead =
+    (h : Heap) (kept : List Addr) → AreApart h.chunks
+    → (a : Addr) → object_of (swept h kept).chunks a ≡ (if has_address kept a then object_of h.chunks a else no_cell)
+
+-- where the whole snapshot is marked, a sweep leaves exactly that
+abbrev pub SweptIsSnapshot : Type 0
+SweptIsSnapshot =
+    (f : Fork) (kept : List Addr) (m : Marks) (h : Heap) → AreApart h.chunks
+    → IsOf h.chunks kept m → IsMarking f kept m → IsAllMarked f kept m
+    → (a : Addr) → IsHeld (swept h (marked_of m)).chunks a ↔ IsInSnapshot f kept a
+
+-- in each chunk that a sweep leaves lies an object, but for the reserved one
+abbrev pub EachLeftHolds : Type 0
+EachLeftHolds =
+    (h : Heap) (kept : List Addr) (k : Content) → Contains (left_of h kept) k
+    → (has_object k.cells ≡ true) ⊎ (has_number (number_at h.chunks h.reserved) k ≡ true)

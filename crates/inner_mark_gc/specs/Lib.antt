@@ -1,3 +1,4 @@
 pub mod Snapshot
 pub mod Marks
+pub mod Swept
 pub mod Laws

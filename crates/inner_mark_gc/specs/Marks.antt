@@ -6,14 +6,15 @@ use Rattle.object_layout.specs.Content.{Content}
 use Rattle.inner_mark_gc.specs.Snapshot.{Fork, IsHeld, IsInSnapshot, Leads, object_count}
 
 -- the objects that were found, in the order in which they were found; how many of the first of them
--- are marked, and how many of the references that were kept are followed; and for how many objects
--- more the list and its table have places
+-- are marked, and how many of the references that were kept are followed; for how many objects more
+-- the list and its table have places, and for how many chunks the list of those that are left
 pub record Marks : Type 0 where
   pub found : List Addr
   pub marked : ℕ
   pub followed : ℕ
   pub slots : ℕ
   pub spare : ℕ
+  pub places : ℕ
 
 abbrev pub same_address : Addr → Addr → Bool
 same_address a b = a.chunk == b.chunk && a.offset == b.offset
@@ -34,12 +35,17 @@ Once (x ∷ xs) = (Contains xs x → ⊥) × Once xs
 abbrev pub marked_of : Marks → List Addr
 marked_of m = take m.marked m.found
 
--- the objects found lie in the heap, each stands once, and there are places for all others
+-- all that was found is marked
+abbrev pub IsDone : Marks → Type 0
+IsDone m = m.marked ≡ length m.found
+
+-- the objects found lie in the heap, each stands once, and there are places for all others, and for the chunks
 pub record HasRoom (h : List Content) (m : Marks) : Type 0 where
   pub each : (a : Addr) → Contains m.found a → IsHeld h a
   pub once : Once m.found
   pub slots : object_count h < length m.found + m.slots
   pub spare : object_count h < length m.found + m.spare
+  pub places : length h ≤ m.places
 
 -- so many more were found, and these are all
 pub record Finds (more : Addr → Type 0) (old new : Marks) : Type 0 where

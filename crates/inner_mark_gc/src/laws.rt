@@ -1,6 +1,6 @@
-// Laws of the snapshot, and of a marking between two calls.
+// Laws of the snapshot, of a marking between two calls, and of a sweep.
 
-ghost use Rattle.inner_mark_gc.specs.Laws.{MarkingGoesOn, MarkingStaysOf, SnapshotIsOfRoots};
+ghost use Rattle.inner_mark_gc.specs.Laws.{AllMarkedIsDone, EachLeftHolds, MarkingGoesOn, MarkingStaysOf, SnapshotIsOfRoots, SweptAreRead, SweptIsSnapshot};
 
 /// Where what was kept is of the snapshot, the snapshot is what the roots alone lead to.
 pub fn snapshot_is_of_roots()
@@ -15,4 +15,24 @@ pub fn marking_goes_on()
 /// A marking stays one of its heap while only fields are written and more is kept.
 pub fn marking_stays_of()
     ensures { MarkingStaysOf }
+{}
+
+/// Where the whole snapshot is marked, all that was found is.
+pub fn all_marked_is_done()
+    ensures { AllMarkedIsDone }
+{}
+
+/// Once a heap is swept, what was marked is read as it was, and nothing else is there.
+pub fn swept_are_read()
+    ensures { SweptAreRead }
+{}
+
+/// Where the whole snapshot is marked, a sweep leaves exactly that, whatever fields were written since.
+pub fn swept_is_snapshot()
+    ensures { SweptIsSnapshot }
+{}
+
+/// In each chunk that a sweep leaves lies an object, but for the reserved one.
+pub fn each_left_holds()
+    ensures { EachLeftHolds }
 {}

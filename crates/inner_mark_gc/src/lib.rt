@@ -3,8 +3,12 @@
 
 mod laws;
 mod marking;
+mod sweep;
 
-pub use laws::{marking_goes_on, marking_stays_of, snapshot_is_of_roots};
+pub use laws::{
+    all_marked_is_done, each_left_holds, marking_goes_on, marking_stays_of, snapshot_is_of_roots,
+    swept_are_read, swept_is_snapshot,
+};
 pub use marking::Marking;
 
 #[cfg(test)]

@@ -1,15 +1,16 @@
 // A marking: what it has found so far, and which of that is marked.
 
-ghost use Rattle.std.specs.Prelude.{◌≡◌, ℕ, ◌+◌, ◌-◌, ◌<◌, ◌≤◌, ◌↔◌, [], List, All, Contains, IfOk, IsTrue, Some, length, drop, slice_index_or, take, true};
+ghost use Rattle.std.specs.Prelude.{◌≡◌, ℕ, ◌+◌, ◌-◌, ◌<◌, ◌≤◌, ◌↔◌, [], List, All, Contains, IfOk, IsTrue, Some, length, drop, slice_index_or, take, true, vec_capacity};
 ghost use Rattle.object_layout.specs.declared.word.Addr.{Addr};
 ghost use Rattle.inner_mark_gc.specs.Snapshot.{IsClosed, IsHeld, IsSince, IsSound, Leads, object_count, objects_in, Fork};
-ghost use Rattle.inner_mark_gc.specs.Marks.{has_address, marked_of, noted, Finds, HasRoom, IsAllMarked, IsMarking, IsOf};
+ghost use Rattle.inner_mark_gc.specs.Marks.{has_address, marked_of, noted, Finds, HasRoom, IsAllMarked, IsDone, IsMarking, IsOf};
 
 use alloc_path::LeafHeap;
 use object_layout::{Addr, Chunk, is_object_at, next_at};
 use std::alloc::{AllocError, Global};
 use std::collections::HashSet;
 use std::marker::Model;
+use std::mem;
 
 /// The objects of a heap that were found so far. The first of them are marked: their references were
 /// followed.
@@ -19,6 +20,7 @@ pub struct Marking {
     known: HashSet<Addr>,
     marked: usize,
     followed: usize,
+    left: Vec<Chunk>,
 }
 
 impl Model for Marking {
@@ -29,14 +31,14 @@ impl Model for Marking {
 
     ghost Value = { Marks };
 
-    ghost view = { λ m. record { found = m.found.items; marked = m.marked; followed = m.followed; slots = vec_capacity m.found - vec_len m.found; spare = spare m.known } };
+    ghost view = { λ m. record { found = m.found.items; marked = m.marked; followed = m.followed; slots = vec_capacity m.found - vec_len m.found; spare = spare m.known; places = vec_capacity m.left } };
 
     ghost invariant = { λ m. (a : Addr) → contains same_address m.known a ≡ has_address m.found.items a };
 }
 
 impl Marking {
     /// A marking of a heap, which has found the roots, and marked nothing. It reserves for every object
-    /// of the heap.
+    /// of the heap, and for its chunks.
     pub fn begin(alloc: Global, heap: &LeafHeap, roots: &[Addr]) -> Result<Marking, AllocError>
         requires { All (IsHeld heap.now.chunks) roots.now }
         ensures none { IfOk result (λ m. m.marked ≡ 0) }
@@ -48,10 +50,12 @@ impl Marking {
             known: HashSet::new(alloc),
             marked: 0,
             followed: 0,
+            left: Vec::new(alloc),
         };
         let places = places_for(heap.chunks())?;
         marking.found.reserve(places)?;
         marking.known.reserve(places)?;
+        marking.left.reserve(heap.chunks().len())?;
         marking.visit_all(heap, roots);
         Ok(marking)
     }
@@ -84,10 +88,30 @@ impl Marking {
     pub fn ready(&self, heap: &LeafHeap, kept: &[Addr]) -> bool
         requires kept { All (IsHeld heap.now.chunks) kept.now }
         requires own { IsOf heap.now.chunks kept.now self.now }
-        ensures { (f : Fork) → IsSince f kept.now heap.now.chunks → IsMarking f kept.now self.now → (IsTrue result ↔ IsAllMarked f kept.now self.now) }
+        ensures ready { (f : Fork) → IsSince f kept.now heap.now.chunks → IsMarking f kept.now self.now → (IsTrue result ↔ IsAllMarked f kept.now self.now) }
+        ensures done { IsTrue result → IsDone self.now }
     {
         let _ = heap;
         self.marked == self.found.len() && self.has_all(&kept[self.followed..])
+    }
+
+    // Whether an object is found.
+    pub(crate) fn has(&self, object: Addr) -> bool
+        ensures { result ≡ has_address self.now.found object }
+    {
+        self.known.contains(&object)
+    }
+
+    // Takes out the list for the chunks that are left.
+    pub(crate) fn take_list(&mut self) -> Vec<Chunk>
+        ensures empty { result.items ≡ [] }
+        ensures room { vec_capacity result ≡ self.old.places }
+        ensures kept { self.new ≡ record self.old { places = self.new.places } }
+    {
+        let none = Vec::new(*self.left.allocator());
+        let mut left = mem::replace(&mut self.left, none);
+        left.clear();
+        left
     }
 
     // Whether all these objects are found.
@@ -135,6 +159,7 @@ impl Marking {
         ensures followed { self.new.followed ≡ self.old.followed }
         ensures slots { length self.old.found + self.old.slots ≤ length self.new.found + self.new.slots }
         ensures spare { length self.old.found + self.old.spare ≤ length self.new.found + self.new.spare }
+        ensures places { self.new.places ≡ self.old.places }
     {
         if !self.known.contains(&address) {
             let _ = self.known.insert(address);

@@ -7,8 +7,8 @@ use Rattle.inner_mark_gc.proofs.Finding as finding
 use Rattle.inner_mark_gc.proofs.Marked as marked
 use Rattle.inner_mark_gc.proofs.marking.Marking.ready.Goals as goal
 
-pub returns-then-self-len : goal.returns-then-self-len
-returns-then-self-len c = λ f s k.
+pub returns-then-self-len-clause-ready : goal.returns-then-self-len-clause-ready
+returns-then-self-len-clause-ready c = λ f s k.
     let m : Marks = c.args.self.now in
     let v = c.self.view_is in
     let is_marked : c.self.inside.marked ≡ m.marked = ap (λ (n : Marks). n.marked) v in
@@ -24,8 +24,8 @@ returns-then-self-len c = λ f s k.
           (λ x i. addresses.in_has m.found x (in_from_contains m.found x (marked.all_kept_found f c.args.kept.now c.args.heap.now.chunks m s c.requires.kept all x (contains_from_in c.args.kept.now x (marked.in_drop m.followed c.args.kept.now x i))))))),
     )
 
-pub returns-else-self-len : goal.returns-else-self-len
-returns-else-self-len c = λ f s k.
+pub returns-else-self-len-clause-ready : goal.returns-else-self-len-clause-ready
+returns-else-self-len-clause-ready c = λ f s k.
     let m : Marks = c.args.self.now in
     let v = c.self.view_is in
     let is_marked : c.self.inside.marked ≡ m.marked = ap (λ (n : Marks). n.marked) v in
@@ -36,3 +36,14 @@ returns-else-self-len c = λ f s k.
       λ r. let same : c.self.inside.marked ≡ c.len.result = grind arith in absurd (grind arith),
       λ all. let e : m.marked ≡ length m.found = marked.all_found_marked f c.args.kept.now c.args.heap.now.chunks m c.requires.own k all in let same : c.self.inside.marked ≡ c.len.result = omega arith in absurd (grind arith),
     )
+
+pub returns-then-self-len-clause-done : goal.returns-then-self-len-clause-done
+returns-then-self-len-clause-done c = λ r.
+    let m : Marks = c.args.self.now in
+    let v = c.self.view_is in
+    let is_marked : c.self.inside.marked ≡ m.marked = ap (λ (n : Marks). n.marked) v in
+    let is_found : length c.self.inside.found.items ≡ length m.found = ap (λ (n : Marks). length n.found) v in
+    let is_len : vec_len c.self.inside.found ≡ length c.self.inside.found.items = search rules in
+    let n : c.len.result ≡ vec_len c.self.inside.found = c.len.ensures in
+    let t : c.self.inside.marked ≡ c.len.result = c.if-self-len.true in
+    omega arith

@@ -23,7 +23,7 @@ returns-then-owns-clause-room c =
     let sound : IsSound c.args.heap.now.chunks (Some c.in-Some.address) = subst (IsSound c.args.heap.now.chunks) c.in-Some.is c.requires.sound in
     let held = finding.owned_held c.args.heap.now.chunks c.in-Some.address sound (sym c.owns.ensures ∙ c.if-owns.true) in
     finding.room_noted c.args.heap.now.chunks c.args.self.now c.note.new.self c.in-Some.address c.requires.room held
-    c.note.ensures.found c.note.ensures.slots c.note.ensures.spare
+    c.note.ensures.found c.note.ensures.slots c.note.ensures.spare c.note.ensures.places
 
 pub returns-else-owns-clause-finds : goal.returns-else-owns-clause-finds
 returns-else-owns-clause-finds c =

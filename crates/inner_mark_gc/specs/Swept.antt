@@ -1,0 +1,87 @@
+-- What a sweep leaves of a heap, and what it gives back.
+use Rattle.std.specs.Prelude.{◌≡◌, ℕ, ◌+◌, ◌||◌, Bool, true, false, List, [], ◌∷◌, ◌==◌, Option, Some, None, All, filter, map, not}
+use Rattle.std.specs.List.{list_any}
+use Rattle.object_layout.specs.declared.word.Addr.{Addr}
+use Rattle.object_layout.specs.Cell.{Born, Cell, Hole, Mark, Moved, size_of, with_mark}
+use Rattle.object_layout.specs.Content.{Content}
+use Rattle.object_layout.specs.Chunks.{chunk_at, place_in}
+use Rattle.alloc_path.specs.Heap.{Heap, IsFresh}
+use Rattle.chunk_pool.specs.Chunks.{Chunks, held_at, units_held, units_in_use}
+use Rattle.inner_mark_gc.specs.Marks.{has_address}
+
+-- ---- a chunk
+
+-- what is kept stays; all else is a hole of its words
+abbrev pub swept_cell : Bool → Cell → Cell
+swept_cell true c = c
+swept_cell false c = with_mark c Hole
+
+-- cells of a chunk, the first of them at an offset: those at the addresses that are kept stay
+abbrev pub swept_cells : List Addr → ℕ → ℕ → List Cell → List Cell
+swept_cells kept number at [] = []
+swept_cells kept number at (c ∷ cs) = swept_cell (has_address kept (record { chunk = number; offset = at })) c ∷ swept_cells kept number (at + size_of c) cs
+
+abbrev pub swept_chunk : List Addr → Content → Content
+swept_chunk kept k = record k { cells = swept_cells kept k.number 0 k.cells }
+
+-- whether an object lies among these cells
+abbrev pub is_object : Mark → Bool
+is_object (Born b) = true
+is_object (Moved to) = true
+is_object Hole = false
+
+abbrev pub has_object : List Cell → Bool
+has_object cs = list_any (λ c. is_object c.mark) cs
+
+-- ---- a heap
+
+-- the number of the chunk at a place
+abbrev pub number_at : List Content → Option ℕ → Option ℕ
+number_at ks None = None
+number_at ks (Some i) = Some (chunk_at ks i).number
+
+-- the place of the chunk of a number
+abbrev pub place_at : List Content → Option ℕ → Option ℕ
+place_at ks None = None
+place_at ks (Some n) = place_in ks n
+
+abbrev pub has_number : Option ℕ → Content → Bool
+has_number None k = false
+has_number (Some n) k = k.number == n
+
+-- a chunk stays where an object is left in it; so does the one of this number, which is reserved
+abbrev pub stays : List Addr → Option ℕ → Content → Bool
+stays kept reserved k = has_number reserved k || has_object (swept_chunk kept k).cells
+
+abbrev pub goes : List Addr → Option ℕ → Content → Bool
+goes kept reserved k = not (stays kept reserved k)
+
+-- the chunks that are left, in their order, and those that go
+abbrev pub left_of : Heap → List Addr → List Content
+left_of h kept = map (swept_chunk kept) (filter (stays kept (number_at h.chunks h.reserved)) h.chunks)
+
+abbrev pub gone_of : Heap → List Addr → List Content
+gone_of h kept = filter (goes kept (number_at h.chunks h.reserved)) h.chunks
+
+-- the heap with just the objects that are kept, each where it lies; it goes on filling its chunk, if that
+-- is left, and keeps the reserved one
+abbrev pub swept : Heap → List Addr → Heap
+swept h kept = record h {
+  chunks = left_of h kept;
+  current = place_at (left_of h kept) (number_at h.chunks h.current);
+  reserved = place_at (left_of h kept) (number_at h.chunks h.reserved);
+}
+
+-- ---- the pool
+
+-- the units that the pool keeps for these chunks
+abbrev pub units_kept : Chunks → List Content → ℕ
+units_kept pool [] = 0
+units_kept pool (k ∷ ks) = units_held (held_at pool k.number) + units_kept pool ks
+
+-- the numbers of these chunks are no longer in use; all else stays
+pub record AreGiven (old new : Chunks) (ks : List Content) : Type 0 where
+  pub free : All (λ k. held_at new k.number ≡ None) ks
+  pub others : (n : ℕ) → IsFresh ks n → held_at new n ≡ held_at old n
+  pub limit : new.limit ≡ old.limit
+  pub units : units_in_use new + units_kept old ks ≡ units_in_use old
