@@ -73,7 +73,7 @@ pub record TookFromDeque (old new : Hand) (x : ℕ) : Type 0 where
   pub took : TookBack (own_view old) (x ∷ []) (own_view new)
   pub index_falls : index new ≤ index old
 
--- list and own deque were empty, the deque at a step
+-- the list was empty, and so was the own deque at a step, which is counted
 pub record TookNone (old new : Hand) : Type 0 where
   pub list_was : own_list old ≡ []
   pub list_is : own_list new ≡ []

@@ -26,7 +26,7 @@ pub record Stole (x : ℕ) (old new : Theft) : Type 0 where
   pub view_is : theft_view new ≡ with_taken (theft_view old) (x ∷ [])
   pub vain_is : vain_thefts new ≡ vain_thefts old
 
--- none was stolen, since a step found at most one number there
+-- none was stolen, since a step found at most one number there, which is counted
 pub record StoleNone (old new : Theft) : Type 0 where
   pub view_is : theft_view new ≡ theft_view old
   pub vain_rose : vain_thefts new ≡ one_more (vain_thefts old)

@@ -56,7 +56,7 @@ impl<V, P: Protocol<u32, V>> OwnDeque<V, P> {
         self.worker.push_as::<M>(task)
     }
 
-    // Takes back the newest number. None, and one empty pop more, exactly where a step found the deque empty.
+    // Takes back the newest number. None, with one empty pop more, only where a step of the call found the deque empty.
     pub(crate) fn pop<M: Outcome<u32, V>>(&mut self) -> Option<u32>
         requires pops { Pops P.holds (worker_port self.old.worker) (worker_view self.old.worker) (M.then (worker_view self.old.worker)) }
         requires empty { Finds P.holds (worker_port self.old.worker) (worker_view self.old.worker) (M.empty (worker_view self.old.worker)) }

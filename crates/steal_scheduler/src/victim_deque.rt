@@ -41,7 +41,7 @@ impl<V, P: Protocol<u32, V>> VictimDeque<V, P> {
         self.vain_thefts
     }
 
-    // Takes the oldest number. None, and one vain theft more, exactly where a step found at most one number.
+    // Takes the oldest number. None, with one vain theft more, only where a step of the call found at most one number.
     pub(crate) fn steal<M: Outcome<u32, V>, R: Wait>(&mut self, rt: &R) -> Option<u32>
         requires takes { Takes P.holds self.old.pass.id (view self.old.pass) 1 (M.then (view self.old.pass)) }
         requires few { FindsFew P.holds 1 self.old.pass.id (view self.old.pass) (M.empty (view self.old.pass)) }
