@@ -1,5 +1,5 @@
 -- Books that go on from legal journals.
-use Rattle.std.proofs.Common.{◌≡◌, ℕ, zero, suc, ◌<◌, ◌≤◌, ◌&&◌, not, true, false, Option, Some, None, List, [], ◌∷◌, ◌++◌, length, replicate, slice_get, nat_lt, nat_le, is_none, is_some, refl, ap, sym, subst, ◌∙◌, arith, length-set}
+use Rattle.std.proofs.Common.{◌≡◌, ℕ, zero, suc, ◌<◌, ◌≤◌, ◌&&◌, not, Bool, true, false, Option, Some, None, List, [], ◌∷◌, ◌++◌, length, replicate, slice_get, nat_lt, nat_le, is_none, is_some, refl, ap, sym, subst, ◌∙◌, arith, length-set}
 use Rattle.std.proofs.lemmas.Bool.{ltb-true}
 use Rattle.run_trace.specs.declared.entry.Kind.{Kind}
 use Rattle.run_trace.specs.declared.entry.Kind.TheVariants.{Took, Ran, Chunk, Begin, End as EndOf, PutOff, Mark, More, Sweep, Fuel}
@@ -14,7 +14,7 @@ use Rattle.run_ledger.proofs.Cuts.{after_cut, joined_legal}
 use Rattle.run_ledger.proofs.Sound.{SoundLedger}
 use Rattle.run_ledger.proofs.Journals.{none_where, none_unless, entry_tells, legal_sound}
 use Rattle.run_journal.specs.Book.{Standing, Agrees, Steady, StaysSteady, went_on, taken_after}
-use Rattle.run_journal.specs.Opened.{IsLegalLedger}
+use Rattle.run_journal.specs.Opened.{IsLegalLedger, IsOpened}
 use Rattle.run_journal.proofs.Holds.{kind_tells}
 use Rattle.run_journal.proofs.Steadies.{legal_steady, legal_stays}
 
@@ -74,3 +74,11 @@ accounts_agree s limits L A e none =
     as_long taken w (More t n) = refl
     as_long taken w (Sweep t g) = refl
     as_long taken w Fuel = refl
+
+-- a book that goes on
+pub opened_after : (s new : Standing) (stopped : Bool) → AreLimits s.limits → IsOpened s stopped → stopped ≡ false → (e : Event) → refusal s.program s.limits s.ledger e ≡ None
+    → new ≡ record (went_on s (after s.program s.limits s.ledger e)) { taken = taken_after s.taken e.worker e.kind } → IsOpened new stopped
+opened_after s new stopped limits I going e none is = record {
+  legal = λ q. subst (λ (k : Standing). IsLegalLedger k.program k.limits k.ledger) (sym is) (ledger_after s.program s.limits s.ledger (I.legal going) e none);
+  agrees = λ q. subst Agrees (sym is) (accounts_agree s limits (I.legal going) (I.agrees going) e none);
+}

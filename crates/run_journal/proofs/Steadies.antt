@@ -18,11 +18,13 @@ use Rattle.run_ledger.specs.Heaps.{heap_of, heap_at, or_fresh, fresh, words_in, 
 use Rattle.run_ledger.specs.Steps.{allocated_in, allocated_by, stepped_to, task_step, task_steps, is_due, is_in_need, is_private, standing, on_asked}
 use Rattle.run_ledger.specs.Entries.{refusal, after_kind, after, chunk_units, with_chunk}
 use Rattle.run_ledger.specs.Journals.{opening, ledger_of, is_legal, is_legal_from}
+use Rattle.run_ledger.specs.Space.{store_words}
+use Rattle.run_ledger.proofs.Machine.{stepped_machine}
 use Rattle.run_ledger.proofs.Sound.{SoundLedger, names_of, collecting}
 use Rattle.run_ledger.proofs.Moves.{Moves}
 use Rattle.run_ledger.proofs.Steps.{SoundAt, heap_of_task, can_tells, task_step_sound}
 use Rattle.run_ledger.proofs.Weights.{weight, weight_additive, total, total_set, Additive, moves_total, collected_weight, swept_weight}
-use Rattle.run_ledger.proofs.Stocks.{StockedLedger, L, with_heap_any, chunk_lighter, allocated_total, task_step_stocked, legal_stocked}
+use Rattle.run_ledger.proofs.Stocks.{StockedLedger, G, L, with_heap_any, chunk_lighter, allocated_total, task_step_stocked, legal_stocked}
 use Rattle.run_ledger.proofs.Booked.{BookedLedger, task_steps_booked}
 use Rattle.run_ledger.proofs.Chunks.{heap_words}
 use Rattle.run_ledger.proofs.Space.{legal_booked}
@@ -44,12 +46,13 @@ since_additive = record { let_go = λ h. refl; fresh = refl; forked = λ ns h. r
 abbrev most : ℕ
 most = 2 ^ 31
 
--- what is held, and what was allocated since the last collections, came step by step; and each step makes two tasks at most
+-- what is held, and what was allocated, came step by step; and each step makes two tasks at most
 record Light (l : Ledger) : Type 0 where
   names : total (weight one_each) l.heaps ≤ l.steps
   snapshots : Snaps l.steps l
   since : total since_in l.heaps ≤ l.steps * most
   heaps : length l.heaps ≤ 2 * l.steps + 1
+  store : store_words l.machine.store ≤ l.steps * most
 
 -- ONE STEP
 
@@ -140,6 +143,10 @@ module _ (p : ProgramText) (s : Limits) (A : AreLimits s) (l : Ledger) (t : ℕ)
       by true e q = q
       by false e q = absurd (false≢true e)
 
+  stored_by : (o : Option ℕ) → asked p m t ≡ o → store_words m'.store ≤ store_words m.store + most
+  stored_by None e = let a = (G p l t S I can).none e in omega arith
+  stored_by (Some w) e = let a = (G p l t S I can).some w e in let c = ((G p l t S I can).new w e).1 in let d = few w e in omega arith
+
   step_light : Light k
   step_light =
       let q = placed_by (asked p m t) refl in
@@ -153,6 +160,10 @@ module _ (p : ProgramText) (s : Limits) (A : AreLimits s) (l : Ledger) (t : ℕ)
             (snaps_allocated (l.steps + 1) l t (asked p m t) (λ u. let c = X.snapshots u in omega arith)) m'.end);
         since = let a = moves_total since_in since_additive t m.tasks b.heaps k.heaps moves in let d : total since_in b.heaps ≤ l.steps * most + most = q.since in omega arith;
         heaps = let a = moved_long b.heaps k.heaps moves in let d : length b.heaps ≡ length l.heaps = q.heaps in let e : length l.heaps ≤ 2 * l.steps + 1 = X.heaps in omega arith;
+        store =
+            let a = stored_by (asked p m t) refl in
+            let d = X.store in
+            subst (λ (z : State). store_words z.store ≤ k.steps * most) (sym (stepped_machine b t m')) (omega arith);
       }
 
 module _ (p : ProgramText) (s : Limits) (A : AreLimits s) where
@@ -164,7 +175,7 @@ module _ (p : ProgramText) (s : Limits) (A : AreLimits s) where
     light : Light l
 
   idle_light : (l : Ledger) → Light l → Light (record l { steps = l.steps + 1 })
-  idle_light l X = let a = X.names in let b = X.since in let c = X.heaps in record { names = omega arith; snapshots = λ u. (let d = X.snapshots u in omega arith); since = omega arith; heaps = omega arith }
+  idle_light l X = let a = X.names in let b = X.since in let c = X.heaps in let e = X.store in record { names = omega arith; snapshots = λ u. (let d = X.snapshots u in omega arith); since = omega arith; heaps = omega arith; store = omega arith }
 
   task_step_light : (l : Ledger) (t : ℕ) → SoundAt t l → StockedLedger l → BookedLedger p s l → Light l → (is_due s p l t || is_in_need p l t) ≡ false → Light (task_step p l t)
   task_step_light l t S I B X fine = by (can_step l.machine t) refl
@@ -236,6 +247,7 @@ module _ (p : ProgramText) (s : Limits) (A : AreLimits s) where
         snapshots = subst (λ (q : Ledger). Snaps l.steps q) (ap (with_heap_at l t f) e) (snaps_set l.steps l t f (λ g le. let a = fewer g in omega arith) X.snapshots);
         since = let a = total_set since_in l.heaps t h (f h) e in let b = shorter h in let c = X.since in omega arith;
         heaps = let a = length-set l.heaps t (f h) in let c = X.heaps in omega arith;
+        store = X.store;
       })
 
   chunk_since : (next : Option ℕ) (h : Heap) (b : Bool) → (cond b (record h { chunks = h.chunks ++ [] ∷ []; room = 1024 }) (record h { reserved = chunk_units next })).since ≤ h.since
@@ -251,7 +263,7 @@ module _ (p : ProgramText) (s : Limits) (A : AreLimits s) where
   chunk_light l t next false end E X = lighter l t (with_chunk next) (λ h g. chunk_lighter next h g (on_asked next is_small)) (λ h. chunk_since next h (on_asked next is_small)) (λ h. chunk_snapshot next h (on_asked next is_small)) X
 
   ended_light : (l : Ledger) (n : ℕ) → Light l → Light (record l { end = Some (Pool n) })
-  ended_light l n X = record { names = X.names; snapshots = X.snapshots; since = X.since; heaps = X.heaps }
+  ended_light l n X = record { names = X.names; snapshots = X.snapshots; since = X.since; heaps = X.heaps; store = X.store }
 
   same_weight : (h : Heap) (g : Name → ℕ) → weight g h ≤ weight g h
   same_weight h g = omega arith
@@ -269,7 +281,7 @@ module _ (p : ProgramText) (s : Limits) (A : AreLimits s) where
   kind_light l w (Mark t) S I B h X = lighter l t _ (λ h g. same_weight h g) (λ h. omega arith) (λ h. omega arith) X
   kind_light l w (More t n) S I B h X = lighter l t _ (λ h g. same_weight h g) (λ h. omega arith) (λ h. omega arith) X
   kind_light l w (Sweep t g) S I B h X = lighter l t swept_heap (λ h f. swept_weight f h) (λ h. omega arith) (λ h. omega arith) X
-  kind_light l w Fuel S I B h X = record { names = X.names; snapshots = X.snapshots; since = X.since; heaps = X.heaps }
+  kind_light l w Fuel S I B h X = record { names = X.names; snapshots = X.snapshots; since = X.since; heaps = X.heaps; store = X.store }
 
   light_from : (done rest : List Event) → is_legal p s (done ++ rest) ≡ true → Light (ledger_of p s done) → Light (ledger_of p s (done ++ rest))
   light_from done [] legal X = subst (λ j. Light (ledger_of p s j)) (sym (append_none done)) X
@@ -292,8 +304,11 @@ module _ (p : ProgramText) (s : Limits) (A : AreLimits s) where
       again (x ∷ xs) = ap (λ ys. x ∷ ys) (again xs)
 
   legal_light : (journal : List Event) → is_legal p s journal ≡ true → Light (ledger_of p s journal)
-  legal_light journal legal = light_from [] journal legal (record { names = omega arith; snapshots = first; since = omega arith; heaps = omega arith })
+  legal_light journal legal = light_from [] journal legal (record { names = omega arith; snapshots = first; since = omega arith; heaps = omega arith; store = none })
     where
+      none : store_words (opening p s).machine.store ≤ 0
+      none = omega arith
+
       first : Snaps 0 (opening p s)
       first zero = omega arith
       first (suc u) = omega arith
@@ -305,6 +320,9 @@ module _ (p : ProgramText) (s : Limits) (A : AreLimits s) where
   legal_steady journal legal =
       let a = steps_few journal legal in
       steady_by (ledger_of p s journal) (legal_sound p s journal legal) (legal_booked p s journal legal) (legal_light journal legal) (omega arith)
+
+  pub legal_stored : (journal : List Event) → is_legal p s journal ≡ true → store_words (ledger_of p s journal).machine.store < 2 ^ 62
+  legal_stored journal legal = let a = steps_few journal legal in let b = (legal_light journal legal).store in omega arith
 
   standing_most : (k : ℕ) (l : Ledger) (t : ℕ) → standing s p l t k ≤ k
   standing_most zero l t = omega arith

@@ -1,21 +1,24 @@
 -- The totals of a journal, entry by entry.
-use Rattle.std.proofs.Common.{◌≡◌, ℕ, zero, suc, ◌+◌, ◌-◌, ◌<◌, ◌≤◌, ap₂, subst, Option, Some, None, List, [], ◌∷◌, length, drop, get_or, max, refl, ap, sym, ◌∙◌, arith}
+use Rattle.std.proofs.Common.{◌≡◌, ℕ, zero, suc, ◌+◌, ◌-◌, ◌<◌, ◌≤◌, ◌^◌, ◌&&◌, true, is_none, take, ap₂, subst, Option, Some, None, List, [], ◌∷◌, ◌++◌, length, drop, get_or, max, refl, ap, sym, ◌∙◌, arith, length-append, length-take-le}
 use Rattle.listed.proofs.Members.{got_same}
 use Rattle.run_trace.specs.declared.entry.Kind.{Kind}
 use Rattle.run_trace.specs.declared.entry.Kind.TheVariants.{Took, Ran, Chunk, Begin, End, PutOff, Mark, More, Sweep, Fuel}
 use Rattle.run_trace.specs.Entry.{Event}
-use Rattle.run_trace.specs.Settings.{Limits}
+use Rattle.run_trace.specs.Settings.{Limits, AreLimits}
 use Rattle.hh_lang.specs.Form.{ProgramText}
 use Rattle.run_ledger.specs.declared.data.Heap.{Heap}
 use Rattle.run_ledger.specs.declared.data.Ledger.{Ledger}
 use Rattle.run_ledger.specs.Heaps.{fresh, heap_at, heap_of, or_fresh, with_heap, with_heap_at, words_in, in_use, collected, swept_heap}
 use Rattle.run_ledger.specs.Entries.{refusal, after_kind, after}
-use Rattle.run_ledger.specs.Report.{lost, count_end, count_putoff, count_sweep, freed_by_end, freed_by_sweep}
-use Rattle.run_ledger.specs.Journals.{opening, after_all, ledger_of, first_refused_from, first_refused}
+use Rattle.run_ledger.specs.Report.{tally, lost, count_end, count_putoff, count_sweep, freed_by_end, freed_by_sweep}
+use Rattle.run_ledger.specs.Journals.{opening, after_all, ledger_of, is_legal, first_refused_from, first_refused}
 use Rattle.run_journal.specs.Opened.{Opened}
-use Rattle.run_journal.proofs.Replays.{cut, accounts_next, refused_next}
+use Rattle.run_ledger.proofs.Cuts.{after_cut, joined_legal}
+use Rattle.run_ledger.proofs.Words.{words_are_accounted}
+use Rattle.run_journal.proofs.Steadies.{legal_stored}
+use Rattle.run_journal.proofs.Replays.{accounts_next, refused_next}
 use Rattle.run_report.specs.declared.totals.Totals.{Totals}
-use Rattle.run_report.specs.Totals.{no_totals, joined, counted, cleared_words, entry_totals, totals_from}
+use Rattle.run_report.specs.Totals.{AreFew, no_totals, joined, counted, cleared_words, entry_totals, totals_from}
 
 -- SUMS
 
@@ -79,32 +82,129 @@ module _ (p : ProgramText) (s : Limits) (l : Ledger) where
   totals_next : (e : Event) (rest : List Event) → totals_from p s l (e ∷ rest) ≡ joined (entry_totals p s l e) (totals_from p s (after p s l e) rest)
   totals_next e rest = ap (λ a. joined a (totals_from p s (after p s l e) rest)) (sym (counted_is e.worker e.kind (in_use (after p s l e))))
 
-  -- the totals so far and those of the rest, as one entry more is counted
-  pub totals_after : (journal : List Event) (i : ℕ) (e : Event) → i < length journal → e ≡ get_or journal i e → (sums : Totals)
-      → joined sums (totals_from p s l (drop i journal)) ≡ joined (joined sums (entry_totals p s l e)) (totals_from p s (after p s l e) (drop (i + 1) journal))
-  totals_after journal i e lt is sums =
-      ap (λ es. joined sums (totals_from p s l es)) (cut p s l 0 journal i e lt is)
-      ∙ (ap (joined sums) (totals_next e (drop (i + 1) journal)) ∙ sym (joined_assoc sums (entry_totals p s l e) (totals_from p s (after p s l e) (drop (i + 1) journal))))
+module _ (p : ProgramText) (s : Limits) where
+  -- one entry more at the end
+  totals_last : (before : List Event) (l : Ledger) (e : Event) → totals_from p s l (before ++ e ∷ []) ≡ joined (totals_from p s l before) (entry_totals p s (after_all p s l before) e)
+  totals_last [] l e = totals_next p s l e [] ∙ (joined_none (entry_totals p s l e) ∙ sym (none_joined (entry_totals p s l e)))
+  totals_last (x ∷ before) l e =
+      totals_next p s l x (before ++ e ∷ [])
+      ∙ (ap (joined (entry_totals p s l x)) (totals_last before (after p s l x) e)
+      ∙ (sym (joined_assoc (entry_totals p s l x) (totals_from p s (after p s l x) before) (entry_totals p s (after_all p s (after p s l x) before) e))
+      ∙ ap (λ sums. joined sums (entry_totals p s (after_all p s (after p s l x) before) e)) (sym (totals_next p s l x before))))
+
+-- NO TOTAL IS TOO LARGE
+
+module _ (p : ProgramText) (s : Limits) where
+  -- what counts at most one for each entry comes to at most their number
+  most_of : (count : Ledger → Kind → ℕ) → ((l : Ledger) (kind : Kind) → count l kind ≤ 1) → (journal : List Event) (l : Ledger) → tally p s count l journal ≤ length journal
+  most_of count one [] l = omega arith
+  most_of count one (e ∷ journal) l = let a = one l e.kind in let b = most_of count one journal (after p s l e) in omega arith
+
+  one_end : (l : Ledger) (kind : Kind) → count_end l kind ≤ 1
+  one_end l (Took t) = omega arith
+  one_end l (Ran t k) = omega arith
+  one_end l (Chunk t) = omega arith
+  one_end l (Begin t) = omega arith
+  one_end l (End t taken given left) = omega arith
+  one_end l (PutOff t) = omega arith
+  one_end l (Mark t) = omega arith
+  one_end l (More t n) = omega arith
+  one_end l (Sweep t given) = omega arith
+  one_end l Fuel = omega arith
+
+  one_putoff : (l : Ledger) (kind : Kind) → count_putoff l kind ≤ 1
+  one_putoff l (Took t) = omega arith
+  one_putoff l (Ran t k) = omega arith
+  one_putoff l (Chunk t) = omega arith
+  one_putoff l (Begin t) = omega arith
+  one_putoff l (End t taken given left) = omega arith
+  one_putoff l (PutOff t) = omega arith
+  one_putoff l (Mark t) = omega arith
+  one_putoff l (More t n) = omega arith
+  one_putoff l (Sweep t given) = omega arith
+  one_putoff l Fuel = omega arith
+
+  one_sweep : (l : Ledger) (kind : Kind) → count_sweep l kind ≤ 1
+  one_sweep l (Took t) = omega arith
+  one_sweep l (Ran t k) = omega arith
+  one_sweep l (Chunk t) = omega arith
+  one_sweep l (Begin t) = omega arith
+  one_sweep l (End t taken given left) = omega arith
+  one_sweep l (PutOff t) = omega arith
+  one_sweep l (Mark t) = omega arith
+  one_sweep l (More t n) = omega arith
+  one_sweep l (Sweep t given) = omega arith
+  one_sweep l Fuel = omega arith
+
+  legal_few : AreLimits s → (journal : List Event) → is_legal p s journal ≡ true → length journal < 2 ^ 64 → AreFew (totals_from p s (opening p s) journal)
+  legal_few A journal legal short =
+      let all = words_are_accounted p s journal legal in
+      let stored = legal_stored p s A journal legal in
+      let freed : tally p s freed_by_end (opening p s) journal + tally p s freed_by_sweep (opening p s) journal < 2 ^ 62 = omega arith in
+      record {
+        leaf = let a = most_of count_end one_end journal (opening p s) in omega arith;
+        putoff = let a = most_of count_putoff one_putoff journal (opening p s) in omega arith;
+        leaf_freed = omega arith;
+        inner = let a = most_of count_sweep one_sweep journal (opening p s) in omega arith;
+        inner_freed = omega arith;
+      }
 
 -- A REPLAY
 
--- the totals so far of a book that has come to the entry i, and those of the rest, make those of the whole journal
-abbrev pub CountsTo : List Event → Opened → ℕ → Totals → Type 0
-CountsTo journal b i sums =
-    joined sums (totals_from b.program b.limits b.ledger (drop i journal)) ≡ totals_from b.program b.limits (opening b.program b.limits) journal
+take_next : {A : Type 0} (xs : List A) (i : ℕ) (e : A) → i < length xs → e ≡ get_or xs i e → take (i + 1) xs ≡ take i xs ++ e ∷ []
+take_next [] i e lt is = absurd (omega arith)
+take_next (x ∷ xs) zero e lt is = ap (λ y. y ∷ []) (sym is)
+take_next (x ∷ xs) (suc i) e lt is = let q : suc i + 1 ≡ suc (i + 1) = omega arith in ap (λ k. take k (x ∷ xs)) q ∙ ap (λ ys. x ∷ ys) (take_next xs i e (omega arith) is)
 
-pub counts_on : (journal : List Event) (b b' : Opened) (i : ℕ) (e : Event) → i < length journal → e ≡ get_or journal i e → (sums sums' : Totals)
-    → b' ≡ record b { ledger = after b.program b.limits b.ledger e } → sums' ≡ joined sums (entry_totals b.program b.limits b.ledger e)
-    → CountsTo journal b i sums → CountsTo journal b' (i + 1) sums'
-counts_on journal b b' i e lt is sums sums' eb es inv =
-    subst (λ x. CountsTo journal x (i + 1) sums') (sym eb)
-    (subst (λ z. CountsTo journal (record b { ledger = after b.program b.limits b.ledger e }) (i + 1) z) (sym es)
-    (sym (totals_after b.program b.limits b.ledger journal i e lt is sums) ∙ inv))
+take_all : {A : Type 0} (xs : List A) (i : ℕ) → length xs ≤ i → take i xs ≡ xs
+take_all [] zero le = refl
+take_all [] (suc i) le = refl
+take_all (x ∷ xs) zero le = absurd (omega arith)
+take_all (x ∷ xs) (suc i) le = ap (λ ys. x ∷ ys) (take_all xs i (omega arith))
 
-pub counts_none : (journal : List Event) (b : Opened) (sums : Totals) → sums ≡ no_totals → b.ledger ≡ opening b.program b.limits → CountsTo journal b 0 sums
-counts_none journal b sums es el =
-    subst (λ z. joined z (totals_from b.program b.limits b.ledger journal) ≡ totals_from b.program b.limits (opening b.program b.limits) journal) (sym es)
-    (none_joined (totals_from b.program b.limits b.ledger journal) ∙ ap (λ k. totals_from b.program b.limits k journal) el)
+-- a book that has come to the entry i, and the totals of the entries before it
+pub record IsAt (journal : List Event) (b : Opened) (i : ℕ) (sums : Totals) : Type 0 where
+  pub legal : is_legal b.program b.limits (take i journal) ≡ true
+  pub ledger : b.ledger ≡ ledger_of b.program b.limits (take i journal)
+  pub sums_are : sums ≡ totals_from b.program b.limits (opening b.program b.limits) (take i journal)
+
+pub at_first : (journal : List Event) (b : Opened) (sums : Totals) → sums ≡ no_totals → b.ledger ≡ opening b.program b.limits → IsAt journal b 0 sums
+at_first journal b sums es el = record { legal = refl; ledger = el; sums_are = es }
+
+module _ (journal : List Event) (b : Opened) (i : ℕ) (e : Event) (lt : i < length journal) (is : e ≡ get_or journal i e) (none : refusal b.program b.limits b.ledger e ≡ None) (sums : Totals) (at : IsAt journal b i sums) where
+  legal_next : is_legal b.program b.limits (take (i + 1) journal) ≡ true
+  legal_next =
+      let here : refusal b.program b.limits (ledger_of b.program b.limits (take i journal)) e ≡ None = ap (λ l. refusal b.program b.limits l e) (sym at.ledger) ∙ none in
+      ap (is_legal b.program b.limits) (take_next journal i e lt is)
+      ∙ joined_legal b.program b.limits (take i journal) (e ∷ []) (opening b.program b.limits) at.legal (ap (λ o. is_none o && true) here)
+
+  ledger_next : after b.program b.limits b.ledger e ≡ ledger_of b.program b.limits (take (i + 1) journal)
+  ledger_next =
+      ap (λ l. after b.program b.limits l e) at.ledger
+      ∙ (sym (after_cut b.program b.limits (take i journal) (e ∷ []) (opening b.program b.limits)) ∙ ap (ledger_of b.program b.limits) (sym (take_next journal i e lt is)))
+
+  sums_next : joined sums (entry_totals b.program b.limits b.ledger e) ≡ totals_from b.program b.limits (opening b.program b.limits) (take (i + 1) journal)
+  sums_next =
+      ap₂ (λ a l. joined a (entry_totals b.program b.limits l e)) at.sums_are at.ledger
+      ∙ (sym (totals_last b.program b.limits (take i journal) (opening b.program b.limits) e)
+      ∙ ap (totals_from b.program b.limits (opening b.program b.limits)) (sym (take_next journal i e lt is)))
+
+  pub few_next : AreLimits b.limits → i + 1 < 2 ^ 64 → AreFew (joined sums (entry_totals b.program b.limits b.ledger e))
+  few_next A short =
+      let long : length (take (i + 1) journal) ≡ length (take i journal ++ e ∷ []) = ap length (take_next journal i e lt is) in
+      let a = length-append (take i journal) (e ∷ []) in
+      let c = length-take-le i journal (omega arith) in
+      subst AreFew (sym sums_next) (legal_few b.program b.limits A (take (i + 1) journal) legal_next (omega arith))
+
+  pub at_next : (b' : Opened) (sums' : Totals) → b' ≡ record b { ledger = after b.program b.limits b.ledger e } → sums' ≡ joined sums (entry_totals b.program b.limits b.ledger e) → IsAt journal b' (i + 1) sums'
+  at_next b' sums' eb es =
+      subst (λ x. IsAt journal x (i + 1) sums') (sym eb)
+      (subst (λ z. IsAt journal (record b { ledger = after b.program b.limits b.ledger e }) (i + 1) z) (sym es) (record { legal = legal_next; ledger = ledger_next; sums_are = sums_next }))
+
+pub at_end : (journal : List Event) (b : Opened) (i : ℕ) (sums : Totals) (p : ProgramText) (s : Limits) → length journal ≤ i → b.program ≡ p → b.limits ≡ s → IsAt journal b i sums
+    → sums ≡ totals_from p s (opening p s) journal
+at_end journal b i sums p s ge ep es at =
+    at.sums_are ∙ (ap (totals_from b.program b.limits (opening b.program b.limits)) (take_all journal i ge) ∙ ap₂ (λ q k. totals_from q k (opening q k) journal) ep es)
 
 module _ (journal : List Event) (b b' : Opened) (i : ℕ) (e : Event) (lt : i < length journal) (is : e ≡ get_or journal i e) (eb : b' ≡ record b { ledger = after b.program b.limits b.ledger e }) where
   pub accounts_on : after_all b.program b.limits b.ledger (drop i journal) ≡ ledger_of b.program b.limits journal
@@ -119,14 +219,3 @@ module _ (journal : List Event) (b b' : Opened) (i : ℕ) (e : Event) (lt : i < 
   refused_on n none inv =
       subst (λ (x : Opened). first_refused_from x.program x.limits x.ledger (n + 1) (drop (i + 1) journal) ≡ first_refused x.program x.limits journal) (sym eb)
       (sym (refused_next b.program b.limits b.ledger n journal i e lt is none) ∙ inv)
-
-pub counts_all : (journal : List Event) (b : Opened) (i : ℕ) (sums : Totals) (p : ProgramText) (s : Limits) → length journal ≤ i → b.program ≡ p → b.limits ≡ s
-    → CountsTo journal b i sums → sums ≡ totals_from p s (opening p s) journal
-counts_all journal b i sums p s ge ep es inv =
-    sym (joined_none sums) ∙ (ap (λ es. joined sums (totals_from b.program b.limits b.ledger es)) (sym (drop_past journal i ge)) ∙ (inv ∙ ap₂ (λ q k. totals_from q k (opening q k) journal) ep es))
-  where
-    drop_past : (xs : List Event) (k : ℕ) → length xs ≤ k → drop k xs ≡ []
-    drop_past [] zero n = refl
-    drop_past [] (suc k) n = refl
-    drop_past (x ∷ xs) zero n = absurd (omega arith)
-    drop_past (x ∷ xs) (suc k) n = drop_past xs k (omega arith)

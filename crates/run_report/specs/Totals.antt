@@ -1,5 +1,5 @@
 -- The totals of a journal, added up entry by entry.
-use Rattle.std.specs.Prelude.{ℕ, ◌+◌, ◌-◌, List, length, max}
+use Rattle.std.specs.Prelude.{ℕ, ◌+◌, ◌-◌, ◌<◌, ◌^◌, List, length, max}
 use Rattle.run_trace.specs.declared.entry.Kind.{Kind}
 use Rattle.run_trace.specs.declared.entry.Kind.TheVariants.{End, PutOff, Sweep}
 use Rattle.run_trace.specs.Entry.{Event}
@@ -26,6 +26,14 @@ joined a b = record {
   inner_freed = a.inner_freed + b.inner_freed;
   peak = max a.peak b.peak;
 }
+
+-- each sum fits its type
+pub record AreFew (totals : Totals) : Type 0 where
+  pub leaf : totals.leaf < 2 ^ 64
+  pub putoff : totals.putoff < 2 ^ 64
+  pub leaf_freed : totals.leaf_freed < 2 ^ 64
+  pub inner : totals.inner < 2 ^ 64
+  pub inner_freed : totals.inner_freed < 2 ^ 64
 
 -- what an entry counts, with which the heap lost so many words, and behind which so many chunks are in use
 abbrev pub counted : Kind → ℕ → ℕ → Totals

@@ -5,7 +5,7 @@ ghost use Rattle.run_ledger.specs.Entries.{refusal, after};
 ghost use Rattle.run_ledger.specs.Journals.{opening, ledger_of, first_refused};
 ghost use Rattle.run_journal.specs.Book.{FailsFor};
 ghost use Rattle.run_journal.specs.Replay.{ReplayFails};
-ghost use Rattle.run_report.specs.Totals.{joined, cleared_words, entry_totals, totals_from, report_from};
+ghost use Rattle.run_report.specs.Totals.{AreFew, joined, cleared_words, entry_totals, totals_from, report_from};
 
 use crate::totals::Totals;
 use hh_lang::Program;
@@ -35,7 +35,8 @@ fn cleared_words(book: &Book, kind: Kind) -> u64
 
 // Enters an entry, and adds what it counts to the totals.
 fn enter(book: &mut Book, totals: Totals, entry: Entry) -> Result<Totals, ApplyError>
-    requires { book.old.stopped ≡ false }
+    requires open { book.old.stopped ≡ false }
+    requires few { refusal book.old.program book.old.limits book.old.ledger entry ≡ None → AreFew (joined totals (entry_totals book.old.program book.old.limits book.old.ledger entry)) }
     ensures legal { OnOk result (refusal book.old.program book.old.limits book.old.ledger entry ≡ None) }
     ensures entered { OnOk result (book.new ≡ record book.old { ledger = after book.old.program book.old.limits book.old.ledger entry }) }
     ensures counts { IfOk result (λ sums. sums ≡ joined totals (entry_totals book.old.program book.old.limits book.old.ledger entry)) }
@@ -47,10 +48,7 @@ fn enter(book: &mut Book, totals: Totals, entry: Entry) -> Result<Totals, ApplyE
         Err(error) => Err(error),
         Ok(()) => {
             let lost = before.saturating_sub(cleared_words(book, kind));
-            match totals.join(Totals::counted(kind, lost, book.in_use())) {
-                Ok(sums) => Ok(sums),
-                Err(_) => Err(ApplyError::NoMemory),
-            }
+            Ok(totals.join(Totals::counted(kind, lost, book.in_use())))
         }
     }
 }
@@ -70,6 +68,7 @@ pub(crate) fn count<'p>(
     let Ok(mut book) = Book::open(alloc, program, settings) else {
         return Err(ReplayError::NoMemory);
     };
+    let _workers = settings.workers();
     let mut totals = Totals::none();
     let mut index = 1;
     for entry in journal {

@@ -1,10 +1,9 @@
 // The totals of a journal, added up entry by entry.
 
-ghost use Rattle.std.specs.Prelude.{◌≡◌, ◌+◌, IfOk};
-ghost use Rattle.run_report.specs.Totals.{no_totals, joined, counted};
+ghost use Rattle.std.specs.Prelude.{◌≡◌};
+ghost use Rattle.run_report.specs.Totals.{AreFew, no_totals, joined, counted};
 
 use run_trace::Kind;
-use std::alloc::AllocError;
 
 /// What the entries of a journal come to, in numbers.
 #[derive(Clone, Copy, PartialEq, Eq, Debug)]
@@ -21,16 +20,6 @@ pub(crate) struct Totals {
     pub(crate) inner_freed: u64,
     /// The most chunks in use after any entry.
     pub(crate) peak: u64,
-}
-
-// A sum. One past 64 bits, to which no legal journal comes, is told as want of memory.
-fn sum(a: u64, b: u64) -> Result<u64, AllocError>
-    ensures { IfOk result (λ both. both ≡ a + b) }
-{
-    match a.checked_add(b) {
-        Some(both) => Ok(both),
-        None => Err(AllocError),
-    }
 }
 
 impl Totals {
@@ -70,16 +59,17 @@ impl Totals {
     }
 
     /// The totals of two parts of a journal together.
-    pub(crate) fn join(self, other: Totals) -> Result<Totals, AllocError>
-        ensures { IfOk result (λ totals. totals ≡ joined self other) }
+    pub(crate) fn join(self, other: Totals) -> Totals
+        requires { AreFew (joined self other) }
+        ensures { result ≡ joined self other }
     {
-        Ok(Totals {
-            leaf: sum(self.leaf, other.leaf)?,
-            putoff: sum(self.putoff, other.putoff)?,
-            leaf_freed: sum(self.leaf_freed, other.leaf_freed)?,
-            inner: sum(self.inner, other.inner)?,
-            inner_freed: sum(self.inner_freed, other.inner_freed)?,
+        Totals {
+            leaf: self.leaf + other.leaf,
+            putoff: self.putoff + other.putoff,
+            leaf_freed: self.leaf_freed + other.leaf_freed,
+            inner: self.inner + other.inner,
+            inner_freed: self.inner_freed + other.inner_freed,
             peak: self.peak.max(other.peak),
-        })
+        }
     }
 }

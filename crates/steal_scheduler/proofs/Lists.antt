@@ -1,8 +1,7 @@
 -- One theft among a hand's.
 use Rattle.std.proofs.Common.{◌≡◌, ◌≢◌, ◌⊎◌, ⊎_elim, inl, inr, ◌++◌, ℕ, zero, suc, ◌<◌, List, [], ◌∷◌, length, set, get_or, slice_get, Option, Some, None, IfSome, IfNone, map, length-append, sym, refl, ap, ◌∙◌, subst, arith, is_some, unwrap_or, true≢false}
-use Rattle.steal_scheduler.specs.declared.view.View.{View}
 use Rattle.steal_scheduler.specs.declared.theft.Theft.{Theft}
-use Rattle.steal_scheduler.specs.Thefts.{theft_view, SameTheft}
+use Rattle.steal_scheduler.specs.Thefts.{SameTheft}
 use Rattle.steal_scheduler.specs.Hands.{ChangesAt}
 use Rattle.steal_scheduler.specs.New.{EachPlace}
 
@@ -29,11 +28,11 @@ get_here [] i t u e = absurd (some_apart None t e refl)
 get_here (x ∷ xs) zero t u e = refl
 get_here (x ∷ xs) (suc i) t u e = get_here xs i t u e
 
-pub changes_at : (l : List Theft) (i : ℕ) (t u : Theft) (then : View → View → Type 0) → slice_get l i ≡ Some t → SameTheft t u → then (theft_view t) (theft_view u) → ChangesAt l (set l i u) i then
-changes_at l i t u then at same did = record {
+pub changes_at : (l : List Theft) (i : ℕ) (t u : Theft) (Then : Theft → Theft → Type 0) → slice_get l i ≡ Some t → SameTheft t u → Then t u → ChangesAt l (set l i u) i Then
+changes_at l i t u Then at same did = record {
   others = λ k ne. get_other l i k u ne;
   at_victim = λ a b ea eb. let was : t ≡ a = some_one t a (sym at ∙ ea) in let is : u ≡ b = some_one u b (sym (get_here l i t u at) ∙ eb) in
-      subst (λ z. SameTheft z b × then (theft_view z) (theft_view b)) was (subst (λ z. SameTheft t z × then (theft_view t) (theft_view z)) is (same, did));
+      subst (λ z. SameTheft z b × Then z b) was (subst (λ z. SameTheft t z × Then t z) is (same, did));
 }
 
 pub if_some : {A : Type 0} (o : Option A) (P Q : A → Type 0) → ((x : A) → P x → Q x) → IfSome o P → IfSome o Q

@@ -16,7 +16,7 @@ all_new n hands os ss long count from each = record {
   each_hand = λ k h e. let a = owner k h e in subst (λ m. IsNewHand m h) (from.count ∙ count) a.1.new;
   reaches = λ k j h g t eh eg et. let a = (owner k h eh).1 in let b = owner j g eg in let short = within (thefts h) j t et in let as_many = a.reaches.count in
       let s = there ss j (omega arith) in let x = a.reaches.each j t s.0 et s.1 in
-      (x.0 ∙ (from.each j s.0 b.0 s.1 b.2 ∙ ap worker_deque (sym b.1.own)), x.1);
+      (x.0 ∙ (from.each j s.0 b.0 s.1 b.2 ∙ ap (λ (o : Owner). worker_deque o.worker) (sym b.1.own)), x.1, x.2);
 }
   where
     owner : (k : ℕ) (h : Hand) → slice_get hands k ≡ Some h → (o : Owner) × IsHandOf ss h o × (slice_get os k ≡ Some o)

@@ -4,15 +4,16 @@ use Rattle.crossbeam_deque.specs.Handles.{stealer_deque, worker_deque, worker_po
 use Rattle.steal_scheduler.specs.declared.view.View.{View}
 use Rattle.steal_scheduler.specs.declared.theft.Theft.{Theft}
 use Rattle.steal_scheduler.specs.declared.hand.Hand.{Hand}
-use Rattle.steal_scheduler.specs.Rule.{opening_view, guest_view, with_put, TookBack}
-use Rattle.steal_scheduler.specs.Thefts.{theft_view, SameTheft}
+use Rattle.steal_scheduler.specs.Counts.{one_more}
+use Rattle.steal_scheduler.specs.Rule.{opening_view, guest_view, with_put, TookBack, HeldAtMost}
+use Rattle.steal_scheduler.specs.Thefts.{theft_view, vain_thefts, SameTheft}
 
 -- what the hand's pass keeps at its own deque
 abbrev pub own_view : Hand → View
-own_view h = worker_view h.own
+own_view h = worker_view h.own.worker
 
 abbrev pub own_port : Hand → ℕ
-own_port h = worker_port h.own
+own_port h = worker_port h.own.worker
 
 -- the numbers that the deque had no room for, and those put after them, the newest last
 abbrev pub own_list : Hand → List ℕ
@@ -24,19 +25,23 @@ thefts h = h.thefts.items
 
 -- the slots of the newest ring of the own deque
 abbrev pub capacity : Hand → ℕ
-capacity h = worker_capacity h.own
+capacity h = worker_capacity h.own.worker
 
 -- the index of the next put, which taking back takes down again
 abbrev pub index : Hand → ℕ
-index h = worker_index h.own
+index h = worker_index h.own.worker
+
+-- how many pops found the own deque empty
+abbrev pub empty_pops : Hand → ℕ
+empty_pops h = h.own.empty_pops
 
 -- it steals from the own deque of this hand
 abbrev pub StealsFrom : Theft → Hand → Type 0
-StealsFrom t g = stealer_deque t.stealer ≡ worker_deque g.own
+StealsFrom t g = stealer_deque t.victim.stealer ≡ worker_deque g.own.worker
 
 -- the same deques
 pub record SameHand (old new : Hand) : Type 0 where
-  pub deque : worker_deque new.own ≡ worker_deque old.own
+  pub deque : worker_deque new.own.worker ≡ worker_deque old.own.worker
   pub port : own_port new ≡ own_port old
   pub room : capacity old ≤ capacity new
   pub workers : length (thefts new) ≡ length (thefts old)
@@ -68,16 +73,25 @@ pub record TookFromDeque (old new : Hand) (x : ℕ) : Type 0 where
   pub took : TookBack (own_view old) (x ∷ []) (own_view new)
   pub index_falls : index new ≤ index old
 
+-- the list was empty, and so was the own deque at a step, which is counted
+pub record TookNone (old new : Hand) : Type 0 where
+  pub list_was : own_list old ≡ []
+  pub list_is : own_list new ≡ []
+  pub view_is : own_view new ≡ own_view old
+  pub index_falls : index new ≤ index old
+  pub empty_pops_rose : empty_pops new ≡ one_more (empty_pops old)
+  pub was_empty : HeldAtMost 0 (own_view old)
+
 -- list and own deque as before
 pub record KeepsOwn (old new : Hand) : Type 0 where
   pub list_is : own_list new ≡ own_list old
   pub view_is : own_view new ≡ own_view old
   pub index_is : index new ≡ index old
 
--- of a hand's thefts the victim's changed from one view to another, of which the fact holds, and the others stayed
-pub record ChangesAt (old new : List Theft) (victim : ℕ) (then : View → View → Type 0) : Type 0 where
+-- of a hand's thefts that from the victim changed so, and the others stayed
+pub record ChangesAt (old new : List Theft) (victim : ℕ) (Then : Theft → Theft → Type 0) : Type 0 where
   pub others : (k : ℕ) → k ≢ victim → slice_get new k ≡ slice_get old k
-  pub at_victim : (t u : Theft) → slice_get old victim ≡ Some t → slice_get new victim ≡ Some u → SameTheft t u × then (theft_view t) (theft_view u)
+  pub at_victim : (t u : Theft) → slice_get old victim ≡ Some t → slice_get new victim ≡ Some u → SameTheft t u × Then t u
 
 -- a hand of a worker among n, before its first call
 pub record IsNewHand (n : ℕ) (h : Hand) : Type 0 where
@@ -85,6 +99,7 @@ pub record IsNewHand (n : ℕ) (h : Hand) : Type 0 where
   pub view_is : own_view h ≡ opening_view
   pub at_start : index h ≡ 0
   pub room : 0 < capacity h
+  pub none_counted : empty_pops h ≡ 0
   pub workers : length (thefts h) ≡ n
 
 -- a hand for each worker, of which each can steal from each one's deque
@@ -92,4 +107,4 @@ pub record AreNewHands (n : ℕ) (hands : List Hand) : Type 0 where
   pub count : length hands ≡ n
   pub each_hand : (k : ℕ) (h : Hand) → slice_get hands k ≡ Some h → IsNewHand n h
   pub reaches : (k j : ℕ) (h g : Hand) (t : Theft) → slice_get hands k ≡ Some h → slice_get hands j ≡ Some g → slice_get (thefts h) j ≡ Some t
-      → StealsFrom t g × (theft_view t ≡ guest_view)
+      → StealsFrom t g × (theft_view t ≡ guest_view) × (vain_thefts t ≡ 0)

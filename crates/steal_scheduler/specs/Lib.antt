@@ -1,3 +1,4 @@
+pub mod Counts
 pub mod Rule
 pub mod Thefts
 pub mod Hands

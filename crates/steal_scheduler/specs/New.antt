@@ -1,14 +1,14 @@
 -- What the making of hands tells from step to step.
 use Rattle.std.specs.Prelude.{◌≡◌, ℕ, ◌<◌, List, Some, slice_get, length}
-use Rattle.crossbeam_deque.specs.declared.handles.Worker.{Worker}
 use Rattle.crossbeam_deque.specs.declared.handles.Stealer.{Stealer}
-use Rattle.crossbeam_deque.specs.Handles.{worker_deque, stealer_deque, worker_flavor, worker_view, worker_index, worker_capacity}
+use Rattle.crossbeam_deque.specs.Handles.{worker_deque, stealer_deque, worker_view, worker_index, worker_capacity}
 use Rattle.std.specs.declared.alloc.Global.{Global}
 use Rattle.steal_scheduler.specs.declared.view.View.{View}
 use Rattle.steal_scheduler.specs.declared.rule.Deals.{Deals}
+use Rattle.steal_scheduler.specs.declared.own_deque.OwnDeque.{OwnDeque}
 use Rattle.steal_scheduler.specs.declared.theft.Theft.{Theft}
 use Rattle.steal_scheduler.specs.Rule.{opening_view, guest_view}
-use Rattle.steal_scheduler.specs.Thefts.{theft_view}
+use Rattle.steal_scheduler.specs.Thefts.{theft_view, vain_thefts}
 use Rattle.steal_scheduler.specs.declared.hand.Hand.{Hand}
 use Rattle.steal_scheduler.specs.Hands.{IsNewHand, thefts}
 
@@ -17,27 +17,31 @@ abbrev pub EachPlace : {A B : Type 0} → (A → B → Type 0) → List A → Li
 EachPlace {A} {B} R xs ys = (k : ℕ) (x : A) (y : B) → slice_get xs k ≡ Some x → slice_get ys k ≡ Some y → R x y
 
 abbrev pub Owner : Type 0
-Owner = Worker ℕ Global View Deals
+Owner = OwnDeque View Deals
 
 abbrev pub Thief : Type 0
 Thief = Stealer ℕ Global View Deals
 
--- the owner of a new deque, who takes back the newest
+-- the owner's end of a new deque
 pub record IsNewOwner (o : Owner) : Type 0 where
-  pub newest_first : worker_flavor o ≡ 1
-  pub view_is : worker_view o ≡ opening_view
-  pub at_start : worker_index o ≡ 0
-  pub room : 0 < worker_capacity o
+  pub view_is : worker_view o.worker ≡ opening_view
+  pub at_start : worker_index o.worker ≡ 0
+  pub room : 0 < worker_capacity o.worker
+  pub none_counted : o.empty_pops ≡ 0
 
 -- a stealer of each deque
 pub record StealFrom (ss : List Thief) (os : List Owner) : Type 0 where
   pub count : length ss ≡ length os
-  pub each : EachPlace (λ s o. stealer_deque s ≡ worker_deque o) ss os
+  pub each : EachPlace (λ s o. stealer_deque s ≡ worker_deque o.worker) ss os
 
--- a way to steal from each deque, which has stolen nothing
+-- a way to steal from this stealer's deque, which has stolen nothing
+abbrev pub IsNewTheft : Theft → Thief → Type 0
+IsNewTheft t s = (stealer_deque t.victim.stealer ≡ stealer_deque s) × (theft_view t ≡ guest_view) × (vain_thefts t ≡ 0)
+
+-- one from each deque
 pub record AreTheftsOf (ts : List Theft) (ss : List Thief) : Type 0 where
   pub count : length ts ≡ length ss
-  pub each : EachPlace (λ t s. (stealer_deque t.stealer ≡ stealer_deque s) × (theft_view t ≡ guest_view)) ts ss
+  pub each : EachPlace IsNewTheft ts ss
 
 -- the hand of this owner, which can steal from each deque
 pub record IsHandOf (ss : List Thief) (h : Hand) (o : Owner) : Type 0 where

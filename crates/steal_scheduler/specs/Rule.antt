@@ -38,10 +38,11 @@ pub record Dealt (items : List ℕ) (views : List View) : Type 0 where
   pub stolen : List ℕ
   pub in_order : (port : ℕ) (v : View) → get_elem? views port ≡ some v → v.owns ≡ true → (port ≡ 0) × (v.kept ≡ stolen ++ items)
 
--- what a pass knows, whenever the deque is empty
-abbrev pub WhenEmpty : ℕ → View → Type 0 → Type 0
-WhenEmpty port v fact = (views : List View) → Dealt [] views → get_elem? views port ≡ some v → fact
-
--- what a pass knows, whenever the deque holds at most one number
-abbrev pub WhenFew : ℕ → View → Type 0 → Type 0
-WhenFew port v fact = (items : List ℕ) (views : List View) → length items ≤ 1 → Dealt items views → get_elem? views port ≡ some v → fact
+-- by the rule there is a state of the deque in which it holds at most so many numbers and one of its passes keeps this view
+pub record HeldAtMost (most : ℕ) (v : View) : Type 0 where
+  pub items : List ℕ
+  pub views : List View
+  pub port : ℕ
+  pub few : length items ≤ most
+  pub dealt : Dealt items views
+  pub view_is : get_elem? views port ≡ some v

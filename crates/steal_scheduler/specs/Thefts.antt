@@ -1,16 +1,33 @@
 -- What clauses say of a hand's way to steal from one deque.
-use Rattle.std.specs.Prelude.{◌≡◌, ℕ}
+use Rattle.std.specs.Prelude.{◌≡◌, ℕ, ◌∷◌, []}
 use Rattle.crossbeam_deque.specs.Handles.{view, stealer_deque}
 use Rattle.steal_scheduler.specs.declared.view.View.{View}
 use Rattle.steal_scheduler.specs.declared.theft.Theft.{Theft}
+use Rattle.steal_scheduler.specs.Counts.{one_more}
+use Rattle.steal_scheduler.specs.Rule.{with_taken, HeldAtMost}
 
 -- what its pass keeps
 abbrev pub theft_view : Theft → View
-theft_view t = view t.pass
+theft_view t = view t.victim.pass
 
 abbrev pub theft_port : Theft → ℕ
-theft_port t = t.pass.id
+theft_port t = t.victim.pass.id
+
+-- how many thefts found at most one number there
+abbrev pub vain_thefts : Theft → ℕ
+vain_thefts t = t.victim.vain_thefts
 
 -- it steals from the same deque
 abbrev pub SameTheft : Theft → Theft → Type 0
-SameTheft old new = (stealer_deque new.stealer ≡ stealer_deque old.stealer) × (theft_port new ≡ theft_port old)
+SameTheft old new = (stealer_deque new.victim.stealer ≡ stealer_deque old.victim.stealer) × (theft_port new ≡ theft_port old)
+
+-- this number was stolen
+pub record Stole (x : ℕ) (old new : Theft) : Type 0 where
+  pub view_is : theft_view new ≡ with_taken (theft_view old) (x ∷ [])
+  pub vain_is : vain_thefts new ≡ vain_thefts old
+
+-- none was stolen, since a step found at most one number there, which is counted
+pub record StoleNone (old new : Theft) : Type 0 where
+  pub view_is : theft_view new ≡ theft_view old
+  pub vain_rose : vain_thefts new ≡ one_more (vain_thefts old)
+  pub few : HeldAtMost 1 (theft_view old)

@@ -1,9 +1,8 @@
 //! A worker's hand: its own deque, the list beside it, and its ways to steal.
-ghost use Rattle.std.specs.Prelude.{◌≡◌, ◌⊎◌, ◌<◌, true, length, OnOk, IfErr, IfSome, IfNone, slice_get, ℕ, [], Some};
-ghost use Rattle.crossbeam_deque.specs.Handles.{worker_flavor, worker_view};
-ghost use Rattle.steal_scheduler.specs.Rule.{with_taken, WhenEmpty, WhenFew};
+ghost use Rattle.std.specs.Prelude.{◌≡◌, ◌⊎◌, ◌<◌, true, length, OnOk, IfErr, IfSome, IfNone, slice_get, Some};
+ghost use Rattle.crossbeam_deque.specs.Handles.{worker_view};
 
-use crate::rule::{Finding, Owner, Puts, TakesBack};
+use crate::rule::{Owner, Puts, TakesBack};
 use crate::theft::Theft;
 use std::alloc::{AllocFailed, Global};
 use std::sync::Wait;
@@ -14,15 +13,13 @@ pub struct Hand {
     own: Owner,
     list: Vec<u32>,
     thefts: Vec<Theft>,
-    ghost newest_first: { worker_flavor own ≡ 1 },
-    ghost owner: { (worker_view own).owns ≡ true },
+    ghost owner: { (worker_view own.worker).owns ≡ true },
 }
 
 impl Hand {
-    ghost use Rattle.std.specs.Prelude.{◌∷◌};
     ghost use Rattle.steal_scheduler.specs.declared.theft.Theft.{Theft};
-    ghost use Rattle.steal_scheduler.specs.Thefts.{theft_view, theft_port};
-    ghost use Rattle.steal_scheduler.specs.Hands.{own_list, own_view, own_port, thefts, SameHand, PutOnDeque, PutOnList, TookFromList, TookFromDeque, KeepsOwn, ChangesAt, IsNewHand};
+    ghost use Rattle.steal_scheduler.specs.Thefts.{vain_thefts, Stole, StoleNone};
+    ghost use Rattle.steal_scheduler.specs.Hands.{empty_pops, thefts, SameHand, PutOnDeque, PutOnList, TookFromList, TookFromDeque, TookNone, KeepsOwn, ChangesAt, IsNewHand};
     ghost use Rattle.steal_scheduler.specs.New.{IsNewOwner};
 
     pub(crate) fn new(alloc: Global, own: Owner, thefts: Vec<Theft>) -> Hand
@@ -43,10 +40,26 @@ impl Hand {
         self.thefts.len()
     }
 
+    /// How many pops found the own deque empty.
+    pub fn empty_pops(&self) -> u64
+        ensures { result ≡ empty_pops self.now }
+    {
+        self.own.empty_pops()
+    }
+
+    /// How many thefts from the victim's deque found at most one task there.
+    pub fn vain_thefts(&self, victim: u32) -> u64
+        requires { victim < length (thefts self.now) }
+        ensures { (t : Theft) → slice_get (thefts self.now) victim ≡ Some t → result ≡ vain_thefts t }
+    {
+        self.thefts[victim as usize].vain()
+    }
+
     /// Puts a task on the own deque; on the hand's list where that isn't empty or the deque refuses. For want of memory
     /// the task comes back, and the hand is as before.
     pub fn put(&mut self, task: u32) -> Result<(), AllocFailed<u32>>
         ensures same { SameHand self.old self.new }
+        ensures counted { empty_pops self.new ≡ empty_pops self.old }
         ensures thefts { thefts self.new ≡ thefts self.old }
         ensures ok { OnOk result (PutOnDeque self.old self.new task ⊎ PutOnList self.old self.new task) }
         ensures err { IfErr result (λ e. (e.value ≡ task) × KeepsOwn self.old self.new) }
@@ -54,37 +67,37 @@ impl Hand {
         if !self.list.is_empty() {
             return self.list.push(task);
         }
-        match self.own.push_as::<Puts>(task) {
+        match self.own.push::<Puts>(task) {
             Ok(()) => Ok(()),
             Err(task) => self.list.push(task),
         }
     }
 
     /// Takes the newest task, from the list first. None only where the list is empty and the own deque was empty at a
-    /// step of the call, which is what `F` tells of.
-    pub fn next_own<F: Finding>(&mut self) -> Option<u32>
-        requires tells { WhenEmpty (own_port self.old) (own_view self.old) (F.fact (own_view self.old)) }
+    /// step of the call; the count of empty pops rises then, and in no other call.
+    pub fn next_own(&mut self) -> Option<u32>
         ensures same { SameHand self.old self.new }
         ensures thefts { thefts self.new ≡ thefts self.old }
         ensures some { IfSome result (λ x. TookFromList self.old self.new x ⊎ TookFromDeque self.old self.new x) }
-        ensures none { IfNone result ((own_list self.old ≡ []) × (own_list self.new ≡ []) × (own_view self.new ≡ own_view self.old) × F.fact (own_view self.old)) }
+        ensures counted { IfSome result (λ _. empty_pops self.new ≡ empty_pops self.old) }
+        ensures none { IfNone result (TookNone self.old self.new) }
     {
         match self.list.pop() {
             Some(task) => Some(task),
-            None => self.own.pop_as::<TakesBack<F>>(),
+            None => self.own.pop::<TakesBack>(),
         }
     }
 
     /// Takes the oldest task of the victim's deque. None only where that deque held at most one task at a step of the
-    /// call, which is what `F` tells of.
-    pub fn steal_from<F: Finding, R: Wait>(&mut self, rt: &R, victim: u32) -> Option<u32>
-        requires victim { victim < length (thefts self.old) }
-        requires tells { (t : Theft) → slice_get (thefts self.old) victim ≡ Some t → WhenFew (theft_port t) (theft_view t) (F.fact (theft_view t)) }
+    /// call; the count of vain thefts from that victim rises then, and in no other call.
+    pub fn steal_from<R: Wait>(&mut self, rt: &R, victim: u32) -> Option<u32>
+        requires { victim < length (thefts self.old) }
         ensures same { SameHand self.old self.new }
         ensures own { KeepsOwn self.old self.new }
-        ensures some { IfSome result (λ x. ChangesAt (thefts self.old) (thefts self.new) victim (λ v w. w ≡ with_taken v (x ∷ []))) }
-        ensures none { IfNone result (ChangesAt (thefts self.old) (thefts self.new) victim (λ v w. (w ≡ v) × F.fact v)) }
+        ensures counted { empty_pops self.new ≡ empty_pops self.old }
+        ensures some { IfSome result (λ x. ChangesAt (thefts self.old) (thefts self.new) victim (Stole x)) }
+        ensures none { IfNone result (ChangesAt (thefts self.old) (thefts self.new) victim StoleNone) }
     {
-        self.thefts[victim as usize].steal::<F, R>(rt)
+        self.thefts[victim as usize].steal(rt)
     }
 }

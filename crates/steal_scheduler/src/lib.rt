@@ -4,14 +4,18 @@
 
 mod hand;
 mod new;
+mod own_deque;
 mod rule;
 mod theft;
+mod victim_deque;
 mod view;
 
 pub use hand::Hand;
 pub use new::Deques;
-pub use rule::{Anything, Deals, Finding};
+pub use own_deque::OwnDeque;
+pub use rule::Deals;
 pub use theft::Theft;
+pub use victim_deque::VictimDeque;
 pub use view::View;
 
 #[cfg(test)]

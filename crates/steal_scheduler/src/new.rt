@@ -4,6 +4,7 @@ ghost use Rattle.steal_scheduler.specs.New.{IsNewOwner, StealFrom, AreTheftsOf};
 ghost use Rattle.steal_scheduler.specs.Hands.{AreNewHands};
 
 use crate::hand::Hand;
+use crate::own_deque::OwnDeque;
 use crate::rule::{Owner, Thief};
 use crate::theft::Theft;
 use std::alloc::{AllocError, Global};
@@ -36,7 +37,7 @@ fn owners(alloc: Global, workers: u32) -> Result<Vec<Owner>, AllocError>
 {
     let mut owners = Vec::new(alloc);
     for _ in 0..workers {
-        owners.push(Owner::lifo_as(alloc, FIRST_SLOTS)?)?;
+        owners.push(OwnDeque::new(alloc, FIRST_SLOTS)?)?;
     }
     Ok(owners)
 }

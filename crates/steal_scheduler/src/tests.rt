@@ -2,7 +2,7 @@
 ghost use Rattle.std.specs.Prelude.{◌≡◌, ◌<◌, ◌≤◌, length};
 ghost use Rattle.steal_scheduler.specs.Hands.{thefts};
 
-use crate::{Anything, Deques, Hand};
+use crate::{Deques, Hand};
 use std::alloc::AllocError;
 use std::sync::Wait;
 use std::test::Fail;
@@ -15,7 +15,16 @@ const EACH: u32 = 1000;
 // A theft, where there is such a victim.
 fn stolen<R: Wait>(rt: &R, hand: &mut Hand, victim: u32) -> Option<u32> {
     if (victim as usize) < hand.workers() {
-        hand.steal_from::<Anything, R>(rt, victim)
+        hand.steal_from(rt, victim)
+    } else {
+        None
+    }
+}
+
+// How many thefts from the victim found at most one number, where there is such a victim.
+fn vain(hand: &Hand, victim: u32) -> Option<u64> {
+    if (victim as usize) < hand.workers() {
+        Some(hand.vain_thefts(victim))
     } else {
         None
     }
@@ -28,16 +37,20 @@ fn newest_taken_back_and_oldest_stolen(rt: HostRuntime) -> Result<(), Fail> {
     let mut thief = hands.pop().ok_or("a second hand")?;
     let mut owner = hands.pop().ok_or("a first hand")?;
     assert_eq!(rt; (owner.workers(), thief.workers()), (2, 2));
-    assert_eq!(rt; owner.next_own::<Anything>(), None);
+    assert_eq!(rt; owner.next_own(), None);
     assert_eq!(rt; stolen(&rt, &mut thief, 0), None);
+    assert_eq!(rt; (owner.empty_pops(), thief.empty_pops()), (1, 0));
+    assert_eq!(rt; (vain(&owner, 0), vain(&thief, 0)), (Some(0), Some(1)));
     for task in 1..=200 {
         owner.put(task)?;
     }
-    assert_eq!(rt; owner.next_own::<Anything>(), Some(200));
+    assert_eq!(rt; owner.next_own(), Some(200));
     assert_eq!(rt; stolen(&rt, &mut thief, 0), Some(1));
     assert_eq!(rt; stolen(&rt, &mut thief, 1), None);
     assert_eq!(rt; stolen(&rt, &mut owner, 0), Some(2));
-    assert_eq!(rt; owner.next_own::<Anything>(), Some(199));
+    assert_eq!(rt; owner.next_own(), Some(199));
+    assert_eq!(rt; (owner.empty_pops(), thief.empty_pops()), (1, 0));
+    assert_eq!(rt; (vain(&thief, 0), vain(&thief, 1)), (Some(1), Some(1)));
     Ok(())
 }
 
@@ -56,7 +69,7 @@ fn work<R: Wait>(rt: &R, desk: &mut Desk, worker: u32) -> Result<(), AllocError>
     for step in 0..EACH {
         desk.hand.put(worker * EACH + step)?;
         if step % 3 == 0
-            && let Some(task) = desk.hand.next_own::<Anything>()
+            && let Some(task) = desk.hand.next_own()
         {
             desk.taken.push(task)?;
         }
@@ -67,7 +80,7 @@ fn work<R: Wait>(rt: &R, desk: &mut Desk, worker: u32) -> Result<(), AllocError>
         }
     }
     for _ in 0..EACH {
-        if let Some(task) = desk.hand.next_own::<Anything>() {
+        if let Some(task) = desk.hand.next_own() {
             desk.taken.push(task)?;
         }
     }

@@ -1,47 +1,43 @@
-//! How a hand steals from one deque.
-ghost use Rattle.std.specs.Prelude.{◌≡◌, ◌∷◌, [], false, IfOk, IfSome, IfNone};
-ghost use Rattle.crossbeam_deque.specs.Handles.{view, stealer_deque, IsPassOf};
-ghost use Rattle.steal_scheduler.specs.Rule.{guest_view, with_taken, WhenFew};
+//! How a hand steals from one deque under the rule.
+ghost use Rattle.std.specs.Prelude.{◌≡◌, false, IfOk, IfSome, IfNone};
+ghost use Rattle.crossbeam_deque.specs.Handles.{view, stealer_deque};
+ghost use Rattle.steal_scheduler.specs.Rule.{guest_view};
 
-use crate::rule::{Finding, Steals, Thief, Token};
-use crossbeam_deque::Steal;
+use crate::rule::{Steals, Thief, Victim};
+use crate::victim_deque::VictimDeque;
 use std::alloc::AllocError;
 use std::sync::Wait;
 
-/// A hand's way to steal from one deque: a stealer, and the pass that keeps what was stolen.
+/// A hand's way to steal from one deque.
 #[derive(Drop)]
 pub struct Theft {
-    stealer: Thief,
-    pass: Token,
-    ghost fits: { IsPassOf (stealer_deque stealer) pass },
-    ghost steals: { (view pass).owns ≡ false },
+    victim: Victim,
+    ghost steals: { (view victim.pass).owns ≡ false },
 }
 
 impl Theft {
-    ghost use Rattle.steal_scheduler.specs.Thefts.{theft_view, theft_port, SameTheft};
+    ghost use Rattle.steal_scheduler.specs.Thefts.{theft_view, vain_thefts, SameTheft, Stole, StoleNone};
 
     pub(crate) fn new(stealer: &Thief) -> Result<Theft, AllocError>
-        ensures { IfOk result (λ t. (stealer_deque t.stealer ≡ stealer_deque stealer.now) × (theft_view t ≡ guest_view)) }
+        ensures { IfOk result (λ t. (stealer_deque t.victim.stealer ≡ stealer_deque stealer.now) × (theft_view t ≡ guest_view) × (vain_thefts t ≡ 0)) }
     {
-        let stealer = stealer.clone()?;
-        let pass = stealer.pass();
-        Ok(Theft { stealer, pass })
+        let victim = VictimDeque::new(stealer)?;
+        Ok(Theft { victim })
+    }
+
+    // How many thefts found at most one number.
+    pub(crate) fn vain(&self) -> u64
+        ensures { result ≡ vain_thefts self.now }
+    {
+        self.victim.vain_thefts()
     }
 
     // The oldest, or none where the deque held at most one number at a step.
-    pub(crate) fn steal<F: Finding, R: Wait>(&mut self, rt: &R) -> Option<u32>
-        requires tells { WhenFew (theft_port self.old) (theft_view self.old) (F.fact (theft_view self.old)) }
+    pub(crate) fn steal<R: Wait>(&mut self, rt: &R) -> Option<u32>
         ensures same { SameTheft self.old self.new }
-        ensures some { IfSome result (λ x. theft_view self.new ≡ with_taken (theft_view self.old) (x ∷ [])) }
-        ensures none { IfNone result ((theft_view self.new ≡ theft_view self.old) × F.fact (theft_view self.old)) }
+        ensures some { IfSome result (λ x. Stole x self.old self.new) }
+        ensures none { IfNone result (StoleNone self.old self.new) }
     {
-        for _ in rt.forever() {
-            match self.stealer.steal_as::<Steals<F>>(&mut self.pass) {
-                Steal::Success(task) => return Some(task),
-                Steal::Empty => return None,
-                Steal::Retry => {}
-            }
-        }
-        unreachable!()
+        self.victim.steal::<Steals, R>(rt)
     }
 }

@@ -1,6 +1,6 @@
 use Rattle.std.proofs.Common.{◌≡◌, ◌+◌, drop, false}
-use Rattle.run_ledger.specs.Journals.{opening, after_all, ledger_of, first_refused_from, first_refused}
-use Rattle.run_report.specs.Totals.{joined, totals_from}
+use Rattle.run_ledger.specs.Journals.{after_all, ledger_of, first_refused_from, first_refused}
+use Rattle.run_report.proofs.Sums.{IsAt}
 use Rattle.run_report.proofs.counting.count.Given as goal
 
 abbrev pub invariant-loop-entry : goal.invariant-loop-entry
@@ -11,5 +11,5 @@ invariant-loop-entry l = record {
   index : l.index ≡ l.entry-index + 1;
   accounts : after_all l.book.program l.book.limits l.book.ledger (drop l.entry-index l.journal) ≡ ledger_of l.book.program l.book.limits l.journal;
   refused : first_refused_from l.book.program l.book.limits l.book.ledger l.index (drop l.entry-index l.journal) ≡ first_refused l.book.program l.book.limits l.journal;
-  totals : joined l.totals (totals_from l.book.program l.book.limits l.book.ledger (drop l.entry-index l.journal)) ≡ totals_from l.book.program l.book.limits (opening l.book.program l.book.limits) l.journal;
+  at : IsAt l.journal l.book l.entry-index l.totals;
 }

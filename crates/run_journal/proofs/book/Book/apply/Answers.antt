@@ -1,9 +1,7 @@
 use Rattle.std.proofs.Common.{sym, subst}
 use Rattle.std.proofs.lemmas.Bool.{false≢true}
 use Rattle.run_trace.specs.Entry.{IsKind}
-use Rattle.run_journal.specs.Book.{Standing, Agrees}
-use Rattle.run_journal.specs.Opened.{IsLegalLedger}
-use Rattle.run_journal.proofs.Opens.{ledger_steady, ledger_stays, ledger_after, accounts_agree}
+use Rattle.run_journal.proofs.Opens.{ledger_steady, ledger_stays, opened_after}
 use Rattle.run_journal.proofs.book.Book.apply.Goals as goal
 
 pub enter-requires-clause-steady : goal.enter-requires-clause-steady
@@ -17,16 +15,7 @@ enter-requires-clause-stays c =
     ledger_stays a.program a.limits c.bounds.ensures a.ledger (c.self.invariant.legal c.if-self.false) c.args.entry.kind (subst IsKind c.kind-kind.ensures.value c.kind-kind.ensures.range)
 
 pub invariant_of-self : goal.invariant_of-self
-invariant_of-self c =
-    let a = c.self.inside.accounts in
-    record {
-      legal = λ e.
-          subst (λ (s : Standing). IsLegalLedger s.program s.limits s.ledger) (sym c.in-Ok.ensures.ok)
-          (ledger_after a.program a.limits a.ledger (c.self.invariant.legal c.if-self.false) c.args.entry c.in-Ok.ensures.none);
-      agrees = λ e.
-          subst Agrees (sym c.in-Ok.ensures.ok)
-          (accounts_agree a c.bounds.ensures (c.self.invariant.legal c.if-self.false) (c.self.invariant.agrees c.if-self.false) c.args.entry c.in-Ok.ensures.none);
-    }
+invariant_of-self c = opened_after c.self.inside.accounts _ _ c.bounds.ensures c.self.invariant c.if-self.false c.args.entry c.in-Ok.ensures.none c.in-Ok.ensures.ok
 
 pub invariant_of-self-in-Err : goal.invariant_of-self-in-Err
 invariant_of-self-in-Err c = record { legal = λ e. absurd (false≢true (sym e)); agrees = λ e. absurd (false≢true (sym e)) }

@@ -1,12 +1,8 @@
-use Rattle.std.proofs.Common.{ap, sym, ◌∙◌, subst, arith}
-use mathlib.Core.Option.{some}
-use lib.ListN.{get_elem?}
 use Rattle.steal_scheduler.proofs.Rules.{steals}
 use Rattle.steal_scheduler.proofs.theft.Theft.steal.Goals as goal
 
-pub steal_as-requires-clause-takes : goal.steal_as-requires-clause-takes
-steal_as-requires-clause-takes g c = steals _ _ c.loop.self.steals
+pub steal-requires-clause-takes : goal.steal-requires-clause-takes
+steal-requires-clause-takes g c = steals _ _ c.args.self.now.steals
 
-pub steal_as-requires-clause-empty : goal.steal_as-requires-clause-empty
-steal_as-requires-clause-empty g c = λ items views few holds at. let same = c.loop.invariant.3 in
-    subst g.F.Finding.fact (sym same) (c.requires.tells items views (omega arith) holds (ap (λ k. get_elem? views k) (sym c.loop.invariant.2.1) ∙ (at ∙ ap some same)))
+pub steal-requires-clause-few : goal.steal-requires-clause-few
+steal-requires-clause-few g c = λ items views few holds at. record { items = items; views = views; port = _; few = few; dealt = holds; view_is = at }
