@@ -1,5 +1,5 @@
 -- Every answer has a status that is written.
-use Rattle.std.proofs.Common.{◌∙◌, ◌≡◌, ◌⊎◌, ℕ, List, Bool, true, false, sym, subst, inl, inr}
+use Rattle.std.proofs.Common.{◌∙◌, ◌≡◌, ℕ, List, Bool, true, false, sym, subst, inl, inr}
 use Rattle.std.specs.Prelude.{Option, Some, None, Result, Ok, Err, length, nat_le}
 use Rattle.hh_lang.specs.Form.{ProgramText}
 use Rattle.hh_model.specs.declared.data.End.{End}
@@ -20,12 +20,12 @@ use Rattle.command_line.specs.declared.line.Options.{Options}
 use Rattle.command_line.specs.declared.line.CommandLine.{CommandLine}
 use Rattle.command_line.specs.declared.line.CommandLine.TheVariants.{Check, Run, Model, Make}
 use Rattle.command_core.specs.declared.answer.Status.{Status}
-use Rattle.command_core.specs.declared.answer.Status.TheVariants.{ReadFault, WriteFault}
+use Rattle.command_core.specs.declared.answer.Status.TheVariants.{ReadFault}
 use Rattle.command_core.specs.declared.answer.Answer.{Answer}
 use Rattle.command_core.specs.declared.answer.Ran.{Ran}
 use Rattle.command_core.specs.Status.{status_of_end}
 use Rattle.command_core.specs.Input.{program_limit, trace_limit}
-use Rattle.command_core.specs.Answers.{IsText, Unless, IsWholeRun, AnswersReading, AnswersProgram, AnswersProgramRead, AnswersEnded, AnswersJournal, AnswersTraceInput, AnswersLine, limits_for}
+use Rattle.command_core.specs.Answers.{IsText, Unless, AnswersReading, AnswersProgram, AnswersProgramRead, AnswersEnded, AnswersJournal, AnswersTraceInput, AnswersLine, limits_for}
 use Rattle.command_core.specs.Delivery.{IsAnswered, Delivered}
 
 text : (named : Status) (bytes : List ℕ) (a : Answer) → IsAnswered named → IsText named bytes a → IsAnswered a.status

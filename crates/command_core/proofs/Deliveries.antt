@@ -9,7 +9,7 @@ use Rattle.command_core.specs.declared.answer.Answer.{Answer}
 use Rattle.command_core.specs.declared.answer.Ran.{Ran}
 use Rattle.command_core.specs.Answers.{AnswersLine}
 use Rattle.command_core.specs.Laws.{NoFaultGivesAll}
-use Rattle.command_core.specs.Delivery.{DeliversBy, Delivers, Delivered, HandsNothing, IsAnswered}
+use Rattle.command_core.specs.Delivery.{DeliversBy, Delivers, Delivered, IsAnswered}
 
 abbrev Given : (Answer → Type 0) → Ran → Option (List ℕ) → Option (List ℕ) → Status → Type 0
 Given P r before after s = (a : Answer) × P a × (a.status ≡ s) × (r.journal ≡ a.journal) × (r.shared ≡ a.shared) × (after ≡ with_more before a.bytes)

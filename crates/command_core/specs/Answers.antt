@@ -1,5 +1,5 @@
 -- What each command answers to its input: the bytes, the status, and what is handed back.
-use Rattle.std.specs.Prelude.{◌≡◌, ℕ, ◌<◌, false, Bool, Option, Some, None, List, [], ◌∷◌, ◌++◌, Result, Ok, Err, length, nat_le, codes}
+use Rattle.std.specs.Prelude.{◌≡◌, ℕ, false, Bool, Option, Some, None, List, [], ◌∷◌, ◌++◌, Result, Ok, Err, length, nat_le, codes}
 use Rattle.std.specs.Fmt.{decimal}
 use Rattle.hh_lang.specs.Form.{ProgramText}
 use Rattle.run_trace.specs.Settings.{Limits, usual_limits}

@@ -1,5 +1,5 @@
 -- How an answer reaches the sink, and what a call hands back.
-use Rattle.std.specs.Prelude.{◌≡◌, ◌⊎◌, ℕ, Option, Some, None, List, [], take}
+use Rattle.std.specs.Prelude.{◌≡◌, ◌⊎◌, ℕ, Option, None, List, [], take}
 use Rattle.outside_io.specs.Told.{with_more}
 use Rattle.command_core.specs.declared.answer.Status.{Status}
 use Rattle.command_core.specs.declared.answer.Status.TheVariants.{ReadFault, WriteFault, NoMemory}
