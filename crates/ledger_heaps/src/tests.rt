@@ -186,14 +186,25 @@ fn told_heap(alloc: Global, heap: &Heap) -> Result<String, Fail> {
     )?)
 }
 
+// What is reached within a task's heap.
+fn reached(
+    alloc: Global,
+    machine: &State,
+    heaps: &Listed<Heap>,
+    task: u32,
+) -> Result<String, Fail> {
+    if !are_owned(machine, heaps) {
+        return Err(Fail::new("owners"));
+    }
+    let names = within(alloc, machine, heaps, task)?;
+    told(alloc, names.as_slice())
+}
+
 #[test]
 fn reached_within_heaps(rt: HostRuntime) -> Result<(), Fail> {
     let alloc = rt.alloc();
     let machine = family(alloc)?;
     let heaps = family_heaps(alloc)?;
-    if !are_owned(&machine, &heaps) {
-        return Err(Fail::new("owners"));
-    }
     let cases = [
         (0, " 0.1 0.0"),
         (1, " 1.2 1.0 1.1 1.5"),
@@ -201,8 +212,8 @@ fn reached_within_heaps(rt: HostRuntime) -> Result<(), Fail> {
         (3, ""),
     ];
     for (task, expected) in cases {
-        let names = within(alloc, &machine, &heaps, task)?;
-        assert_eq!(rt; told(alloc, names.as_slice())?.as_str(), expected);
+        let text = reached(alloc, &machine, &heaps, task)?;
+        assert_eq!(rt; text.as_str(), expected);
     }
     Ok(())
 }
