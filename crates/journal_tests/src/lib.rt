@@ -2,6 +2,8 @@
 #![tactic(auto)]
 
 #[cfg(test)]
+mod orders;
+#[cfg(test)]
 mod programs;
 #[cfg(test)]
 mod reports;
@@ -17,7 +19,7 @@ mod tests {
     use trace_input::read_trace_input;
 
     // What is written last of the replay of a program's journal, in two parts.
-    fn told(
+    pub(crate) fn told(
         alloc: Global,
         settings: Settings,
         program: &str,
