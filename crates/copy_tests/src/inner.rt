@@ -19,30 +19,34 @@ fn with_garbage(alloc: Global) -> Result<LeafHeap, Fail> {
     Ok(heap)
 }
 
-// Marked one by one and many at a time the same is left: a hole between two objects. A collection moves these.
+// What a marking of so many objects at a time and a sweep count, and then the words, the room and the words placed.
+// Between two objects a hole is left.
+fn after_sweep(alloc: Global, step: u32) -> Result<((u32, u32, u32), (u64, u32, u64)), Fail> {
+    let mut heap = with_garbage(alloc)?;
+    let swept = sweep(alloc, &mut heap, &[at(0, 0)], &[], step)?;
+    if is_there(&heap, at(0, 3)) {
+        return Err("no hole")?;
+    }
+    if number(&heap, at(0, 6), 1)? != -5 {
+        return Err("another number")?;
+    }
+    Ok((swept, (heap.words(), heap.room(), heap.since())))
+}
+
+// Marked one by one and many at a time the same is left.
 #[test]
 fn a_hole_is_left(rt: HostRuntime) -> Result<(), Fail> {
-    let mut other = with_garbage(rt.alloc())?;
-    assert_eq!(rt;
-        sweep(rt.alloc(), &mut other, &[at(0, 0)], &[], 1)?,
-        (2, 0, 1)
-    );
+    assert_eq!(rt; after_sweep(rt.alloc(), 1)?, ((2, 0, 1), (7, 1014, 10)));
+    assert_eq!(rt; after_sweep(rt.alloc(), 64)?, ((0, 0, 1), (7, 1014, 10)));
+    Ok(())
+}
+
+// A collection of a heap with a hole.
+#[test]
+fn a_swept_heap_is_collected(rt: HostRuntime) -> Result<(), Fail> {
     let mut heap = with_garbage(rt.alloc())?;
-    assert_eq!(rt;
-        sweep(rt.alloc(), &mut heap, &[at(0, 0)], &[], 64)?,
-        (0, 0, 1)
-    );
-    assert_eq!(rt; (other.words(), other.room(), other.since()), (7, 1014, 10));
-    assert_eq!(rt; (heap.words(), heap.room(), heap.since()), (7, 1014, 10));
-    assert_eq!(rt;
-        (
-            is_there(&heap, at(0, 0)),
-            is_there(&heap, at(0, 3)),
-            is_there(&heap, at(0, 6))
-        ),
-        (true, false, true)
-    );
-    assert_eq!(rt; number(&heap, at(0, 6), 1)?, -5);
+    let swept = sweep(rt.alloc(), &mut heap, &[at(0, 0)], &[], 64)?;
+    assert_eq!(rt; swept, (0, 0, 1));
     let mut frames = one_frame(rt.alloc());
     frames.set_reference(0, Some(at(0, 0)));
     let moved = run(rt.alloc(), &mut heap, &mut frames, &[], 20, 1)?;
