@@ -4,6 +4,8 @@
 #[cfg(test)]
 mod orders;
 #[cfg(test)]
+mod outputs;
+#[cfg(test)]
 mod programs;
 #[cfg(test)]
 mod reports;

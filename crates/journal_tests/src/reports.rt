@@ -22,7 +22,7 @@ const SWEPT: &str =
     "0 mark 0\n0 took 1\n0 ran 1 1\n0 some 0 64\n0 ran 1 1\n0 sweep 0 1\n0 took 2\n0 ran 2 1\n0 ran 2 1\n0 took 0\n0 ran 0 1\n";
 
 // A program and a journal of its run, by their texts.
-fn read(alloc: Global, program: &str, trace: &str) -> Result<TraceInput, Fail> {
+pub(crate) fn read(alloc: Global, program: &str, trace: &str) -> Result<TraceInput, Fail> {
     let input = format!(in alloc; "{program}{trace}")?;
     if input.len() > 16_777_216 {
         return Err(Fail::new("long"));
