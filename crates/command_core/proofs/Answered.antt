@@ -25,7 +25,7 @@ use Rattle.command_core.specs.declared.answer.Answer.{Answer}
 use Rattle.command_core.specs.declared.answer.Ran.{Ran}
 use Rattle.command_core.specs.Status.{status_of_end}
 use Rattle.command_core.specs.Input.{program_limit, trace_limit}
-use Rattle.command_core.specs.Answers.{IsText, Unless, AnswersReading, AnswersProgram, AnswersProgramRead, AnswersEnded, AnswersJournal, AnswersTraceInput, AnswersLine, limits_for}
+use Rattle.command_core.specs.Answers.{IsText, WhereWithin, AnswersReading, AnswersProgram, AnswersProgramRead, AnswersEnded, AnswersJournal, AnswersTraceInput, AnswersLine, limits_for}
 use Rattle.command_core.specs.Delivery.{IsAnswered, Delivered}
 
 text : (named : Status) (bytes : List ℕ) (a : Answer) → IsAnswered named → IsText named bytes a → IsAnswered a.status
@@ -41,9 +41,9 @@ end (Machine e) = machine_end e
 end (Fuel steps) = tt
 end (Pool chunks) = tt
 
-unless : (b : Bool) (P : Answer → Type 0) (a : Answer) → (P a → IsAnswered a.status) → Unless b P a → IsAnswered a.status
-unless true P a f h = f h
-unless false P a f h = text _ _ a tt h
+within : (b : Bool) (P : Answer → Type 0) (a : Answer) → (P a → IsAnswered a.status) → WhereWithin b P a → IsAnswered a.status
+within true P a f h = f h
+within false P a f h = text _ _ a tt h
 
 reading : (r : Result ProgramText Refused) (a : Answer) → AnswersReading r a → IsAnswered a.status
 reading (Ok p) a h = text _ _ a tt h
@@ -71,9 +71,9 @@ trace_input o input (Some (BadLine n)) a h = text _ _ a tt h
 trace_input o input None a h = let t = h.0 in journal t.program (limits_for o t) o t (refused_as_run t.program (limits_for o t) t.trace.entries) a h.2
 
 pub answered : (line : CommandLine) (input : List ℕ) (a : Answer) → AnswersLine line input a → IsAnswered a.status
-answered (Check file) input a h = unless (nat_le (length input) program_limit) (AnswersReading (reading_of input)) a (reading (reading_of input) a) h
-answered (Run file) input a h = unless (nat_le (length input) program_limit) (AnswersProgramRead (reading_of input)) a (program_read (reading_of input) a) h
-answered (Model file o) input a h = unless (nat_le (length input) trace_limit) (AnswersTraceInput o input (input_fault input)) a (trace_input o input (input_fault input) a) h
+answered (Check file) input a h = within (nat_le (length input) program_limit) (AnswersReading (reading_of input)) a (reading (reading_of input) a) h
+answered (Run file) input a h = within (nat_le (length input) program_limit) (AnswersProgramRead (reading_of input)) a (program_read (reading_of input) a) h
+answered (Model file o) input a h = within (nat_le (length input) trace_limit) (AnswersTraceInput o input (input_fault input)) a (trace_input o input (input_fault input) a) h
 answered (Make seed size) input a h = text _ _ a tt h
 
 -- what was written isn't told as a read fault

@@ -1,5 +1,5 @@
 -- What each command answers to its input: the bytes, the status, and what is handed back.
-use Rattle.std.specs.Prelude.{◌≡◌, ℕ, false, Bool, Option, Some, None, List, [], ◌∷◌, ◌++◌, Result, Ok, Err, length, nat_le, codes}
+use Rattle.std.specs.Prelude.{◌≡◌, ℕ, true, false, Bool, Option, Some, None, List, [], ◌∷◌, ◌++◌, Result, Ok, Err, length, nat_le, codes}
 use Rattle.std.specs.Fmt.{decimal}
 use Rattle.hh_lang.specs.Form.{ProgramText}
 use Rattle.run_trace.specs.Settings.{Limits, usual_limits}
@@ -57,13 +57,13 @@ abbrev pub AnswersReading : Result ProgramText Refused → Answer → Type 0
 AnswersReading (Ok p) = IsText Done (end_line (codes "accepted" ∷ []))
 AnswersReading (Err r) = AnswersRefused r
 
--- an input within the limit has an answer of its own, and any other is too long
-abbrev pub Unless : Bool → (Answer → Type 0) → Answer → Type 0
-Unless false P = AnswersRefused too_long
-Unless _ P = P
+-- an input within the limit is answered so, and any other is too long
+abbrev pub WhereWithin : Bool → (Answer → Type 0) → Answer → Type 0
+WhereWithin true P = P
+WhereWithin false P = AnswersRefused too_long
 
 abbrev pub AnswersCheck : List ℕ → Answer → Type 0
-AnswersCheck input = Unless (nat_le (length input) program_limit) (AnswersReading (reading_of input))
+AnswersCheck input = WhereWithin (nat_le (length input) program_limit) (AnswersReading (reading_of input))
 
 -- RUN
 
@@ -96,7 +96,7 @@ AnswersProgramRead (Ok p) = AnswersProgram p (first_unready p)
 AnswersProgramRead (Err r) = AnswersRefused r
 
 abbrev pub AnswersRun : List ℕ → Answer → Type 0
-AnswersRun input = Unless (nat_le (length input) program_limit) (AnswersProgramRead (reading_of input))
+AnswersRun input = WhereWithin (nat_le (length input) program_limit) (AnswersProgramRead (reading_of input))
 
 -- MODEL
 
@@ -125,7 +125,7 @@ AnswersTraceInput o input (Some (BadLine n)) a = IsText Trace (bad_line n) a
 AnswersTraceInput o input None a = (t : TraceInput) × IsInput input t × AnswersTrace o t a
 
 abbrev pub AnswersModel : Options → List ℕ → Answer → Type 0
-AnswersModel o input = Unless (nat_le (length input) trace_limit) (AnswersTraceInput o input (input_fault input))
+AnswersModel o input = WhereWithin (nat_le (length input) trace_limit) (AnswersTraceInput o input (input_fault input))
 
 -- MAKE
 
