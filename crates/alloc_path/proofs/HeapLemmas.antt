@@ -1,15 +1,20 @@
 -- What a heap keeps, where one of its chunks is written or another is added.
-use Rattle.std.proofs.Common.{◌≡◌, ℕ, zero, suc, ◌+◌, ◌-◌, ◌*◌, ◌/◌, ◌<◌, ◌≤◌, Bool, true, false, List, [], ◌∷◌, ◌++◌, length, get_or, set, refl, sym, ap, ◌∙◌, arith, ⊎_elim, inl, inr, ◌⊎◌, eqb, length-set, length-append, append_assoc, Option, Some, None, take}
-use Rattle.std.specs.Prelude.{cond, Result, Ok, Err, IfOk, IsOk, OnOk, is_some, option_map}
+use Rattle.std.proofs.Common.{◌≡◌, ℕ, zero, suc, ◌+◌, ◌-◌, ◌*◌, ◌/◌, ◌^◌, ◌<◌, ◌≤◌, Bool, true, false, List, [], ◌∷◌, ◌++◌, length, get_or, set, refl, sym, ap, ◌∙◌, subst, arith, ⊎_elim, inl, inr, ◌⊎◌, eqb, length-set, length-append, append_assoc, Option, Some, None, take}
+use Rattle.std.proofs.lemmas.List.Elements.{All-append, All-get_or, All-push, All-set}
+use Rattle.std.specs.Option.{option_or}
+use Rattle.std.specs.Borrow.{Bor}
+use Rattle.std.specs.Prelude.{cond, IfSome, option_copied, Result, Ok, Err, IfOk, IsOk, OnOk, is_some, option_map}
 use Rattle.std.proofs.lemmas.Bool.{cases_Bool, cases_lt, eqb-true, eq-eqb, ne_eqb, lt-ltb, le-ltb, le-leb, lt-leb}
 use Rattle.std.proofs.lemmas.List.{get_or_read, get_or_append_left, get_or-append_right, take_more}
 use Rattle.object_layout.specs.declared.word.Addr.{Addr}
 use Rattle.object_layout.specs.Cell.{Born, Cell, Hole, IsObject, Mark, Moved, size_of}
 use Rattle.object_layout.specs.Content.{Content}
 use Rattle.object_layout.specs.Place.{cell_at, put_cell, words_in}
-use Rattle.object_layout.specs.Chunks.{cell_of, chunk_at, held_in, held_size, held_words, no_chunk, place_in, place_of, put_object, with_cell}
-use Rattle.alloc_path.specs.Heap.{counted, Heap, IsCurrent, IsFresh, IsKept, IsReserved, large_place, AreApart, place_for, room_at, small_place, units}
+use Rattle.object_layout.specs.Chunks.{cell_of, chunk_at, held_in, held_size, held_words, no_chunk, object_count, one_each, place_in, place_of, put_object, small_part, small_words, sum_in, sum_of, with_cell}
+use Rattle.alloc_path.specs.Heap.{AreWithin, counted, Heap, IsCurrent, IsFresh, IsKept, IsReserved, large_place, AreApart, place_for, room_at, small_place, units}
 use Rattle.object_layout.proofs.ChunkLaws as chunks
+use Rattle.object_layout.proofs.PlaceLemmas as place
+use Rattle.object_layout.proofs.PlaceLemmas.{words_in-push}
 
 -- ---- the words of objects
 
@@ -37,6 +42,79 @@ held_words-set (x ∷ xs) (suc i) k d l = let ih = held_words-set xs i k d (omeg
 pub held_words-append : (ks ls : List Content) → held_words (ks ++ ls) ≡ held_words ks + held_words ls
 held_words-append [] ls = omega arith
 held_words-append (k ∷ ks) ls = let ih = held_words-append ks ls in omega arith
+
+-- the same, where an object of n words counts for f n
+module _ (f : ℕ → ℕ) where
+  pub sum_in-put : (cs : List Cell) (at : ℕ) (d : Cell) → ((n : ℕ) → held_size d.mark n ≡ held_size (cell_at cs at).mark n) → size_of d ≡ size_of (cell_at cs at) → sum_in f (put_cell cs at d) ≡ sum_in f cs
+  sum_in-put [] at d s z = refl
+  sum_in-put (c ∷ cs) zero d s z = let e : held_size d.mark (f (size_of d)) ≡ held_size c.mark (f (size_of c)) = s (f (size_of d)) ∙ ap (λ (n : ℕ). held_size c.mark (f n)) z in omega arith
+  sum_in-put (c ∷ cs) (suc n) d s z =
+      ⊎_elim
+      (λ (above : suc n < size_of c). rw (lt-leb (size_of c) (suc n) above))
+      (λ (within : size_of c ≤ suc n).
+      let t = le-leb (size_of c) (suc n) within in
+      rw (t, sum_in-put cs (suc n - size_of c) d (rw t at s) (rw t at z)))
+      (cases_lt (suc n) (size_of c))
+
+  pub sum_in-push : (cs : List Cell) (d : Cell) → sum_in f (cs ++ d ∷ []) ≡ sum_in f cs + held_size d.mark (f (size_of d))
+  sum_in-push [] d = omega arith
+  sum_in-push (c ∷ cs) d = let ih = sum_in-push cs d in omega arith
+
+  pub sum_of-set : (ks : List Content) (i : ℕ) (k : Content) (d : Content) → i < length ks →
+      sum_of f (set ks i k) + sum_in f (get_or ks i d).cells ≡ sum_of f ks + sum_in f k.cells
+  sum_of-set [] i k d l = absurd (omega arith)
+  sum_of-set (x ∷ xs) zero k d l = omega arith
+  sum_of-set (x ∷ xs) (suc i) k d l = let ih = sum_of-set xs i k d (omega arith) in omega arith
+
+  pub sum_of-append : (ks ls : List Content) → sum_of f (ks ++ ls) ≡ sum_of f ks + sum_of f ls
+  sum_of-append [] ls = omega arith
+  sum_of-append (k ∷ ks) ls = let ih = sum_of-append ks ls in omega arith
+
+  -- an object is written, or placed; an empty chunk is added; heaps are merged
+  pub sum_kept : (ks : List Content) (i : ℕ) (k : Content) → k ≡ get_or ks i k → i < length ks → (at : ℕ) (d : Cell) → ((n : ℕ) → held_size d.mark n ≡ held_size (cell_at k.cells at).mark n) → size_of d ≡ size_of (cell_at k.cells at) →
+      (n : ℕ) → n ≡ counted (sum_of f ks) → n ≡ counted (sum_of f (set ks i (with_cell k at d)))
+  sum_kept ks i k read l at d s z n e =
+      let held = sum_in-put k.cells at d s z in
+      let sum = sum_of-set ks i (with_cell k at d) k l in
+      let same : sum_in f (get_or ks i k).cells ≡ sum_in f k.cells = ap (λ (x : Content). sum_in f x.cells) (sym read) in
+      let all : sum_of f (set ks i (with_cell k at d)) ≡ sum_of f ks = omega arith in
+      rw all e
+
+  pub sum_placed : (ks : List Content) (i : ℕ) (k : Content) → k ≡ get_or ks i k → i < length ks → (c : Cell) → ((n : ℕ) → held_size c.mark n ≡ n) →
+      (n m : ℕ) → n ≡ counted (sum_of f ks) → m ≡ counted (n + f (size_of c)) → m ≡ counted (sum_of f (set ks i (record k { cells = k.cells ++ c ∷ [] })))
+  sum_placed ks i k read l c born n m e w =
+      let held = sum_in-push k.cells c in
+      let size : held_size c.mark (f (size_of c)) ≡ f (size_of c) = born (f (size_of c)) in
+      let sum = sum_of-set ks i (record k { cells = k.cells ++ c ∷ [] }) k l in
+      let same : sum_in f (get_or ks i k).cells ≡ sum_in f k.cells = ap (λ (x : Content). sum_in f x.cells) (sym read) in
+      let all : sum_of f (set ks i (record k { cells = k.cells ++ c ∷ [] })) ≡ sum_of f ks + f (size_of c) = omega arith in
+      w ∙ rw (all, e) (saturates (sum_of f ks) (f (size_of c)))
+    where
+      saturates : (a b : ℕ) → counted (counted a + b) ≡ counted (a + b)
+      saturates a b = omega arith
+
+  pub sum_pushed : (ks : List Content) (k : Content) → k.cells ≡ [] → (n : ℕ) → n ≡ counted (sum_of f ks) → n ≡ counted (sum_of f (ks ++ k ∷ []))
+  sum_pushed ks k empty n e =
+      let none : sum_in f k.cells ≡ 0 = ap (sum_in f) empty in
+      let sum : sum_of f (ks ++ k ∷ []) ≡ sum_of f ks = sum_of-append ks (k ∷ []) ∙ omega arith in
+      rw sum e
+
+  pub sum_merged : (ls rs ks : List Content) (a b n m : ℕ) → a ≡ counted (sum_of f ls) → b ≡ counted (sum_of f rs) → n ≡ counted (sum_of f ks) → m ≡ counted (n + counted (a + b)) → m ≡ counted (sum_of f (ls ++ (rs ++ ks)))
+  sum_merged ls rs ks a b n m left right own w =
+      let all : sum_of f (ls ++ (rs ++ ks)) ≡ sum_of f ls + (sum_of f rs + sum_of f ks) = rw (sum_of-append ls (rs ++ ks), sum_of-append rs ks) refl in
+      rw all (w ∙ rw (own, left, right) (three (sum_of f ls) (sum_of f rs) (sum_of f ks)))
+    where
+      three : (x y z : ℕ) → counted (counted z + counted (counted x + counted y)) ≡ counted (x + (y + z))
+      three x y z = omega arith
+
+  pub sum_more : (ks : List Content) (i : ℕ) (k : Content) → i < length ks → k ≡ get_or ks i k → (n m : ℕ) → n ≡ counted (sum_of f (take i ks)) → m ≡ counted (n + sum_in f k.cells) → m ≡ counted (sum_of f (take (i + 1) ks))
+  sum_more ks i k l read n m e w =
+      let more = take_more ks i k l in
+      let all : sum_of f (take (i + 1) ks) ≡ sum_of f (take i ks) + sum_in f k.cells = rw (more, ← read, sum_of-append (take i ks) (k ∷ [])) (omega arith) in
+      w ∙ rw (all, e) (saturates (sum_of f (take i ks)) (sum_in f k.cells))
+    where
+      saturates : (a b : ℕ) → counted (counted a + b) ≡ counted (a + b)
+      saturates a b = omega arith
 
 -- ---- where chunks stand
 
@@ -88,6 +166,38 @@ module _ (ks : List Content) (i : ℕ) (k : Content) (size : k.size ≡ (chunk_a
       apart (x ∷ xs) (suc a) zero n g = g
       apart (x ∷ xs) (suc a) (suc b) n g = apart xs a b (λ e. n (ap suc e)) g
 
+-- ---- words inside their chunks
+
+module _ (k : Content) (at : ℕ) (d : Cell) (s : size_of d ≡ size_of (cell_at k.cells at)) where
+  within_put : (ks : List Content) (i : ℕ) → k ≡ get_or ks i k → i < length ks → AreWithin ks → AreWithin (set ks i (with_cell k at d))
+  within_put ks i read l h =
+      let here : words_in k.cells ≤ k.size = subst (λ (x : Content). words_in x.cells ≤ x.size) (sym read) (All-get_or (λ (x : Content). words_in x.cells ≤ x.size) ks i k l h) in
+      let same = place.words_in-put k.cells at d s in
+      All-set (λ (x : Content). words_in x.cells ≤ x.size) ks i (with_cell k at d) (rw same here) h
+
+-- at which place a chunk is found
+pub place_found : (ks : List Content) (n i : ℕ) → place_in ks n ≡ Some i → (i ≡ place_of ks n) × (i < length ks)
+place_found ks n i e =
+    ⊎_elim
+    (λ (l : place_of ks n < length ks). let f : Some (place_of ks n) ≡ Some i = rw (lt-ltb (place_of ks n) (length ks) l) at e in let g : place_of ks n ≡ i = cc in (sym g, rw (← g) l))
+    (λ (l : length ks ≤ place_of ks n). let f = rw (le-ltb (place_of ks n) (length ks) l) at e in absurd (cc))
+    (cases_lt (place_of ks n) (length ks))
+
+pub place_there : (ks : List Content) (n : ℕ) → place_of ks n < length ks → place_in ks n ≡ Some (place_of ks n)
+place_there ks n l = rw (lt-ltb (place_of ks n) (length ks) l) refl
+
+-- what lies at an address, in the chunk that is found
+pub found_cell : (ks : List Content) (a : Addr) (o : Option (Bor Content)) → option_copied o ≡ option_map (λ i. chunk_at ks i) (place_in ks a.chunk) → IfSome o (λ k. cell_at k.now.cells a.offset ≡ cell_of ks a)
+found_cell ks a None e = tt
+found_cell ks a (Some k) e =
+    ⊎_elim
+    (λ (l : place_of ks a.chunk < length ks).
+    let f : Some k.now ≡ Some (chunk_at ks (place_of ks a.chunk)) = rw (lt-ltb (place_of ks a.chunk) (length ks) l) at e in
+    let g : k.now ≡ chunk_at ks (place_of ks a.chunk) = cc in
+    ap (λ (x : Content). cell_at x.cells a.offset) g ∙ sym (chunks.cell_of-found ks a no_chunk l))
+    (λ (l : length ks ≤ place_of ks a.chunk). let f : Some k.now ≡ None = rw (le-ltb (place_of ks a.chunk) (length ks) l) at e in absurd (cc))
+    (cases_lt (place_of ks a.chunk) (length ks))
+
 -- ---- a cell of the heap's own is written
 
 empty_put : (cs : List Cell) (at : ℕ) (d : Cell) → cs ≡ [] → put_cell cs at d ≡ []
@@ -111,12 +221,12 @@ module _ (ks : List Content) (a : Addr) (i : ℕ) (k : Content) (o : IsObject (c
       let l = chunks.chunk_of_object ks a o in
       chunks.put_object-found ks a d k l ∙ ap (λ (n : ℕ). set ks n (with_cell (get_or ks n k) a.offset d)) (sym found) ∙ ap (λ (x : Content). set ks i (with_cell x a.offset d)) (sym read)
 
-  pub own_kept : (filled kept : Option ℕ) (count : ℕ) (place : ℕ → Option ℕ) (entries : ℕ) → IsKept ks filled kept count place entries →
-      (d : Cell) → held_size d.mark (size_of d) ≡ held_size (cell_at k.cells a.offset).mark (size_of (cell_at k.cells a.offset)) →
-      IsKept (set ks i (with_cell k a.offset d)) filled kept count place entries
-  own_kept filled kept count place entries h d s =
+  pub own_kept : (filled kept : Option ℕ) (count many part base : ℕ) (place : ℕ → Option ℕ) (entries : ℕ) → IsKept ks filled kept count many part base place entries →
+      (d : Cell) → ((n : ℕ) → held_size d.mark n ≡ held_size (cell_at k.cells a.offset).mark n) → size_of d ≡ size_of (cell_at k.cells a.offset) →
+      IsKept (set ks i (with_cell k a.offset d)) filled kept count many part base place entries
+  own_kept filled kept count many part base place entries h d s z =
       let r = own_read no_chunk in
-      let held = held_in-put k.cells a.offset d s in
+      let held = held_in-put k.cells a.offset d (s (size_of d) ∙ ap (held_size (cell_at k.cells a.offset).mark) z) in
       let sum = held_words-set ks i (with_cell k a.offset d) k own_in in
       let same : held_in (get_or ks i k).cells ≡ held_in k.cells = ap (λ (x : Content). held_in x.cells) (sym read) in
       let words : held_words (set ks i (with_cell k a.offset d)) ≡ held_words ks = omega arith in
@@ -125,8 +235,13 @@ module _ (ks : List Content) (a : Addr) (i : ℕ) (k : Content) (o : IsObject (c
         reserved =
             IsReserved-set ks i (with_cell k a.offset d) (ap (λ (x : Content). x.size) r)
             (λ e. empty_put k.cells a.offset d (ap (λ (x : Content). x.cells) r ∙ e)) kept h.reserved;
+        within = within_put k a.offset d z ks i read own_in h.within;
         words = rw words h.words;
-        table = λ n. h.table n ∙ sym (place_in-set ks i (with_cell k a.offset d) k (ap (λ (x : Content). x.number) read) n);
+        objects = sum_kept one_each ks i k read own_in a.offset d s z many h.objects;
+        small = sum_kept small_part ks i k read own_in a.offset d s z part h.small;
+        least = h.least;
+        moved = rw length-set h.moved;
+        table = λ n. h.table n ∙ ap (option_map (λ j. base - j)) (sym (place_in-set ks i (with_cell k a.offset d) k (ap (λ (x : Content). x.number) read) n));
         each = rw length-set h.each;
       }
 
@@ -166,7 +281,7 @@ module _ (h : Heap) (w i : ℕ) (fits : place_for h w ≡ Some i) where
   fits_large l = large_cases h.reserved (rw (lt-leb w 1024 l) at fits)
 
 -- the chunk into which an object goes is in the list, and has room for it
-module _ (h : Heap) (count : ℕ) (place : ℕ → Option ℕ) (entries : ℕ) (keeps : IsKept h.chunks h.current h.reserved count place entries) where
+module _ (h : Heap) (count many part base : ℕ) (place : ℕ → Option ℕ) (entries : ℕ) (keeps : IsKept h.chunks h.current h.reserved count many part base place entries) where
   pub current_in : (i : ℕ) → h.current ≡ Some i → (i < length h.chunks) × ((chunk_at h.chunks i).size ≡ 1024)
   current_in i e = rw e at keeps.current
 
@@ -193,15 +308,16 @@ module _ (h : Heap) (count : ℕ) (place : ℕ → Option ℕ) (entries : ℕ) (
         (cases_lt 1024 w)
 
   -- what is kept, once the object is placed
-  module _ (i : ℕ) (k : Content) (read : k ≡ get_or h.chunks i k) (c : Cell) (held : held_size c.mark (size_of c) ≡ size_of c) (fits : place_for h (size_of c) ≡ Some i) where
+  module _ (i : ℕ) (k : Content) (read : k ≡ get_or h.chunks i k) (c : Cell) (held : (n : ℕ) → held_size c.mark n ≡ n) (fits : place_for h (size_of c) ≡ Some i) where
     pub placed_kept : (r : Option ℕ) → (size_of c ≤ 1024 → r ≡ h.reserved) → (1024 < size_of c → r ≡ None) →
-        (n : ℕ) → n ≡ counted (count + size_of c) →
-        IsKept (set h.chunks i (record k { cells = k.cells ++ c ∷ [] })) h.current r n place entries
-    placed_kept r small large n e =
+        (n m p : ℕ) → n ≡ counted (count + size_of c) → m ≡ counted (many + 1) → p ≡ counted (part + small_part (size_of c)) →
+        IsKept (set h.chunks i (record k { cells = k.cells ++ c ∷ [] })) h.current r n m p base place entries
+    placed_kept r small large n m p e em ep =
         let in' = fits_in (size_of c) i fits (omega arith) in
         let r' = get_or_read h.chunks i k in' read no_chunk in
         let new : Content = record k { cells = k.cells ++ c ∷ [] } in
         let push = held_in-push k.cells c in
+        let size = held (size_of c) in
         let sum = held_words-set h.chunks i (record k { cells = k.cells ++ c ∷ [] }) k in' in
         let same : held_in (get_or h.chunks i k).cells ≡ held_in k.cells = ap (λ (x : Content). held_in x.cells) (sym read) in
         let words : held_words (set h.chunks i (record k { cells = k.cells ++ c ∷ [] })) ≡ held_words h.chunks + size_of c = omega arith in
@@ -220,8 +336,17 @@ module _ (h : Heap) (count : ℕ) (place : ℕ → Option ℕ) (entries : ℕ) (
               omega arith)
               keeps.reserved))
               (cases_lt 1024 (size_of c));
+          within =
+              let room = fits_room (size_of c) i fits (omega arith) in
+              let same = words_in-push k.cells c in
+              let here : words_in k.cells + size_of c ≤ k.size = rw (← r') at room in
+              All-set (λ (x : Content). words_in x.cells ≤ x.size) h.chunks i (record k { cells = k.cells ++ c ∷ [] }) (rw same here) keeps.within;
           words = e ∙ rw (words, was) (saturates (held_words h.chunks) (size_of c));
-          table = λ q. keeps.table q ∙ sym (place_in-set h.chunks i (record k { cells = k.cells ++ c ∷ [] }) k (ap (λ (x : Content). x.number) read) q);
+          objects = sum_placed one_each h.chunks i k read in' c held many m keeps.objects em;
+          small = sum_placed small_part h.chunks i k read in' c held part p keeps.small ep;
+          least = keeps.least;
+          moved = rw length-set keeps.moved;
+          table = λ q. keeps.table q ∙ ap (option_map (λ j. base - j)) (sym (place_in-set h.chunks i (record k { cells = k.cells ++ c ∷ [] }) k (ap (λ (x : Content). x.number) read) q));
           each = rw length-set keeps.each;
         }
       where
@@ -300,25 +425,48 @@ module _ (ks : List Content) (k : Content) (empty : k.cells ≡ []) where
       let sum : held_words (ks ++ k ∷ []) ≡ held_words ks = held_words-append ks (k ∷ []) ∙ omega arith in
       rw sum e
 
-  module _ (filled kept : Option ℕ) (count : ℕ) (place new : ℕ → Option ℕ) (entries : ℕ) (keeps : IsKept ks filled kept count place entries) (fresh : IsFresh ks k.number)
-      (writes : (q : ℕ) → new q ≡ cond (eqb k.number q) (Some (length ks)) (place q)) where
-    table_push : (q : ℕ) → new q ≡ place_in (ks ++ k ∷ []) q
-    table_push q = writes q ∙ ap (λ (o : Option ℕ). cond (eqb k.number q) (Some (length ks)) o) (keeps.table q) ∙ sym (place_in-push ks k fresh q)
+  within_push : AreWithin ks → AreWithin (ks ++ k ∷ [])
+  within_push h = All-push (λ (x : Content). words_in x.cells ≤ x.size) ks k h (subst (λ (cs : List Cell). words_in cs ≤ k.size) (sym empty) (omega arith))
 
-    pub small_added : k.size ≡ 1024 → IsKept (ks ++ k ∷ []) (Some (length ks)) kept count new (entries + 1)
+  module _ (filled kept : Option ℕ) (count many part base : ℕ) (place new : ℕ → Option ℕ) (entries : ℕ) (keeps : IsKept ks filled kept count many part base place entries) (fresh : IsFresh ks k.number)
+      (writes : (q : ℕ) → new q ≡ cond (eqb k.number q) (Some (base - length ks)) (place q)) where
+    table_push : (q : ℕ) → new q ≡ option_map (λ j. base - j) (place_in (ks ++ k ∷ []) q)
+    table_push q =
+        writes q
+        ∙ ap (λ (o : Option ℕ). cond (eqb k.number q) (Some (base - length ks)) o) (keeps.table q)
+        ∙ (either (eqb k.number q) (length ks) (place_in ks q) ∙ ap (option_map (λ j. base - j)) (sym (place_in-push ks k fresh q)))
+      where
+        either : (b : Bool) (n : ℕ) (o : Option ℕ) → cond b (Some (base - n)) (option_map (λ j. base - j) o) ≡ option_map (λ j. base - j) (cond b (Some n) o)
+        either true n o = refl
+        either false n o = refl
+
+    moved_push : base ≤ 2 ^ 63 + length (ks ++ k ∷ [])
+    moved_push = let m = keeps.moved in simp length-append (omega arith)
+
+    pub small_added : k.size ≡ 1024 → IsKept (ks ++ k ∷ []) (Some (length ks)) kept count many part base new (entries + 1)
     small_added s = record {
       current = (simp length-append (omega arith), rw at_last s);
       reserved = IsReserved-push kept keeps.reserved;
+      within = within_push keeps.within;
       words = pushed_words count keeps.words;
+      objects = sum_pushed one_each ks k empty many keeps.objects;
+      small = sum_pushed small_part ks k empty part keeps.small;
+      least = keeps.least;
+      moved = moved_push;
       table = table_push;
       each = let e = keeps.each in simp length-append (omega arith);
     }
 
-    pub large_added : 1024 < k.size → IsKept (ks ++ k ∷ []) filled (Some (length ks)) count new (entries + 1)
+    pub large_added : 1024 < k.size → IsKept (ks ++ k ∷ []) filled (Some (length ks)) count many part base new (entries + 1)
     large_added s = record {
       current = IsCurrent-push filled keeps.current;
       reserved = (simp length-append (omega arith), rw at_last (s, empty));
+      within = within_push keeps.within;
       words = pushed_words count keeps.words;
+      objects = sum_pushed one_each ks k empty many keeps.objects;
+      small = sum_pushed small_part ks k empty part keeps.small;
+      least = keeps.least;
+      moved = moved_push;
       table = table_push;
       each = let e = keeps.each in simp length-append (omega arith);
     }
@@ -378,6 +526,109 @@ held_more ks i k l read =
     let more = take_more ks i k l in
     rw (more, ← read, held_words-append (take i ks) (k ∷ [])) (omega arith)
 
+-- a chunk stands in front, or behind the others
+place_of-front : (xs ks : List Content) (n : ℕ) → place_of xs n < length xs → place_of (xs ++ ks) n ≡ place_of xs n
+place_of-front [] ks n l = absurd (omega arith)
+place_of-front (x ∷ xs) ks n l =
+    ⊎_elim
+    (λ (e : eqb x.number n ≡ true). rw e)
+    (λ (e : eqb x.number n ≡ false). let m = rw e at l in rw (e, place_of-front xs ks n (omega arith)))
+    (cases_Bool (eqb x.number n))
+
+place_of-behind : (xs ks : List Content) (n : ℕ) → length xs ≤ place_of xs n → place_of (xs ++ ks) n ≡ length xs + place_of ks n
+place_of-behind [] ks n l = omega arith
+place_of-behind (x ∷ xs) ks n l =
+    ⊎_elim
+    (λ (e : eqb x.number n ≡ true). let m = rw e at l in absurd (omega arith))
+    (λ (e : eqb x.number n ≡ false). let m = rw e at l in let ih = place_of-behind xs ks n (omega arith) in rw (e, ih) (omega arith))
+    (cases_Bool (eqb x.number n))
+
+-- entries stay where chunks come before theirs, and with them the base grows
+pub table_front : (xs ks : List Content) (base : ℕ) (place new : ℕ → Option ℕ) → ((q : ℕ) → place q ≡ option_map (λ j. base - j) (place_in ks q)) →
+    ((q : ℕ) → new q ≡ option_or (option_map (λ j. base + length xs - j) (place_in xs q)) (place q)) →
+    (q : ℕ) → new q ≡ option_map (λ j. base + length xs - j) (place_in (xs ++ ks) q)
+table_front xs ks base place new was adds q =
+    let len : length (xs ++ ks) ≡ length xs + length ks = simp length-append refl in
+    ⊎_elim
+    (λ (l : place_of xs q < length xs).
+    let there : place_in xs q ≡ Some (place_of xs q) = place_there xs q l in
+    let all : place_in (xs ++ ks) q ≡ Some (place_of xs q) = rw (len, place_of-front xs ks q l, lt-ltb (place_of xs q) (length xs + length ks) (omega arith)) refl in
+    adds q ∙ rw (there, all) refl)
+    (λ (l : length xs ≤ place_of xs q).
+    let none : place_in xs q ≡ None = rw (le-ltb (place_of xs q) (length xs) l) refl in
+    adds q ∙ (ap (λ (o : Option ℕ). option_or (option_map (λ j. base + length xs - j) o) (place q)) none ∙ (was q ∙
+    ⊎_elim
+    (λ (m : place_of ks q < length ks).
+    let there : place_in ks q ≡ Some (place_of ks q) = place_there ks q m in
+    let all : place_in (xs ++ ks) q ≡ Some (length xs + place_of ks q) = rw (len, place_of-behind xs ks q l, lt-ltb (length xs + place_of ks q) (length xs + length ks) (omega arith)) refl in
+    let same : base - place_of ks q ≡ base + length xs - (length xs + place_of ks q) = omega arith in
+    rw (there, all) (ap Some same))
+    (λ (m : length ks ≤ place_of ks q).
+    let there : place_in ks q ≡ None = rw (le-ltb (place_of ks q) (length ks) m) refl in
+    let all : place_in (xs ++ ks) q ≡ None = rw (len, place_of-behind xs ks q l, le-ltb (length xs + place_of ks q) (length xs + length ks) (omega arith)) refl in
+    rw (there, all) refl)
+    (cases_lt (place_of ks q) (length ks)))))
+    (cases_lt (place_of xs q) (length xs))
+
+-- one entry more
+pub entry_more : (xs : List Content) (k : Content) → IsFresh xs k.number → (base i : ℕ) → length xs ≡ i → (q : ℕ) (old was new : Option ℕ) →
+    new ≡ cond (eqb k.number q) (Some (base - i)) was → was ≡ option_or (option_map (λ j. base - j) (place_in xs q)) old →
+    new ≡ option_or (option_map (λ j. base - j) (place_in (xs ++ k ∷ []) q)) old
+entry_more xs k fresh base i len q old was new writes before =
+    writes
+    ∙ (ap (λ (o : Option ℕ). cond (eqb k.number q) (Some (base - i)) o) before
+    ∙ (either (eqb k.number q) i (place_in xs q)
+    ∙ (ap (λ (n : ℕ). option_or (option_map (λ j. base - j) (cond (eqb k.number q) (Some n) (place_in xs q))) old) (sym len)
+    ∙ ap (λ (o : Option ℕ). option_or (option_map (λ j. base - j) o) old) (sym (place_in-push xs k fresh q)))))
+  where
+    either : (b : Bool) (n : ℕ) (o : Option ℕ) → cond b (Some (base - n)) (option_or (option_map (λ j. base - j) o) old) ≡ option_or (option_map (λ j. base - j) (cond b (Some n) o)) old
+    either true n o = refl
+    either false n o = refl
+
+-- chunks that are apart are so in each part of the list
+fresh_front : (xs ks : List Content) (n : ℕ) → IsFresh (xs ++ ks) n → IsFresh xs n
+fresh_front [] ks n h = refl
+fresh_front (x ∷ xs) ks n h = fresh_cons x xs n (fresh_head x (xs ++ ks) n h) (fresh_front xs ks n (fresh_tail x (xs ++ ks) n h))
+
+fresh_behind : (xs ks : List Content) (n : ℕ) → IsFresh (xs ++ ks) n → IsFresh ks n
+fresh_behind [] ks n h = h
+fresh_behind (x ∷ xs) ks n h = fresh_behind xs ks n (fresh_tail x (xs ++ ks) n h)
+
+pub apart_front : (xs ks : List Content) → AreApart (xs ++ ks) → AreApart xs
+apart_front [] ks h = tt
+apart_front (x ∷ xs) ks h = (fresh_front xs ks x.number h.0, apart_front xs ks h.1)
+
+pub apart_behind : (xs ks : List Content) → AreApart (xs ++ ks) → AreApart ks
+apart_behind [] ks h = h
+apart_behind (x ∷ xs) ks h = apart_behind xs ks h.1
+
+pub apart_across : (xs ks : List Content) → AreApart (xs ++ ks) → (i : ℕ) → i < length xs → IsFresh ks (chunk_at xs i).number
+apart_across [] ks h i l = absurd (omega arith)
+apart_across (x ∷ xs) ks h zero l = fresh_behind xs ks x.number h.0
+apart_across (x ∷ xs) ks h (suc i) l = apart_across xs ks h.1 i (omega arith)
+
+-- no entry has the number of a chunk that is fresh
+pub none_kept : (ks : List Content) (base n : ℕ) (o : Option ℕ) → o ≡ option_map (λ j. base - j) (place_in ks n) → IsFresh ks n → o ≡ None
+none_kept ks base n o e f = e ∙ rw f refl
+
+-- what an entry tells
+pub entry_place : (ks : List Content) (base n before : ℕ) → length ks ≤ base → Some before ≡ option_map (λ j. base - j) (place_in ks n) → place_of ks n < length ks → base - before ≡ place_of ks n
+entry_place ks base n before l e there =
+    let f : Some before ≡ Some (base - place_of ks n) = rw (place_there ks n there) at e in
+    let g : before ≡ base - place_of ks n = cc in
+    omega arith
+
+pub found_place : (ks : List Content) (base n : ℕ) → length ks ≤ base → (before : ℕ) → Some before ≡ option_map (λ j. base - j) (place_in ks n) → (before ≤ base) × (Some (base - before) ≡ place_in ks n)
+found_place ks base n l before e =
+    ⊎_elim
+    (λ (there : place_of ks n < length ks).
+    let f : Some before ≡ Some (base - place_of ks n) = rw (place_there ks n there) at e in
+    let g : before ≡ base - place_of ks n = cc in
+    let same : base - before ≡ place_of ks n = omega arith in
+    (omega arith, ap Some same ∙ sym (place_there ks n there)))
+    (λ (gone : length ks ≤ place_of ks n). let f : Some before ≡ None = rw (le-ltb (place_of ks n) (length ks) gone) at e in absurd (cc))
+    (cases_lt (place_of ks n) (length ks))
+
 module _ (xs ks : List Content) where
   at_behind : (i : ℕ) → chunk_at (xs ++ ks) (i + length xs) ≡ chunk_at ks i
   at_behind i =
@@ -392,8 +643,8 @@ module _ (xs ks : List Content) where
   IsReserved-behind b e None h = h
   IsReserved-behind b e (Some i) h = rw e (simp length-append (let l : i < length ks = h.0 in omega arith), rw (at_behind i) h.1)
 
-module _ (ls rs ks : List Content) (filled kept : Option ℕ) (a b n : ℕ) (place : ℕ → Option ℕ) (entries : ℕ) (keeps : IsKept ks filled kept n place entries)
-    (left : a ≡ counted (held_words ls)) (right : b ≡ counted (held_words rs)) where
+module _ (ls rs ks : List Content) (filled kept : Option ℕ) (a b n many part base : ℕ) (place : ℕ → Option ℕ) (entries : ℕ) (keeps : IsKept ks filled kept n many part base place entries)
+    (left : a ≡ counted (held_words ls)) (right : b ≡ counted (held_words rs)) (left_within : AreWithin ls) (right_within : AreWithin rs) where
   together : ls ++ (rs ++ ks) ≡ (ls ++ rs) ++ ks
   together = sym (append_assoc ls rs ks)
 
@@ -403,15 +654,27 @@ module _ (ls rs ks : List Content) (filled kept : Option ℕ) (a b n : ℕ) (pla
   sum_of_three : (x y z : ℕ) → counted (counted z + counted (counted x + counted y)) ≡ counted (x + (y + z))
   sum_of_three x y z = omega arith
 
-  pub merged_kept : (new : ℕ → Option ℕ) (m count : ℕ) → ((q : ℕ) → new q ≡ place_in (ls ++ (rs ++ ks)) q) → m ≡ length (ls ++ (rs ++ ks)) → count ≡ counted (n + counted (a + b)) →
-      IsKept (ls ++ (rs ++ ks)) (option_map (λ i. i + (length ls + length rs)) filled) (option_map (λ i. i + (length ls + length rs)) kept) count new m
-  merged_kept new m count table each words = record {
+  pub merged_kept : (half new : ℕ → Option ℕ) (m count top : ℕ) → top ≡ base + length rs + length ls →
+      ((q : ℕ) → half q ≡ option_or (option_map (λ j. base + length rs - j) (place_in rs q)) (place q)) →
+      ((q : ℕ) → new q ≡ option_or (option_map (λ j. base + length rs + length ls - j) (place_in ls q)) (half q)) →
+      m ≡ entries + length rs + length ls → count ≡ counted (n + counted (a + b)) →
+      (o p : ℕ) → o ≡ counted (object_count (ls ++ (rs ++ ks))) → p ≡ counted (small_words (ls ++ (rs ++ ks))) →
+      IsKept (ls ++ (rs ++ ks)) (option_map (λ i. i + (length ls + length rs)) filled) (option_map (λ i. i + (length ls + length rs)) kept) count o p top new m
+  merged_kept half new m count top sum first second each words o p objects small = record {
     current = rw together (IsCurrent-behind (ls ++ rs) ks (length ls + length rs) lengths filled keeps.current);
     reserved = rw together (IsReserved-behind (ls ++ rs) ks (length ls + length rs) lengths kept keeps.reserved);
+    within = All-append (λ (x : Content). words_in x.cells ≤ x.size) ls (rs ++ ks) left_within (All-append (λ (x : Content). words_in x.cells ≤ x.size) rs ks right_within keeps.within);
     words =
         let held : held_words (ls ++ (rs ++ ks)) ≡ held_words ls + (held_words rs + held_words ks) = rw (held_words-append ls (rs ++ ks), held_words-append rs ks) refl in
         let w = keeps.words in
         rw held (words ∙ rw (w, left, right) (sum_of_three (held_words ls) (held_words rs) (held_words ks)));
-    table = table;
-    each = each;
+    objects = objects;
+    small = small;
+    least = let l = keeps.least in omega arith;
+    moved = let m = keeps.moved in simp length-append (omega arith);
+    table = λ q.
+        let t = table_front rs ks base place half keeps.table first in
+        let u = table_front ls (rs ++ ks) (base + length rs) half new t second in
+        rw sum (u q);
+    each = let e = keeps.each in simp length-append (omega arith);
   }

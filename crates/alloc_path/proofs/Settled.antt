@@ -138,16 +138,16 @@ size_within : (cs : List Cell) (n : ℕ) → words_in cs ≤ n → All (λ (c : 
 size_within [] n l = All-nil (λ (c : Cell). size_of c ≤ n)
 size_within (c ∷ cs) n l = All-cons (λ (d : Cell). size_of d ≤ n) c cs (omega arith) (size_within cs n (omega arith))
 
-module _ (h : Heap) (count : ℕ) (place : ℕ → Option ℕ) (entries : ℕ) (keeps : IsKept h.chunks h.current h.reserved count place entries) (i : ℕ) (c : Cell)
+module _ (h : Heap) (count many part base : ℕ) (place : ℕ → Option ℕ) (entries : ℕ) (keeps : IsKept h.chunks h.current h.reserved count many part base place entries) (i : ℕ) (c : Cell)
     (fits : place_for h (size_of c) ≡ Some i) (unmoved : moved_to c.mark ≡ None) where
   some : 0 < size_of c
   some = omega arith
 
   inside : i < length h.chunks
-  inside = heap.fits_in h count place entries keeps (size_of c) i fits some
+  inside = heap.fits_in h count many part base place entries keeps (size_of c) i fits some
 
   room : words_in (chunk_at h.chunks i).cells + size_of c ≤ (chunk_at h.chunks i).size
-  room = heap.fits_room h count place entries keeps (size_of c) i fits some
+  room = heap.fits_room h count many part base place entries keeps (size_of c) i fits some
 
   abbrev Alone : Cell → Type 0
   Alone d = 1024 < size_of d → length ((chunk_at h.chunks i).cells ++ c ∷ []) ≡ 1
@@ -160,11 +160,11 @@ module _ (h : Heap) (count : ℕ) (place : ℕ → Option ℕ) (entries : ℕ) (
   all_alone =
       elim (cases_lt 1024 (size_of c)) [
         | inl l ↦
-            let none : (chunk_at h.chunks i).cells ≡ [] = (heap.reserved_in h count place entries keeps i (heap.fits_large h (size_of c) i fits l).0).1.1 in
+            let none : (chunk_at h.chunks i).cells ≡ [] = (heap.reserved_in h count many part base place entries keeps i (heap.fits_large h (size_of c) i fits l).0).1.1 in
             let one : length ((chunk_at h.chunks i).cells ++ c ∷ []) ≡ 1 = ap (λ (cs : List Cell). length (cs ++ c ∷ [])) none in
             All-push Alone (chunk_at h.chunks i).cells c (subst (λ (cs : List Cell). All Alone cs) (sym none) (All-nil Alone)) (λ b. one)
         | inr l ↦
-            let size : (chunk_at h.chunks i).size ≡ 1024 = (heap.current_in h count place entries keeps i (heap.fits_small h (size_of c) i fits l).0).1 in
+            let size : (chunk_at h.chunks i).size ≡ 1024 = (heap.current_in h count many part base place entries keeps i (heap.fits_small h (size_of c) i fits l).0).1 in
             let r : words_in (chunk_at h.chunks i).cells + size_of c ≤ (chunk_at h.chunks i).size = room in
             All-push Alone (chunk_at h.chunks i).cells c (small_alone (chunk_at h.chunks i).cells (size_within (chunk_at h.chunks i).cells 1024 (omega arith))) (λ b. absurd (omega arith))
       ]

@@ -1,9 +1,9 @@
 -- A task's own heap, as callers see it.
-use Rattle.std.specs.Prelude.{◌≡◌, All, ℕ, ◌+◌, ◌-◌, ◌*◌, ◌/◌, ◌^◌, ◌<◌, List, [], ◌∷◌, ◌++◌, ◌==◌, if◌then◌else◌, Option, Some, None, length, min, nat_le, option_map}
+use Rattle.std.specs.Prelude.{◌≡◌, All, ℕ, ◌+◌, ◌-◌, ◌*◌, ◌/◌, ◌^◌, ◌<◌, ◌≤◌, List, [], ◌∷◌, ◌++◌, ◌==◌, if◌then◌else◌, Option, Some, None, length, min, nat_le, option_map}
 use Rattle.object_layout.specs.Cell.{Cell, moved_to, size_of}
 use Rattle.object_layout.specs.Content.{Content}
 use Rattle.object_layout.specs.Place.{words_in}
-use Rattle.object_layout.specs.Chunks.{chunk_at, held_words, place_in, push_object}
+use Rattle.object_layout.specs.Chunks.{chunk_at, held_words, object_count, place_in, push_object, small_words}
 
 -- its chunks in the order in which they came; at which place the small chunk stands that is being
 -- filled, and at which the chunk that is reserved for a large object; the words that were placed
@@ -101,12 +101,22 @@ abbrev pub IsReserved : List Content → Option ℕ → Type 0
 IsReserved ks None = Unit {0}
 IsReserved ks (Some i) = (i < length ks) × ((1024 < (chunk_at ks i).size) × ((chunk_at ks i).cells ≡ []))
 
--- the table has each chunk's place and nothing else, and the count of words is that of the objects
-pub record IsKept (chunks : List Content) (filled kept : Option ℕ) (count : ℕ) (place : ℕ → Option ℕ) (entries : ℕ) : Type 0 where
+-- all words of these chunks lie inside them
+abbrev pub AreWithin : List Content → Type 0
+AreWithin ks = All (λ k. words_in k.cells ≤ k.size) ks
+
+-- the table has how far each chunk stands before a base, and nothing else, all words lie inside their chunks, and the counts are those of the words, of the objects, and
+-- of the words of small objects
+pub record IsKept (chunks : List Content) (filled kept : Option ℕ) (count many part base : ℕ) (place : ℕ → Option ℕ) (entries : ℕ) : Type 0 where
   pub current : IsCurrent chunks filled
   pub reserved : IsReserved chunks kept
+  pub within : AreWithin chunks
   pub words : count ≡ counted (held_words chunks)
-  pub table : (number : ℕ) → place number ≡ place_in chunks number
+  pub objects : many ≡ counted (object_count chunks)
+  pub small : part ≡ counted (small_words chunks)
+  pub least : 2 ^ 63 ≤ base
+  pub moved : base ≤ 2 ^ 63 + length chunks
+  pub table : (number : ℕ) → place number ≡ option_map (λ i. base - i) (place_in chunks number)
   pub each : entries ≡ length chunks
 
 -- ---- what a heap keeps between collections

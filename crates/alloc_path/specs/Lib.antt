@@ -1,3 +1,4 @@
 pub mod Heap
 pub mod Units
 pub mod FieldLaws
+pub mod PlaceLaws

@@ -1,12 +1,14 @@
 // A heap's chunks taken out and put in as a whole: for collections and joins.
 
 ghost use Rattle.std.specs.Prelude.{◌≡◌, ℕ, ◌+◌, ◌-◌, ◌^◌, ◌<◌, ◌≤◌, [], ◌++◌, IfSome, None, length, nat_eq, option_map, vec_capacity, vec_len};
+ghost use Rattle.std.specs.Option.{option_or};
 ghost use Rattle.std.specs.HashMap.{get, hash_map_len, spare};
-ghost use Rattle.object_layout.specs.Chunks.{held_in, held_words, place_in};
-ghost use Rattle.alloc_path.specs.Heap.{counted, exchanged, merged, with_places, AreApart, IsCurrent, IsReserved};
+ghost use Rattle.object_layout.specs.Chunks.{chunk_at, place_in};
+ghost use Rattle.alloc_path.specs.Heap.{exchanged, merged, with_places, AreApart, IsCurrent, IsReserved};
 
-use super::space::Space;
-use object_layout::{Chunk, is_object_at, next_at};
+use super::counts::counts_of;
+use super::space::{BASE, Space};
+use object_layout::Chunk;
 use std::collections::HashMap;
 use std::mem;
 
@@ -20,7 +22,10 @@ impl Space {
         self.current = None;
         self.reserved = None;
         self.words = 0;
+        self.objects = 0;
+        self.small = 0;
         self.table.clear();
+        self.base = BASE;
         let none = Vec::new(*self.chunks.allocator());
         mem::replace(&mut self.chunks, none)
     }
@@ -40,15 +45,20 @@ impl Space {
         ensures put { self.new ≡ with_places (exchanged self.old chunks.items current reserved) self.new.slots self.new.spare }
         ensures spare { self.old.spare ≤ self.new.spare + length chunks.items }
     {
-        self.words = words_of(&chunks);
-        index_chunks(&mut self.table, &chunks);
+        let counts = counts_of(&chunks);
+        self.words = counts.words;
+        self.objects = counts.objects;
+        self.small = counts.small;
+        self.table.clear();
+        self.base = BASE;
+        index_chunks(&mut self.table, &chunks, BASE);
         self.chunks = chunks;
         self.current = current;
         self.reserved = reserved;
     }
 
     /// Puts the chunks of two other heaps before its own, and goes on filling its own chunk. It
-    /// takes no memory.
+    /// takes no memory, and looks at the chunks of the others alone.
     pub fn merge(&mut self, mut left: Space, mut right: Space)
         requires apart { AreApart (merged self.old left right).chunks }
         requires slots { length left.chunks + length right.chunks ≤ self.old.slots }
@@ -62,8 +72,17 @@ impl Space {
         self.words = self
             .words
             .saturating_add(left.words.saturating_add(right.words));
+        self.objects = self
+            .objects
+            .saturating_add(left.objects.saturating_add(right.objects));
+        self.small = self
+            .small
+            .saturating_add(left.small.saturating_add(right.small));
+        self.base += right.chunks.len();
+        index_chunks(&mut self.table, &right.chunks, self.base);
+        self.base += left.chunks.len();
+        index_chunks(&mut self.table, &left.chunks, self.base);
         put_before(&mut self.chunks, &mut left.chunks, &mut right.chunks);
-        index_chunks(&mut self.table, &self.chunks);
         self.current = behind(self.current, before);
         self.reserved = behind(self.reserved, before);
     }
@@ -93,44 +112,17 @@ fn behind(place: Option<usize>, before: usize) -> Option<usize>
     }
 }
 
-// Makes the table of the places of these chunks.
-fn index_chunks(table: &mut HashMap<u32, usize>, chunks: &[Chunk])
+// Adds to a table how far these chunks stand before a base.
+fn index_chunks(table: &mut HashMap<u32, usize>, chunks: &[Chunk], base: usize)
     requires apart { AreApart chunks.now }
-    requires room { length chunks.now ≤ hash_map_len table.old + spare table.old }
-    ensures places { (number : ℕ) → get nat_eq table.new number ≡ place_in chunks.now number }
-    ensures each { hash_map_len table.new ≡ length chunks.now }
-    ensures spare { hash_map_len table.old + spare table.old ≤ spare table.new + length chunks.now }
+    requires new { (i : ℕ) → i < length chunks.now → get nat_eq table.old (chunk_at chunks.now i).number ≡ None }
+    requires room { length chunks.now ≤ spare table.old }
+    requires base { length chunks.now ≤ base }
+    ensures places { (number : ℕ) → get nat_eq table.new number ≡ option_or (option_map (λ i. base - i) (place_in chunks.now number)) (get nat_eq table.old number) }
+    ensures each { hash_map_len table.new ≡ hash_map_len table.old + length chunks.now }
+    ensures spare { spare table.old ≤ spare table.new + length chunks.now }
 {
-    table.clear();
     for (i, chunk) in chunks.iter().enumerate() {
-        let _ = table.insert(chunk.number(), i);
+        let _ = table.insert(chunk.number(), base - i);
     }
-}
-
-// The words of all objects of these chunks.
-fn words_of(chunks: &[Chunk]) -> u64
-    ensures { result ≡ counted (held_words chunks.now) }
-{
-    let mut words = 0u64;
-    for chunk in chunks {
-        words = words.saturating_add(words_in_chunk(chunk) as u64);
-    }
-    words
-}
-
-// The words of all objects of a chunk.
-fn words_in_chunk(chunk: &Chunk) -> u32
-    ensures { result ≡ held_in chunk.now.cells }
-{
-    let used = chunk.used();
-    let mut at = 0;
-    let mut words = 0;
-    while at < used {
-        let next = next_at(chunk, at);
-        if is_object_at(chunk, at) {
-            words += next - at;
-        }
-        at = next;
-    }
-    words
 }

@@ -1,12 +1,13 @@
 // Reads and writes of the heap's own objects, by their addresses.
 
-ghost use Rattle.std.specs.Prelude.{◌≡◌, ◌^◌, ◌<◌, length, slice_get, is_some, Some};
+ghost use Rattle.std.specs.Prelude.{◌≡◌, ◌^◌, ◌<◌, length, option_copied, option_map, slice_get, is_some, IfSome, Some};
 ghost use Rattle.object_layout.specs.Cell.{Born, frozen, header_of, with_int, IsBorn, IsObject, IsPlace};
-ghost use Rattle.object_layout.specs.Chunks.{cell_of, object_of, place_in, put_object};
+ghost use Rattle.object_layout.specs.Place.{cell_at};
+ghost use Rattle.object_layout.specs.Chunks.{cell_of, chunk_at, object_of, place_in, put_object};
 ghost use Rattle.alloc_path.specs.FieldLaws.{with_ref_of};
 
 use super::heap::LeafHeap;
-use object_layout::{Addr, Birth, Header, Words};
+use object_layout::{Addr, Birth, Chunk, Header, Words};
 
 impl LeafHeap {
     /// Whether the address lies in a chunk of this heap.
@@ -14,6 +15,28 @@ impl LeafHeap {
         ensures { result ≡ is_some (place_in self.now.chunks object.chunk) }
     {
         self.space.owns(object)
+    }
+
+    /// At which place the chunk of a number stands; None where the heap has none.
+    pub fn place_of(&self, number: u32) -> Option<usize>
+        ensures { result ≡ place_in self.now.chunks number }
+    {
+        self.space.place_of(number)
+    }
+
+    /// The chunk of a number; None where the heap has none.
+    pub fn chunk(&self, number: u32) -> Option<&Chunk>
+        ensures { option_copied result ≡ option_map (λ i. chunk_at self.now.chunks i) (place_in self.now.chunks number) }
+    {
+        self.space.chunk(number)
+    }
+
+    /// The chunk in which an object lies, as all reads of it need it; None where that is not of this heap.
+    pub fn own_chunk(&self, object: Addr) -> Option<&Chunk>
+        ensures there { is_some result ≡ is_some (place_in self.now.chunks object.chunk) }
+        ensures cell { IfSome result (λ k. cell_at k.now.cells object.offset ≡ cell_of self.now.chunks object) }
+    {
+        self.space.own_chunk(object)
     }
 
     /// The kind of an object.
@@ -60,6 +83,16 @@ impl LeafHeap {
         self.space.own_set_ref(object, field, value);
     }
 
+    /// The same, where it is known at which place the object's chunk stands.
+    pub fn set_ref_in(&mut self, place: usize, object: Addr, field: u32, value: Option<Addr>)
+        requires place { place_in self.old.chunks object.chunk ≡ Some place }
+        requires field { field < length (object_of self.old.chunks object).refs }
+        requires value { IsPlace value }
+        ensures { self.new ≡ with_ref_of self.old object field value }
+    {
+        self.space.set_ref_in(place, object, field, value);
+    }
+
     /// Writes a number of an object.
     pub fn own_set_int(&mut self, object: Addr, field: u32, value: i64)
         requires { field < length (object_of self.old.chunks object).ints }
@@ -68,12 +101,30 @@ impl LeafHeap {
         self.space.own_set_int(object, field, value);
     }
 
+    /// The same, where it is known at which place the object's chunk stands.
+    pub fn set_int_in(&mut self, place: usize, object: Addr, field: u32, value: i64)
+        requires place { place_in self.old.chunks object.chunk ≡ Some place }
+        requires field { field < length (object_of self.old.chunks object).ints }
+        ensures { self.new ≡ record self.old { chunks = put_object self.old.chunks object (with_int (cell_of self.old.chunks object) field value) } }
+    {
+        self.space.set_int_in(place, object, field, value);
+    }
+
     /// Makes an object immutable, and changes nothing else of it.
     pub fn freeze(&mut self, object: Addr)
         requires { IsObject (cell_of self.old.chunks object).mark }
         ensures { self.new ≡ record self.old { chunks = put_object self.old.chunks object (frozen (cell_of self.old.chunks object)) } }
     {
         self.space.freeze(object);
+    }
+
+    /// The same, where it is known at which place the object's chunk stands.
+    pub fn freeze_in(&mut self, place: usize, object: Addr)
+        requires place { place_in self.old.chunks object.chunk ≡ Some place }
+        requires object { IsObject (cell_of self.old.chunks object).mark }
+        ensures { self.new ≡ record self.old { chunks = put_object self.old.chunks object (frozen (cell_of self.old.chunks object)) } }
+    {
+        self.space.freeze_in(place, object);
     }
 }
 

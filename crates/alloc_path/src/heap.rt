@@ -1,9 +1,9 @@
 // A leaf heap: the chunks of a task, between collections.
 
-ghost use Rattle.std.specs.Prelude.{◌≡◌, ◌+◌, ◌^◌, ◌<◌, ◌≤◌, [], length, option_map, OnOk, OnErr, IfErr, IsOk, None};
-ghost use Rattle.object_layout.specs.Cell.{size_of, new_cell};
-ghost use Rattle.object_layout.specs.Chunks.{chunk_at, held_words, next_address};
-ghost use Rattle.alloc_path.specs.Heap.{added, counted, exchanged, merged, placed, place_for, room_of, with_places, AreApart, IsFresh, IsReserved, IsSettled};
+ghost use Rattle.std.specs.Prelude.{◌≡◌, ◌+◌, ◌^◌, ◌<◌, ◌≤◌, [], is_some, length, All, option_map, OnOk, OnErr, IfErr, IsOk, None};
+ghost use Rattle.object_layout.specs.Cell.{filled_cell, size_of, new_cell, IsPlace};
+ghost use Rattle.object_layout.specs.Chunks.{chunk_at, held_words, next_address, object_count, small_words};
+ghost use Rattle.alloc_path.specs.Heap.{added, counted, exchanged, merged, placed, place_for, room_of, with_places, AreApart, AreWithin, IsCurrent, IsFresh, IsReserved, IsSettled};
 
 use super::space::{New, Space};
 use object_layout::{Addr, Chunk};
@@ -43,8 +43,24 @@ impl LeafHeap {
     pub fn chunks(&self) -> &[Chunk]
         ensures chunks { result.now ≡ self.now.chunks }
         ensures settled { IsSettled self.now.chunks }
+        ensures within { AreWithin self.now.chunks }
     {
-        self.space.chunks()
+        &self.space.chunks
+    }
+
+    /// At which place the small chunk stands that is being filled, if one is.
+    pub fn current(&self) -> Option<usize>
+        ensures place { result ≡ self.now.current }
+        ensures small { IsCurrent self.now.chunks result }
+    {
+        self.space.current()
+    }
+
+    /// Whether `place` would place an object of so many words.
+    pub fn has_place(&self, words: u32) -> bool
+        ensures { result ≡ is_some (place_for self.now words) }
+    {
+        self.space.has_place(words)
     }
 
     /// At which place the chunk stands that is reserved for a large object, if one is.
@@ -74,6 +90,20 @@ impl LeafHeap {
         ensures { result ≡ counted (held_words self.now.chunks) }
     {
         self.space.words()
+    }
+
+    /// How many objects are in the heap.
+    pub fn objects(&self) -> u64
+        ensures { result ≡ counted (object_count self.now.chunks) }
+    {
+        self.space.objects()
+    }
+
+    /// The words of all small objects in the heap.
+    pub fn small_words(&self) -> u64
+        ensures { result ≡ counted (small_words self.now.chunks) }
+    {
+        self.space.small_words()
     }
 
     /// Sets the count of words placed to 0.
@@ -156,6 +186,19 @@ impl LeafHeap {
         ensures placed { let object = new_cell new.header new.birth in self.new ≡ placed self.old (place_for self.old (size_of object)) object }
     {
         self.space.place(new)
+    }
+
+    /// The same, of an object with these references and numbers.
+    pub fn place_filled(&mut self, new: New, refs: &[Option<Addr>], ints: &[i64]) -> Option<Addr>
+        requires refs { new.header.nrefs ≡ length refs.now }
+        requires ints { new.header.nints ≡ length ints.now }
+        requires few_refs { new.header.nrefs < 2 ^ 20 }
+        requires few_ints { new.header.nints < 2 ^ 20 }
+        requires places { All IsPlace refs.now }
+        ensures address { let object = filled_cell new.header new.birth refs.now ints.now in result ≡ option_map (λ i. next_address (chunk_at self.old.chunks i)) (place_for self.old (size_of object)) }
+        ensures placed { let object = filled_cell new.header new.birth refs.now ints.now in self.new ≡ placed self.old (place_for self.old (size_of object)) object }
+    {
+        self.space.place_filled(new, refs, ints)
     }
 
     /// Puts the chunks of two other heaps before its own, and goes on filling its own chunk. It

@@ -1,13 +1,17 @@
 // A task's own heap: its chunks, and the objects that it places in them.
 #![tactic(auto)]
 
+mod counts;
 mod exchange;
 mod fields;
+mod filled;
 mod heap;
+mod laws;
 mod own;
 mod space;
 
 pub use heap::LeafHeap;
+pub use laws::{placed_is_read, put_where_placed};
 pub use space::{New, Space};
 
 #[cfg(test)]

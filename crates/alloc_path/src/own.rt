@@ -1,9 +1,9 @@
 // Reads and writes of the objects of a space, by their addresses.
 
-ghost use Rattle.std.specs.Prelude.{◌≡◌, ◌+◌, ◌^◌, ◌<◌, ◌≤◌, ◌++◌, ◌∷◌, [], length, slice_get, is_some, Some, None};
+ghost use Rattle.std.specs.Prelude.{◌≡◌, ◌+◌, ◌^◌, ◌<◌, ◌≤◌, ◌++◌, ◌∷◌, [], length, option_copied, option_map, slice_get, is_some, IfSome, Some, None};
 ghost use Rattle.object_layout.specs.Cell.{Born, Moved, frozen, header_of, moved_to, size_of, with_int, with_mark, IsBorn, IsObject, IsPlace};
 ghost use Rattle.object_layout.specs.Place.{cell_at, words_in};
-ghost use Rattle.object_layout.specs.Chunks.{cell_of, object_of, place_in, place_of, put_object};
+ghost use Rattle.object_layout.specs.Chunks.{cell_of, chunk_at, object_of, place_in, place_of, put_object};
 ghost use Rattle.alloc_path.specs.FieldLaws.{with_ref_of};
 
 use super::space::Space;
@@ -13,12 +13,40 @@ use object_layout::{
 };
 
 impl Space {
-    // The place of the chunk of a number.
-    fn place_of(&self, number: u32) -> usize
+    /// At which place the chunk of a number stands; None where the heap has none.
+    pub fn place_of(&self, number: u32) -> Option<usize>
+        ensures { result ≡ place_in self.now.chunks number }
+    {
+        match self.table.get(&number) {
+            None => None,
+            Some(before) => Some(self.base - *before),
+        }
+    }
+
+    /// The chunk of a number; None where the heap has none.
+    pub fn chunk(&self, number: u32) -> Option<&Chunk>
+        ensures { option_copied result ≡ option_map (λ i. chunk_at self.now.chunks i) (place_in self.now.chunks number) }
+    {
+        match self.place_of(number) {
+            None => None,
+            Some(i) => Some(&self.chunks[i]),
+        }
+    }
+
+    /// The chunk in which an object lies, as all reads of it need it; None where that is not of this heap.
+    pub fn own_chunk(&self, object: Addr) -> Option<&Chunk>
+        ensures there { is_some result ≡ is_some (place_in self.now.chunks object.chunk) }
+        ensures cell { IfSome result (λ k. cell_at k.now.cells object.offset ≡ cell_of self.now.chunks object) }
+    {
+        self.chunk(object.chunk)
+    }
+
+    // The place of the chunk of a number that the heap has.
+    fn own_place(&self, number: u32) -> usize
         requires { place_of self.now.chunks number < length self.now.chunks }
         ensures { result ≡ place_of self.now.chunks number }
     {
-        self.table[&number]
+        self.base - self.table[&number]
     }
 
     // The chunk in which an object of this heap lies.
@@ -26,7 +54,7 @@ impl Space {
         requires { place_of self.now.chunks object.chunk < length self.now.chunks }
         ensures { cell_at result.now.cells object.offset ≡ cell_of self.now.chunks object }
     {
-        &self.chunks[self.place_of(object.chunk)]
+        &self.chunks[self.own_place(object.chunk)]
     }
 
     /// Whether the address lies in a chunk of this heap.
@@ -96,8 +124,18 @@ impl Space {
         requires place { IsPlace value }
         ensures { self.new ≡ with_ref_of self.old object field value }
     {
-        let i = self.place_of(object.chunk);
-        let chunk = &mut self.chunks[i];
+        let place = self.own_place(object.chunk);
+        self.set_ref_in(place, object, field, value);
+    }
+
+    /// The same, where it is known at which place the object's chunk stands.
+    pub fn set_ref_in(&mut self, place: usize, object: Addr, field: u32, value: Option<Addr>)
+        requires place { place_in self.old.chunks object.chunk ≡ Some place }
+        requires field { field < length (object_of self.old.chunks object).refs }
+        requires value { IsPlace value }
+        ensures { self.new ≡ with_ref_of self.old object field value }
+    {
+        let chunk = &mut self.chunks[place];
         set_ref(chunk, object.offset, field, value);
     }
 
@@ -106,8 +144,17 @@ impl Space {
         requires { field < length (object_of self.old.chunks object).ints }
         ensures { self.new ≡ record self.old { chunks = put_object self.old.chunks object (with_int (cell_of self.old.chunks object) field value) } }
     {
-        let i = self.place_of(object.chunk);
-        let chunk = &mut self.chunks[i];
+        let place = self.own_place(object.chunk);
+        self.set_int_in(place, object, field, value);
+    }
+
+    /// The same, where it is known at which place the object's chunk stands.
+    pub fn set_int_in(&mut self, place: usize, object: Addr, field: u32, value: i64)
+        requires place { place_in self.old.chunks object.chunk ≡ Some place }
+        requires field { field < length (object_of self.old.chunks object).ints }
+        ensures { self.new ≡ record self.old { chunks = put_object self.old.chunks object (with_int (cell_of self.old.chunks object) field value) } }
+    {
+        let chunk = &mut self.chunks[place];
         set_int(chunk, object.offset, field, value);
     }
 
@@ -116,8 +163,17 @@ impl Space {
         requires { IsObject (cell_of self.old.chunks object).mark }
         ensures { self.new ≡ record self.old { chunks = put_object self.old.chunks object (frozen (cell_of self.old.chunks object)) } }
     {
-        let i = self.place_of(object.chunk);
-        let chunk = &mut self.chunks[i];
+        let place = self.own_place(object.chunk);
+        self.freeze_in(place, object);
+    }
+
+    /// The same, where it is known at which place the object's chunk stands.
+    pub fn freeze_in(&mut self, place: usize, object: Addr)
+        requires place { place_in self.old.chunks object.chunk ≡ Some place }
+        requires object { IsObject (cell_of self.old.chunks object).mark }
+        ensures { self.new ≡ record self.old { chunks = put_object self.old.chunks object (frozen (cell_of self.old.chunks object)) } }
+    {
+        let chunk = &mut self.chunks[place];
         freeze(chunk, object.offset);
     }
 
@@ -127,7 +183,7 @@ impl Space {
         requires place { IsPlace (Some to) }
         ensures { self.new ≡ record self.old { chunks = put_object self.old.chunks object (with_mark (cell_of self.old.chunks object) (Moved to)) } }
     {
-        let i = self.place_of(object.chunk);
+        let i = self.own_place(object.chunk);
         let chunk = &mut self.chunks[i];
         forward(chunk, object.offset, to);
     }
@@ -137,7 +193,7 @@ impl Space {
         requires { IsObject (cell_of self.old.chunks object).mark }
         ensures { self.new ≡ record self.old { chunks = put_object self.old.chunks object (with_mark (cell_of self.old.chunks object) (Born birth)) } }
     {
-        let i = self.place_of(object.chunk);
+        let i = self.own_place(object.chunk);
         let chunk = &mut self.chunks[i];
         set_birth(chunk, object.offset, birth);
     }

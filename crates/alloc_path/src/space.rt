@@ -1,17 +1,21 @@
 // The chunks of a heap, and where the next object goes.
 
-ghost use Rattle.std.specs.Prelude.{◌≡◌, ◌+◌, ◌-◌, ◌*◌, ◌^◌, ◌<◌, ◌≤◌, [], ◌∷◌, length, option_map, OnOk, OnErr, IfErr, IsOk, None, Some};
+ghost use Rattle.std.specs.Prelude.{◌≡◌, ◌+◌, ◌-◌, ◌*◌, ◌^◌, ◌<◌, ◌≤◌, [], ◌∷◌, is_some, length, option_map, OnOk, OnErr, IfErr, IsOk, None, Some};
 ghost use Rattle.object_layout.specs.Cell.{size_of, new_cell};
-ghost use Rattle.object_layout.specs.Chunks.{chunk_at, held_words, next_address, place_in, push_object};
+ghost use Rattle.object_layout.specs.Chunks.{chunk_at, held_words, next_address, object_count, place_in, push_object, small_words};
 ghost use Rattle.alloc_path.specs.Heap.{added, counted, placed, placed_at, place_for, room_of, with_places, IsCurrent, IsFresh, IsReserved, IsSettled};
 
+use super::counts::small_part;
 use object_layout::{Addr, Birth, Chunk, Header, write_new};
 use std::alloc::{AllocError, AllocFailed, Global};
 use std::collections::HashMap;
 use std::marker::Model;
 
 /// How many words a small chunk has. An object of more words is large.
-const SMALL: u32 = 1024;
+pub(crate) const SMALL: u32 = 1024;
+
+/// From where the table counts the places of a heap with whose chunks no others were merged.
+pub(crate) const BASE: usize = 1 << 63;
 
 /// An object to be placed: its kind and its birth name.
 #[derive(Clone, Copy, PartialEq, Eq, Debug)]
@@ -23,14 +27,20 @@ pub struct New {
 /// The chunks of a heap, in which objects may be moved: what a collection works on. Small objects go
 /// into the last small chunk that was added, one behind the other; a large object, of more than 1,024
 /// words, goes into a chunk of its own, which is reserved for it first.
+///
+/// The table tells for a chunk's number how far the chunk stands before `base`: chunks that are
+/// merged before all others move that, and no entry.
 #[derive(Drop)]
 pub struct Space {
     pub(crate) chunks: Vec<Chunk>,
     pub(crate) table: HashMap<u32, usize>,
+    pub(crate) base: usize,
     pub(crate) current: Option<usize>,
     pub(crate) reserved: Option<usize>,
     pub(crate) since: u64,
     pub(crate) words: u64,
+    pub(crate) objects: u64,
+    pub(crate) small: u64,
 }
 
 impl Model for Space {
@@ -42,7 +52,7 @@ impl Model for Space {
 
     ghost view = { λ h. record { chunks = h.chunks.items; current = h.current; reserved = h.reserved; since = h.since; slots = vec_capacity h.chunks - vec_len h.chunks; spare = spare h.table } };
 
-    ghost invariant = { λ h. IsKept h.chunks.items h.current h.reserved h.words (get nat_eq h.table) (hash_map_len h.table) };
+    ghost invariant = { λ h. IsKept h.chunks.items h.current h.reserved h.words h.objects h.small h.base (get nat_eq h.table) (hash_map_len h.table) };
 }
 
 impl Space {
@@ -53,10 +63,13 @@ impl Space {
         Space {
             chunks: Vec::new(alloc),
             table: HashMap::new(alloc),
+            base: BASE,
             current: None,
             reserved: None,
             since: 0,
             words: 0,
+            objects: 0,
+            small: 0,
         }
     }
 
@@ -79,6 +92,13 @@ impl Space {
         ensures small { IsCurrent self.now.chunks result }
     {
         self.current
+    }
+
+    /// Whether `place` would place an object of so many words.
+    pub fn has_place(&self, words: u32) -> bool
+        ensures { result ≡ is_some (place_for self.now words) }
+    {
+        self.chunk_for(words).is_some()
     }
 
     /// At which place the chunk stands that is reserved for a large object, if one is.
@@ -116,6 +136,20 @@ impl Space {
         self.words
     }
 
+    /// How many objects are in the heap.
+    pub fn objects(&self) -> u64
+        ensures { result ≡ counted (object_count self.now.chunks) }
+    {
+        self.objects
+    }
+
+    /// The words of all small objects in the heap.
+    pub fn small_words(&self) -> u64
+        ensures { result ≡ counted (small_words self.now.chunks) }
+    {
+        self.small
+    }
+
     /// Sets the count of words placed to 0.
     pub fn reset_since(&mut self)
         ensures { self.new ≡ record self.old { since = 0 } }
@@ -149,7 +183,7 @@ impl Space {
     {
         let place = self.chunks.len();
         let is_small = chunk.size() == SMALL;
-        let _ = self.table.insert(chunk.number(), place);
+        let _ = self.table.insert(chunk.number(), self.base - place);
         self.chunks.push_reserved(chunk);
         if is_small {
             self.current = Some(place);
@@ -175,8 +209,7 @@ impl Space {
     }
 
     // The place of the chunk into which an object of so many words goes.
-    fn chunk_for(&self, words: u32) -> Option<usize>
-        requires { words < 2 ^ 22 }
+    pub(crate) fn chunk_for(&self, words: u32) -> Option<usize>
         ensures { result ≡ place_for self.now words }
     {
         if words <= SMALL {
@@ -189,7 +222,8 @@ impl Space {
         match self.reserved {
             None => None,
             Some(i) => {
-                if self.chunks[i].size() == SMALL * ((words + 1023) / 1024) {
+                let units = (words as u64 + 1023) / 1024;
+                if self.chunks[i].size() as u64 == SMALL as u64 * units {
                     Some(i)
                 } else {
                     None
@@ -217,6 +251,8 @@ impl Space {
         }
         self.since = self.since.saturating_add(words as u64);
         self.words = self.words.saturating_add(words as u64);
+        self.objects = self.objects.saturating_add(1);
+        self.small = self.small.saturating_add(small_part(words) as u64);
         Addr {
             chunk: number,
             offset,

@@ -70,6 +70,31 @@ fn moved_objects(rt: HostRuntime) -> Result<(), Fail> {
     Ok(())
 }
 
+#[test]
+fn objects_with_their_fields(rt: HostRuntime) -> Result<(), Fail> {
+    let mut heap = LeafHeap::new(rt.alloc());
+    assert_eq!(rt; heap.has_place(4), false);
+    heap.add(Chunk::new(rt.alloc(), 7, 1)?)?;
+    assert_eq!(rt; (heap.current(), heap.has_place(4)), (Some(0), true));
+    assert_eq!(rt;
+        heap.place_filled(new(1, 1, 5), &[Some(FIRST)], &[-9]),
+        Some(FIRST)
+    );
+    assert_eq!(rt; (heap.objects(), heap.small_words()), (1, 4));
+    assert_eq!(rt; heap.own_ref(FIRST, 0), Some(FIRST));
+    assert_eq!(rt; heap.own_int(FIRST, 0), -9);
+    assert_eq!(rt; (heap.place_of(7), heap.place_of(8)), (Some(0), None));
+    assert_eq!(rt; heap.own_chunk(FIRST).is_some(), true);
+    assert_eq!(rt; heap.chunk(8).is_none(), true);
+    heap.set_ref_in(0, FIRST, 0, None);
+    heap.set_int_in(0, FIRST, 0, 3);
+    heap.freeze_in(0, FIRST);
+    assert_eq!(rt; heap.own_ref(FIRST, 0), None);
+    assert_eq!(rt; heap.own_int(FIRST, 0), 3);
+    assert_eq!(rt; heap.own_header(FIRST).mutable, false);
+    Ok(())
+}
+
 // An object of so many numbers, as far as placing it is concerned.
 fn of_numbers(nints: u32) -> New
     requires { nints < 2 ^ 20 }

@@ -20,3 +20,4 @@ mod Order
 mod Tidied
 mod Collecting
 mod Reading
+mod Needs

@@ -2,10 +2,10 @@
 use Rattle.std.specs.Prelude.{◌≡◌, false, ◌+◌, ◌*◌, ◌/◌, ◌≤◌, List, Option, All, Contains, length, reverse}
 use Rattle.object_layout.specs.declared.word.Addr.{Addr}
 use Rattle.object_layout.specs.Content.{Content}
-use Rattle.object_layout.specs.Chunks.{cell_of}
+use Rattle.object_layout.specs.Chunks.{cell_of, object_count, small_part, sum_of}
 use Rattle.alloc_path.specs.Heap.{AreApart, Heap, IsFresh, IsReserved, IsSettled}
 use Rattle.leaf_copy_gc.specs.declared.lists.Survivor.{Survivor}
-use Rattle.leaf_copy_gc.specs.Survivors.{olds}
+use Rattle.leaf_copy_gc.specs.Survivors.{live_count, olds}
 use Rattle.leaf_copy_gc.specs.Laid.{AreNew, is_small, small_words}
 use Rattle.leaf_copy_gc.specs.Redirected.{led}
 use Rattle.leaf_copy_gc.specs.Collected.{AreSurvivors, collected, moves_of, redirection}
@@ -32,3 +32,9 @@ LargeAreRead =
     → AreSurvivors h.chunks from ss → CanTake h.chunks news → IsSettled h.chunks → IsReserved h.chunks h.reserved
     → (a : Addr) → Contains (olds ss) a → is_small h.chunks a ≡ false
     → cell_of (collected h ss (reverse news)).chunks a ≡ led (redirection h.chunks ss (reverse news)) (cell_of h.chunks a)
+
+-- in a heap as it is between collections, what a collection needs is what the heap counts
+abbrev pub NeedsAreCounted : Type 0
+NeedsAreCounted =
+    (ks : List Content) → IsSettled ks
+    → (small_words ks ≡ sum_of small_part ks) × (live_count ks ≡ object_count ks)

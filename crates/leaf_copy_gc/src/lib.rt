@@ -12,7 +12,7 @@ mod redirect;
 mod reserving;
 
 pub use collection::copy;
-pub use laws::{large_are_read, moved_are_read};
+pub use laws::{large_are_read, moved_are_read, needs_are_counted};
 pub use lists::{Moved, Survivor, ToChunks};
 
 #[cfg(test)]

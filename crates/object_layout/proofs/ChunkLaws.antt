@@ -1,14 +1,15 @@
 -- Laws of objects by their addresses: where a chunk is found, and what is at an address after a put
 -- or a push.
-use Rattle.std.proofs.Common.{◌≡◌, ℕ, ◌<◌, ◌≤◌, true, false, List, [], ◌∷◌, length, get_or, set, refl, sym, ap, ◌∙◌, arith, ⊎_elim, inl, inr, ◌⊎◌, eqb, one-add}
+use Rattle.std.proofs.Common.{◌≡◌, ℕ, zero, suc, ◌<◌, ◌≤◌, true, false, List, [], ◌∷◌, ◌++◌, length, length-set, get_or, set, refl, sym, ap, ◌∙◌, arith, ⊎_elim, inl, inr, ◌⊎◌, eqb, one-add}
 use Rattle.std.specs.Prelude.{◌≢◌, Option, slice_set}
 use Rattle.std.proofs.lemmas.Bool.{cases_Bool, cases_lt, eqb-true}
+use Rattle.std.proofs.lemmas.List.{get_or-set_same}
 use Rattle.object_layout.specs.declared.word.Addr.{Addr}
 use Rattle.object_layout.specs.Cell.{Cell, Mark, Born, Moved, Hole, IsBorn, IsObject, as_object, no_cell, with_ref, size_of}
 use Rattle.object_layout.specs.Content.{Content}
-use Rattle.object_layout.specs.Place.{cell_at}
+use Rattle.object_layout.specs.Place.{cell_at, words_in}
 use Rattle.object_layout.proofs.PlaceLemmas as place
-use Rattle.object_layout.specs.Chunks.{cell_of, object_of, place_of, put_object, with_cell}
+use Rattle.object_layout.specs.Chunks.{cell_of, chunk_at, next_address, no_chunk, object_of, place_in, place_of, push_object, put_object, with_cell}
 
 -- ---- where a chunk is found
 
@@ -99,7 +100,7 @@ object_with_int ks a k l =
 -- ---- what is at an address after a put
 
 -- addresses with the same parts are the same
-same_addr : (x y : Addr) → x.chunk ≡ y.chunk → x.offset ≡ y.offset → x ≡ y
+pub same_addr : (x y : Addr) → x.chunk ≡ y.chunk → x.offset ≡ y.offset → x ≡ y
 same_addr x y e f =
     let one : x ≡ record { chunk = y.chunk; offset = x.offset } = ap (λ (n : ℕ). let r : Addr = record { chunk = n; offset = x.offset } in r) e in
     let two : record { chunk = y.chunk; offset = x.offset } ≡ y = ap (λ (n : ℕ). let r : Addr = record { chunk = y.chunk; offset = n } in r) f in
@@ -155,3 +156,78 @@ pub refs-put_other : (ks : List Content) (a b : Addr) (k : ℕ) (r : Option Addr
     (object_of (put_object ks a (with_ref (cell_of ks a) k r)) b).refs ≡ (object_of ks b).refs
 refs-put_other ks a b k r ne =
     ap (λ (c : Cell). c.refs) (object_of-put_other ks a b (with_ref (cell_of ks a) k r) (place.size_of-with_ref (cell_of ks a) k r) ne)
+
+-- no chunk is moved by a put
+pub place_of-put : (ks : List Content) (a : Addr) (c : Cell) (n : ℕ) → place_of (put_object ks a c) n ≡ place_of ks n
+place_of-put [] a c n = refl
+place_of-put (k ∷ ks) a c n =
+    ⊎_elim
+    (λ (e : eqb k.number a.chunk ≡ true). rw e)
+    (λ (e : eqb k.number a.chunk ≡ false). rw (e, place_of-put ks a c n))
+    (cases_Bool (eqb k.number a.chunk))
+
+pub length-put : (ks : List Content) (a : Addr) (c : Cell) → length (put_object ks a c) ≡ length ks
+length-put [] a c = refl
+length-put (k ∷ ks) a c =
+    ⊎_elim
+    (λ (e : eqb k.number a.chunk ≡ true). rw e)
+    (λ (e : eqb k.number a.chunk ≡ false). rw (e, length-put ks a c))
+    (cases_Bool (eqb k.number a.chunk))
+
+pub place_in-put : (ks : List Content) (a : Addr) (c : Cell) (n : ℕ) → place_in (put_object ks a c) n ≡ place_in ks n
+place_in-put ks a c n = rw (place_of-put ks a c n, length-put ks a c)
+
+-- of two cells put at one address the second stays
+pub put_object-put_object : (ks : List Content) (a : Addr) (c d : Cell) → put_object (put_object ks a c) a d ≡ put_object ks a d
+put_object-put_object [] a c d = refl
+put_object-put_object (k ∷ ks) a c d =
+    ⊎_elim
+    (λ (e : eqb k.number a.chunk ≡ true). rw (e, e) (ap (λ (cs : List Cell). record k { cells = cs } ∷ ks) (place.put_cell-put_cell k.cells a.offset c d)))
+    (λ (e : eqb k.number a.chunk ≡ false). rw (e, e) (ap (λ (xs : List Content). k ∷ xs) (put_object-put_object ks a c d)))
+    (cases_Bool (eqb k.number a.chunk))
+
+pub put_object-itself : (ks : List Content) (a : Addr) → put_object ks a (cell_of ks a) ≡ ks
+put_object-itself [] a = refl
+put_object-itself (k ∷ ks) a =
+    ⊎_elim
+    (λ (e : eqb k.number a.chunk ≡ true). rw e (ap (λ (cs : List Cell). record k { cells = cs } ∷ ks) (place.put_cell-itself k.cells a.offset)))
+    (λ (e : eqb k.number a.chunk ≡ false). rw e (ap (λ (xs : List Content). k ∷ xs) (put_object-itself ks a)))
+    (cases_Bool (eqb k.number a.chunk))
+
+-- ---- what is at an address after a push
+
+pub cell_of-push_other : (ks : List Content) (i : ℕ) (c : Cell) (b : Addr) → b ≢ next_address (chunk_at ks i) → cell_of (push_object ks i c) b ≡ cell_of ks b
+cell_of-push_other [] i c b ne = refl
+cell_of-push_other (k ∷ ks) zero c b ne =
+    ⊎_elim
+    (λ (e : eqb k.number b.chunk ≡ true). rw e (place.cell_at-push_other k.cells c b.offset (λ h. ne (same_addr b (next_address k) (sym (eqb-true k.number b.chunk e)) h))))
+    (λ (e : eqb k.number b.chunk ≡ false). rw e)
+    (cases_Bool (eqb k.number b.chunk))
+cell_of-push_other (k ∷ ks) (suc i) c b ne =
+    ⊎_elim
+    (λ (e : eqb k.number b.chunk ≡ true). rw e)
+    (λ (e : eqb k.number b.chunk ≡ false). rw e (cell_of-push_other ks i c b ne))
+    (cases_Bool (eqb k.number b.chunk))
+
+place_of-push : (ks : List Content) (i : ℕ) (c : Cell) (n : ℕ) → place_of (push_object ks i c) n ≡ place_of ks n
+place_of-push [] i c n = refl
+place_of-push (k ∷ ks) zero c n = refl
+place_of-push (k ∷ ks) (suc i) c n = rw (place_of-push ks i c n)
+
+set_again : (ks : List Content) (i : ℕ) (x y : Content) → set (set ks i x) i y ≡ set ks i y
+set_again [] i x y = refl
+set_again (k ∷ ks) zero x y = refl
+set_again (k ∷ ks) (suc i) x y = ap (λ (xs : List Content). k ∷ xs) (set_again ks i x y)
+
+pub put_object-pushed : (ks : List Content) (i : ℕ) (c d : Cell) → place_of ks (chunk_at ks i).number ≡ i → i < length ks →
+    put_object (push_object ks i c) (next_address (chunk_at ks i)) d ≡ push_object ks i d
+put_object-pushed ks i c d found l =
+    let fuller : Content = record (chunk_at ks i) { cells = (chunk_at ks i).cells ++ c ∷ [] } in
+    let where' : place_of (push_object ks i c) (chunk_at ks i).number ≡ i = place_of-push ks i c (chunk_at ks i).number ∙ found in
+    let inside : place_of (push_object ks i c) (chunk_at ks i).number < length (push_object ks i c) = rw (where', length-set) l in
+    let there : get_or (push_object ks i c) i no_chunk ≡ fuller = get_or-set_same ks i fuller no_chunk l in
+    put_object-found (push_object ks i c) (next_address (chunk_at ks i)) d no_chunk inside
+    ∙ (ap (λ (n : ℕ). set (push_object ks i c) n (with_cell (get_or (push_object ks i c) n no_chunk) (words_in (chunk_at ks i).cells) d)) where'
+    ∙ (ap (λ (k : Content). set (push_object ks i c) i (with_cell k (words_in (chunk_at ks i).cells) d)) there
+    ∙ (set_again ks i fuller (with_cell fuller (words_in (chunk_at ks i).cells) d)
+    ∙ ap (λ (cs : List Cell). set ks i (record (chunk_at ks i) { cells = cs })) (place.put_cell-last (chunk_at ks i).cells c d))))

@@ -209,6 +209,33 @@ pub cell_at-last : (cs : List Cell) (d : Cell) → cell_at (cs ++ d ∷ []) (wor
 cell_at-last [] d = refl
 cell_at-last (c ∷ cs) d = cell_at-past c (cs ++ d ∷ []) (words_in cs) _ refl ∙ cell_at-last cs d
 
+-- where the new cell doesn't begin nothing has changed
+pub cell_at-push_other : (cs : List Cell) (d : Cell) (p : ℕ) → p ≢ words_in cs → cell_at (cs ++ d ∷ []) p ≡ cell_at cs p
+cell_at-push_other [] d zero ne = absurd (ne refl)
+cell_at-push_other [] d (suc n) ne =
+    ⊎_elim
+    (λ (above : suc n < size_of d). rw (lt-leb (size_of d) (suc n) above))
+    (λ (within : size_of d ≤ suc n). rw (le-leb (size_of d) (suc n) within))
+    (cases_lt (suc n) (size_of d))
+cell_at-push_other (c ∷ cs) d zero ne = refl
+cell_at-push_other (c ∷ cs) d (suc n) ne =
+    ⊎_elim
+    (λ (above : suc n < size_of c). rw (lt-leb (size_of c) (suc n) above))
+    (λ (within : size_of c ≤ suc n). rw (le-leb (size_of c) (suc n) within) (cell_at-push_other cs d (suc n - size_of c) (λ e. ne (omega arith))))
+    (cases_lt (suc n) (size_of c))
+
+-- another cell in place of the last one
+last_by : (k c d : Cell) (cs : List Cell) → put_cell (cs ++ c ∷ []) (words_in cs) d ≡ cs ++ d ∷ [] → (n : ℕ) → size_of k + words_in cs ≡ n → put_cell (k ∷ (cs ++ c ∷ [])) n d ≡ k ∷ (cs ++ d ∷ [])
+last_by k c d cs ih zero e = absurd (omega arith)
+last_by k c d cs ih (suc n) e =
+    let t = le-leb (size_of k) (suc n) (omega arith) in
+    let rest : suc n - size_of k ≡ words_in cs = omega arith in
+    rw t (ap (λ (xs : List Cell). k ∷ xs) (ap (λ (j : ℕ). put_cell (cs ++ c ∷ []) j d) rest ∙ ih))
+
+pub put_cell-last : (cs : List Cell) (c d : Cell) → put_cell (cs ++ c ∷ []) (words_in cs) d ≡ cs ++ d ∷ []
+put_cell-last [] c d = refl
+put_cell-last (k ∷ cs) c d = last_by k c d cs (put_cell-last cs c d) (size_of k + words_in cs) refl
+
 -- ---- in order
 
 pub cells_from-end : (cs : List Cell) → cells_from cs (words_in cs) ≡ []

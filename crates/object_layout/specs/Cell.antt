@@ -37,6 +37,10 @@ new_cell h b = record {
   ints = replicate h.nints (pos 0);
 }
 
+-- an object as it is made with these fields
+abbrev pub filled_cell : Header → Birth → List (Option Addr) → List ℤ → Cell
+filled_cell h b refs ints = record { mark = Born b; mutable = h.mutable; refs = refs; ints = ints }
+
 -- no object
 abbrev pub no_cell : Cell
 no_cell = record { mark = Hole; mutable = false; refs = []; ints = [] }
@@ -85,6 +89,13 @@ with_ref c field r = record c { refs = slice_set c.refs field r }
 -- one number written
 abbrev pub with_int : Cell → ℕ → ℤ → Cell
 with_int c field z = record c { ints = slice_set c.ints field z }
+
+-- all references, or all numbers, written
+abbrev pub with_refs : Cell → List (Option Addr) → Cell
+with_refs c refs = record c { refs = refs }
+
+abbrev pub with_ints : Cell → List ℤ → Cell
+with_ints c ints = record c { ints = ints }
 
 -- another mark
 abbrev pub with_mark : Cell → Mark → Cell

@@ -1,5 +1,5 @@
 -- Objects of a list of chunks, by their addresses.
-use Rattle.std.specs.Prelude.{ℕ, ◌+◌, List, [], ◌∷◌, ◌++◌, ◌==◌, if◌then◌else◌, Option, Some, None, length, nat_lt, slice_index_or, slice_set}
+use Rattle.std.specs.Prelude.{ℕ, ◌+◌, List, [], ◌∷◌, ◌++◌, ◌==◌, if◌then◌else◌, Option, Some, None, length, nat_le, nat_lt, slice_index_or, slice_set}
 use Rattle.object_layout.specs.declared.word.Addr.{Addr}
 use Rattle.object_layout.specs.Cell.{Born, Cell, Hole, Mark, Moved, as_object, no_cell, size_of}
 use Rattle.object_layout.specs.Content.{Content}
@@ -62,3 +62,27 @@ held_in (c ∷ cs) = held_size c.mark (size_of c) + held_in cs
 abbrev pub held_words : List Content → ℕ
 held_words [] = 0
 held_words (k ∷ ks) = held_in k.cells + held_words ks
+
+-- the same, where an object of n words counts for so many
+abbrev pub sum_in : (ℕ → ℕ) → List Cell → ℕ
+sum_in size [] = 0
+sum_in size (c ∷ cs) = held_size c.mark (size (size_of c)) + sum_in size cs
+
+abbrev pub sum_of : (ℕ → ℕ) → List Content → ℕ
+sum_of size [] = 0
+sum_of size (k ∷ ks) = sum_in size k.cells + sum_of size ks
+
+-- how many objects there are
+abbrev pub one_each : ℕ → ℕ
+one_each n = 1
+
+abbrev pub object_count : List Content → ℕ
+object_count ks = sum_of one_each ks
+
+-- the words of a small object, which has at most 1,024; none of a large one
+abbrev pub small_part : ℕ → ℕ
+small_part n = if nat_le n 1024 then n else 0
+
+-- the words of all small objects
+abbrev pub small_words : List Content → ℕ
+small_words ks = sum_of small_part ks

@@ -1,7 +1,8 @@
 // A chunk, and its objects one after another.
 
-ghost use Rattle.std.specs.Prelude.{◌≡◌, ◌+◌, ◌-◌, ◌*◌, ◌^◌, ◌<◌, ◌≤◌, ◌↔◌, [], ◌∷◌, ◌++◌, length, take, drop, replicate, slice_get, slice_index, IfOk, IsTrue, Some};
-ghost use Rattle.object_layout.specs.Cell.{header_of, size_of, new_cell, IsPlace, IsBorn, IsObject, moved_to, with_ref, with_int, with_mark, frozen, Born, Moved, Hole, IsCell};
+ghost use Rattle.std.specs.Prelude.{◌≡◌, ◌+◌, ◌-◌, ◌*◌, ◌^◌, ◌<◌, ◌≤◌, ◌↔◌, [], ◌∷◌, ◌++◌, length, take, drop, replicate, All, slice_get, slice_index, slice_index_or, IfOk, IsTrue, Some};
+ghost use Rattle.object_layout.specs.Cell.{header_of, size_of, new_cell, IsPlace, IsBorn, IsObject, moved_to, with_ref, with_refs, with_int, with_ints, with_mark, filled_cell, frozen, Born, Moved, Hole, IsCell};
+ghost use Rattle.object_layout.specs.Chunks.{with_cell};
 ghost use Rattle.object_layout.specs.Layout.{words_of_cell};
 ghost use Rattle.object_layout.specs.Place.{words_in, IsCellAt, IsObjectAt, cell_at, object_at, put_cell, cells_from};
 
@@ -110,6 +111,64 @@ pub fn write_new(chunk: &mut Chunk, at: u32, header: Header, birth: Birth)
         fields as usize,
     );
     chunk.used = at + (2 + fields);
+}
+
+// The k-th of a list of fields.
+fn item<T: Copy>(fields: &[T], k: u32) -> T
+    requires { k < length fields.now }
+    ensures { result ≡ slice_index_or fields.now k result }
+{
+    fields[k as usize]
+}
+
+// Writes all references of an object.
+fn fill_refs(chunk: &mut Chunk, at: u32, refs: &[Option<Addr>])
+    requires object { IsObjectAt chunk.old.cells at }
+    requires fields { length refs.now ≡ length (cell_at chunk.old.cells at).refs }
+    requires few { length refs.now < 2 ^ 20 }
+    requires places { All IsPlace refs.now }
+    ensures { chunk.new ≡ with_cell chunk.old at (with_refs (cell_at chunk.old.cells at) refs.now) }
+{
+    for k in 0..refs.len() as u32 {
+        let value = item(refs, k);
+        set_ref(chunk, at, k, value);
+    }
+}
+
+// Writes all numbers of an object.
+fn fill_ints(chunk: &mut Chunk, at: u32, ints: &[i64])
+    requires object { IsObjectAt chunk.old.cells at }
+    requires fields { length ints.now ≡ length (cell_at chunk.old.cells at).ints }
+    requires few { length ints.now < 2 ^ 20 }
+    ensures { chunk.new ≡ with_cell chunk.old at (with_ints (cell_at chunk.old.cells at) ints.now) }
+{
+    for k in 0..ints.len() as u32 {
+        let value = item(ints, k);
+        set_int(chunk, at, k, value);
+    }
+}
+
+/// Writes an object with these fields behind the others.
+pub fn write_filled(
+    chunk: &mut Chunk,
+    at: u32,
+    header: Header,
+    birth: Birth,
+    refs: &[Option<Addr>],
+    ints: &[i64],
+)
+    requires behind { at ≡ words_in chunk.old.cells }
+    requires refs { header.nrefs ≡ length refs.now }
+    requires ints { header.nints ≡ length ints.now }
+    requires few_refs { header.nrefs < 2 ^ 20 }
+    requires few_ints { header.nints < 2 ^ 20 }
+    requires places { All IsPlace refs.now }
+    requires room { at + (2 + (header.nrefs + header.nints)) ≤ chunk.old.size }
+    ensures { chunk.new ≡ record chunk.old { cells = chunk.old.cells ++ filled_cell header birth refs.now ints.now ∷ [] } }
+{
+    write_new(chunk, at, header, birth);
+    fill_refs(chunk, at, refs);
+    fill_ints(chunk, at, ints);
 }
 
 // The k-th word of an object or a hole.

@@ -14,3 +14,4 @@ mod Rounds
 mod Whole
 mod Endings
 mod FirstFaults
+mod LoopsRead

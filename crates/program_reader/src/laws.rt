@@ -1,6 +1,7 @@
 // Laws over the definitions, each the `ensures` of a function that does nothing.
 
 ghost use Rattle.program_reader.specs.Laws.{NoFaultLaw, FirstFaultLaw};
+ghost use Rattle.program_reader.specs.LoopLaw.{LoopsAreRead};
 
 /// A text without a first fault has no line with a fault.
 pub fn no_fault_on_any_line()
@@ -10,4 +11,9 @@ pub fn no_fault_on_any_line()
 /// The first fault is a fault of its line, and no line before has one.
 pub fn first_fault_is_first()
     ensures { FirstFaultLaw }
+{}
+
+/// A text's loop over a function is read as a call of a function by which a loop runs.
+pub fn loops_are_read()
+    ensures { LoopsAreRead }
 {}

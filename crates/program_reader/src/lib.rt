@@ -16,5 +16,5 @@ mod sense;
 mod tests;
 
 pub use cause::{Cause, Refused};
-pub use laws::{first_fault_is_first, no_fault_on_any_line};
+pub use laws::{first_fault_is_first, loops_are_read, no_fault_on_any_line};
 pub use read::read_program;

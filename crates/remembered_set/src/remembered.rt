@@ -82,11 +82,13 @@ impl Remembered {
         Ok(())
     }
 
-    // The same without memory, where there is a place.
-    fn note_spare(&mut self, source: Source)
+    /// The same without memory, where there is a place.
+    pub fn note_spare(&mut self, source: Source)
         requires slots { 0 < self.old.slots }
         requires spare { 0 < self.old.spare }
-        ensures { self.new.sources ≡ noted self.old.sources source }
+        ensures noted { self.new.sources ≡ noted self.old.sources source }
+        ensures slots { self.old.slots ≤ self.new.slots + 1 }
+        ensures spare { self.old.spare ≤ self.new.spare + 1 }
     {
         note_in(&mut self.sources, &mut self.known, source);
     }

@@ -30,6 +30,10 @@ reference_at s frame i = reference_in (slice_get (frames_of s) frame) i
 abbrev pub pushed : Stack → ℕ → Stack
 pushed s fun = record { below = s.below ++ s.top ∷ []; top = record s.top { function = fun; next = 0 } }
 
+-- a fork: a child has one frame, with the registers of the top frame
+abbrev pub branched : Stack → ℕ → Stack
+branched s fun = record { below = []; top = record s.top { function = fun; next = 0 } }
+
 -- a return: the youngest of those that waited is on top
 abbrev pub IsPopped : Stack → Stack → Type 0
 IsPopped old new = old.below ≡ frames_of new

@@ -1,7 +1,7 @@
 // A stack of frames, never empty and never more than 1,000 deep.
 
 ghost use Rattle.std.specs.Prelude.{◌≡◌, ◌+◌, ◌<◌, ◌≤◌, ◌↔◌, [], length, OnOk, OnErr, Err, Some, slice_get};
-ghost use Rattle.task_frames.specs.Stack.{Stack, depth_of, frames_of, reference_at, pushed, IsPopped, references_of, references_written, with_next, with_int, with_reference, with_reference_at};
+ghost use Rattle.task_frames.specs.Stack.{Stack, branched, depth_of, frames_of, reference_at, pushed, IsPopped, references_of, references_written, with_next, with_int, with_reference, with_reference_at};
 
 use object_layout::Addr;
 use std::alloc::{AllocError, Global};
@@ -75,6 +75,20 @@ impl Frames {
                 ints: *ints,
                 refs: *refs,
             },
+        }
+    }
+
+    /// One frame, before the first instruction of a function, with the registers of this top frame: what
+    /// a fork gives each child. It takes no memory.
+    pub fn branch(&self, alloc: Global, fun: u32) -> Frames
+        ensures { result ≡ branched self.now fun }
+    {
+        let mut top = self.top;
+        top.function = fun;
+        top.next = 0;
+        Frames {
+            below: Vec::new(alloc),
+            top,
         }
     }
 

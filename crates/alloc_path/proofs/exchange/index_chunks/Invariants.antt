@@ -1,12 +1,13 @@
-use Rattle.std.proofs.Common.{◌≡◌, ℕ, ◌+◌, ◌≤◌, take}
-use Rattle.std.specs.Prelude.{nat_eq}
+use Rattle.std.proofs.Common.{◌≡◌, ℕ, ◌+◌, ◌-◌, ◌≤◌, take}
+use Rattle.std.specs.Prelude.{nat_eq, option_map}
+use Rattle.std.specs.Option.{option_or}
 use Rattle.std.specs.HashMap.{get, hash_map_len, spare}
 use Rattle.object_layout.specs.Chunks.{place_in}
 use Rattle.alloc_path.proofs.exchange.index_chunks.Given as goal
 
 abbrev pub invariant-loop-i : goal.invariant-loop-i
 invariant-loop-i l = record {
-  places : (number : ℕ) → get nat_eq l.table number ≡ place_in (take l.i l.chunks) number;
-  each : hash_map_len l.table ≡ l.i;
-  room : hash_map_len l.fn.table + spare l.fn.table ≤ spare l.table + l.i;
+  places : (number : ℕ) → get nat_eq l.table number ≡ option_or (option_map (λ j. l.base - j) (place_in (take l.i l.chunks) number)) (get nat_eq l.fn.table number);
+  each : hash_map_len l.table ≡ hash_map_len l.fn.table + l.i;
+  room : spare l.fn.table ≤ spare l.table + l.i;
 }

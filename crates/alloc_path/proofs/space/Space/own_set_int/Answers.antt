@@ -1,45 +1,9 @@
-use Rattle.std.proofs.Common.{ap, arith}
-use Rattle.std.proofs.lemmas.Int.{to_z-of_z}
-use Rattle.std.specs.Int.{w64}
-use Rattle.object_layout.specs.Cell.{with_int}
-use Rattle.object_layout.specs.Chunks.{held_size}
-use Rattle.object_layout.specs.Place.{cell_at}
 use Rattle.object_layout.proofs.ChunkLaws as chunks
-use Rattle.object_layout.proofs.PlaceLemmas as place
 use Rattle.alloc_path.proofs.HeapLemmas as heap
 use Rattle.alloc_path.proofs.space.Space.own_set_int.Goals as goal
 
-pub place_of-i-requires : goal.place_of-i-requires
-place_of-i-requires c = chunks.chunk_of_object c.args.self.now.chunks c.args.object (chunks.object_with_int c.args.self.now.chunks c.args.object c.args.field c.requires)
+pub own_place-place-requires : goal.own_place-place-requires
+own_place-place-requires c = chunks.chunk_of_object c.args.self.now.chunks c.args.object (chunks.object_with_int c.args.self.now.chunks c.args.object c.args.field c.requires)
 
-pub index_mut-chunk-requires : goal.index_mut-chunk-requires
-index_mut-chunk-requires c =
-    let o = rw (← c.self.view_is) at (chunks.object_with_int c.args.self.now.chunks c.args.object c.args.field c.requires) in
-    let found = rw (← c.self.view_is) at c.place_of-i.ensures in
-    let in' = chunks.chunk_of_object c.self.inside.chunks.items c.args.object o in
-    omega arith
-
-pub set_int-requires : goal.set_int-requires
-set_int-requires c =
-    let o = rw (← c.self.view_is) at (chunks.object_with_int c.args.self.now.chunks c.args.object c.args.field c.requires) in
-    let found = rw (← c.self.view_is) at c.place_of-i.ensures in
-    let field = rw (← c.self.view_is) at c.requires in
-    rw (heap.own_cell c.self.inside.chunks.items c.args.object c.place_of-i.result c.index_mut-chunk.result.now o found c.index_mut-chunk.ensures.value) at field
-
-pub invariant_of-self : goal.invariant_of-self
-invariant_of-self c =
-    let o = rw (← c.self.view_is) at (chunks.object_with_int c.args.self.now.chunks c.args.object c.args.field c.requires) in
-    let found = rw (← c.self.view_is) at c.place_of-i.ensures in
-    let back = to_z-of_z w64 c.args.value c.ranges.value in
-    rw (c.set_int.ensures, back)
-    (heap.own_kept c.self.inside.chunks.items c.args.object c.place_of-i.result c.index_mut-chunk.result.now o found c.index_mut-chunk.ensures.value
-    _ _ _ _ _ c.self.invariant (with_int (cell_at c.index_mut-chunk.result.now.cells c.args.object.offset) c.args.field c.args.value) (ap (held_size (cell_at c.index_mut-chunk.result.now.cells c.args.object.offset).mark) (place.size_of-with_int (cell_at c.index_mut-chunk.result.now.cells c.args.object.offset) c.args.field c.args.value)))
-
-pub returns : goal.returns
-returns c =
-    let o = rw (← c.self.view_is) at (chunks.object_with_int c.args.self.now.chunks c.args.object c.args.field c.requires) in
-    let found = rw (← c.self.view_is) at c.place_of-i.ensures in
-    let cell = heap.own_cell c.self.inside.chunks.items c.args.object c.place_of-i.result c.index_mut-chunk.result.now o found c.index_mut-chunk.ensures.value in
-    let put = heap.own_put c.self.inside.chunks.items c.args.object c.place_of-i.result c.index_mut-chunk.result.now o found c.index_mut-chunk.ensures.value in
-    let back = to_z-of_z w64 c.args.value c.ranges.value in
-    rw (← c.self.view_is, c.set_int.ensures, back, cell, put (with_int (cell_at c.index_mut-chunk.result.now.cells c.args.object.offset) c.args.field c.args.value))
+pub set_int_in-requires-clause-place : goal.set_int_in-requires-clause-place
+set_int_in-requires-clause-place c = rw c.own_place-place.ensures (heap.place_there c.args.self.now.chunks c.args.object.chunk (chunks.chunk_of_object c.args.self.now.chunks c.args.object (chunks.object_with_int c.args.self.now.chunks c.args.object c.args.field c.requires)))

@@ -1,5 +1,7 @@
-use Rattle.std.proofs.Common.{◌∙◌, arith, refl}
-use Rattle.object_layout.specs.Cell.{new_cell}
+use Rattle.std.proofs.Common.{◌≡◌, ◌+◌, ◌∙◌, ap, arith, refl}
+use Rattle.object_layout.specs.Chunks.{small_part}
+use Rattle.alloc_path.specs.Heap.{counted}
+use Rattle.object_layout.specs.Cell.{new_cell, size_of}
 use Rattle.object_layout.proofs.HoldLemmas.{size_of-new}
 use Rattle.alloc_path.specs.contracts.space.Space.{the_view}
 use Rattle.alloc_path.proofs.HeapLemmas as heap
@@ -11,19 +13,21 @@ pub invariant_of-self : goal.invariant_of-self
 invariant_of-self c =
     let fits = rw (← c.self.view_is) at c.requires.fits in
     let size = size_of-new c.args.new.header c.args.new.birth in
+    let same : 2 + c.args.new.header.nrefs + c.args.new.header.nints ≡ size_of (new_cell c.args.new.header c.args.new.birth) = omega arith in
+    let part : c.small_part.result ≡ small_part (size_of (new_cell c.args.new.header c.args.new.birth)) = c.small_part.ensures ∙ ap small_part same in
     elim c.if-words-gt-SMALL.branch [
       | then-words-gt-SMALL w ↦
           let more = w.if-words-gt-SMALL.true in
           let sum = rw w.self-inside-is at c.saturating_add-self-inside-2.ensures in
           rw (w.self-inside-is, c.write_new.ensures)
-          (heap.placed_kept (the_view c.self.inside) _ _ _ c.self.invariant c.args.i c.index_mut-chunk.result.now c.index_mut-chunk.ensures.value (new_cell c.args.new.header c.args.new.birth) refl fits
-          _ (λ l. absurd (omega arith)) (λ l. refl) _ (rw size (sum ∙ omega arith)))
+          (heap.placed_kept (the_view c.self.inside) _ _ _ _ _ _ c.self.invariant c.args.i c.index_mut-chunk.result.now c.index_mut-chunk.ensures.value (new_cell c.args.new.header c.args.new.birth) (λ n. refl) fits
+          _ (λ l. absurd (omega arith)) (λ l. refl) _ _ _ (rw size (sum ∙ omega arith)) (rw w.self-inside-is at c.saturating_add-self-inside-3.ensures) (rw w.self-inside-is at c.saturating_add-self-inside-4.ensures ∙ ap (λ n. counted (c.self.inside.small + n)) part))
       | else-words-gt-SMALL w ↦
           let less = w.if-words-gt-SMALL.false in
           let sum = rw w.self-inside-is at c.saturating_add-self-inside-2.ensures in
           rw (w.self-inside-is, c.write_new.ensures)
-          (heap.placed_kept (the_view c.self.inside) _ _ _ c.self.invariant c.args.i c.index_mut-chunk.result.now c.index_mut-chunk.ensures.value (new_cell c.args.new.header c.args.new.birth) refl fits
-          _ (λ l. refl) (λ l. absurd (omega arith)) _ (rw size (sum ∙ omega arith)))
+          (heap.placed_kept (the_view c.self.inside) _ _ _ _ _ _ c.self.invariant c.args.i c.index_mut-chunk.result.now c.index_mut-chunk.ensures.value (new_cell c.args.new.header c.args.new.birth) (λ n. refl) fits
+          _ (λ l. refl) (λ l. absurd (omega arith)) _ _ _ (rw size (sum ∙ omega arith)) (rw w.self-inside-is at c.saturating_add-self-inside-3.ensures) (rw w.self-inside-is at c.saturating_add-self-inside-4.ensures ∙ ap (λ n. counted (c.self.inside.small + n)) part))
     ]
 
 pub returns-clause-settled : goal.returns-clause-settled
@@ -33,8 +37,8 @@ returns-clause-settled c = λ s.
     elim c.if-words-gt-SMALL.branch [
       | then-words-gt-SMALL w ↦
           rw (w.self-inside-is, c.write_new.ensures)
-          (settled.settled_placed (the_view c.self.inside) _ _ _ c.self.invariant c.args.i (new_cell c.args.new.header c.args.new.birth) fits refl c.index_mut-chunk.result.now c.index_mut-chunk.ensures.value was)
+          (settled.settled_placed (the_view c.self.inside) _ _ _ _ _ _ c.self.invariant c.args.i (new_cell c.args.new.header c.args.new.birth) fits refl c.index_mut-chunk.result.now c.index_mut-chunk.ensures.value was)
       | else-words-gt-SMALL w ↦
           rw (w.self-inside-is, c.write_new.ensures)
-          (settled.settled_placed (the_view c.self.inside) _ _ _ c.self.invariant c.args.i (new_cell c.args.new.header c.args.new.birth) fits refl c.index_mut-chunk.result.now c.index_mut-chunk.ensures.value was)
+          (settled.settled_placed (the_view c.self.inside) _ _ _ _ _ _ c.self.invariant c.args.i (new_cell c.args.new.header c.args.new.birth) fits refl c.index_mut-chunk.result.now c.index_mut-chunk.ensures.value was)
     ]

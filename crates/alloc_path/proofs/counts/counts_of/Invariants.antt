@@ -1,0 +1,12 @@
+use Rattle.std.proofs.Common.{◌≡◌, take}
+use Rattle.object_layout.specs.Chunks.{held_words, object_count, small_words}
+use Rattle.alloc_path.specs.Heap.{counted, AreWithin}
+use Rattle.alloc_path.proofs.counts.counts_of.Given as goal
+
+abbrev pub invariant-loop-chunk : goal.invariant-loop-chunk
+invariant-loop-chunk l = record {
+  words : l.words ≡ counted (held_words (take l.chunk-index l.chunks));
+  objects : l.objects ≡ counted (object_count (take l.chunk-index l.chunks));
+  small : l.small ≡ counted (small_words (take l.chunk-index l.chunks));
+  within : AreWithin (take l.chunk-index l.chunks);
+}

@@ -1,0 +1,75 @@
+// What the chunks of a heap hold, counted.
+
+ghost use Rattle.std.specs.Prelude.{◌≡◌, ◌≤◌, ◌^◌, ◌<◌};
+ghost use Rattle.object_layout.specs.Place.{words_in};
+ghost use Rattle.object_layout.specs.Chunks.{held_in, held_words, object_count, one_each, small_part, small_words, sum_in};
+ghost use Rattle.alloc_path.specs.Heap.{counted, AreWithin};
+
+use super::space::SMALL;
+use object_layout::{Chunk, is_object_at, next_at};
+
+/// The words of objects, how many there are, and the words of the small ones.
+#[derive(Drop)]
+pub(crate) struct Counts {
+    pub(crate) words: u64,
+    pub(crate) objects: u64,
+    pub(crate) small: u64,
+}
+
+/// The words of an object, if it is small.
+pub(crate) fn small_part(words: u32) -> u32
+    ensures { result ≡ small_part words }
+{
+    if words <= SMALL { words } else { 0 }
+}
+
+/// What all objects of these chunks come to.
+pub(crate) fn counts_of(chunks: &[Chunk]) -> Counts
+    ensures words { result.words ≡ counted (held_words chunks.now) }
+    ensures objects { result.objects ≡ counted (object_count chunks.now) }
+    ensures small { result.small ≡ counted (small_words chunks.now) }
+    ensures within { AreWithin chunks.now }
+{
+    let mut words = 0u64;
+    let mut objects = 0u64;
+    let mut small = 0u64;
+    for chunk in chunks {
+        let more = counts_in(chunk);
+        words = words.saturating_add(more.words);
+        objects = objects.saturating_add(more.objects);
+        small = small.saturating_add(more.small);
+    }
+    Counts {
+        words,
+        objects,
+        small,
+    }
+}
+
+// What all objects of a chunk come to.
+fn counts_in(chunk: &Chunk) -> Counts
+    ensures words { result.words ≡ held_in chunk.now.cells }
+    ensures objects { result.objects ≡ sum_in one_each chunk.now.cells }
+    ensures small { result.small ≡ sum_in small_part chunk.now.cells }
+    ensures within { words_in chunk.now.cells ≤ chunk.now.size }
+{
+    let used = chunk.used();
+    let mut at = 0;
+    let mut words = 0u64;
+    let mut objects = 0u64;
+    let mut small = 0u64;
+    while at < used {
+        let next = next_at(chunk, at);
+        if is_object_at(chunk, at) {
+            words += (next - at) as u64;
+            objects += 1;
+            small += small_part(next - at) as u64;
+        }
+        at = next;
+    }
+    Counts {
+        words,
+        objects,
+        small,
+    }
+}

@@ -1,0 +1,31 @@
+-- Laws of objects by their addresses, for crates above.
+use Rattle.std.specs.Prelude.{◌≡◌, ◌≢◌, ℕ, ◌<◌, List, length}
+use Rattle.object_layout.specs.declared.word.Addr.{Addr}
+use Rattle.object_layout.specs.Cell.{Cell}
+use Rattle.object_layout.specs.Content.{Content}
+use Rattle.object_layout.specs.Chunks.{cell_of, chunk_at, next_address, place_in, place_of, push_object, put_object}
+
+-- addresses with the same parts are the same
+abbrev pub SameAddress : Type 0
+SameAddress = (x y : Addr) → x.chunk ≡ y.chunk → x.offset ≡ y.offset → x ≡ y
+
+-- an object that is put moves no chunk
+abbrev pub PutMovesNoChunk : Type 0
+PutMovesNoChunk = (ks : List Content) (a : Addr) (c : Cell) (number : ℕ) → place_in (put_object ks a c) number ≡ place_in ks number
+
+-- of two objects put at one address the second stays
+abbrev pub SecondPutStays : Type 0
+SecondPutStays = (ks : List Content) (a : Addr) (c d : Cell) → put_object (put_object ks a c) a d ≡ put_object ks a d
+
+-- where the object that was pushed doesn't begin nothing has changed
+abbrev pub PushLeavesOthers : Type 0
+PushLeavesOthers =
+    (ks : List Content) (i : ℕ) (c : Cell) (b : Addr)
+    → b ≢ next_address (chunk_at ks i) → cell_of (push_object ks i c) b ≡ cell_of ks b
+
+-- another object in place of the one that was pushed, where its chunk is found by its number
+abbrev pub PutWherePushed : Type 0
+PutWherePushed =
+    (ks : List Content) (i : ℕ) (c d : Cell)
+    → place_of ks (chunk_at ks i).number ≡ i → i < length ks
+    → put_object (push_object ks i c) (next_address (chunk_at ks i)) d ≡ push_object ks i d
