@@ -1,7 +1,7 @@
 -- What a program is.
-use Rattle.std.specs.Prelude.{◌≡◌, ℕ, ◌<◌, ◌^◌, List, [], ◌∷◌, Option, Some, None, length, slice_get, All, IsSomeAnd, codes}
+use Rattle.std.specs.Prelude.{◌≡◌, ℕ, ◌<◌, ◌≤◌, ◌^◌, List, [], ◌∷◌, Option, Some, None, length, slice_get, All, IsSomeAnd, codes}
 use Rattle.hh_lang.specs.declared.instr.Instr.{Instr}
-use Rattle.hh_lang.specs.declared.instr.Instr.TheVariants.{Jmp, Jz, Call, Par, Ret}
+use Rattle.hh_lang.specs.declared.instr.Instr.TheVariants.{Pack, Jmp, Jz, Call, Par, Ret}
 use Rattle.hh_lang.specs.declared.program.Line.{Line}
 use Rattle.hh_lang.specs.declared.program.Fun.{Fun}
 
@@ -10,8 +10,10 @@ pub record ProgramText : Type 0 where
   pub functions : List Fun
   pub main : ℕ
 
--- the places and functions that an instruction names exist, where there are so many
+-- the places, functions and registers that an instruction names exist, where there are so many places and functions; a `pack` names
+-- the first registers of each kind, of which there are 16
 abbrev pub NamesExist : ℕ → ℕ → Instr → Type 0
+NamesExist functions places (Pack d references numbers) = (references ≤ 16) × (numbers ≤ 16)
 NamesExist functions places (Jmp to) = to < places
 NamesExist functions places (Jz a to) = to < places
 NamesExist functions places (Call f) = f < functions

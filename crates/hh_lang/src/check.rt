@@ -9,11 +9,15 @@ use crate::program::{Fun, Line};
 /// A function has fewer places than this, and a program fewer functions: their numbers have 32 bits.
 const COUNT_LIMIT: usize = 1 << 32;
 
-// Whether the places and functions that an instruction names exist, where there are so many.
+/// How many registers there are of each kind.
+const REGISTERS: usize = 16;
+
+// Whether the places, functions and registers that an instruction names exist, where there are so many.
 fn names_exist(instr: Instr, functions: usize, places: usize) -> bool
     ensures { IsTrue result ↔ NamesExist functions places instr }
 {
     match instr {
+        Instr::Pack(_, references, numbers) => references.count() <= REGISTERS && numbers.count() <= REGISTERS,
         Instr::Jmp(to) | Instr::Jz(_, to) => (to as usize) < places,
         Instr::Call(function) => (function as usize) < functions,
         Instr::Par(left, right) => (left as usize) < functions && (right as usize) < functions,
