@@ -1,12 +1,14 @@
 -- Instructions name functions and places that there are.
-use Rattle.std.proofs.Common.{◌≡◌, ◌<◌, ◌≤◌, ◌+◌, ◌*◌, ℕ, Bool, true, false, cond, List, [], ◌∷◌, ◌++◌, length, arith, refl}
-use Rattle.std.specs.Prelude.{Option, Some, None, ◌&&◌}
+use Rattle.std.proofs.Common.{◌≡◌, ◌<◌, ◌≤◌, ◌+◌, ◌*◌, ℕ, Bool, true, false, cond, List, [], ◌∷◌, ◌++◌, length, arith, refl, subst}
+use Rattle.std.specs.Prelude.{Option, Some, None, ◌&&◌, nat_le}
 use Rattle.std.specs.Str.{bytes_eq}
+use Rattle.std.specs.Str.Parse.{digits_value}
+use Rattle.std.proofs.lemmas.Bool.{and_parts}
 use Rattle.std.proofs.lemmas.List.Quantifiers.{position-Some}
 use Rattle.hh_lang.specs.declared.instr.Instr.{Instr}
 use Rattle.hh_lang.specs.declared.instr.Instr.TheVariants as does
 use Rattle.hh_lang.specs.Form.{NamesExist}
-use Rattle.hh_lang.specs.Number.{signed_number}
+use Rattle.hh_lang.specs.Number.{signed_number, is_numeral}
 use Rattle.program_reader.specs.declared.head.Verb.{Verb}
 use Rattle.program_reader.specs.declared.head.Verb.TheVariants.{Set, Mov, Movr, Nil, Calc, Same, Jmp, Jz, Newm, Pack, Getr, Geti, Putr, Puti, Cntr, Cnti, Freeze, Cas, Call, Par, Pfor, Ret, Out}
 use Rattle.program_reader.specs.declared.head.Head.{Head}
@@ -90,6 +92,20 @@ module _ (o : Outline) (labels : List Entry) (p : ℕ) (b : AreAtMost p labels) 
   five_in (Some a) (Some c) (Some d) (Some e) None = tt
   five_in (Some a) (Some c) (Some d) (Some e) (Some g) = tt
 
+  -- a count of fields is at most 16
+  count_by : (b : Bool) (k n : ℕ) → (b ≡ true → k ≤ 16) → cond b (Some k) None ≡ Some n → n ≤ 16
+  count_by true k n h e = let same : k ≡ n = cc in subst (λ (m : ℕ). m ≤ 16) same (h refl)
+  count_by false k n h e = absurd cc
+
+  count_within : (w : List ℕ) (n : ℕ) → field_count w ≡ Some n → n ≤ 16
+  count_within w n e = count_by (is_numeral w && nat_le (digits_value 10 w) 16) (digits_value 10 w) n (λ both. let le = (and_parts (is_numeral w) (nat_le (digits_value 10 w) 16) both).1 in grind (arith, le)) e
+
+  pack_in : (r s t : Option ℕ) → ((n : ℕ) → s ≡ Some n → n ≤ 16) → ((n : ℕ) → t ≡ Some n → n ≤ 16) → In (plain (three r s t (λ d x y. does.Pack d x y)))
+  pack_in None s t hs ht = tt
+  pack_in (Some a) None t hs ht = tt
+  pack_in (Some a) (Some c) None hs ht = tt
+  pack_in (Some a) (Some c) (Some d) hs ht = (hs c refl, ht d refl)
+
   plain_one_in : (v : Verb) (a : List ℕ) → In (plain (plain_one v a))
   plain_one_in Nil a = one_in (ref_register a) (λ d. does.Nil d) (λ d. tt)
   plain_one_in Freeze a = one_in (ref_register a) (λ d. does.Freeze d) (λ d. tt)
@@ -108,7 +124,7 @@ module _ (o : Outline) (labels : List Entry) (p : ℕ) (b : AreAtMost p labels) 
   plain_three_in (Calc op) a c d = three_in (int_register a) (int_register c) (int_register d) (λ t x y. does.Calc op t x y) (λ t x y. tt)
   plain_three_in Same a c d = three_in (int_register a) (ref_register c) (ref_register d) (λ t x y. does.Same t x y) (λ t x y. tt)
   plain_three_in Newm a c d = three_in (ref_register a) (int_register c) (int_register d) (λ t x y. does.Newm t x y) (λ t x y. tt)
-  plain_three_in Pack a c d = three_in (ref_register a) (field_count c) (field_count d) (λ t x y. does.Pack t x y) (λ t x y. tt)
+  plain_three_in Pack a c d = pack_in (ref_register a) (field_count c) (field_count d) (count_within c) (count_within d)
   plain_three_in Getr a c d = three_in (ref_register a) (ref_register c) (int_register d) (λ t x y. does.Getr t x y) (λ t x y. tt)
   plain_three_in Geti a c d = three_in (int_register a) (ref_register c) (int_register d) (λ t x y. does.Geti t x y) (λ t x y. tt)
   plain_three_in Putr a c d = three_in (ref_register a) (int_register c) (ref_register d) (λ t x y. does.Putr t x y) (λ t x y. tt)
