@@ -1,0 +1,49 @@
+-- The laws of what workers hold: an entry of one leaves what every other holds fitting, and what it makes of its own fits.
+use Rattle.std.specs.Prelude.{◌≡◌, ℕ, true, None, List}
+use Rattle.object_layout.specs.declared.word.Addr.{Addr}
+use Rattle.hh_lang.specs.Form.{ProgramText, IsProgram}
+use Rattle.run_trace.specs.Entry.{Event}
+use Rattle.run_trace.specs.Settings.{Limits}
+use Rattle.run_trace.specs.declared.entry.Kind.TheVariants.{Took, Ran, Sweep, End}
+use Rattle.run_ledger.specs.declared.data.Ledger.{Ledger}
+use Rattle.run_ledger.specs.Entries.{refusal, after}
+use Rattle.run_ledger.specs.Heaps.{heap_of}
+use Rattle.run_ledger.specs.Journals.{ledger_of, is_legal}
+use Rattle.run_ledger.specs.Steps.{task_steps}
+use Rattle.ledger_steps.specs.Last.{Runs}
+use Rattle.core_relation.specs.Value.{Home, Value}
+use Rattle.core_relation.specs.Changes.{KeepsJust, SameBut, SameObjects}
+use Rattle.core_relation.specs.Copies.{CopyFits, EndsAt}
+use Rattle.core_relation.specs.Counts.{IsQuiet}
+use Rattle.core_relation.specs.Fits.{Part, part_for}
+use Rattle.core_relation.specs.Makes.{Makes, taken_by}
+use Rattle.core_relation.specs.Worker.{Fits, IsBy}
+
+-- WHAT ANOTHER HOLDS
+
+abbrev pub TookLeaves : Type 0
+TookLeaves =
+    (p : ProgramText) (s : Limits) (journal : List Event) → is_legal p s journal ≡ true → (v v' : Value) (w t : ℕ) → let l : Ledger = ledger_of p s journal in let e : Event = record { worker = w; kind = Took t } in
+    refusal p s l e ≡ None → SameBut v v' t → (r : Part) → Fits p s r v l → Fits p s r v' (after p s l e)
+
+abbrev pub RanLeaves : Type 0
+RanLeaves =
+    (p : ProgramText) (s : Limits) (v v' : Value) (l l' : Ledger) (t w k : ℕ) (h : Home) → (E : Runs p s l l' t w k) → Fits p s (part_for s t h (taken_by E.splits.kind k)) v l
+    → Makes p v v' (task_steps p l t k) l' t h E.splits.task E.splits.line E.splits.kind E.splits.last → (r : Part) → (t ≡ r.task → ⊥) → Fits p s r v l → Fits p s r v' l'
+
+-- a chunk, the begin of a leaf collection or its putting off, a marking's begin or going on, the end of fuel
+abbrev pub QuietLeaves : Type 0
+QuietLeaves =
+    (p : ProgramText) (s : Limits) (journal : List Event) → is_legal p s journal ≡ true → (v v' : Value) (e : Event) → let l : Ledger = ledger_of p s journal in
+    refusal p s l e ≡ None → IsQuiet e.kind → SameObjects v v' l (after p s l e) → (r : Part) → (IsBy e.kind r.task → ⊥) → Fits p s r v l → Fits p s r v' (after p s l e)
+
+abbrev pub SweepsLeave : Type 0
+SweepsLeave =
+    (p : ProgramText) (s : Limits) (journal : List Event) → is_legal p s journal ≡ true → (v v' : Value) (w t given : ℕ) → let l : Ledger = ledger_of p s journal in let e : Event = record { worker = w; kind = Sweep t given } in
+    refusal p s l e ≡ None → KeepsJust v v' l (after p s l e) t (heap_of l t).snapshot → (r : Part) → Fits p s r v l → Fits p s r v' (after p s l e)
+
+abbrev pub EndsLeave : Type 0
+EndsLeave =
+    (p : ProgramText) (s : Limits) (journal : List Event) → is_legal p s journal ≡ true → (v v' : Value) (w t taken given left : ℕ) (h h' : Home) (f : Addr → Addr) → let l : Ledger = ledger_of p s journal in
+    let e : Event = record { worker = w; kind = End t taken given left } in
+    refusal p s l e ≡ None → CopyFits p s t h h' f v l → EndsAt v v' t h' f → (r : Part) → (t ≡ r.task → ⊥) → Fits p s r v l → Fits p s r v' (after p s l e)
