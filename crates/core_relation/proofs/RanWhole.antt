@@ -28,7 +28,7 @@ use Rattle.core_relation.proofs.RanCounts.{ran_counts}
 use Rattle.core_relation.proofs.RanPast.{ran_keeps}
 use Rattle.core_relation.proofs.Together.{whole_stands, whole_notes}
 
-none_collects : (o : Option Heap) → collecting o ≡ false → (or_fresh o).begun ≡ None
+pub none_collects : (o : Option Heap) → collecting o ≡ false → (or_fresh o).begun ≡ None
 none_collects None h = refl
 none_collects (Some h) e = none_of h.begun e
 

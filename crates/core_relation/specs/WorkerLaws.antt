@@ -16,7 +16,8 @@ use Rattle.core_relation.specs.Changes.{KeepsJust, SameBut, SameObjects}
 use Rattle.core_relation.specs.Copies.{CopyFits, EndsAt}
 use Rattle.core_relation.specs.Counts.{IsQuiet}
 use Rattle.core_relation.specs.Fits.{Part, part_for}
-use Rattle.core_relation.specs.Makes.{Makes, taken_by}
+use Rattle.core_relation.specs.Makes.{Makes, GoesHome, taken_by}
+use Rattle.core_relation.specs.Whole.{Totals, StandsFor}
 use Rattle.core_relation.specs.Worker.{Fits, IsBy}
 
 -- WHAT ANOTHER HOLDS
@@ -47,3 +48,18 @@ EndsLeave =
     (p : ProgramText) (s : Limits) (journal : List Event) → is_legal p s journal ≡ true → (v v' : Value) (w t taken given left : ℕ) (h h' : Home) (f : Addr → Addr) → let l : Ledger = ledger_of p s journal in
     let e : Event = record { worker = w; kind = End t taken given left } in
     refusal p s l e ≡ None → CopyFits p s t h h' f v l → EndsAt v v' t h' f → (r : Part) → (t ≡ r.task → ⊥) → Fits p s r v l → Fits p s r v' (after p s l e)
+
+-- WHAT ITS WORKER HOLDS
+
+-- the home that it takes
+abbrev pub TookFits : Type 0
+TookFits =
+    (p : ProgramText) (s : Limits) (journal : List Event) → is_legal p s journal ≡ true → (v v' : Value) (c : Totals) (w t : ℕ) → let l : Ledger = ledger_of p s journal in let e : Event = record { worker = w; kind = Took t } in
+    refusal p s l e ≡ None → StandsFor v c l → SameBut v v' t → Fits p s (part_for s t (v.homes t) 0) v' (after p s l e)
+
+-- after an entry of steps, where the worker goes on with the task or the run halts
+abbrev pub RanFits : Type 0
+RanFits =
+    (p : ProgramText) (s : Limits) (v v' : Value) (l l' : Ledger) (t w k : ℕ) (h g : Home) → (E : Runs p s l l' t w k) → Fits p s (part_for s t h (taken_by E.splits.kind k)) v l
+    → (C : Makes p v v' (task_steps p l t k) l' t h E.splits.task E.splits.line E.splits.kind E.splits.last) → GoesHome p v v' (task_steps p l t k) l' t h E.splits.task E.splits.line E.splits.kind E.splits.last C g
+    → Fits p s (part_for s t g 0) v' l'
