@@ -1,5 +1,5 @@
 -- What an entry leaves that moves no object and leaves the tasks to whom they are.
-use Rattle.std.proofs.Common.{◌≡◌, ◌+◌, ◌++◌, ◌∷◌, [], ℕ, Bool, true, false, cond, Option, Some, None, nat_lt, slice_get, inl, inr, refl, ap, sym, subst, ◌∙◌}
+use Rattle.std.proofs.Common.{◌≡◌, ◌⊎◌, ◌+◌, ◌++◌, ◌∷◌, [], ℕ, Bool, true, false, cond, Option, Some, None, nat_lt, slice_get, inl, inr, refl, ap, sym, subst, ◌∙◌}
 use Rattle.std.proofs.lemmas.Bool.{both_ways, cases_eq}
 use Rattle.hh_lang.specs.Form.{ProgramText}
 use Rattle.run_trace.specs.Settings.{Limits}
@@ -17,7 +17,7 @@ use Rattle.std.proofs.Common.{is_none}
 use Rattle.ledger_steps.specs.Accounts.{SameTasks}
 use Rattle.ledger_steps.proofs.Ahead.{with_at, with_off, heap_then}
 use Rattle.ledger_steps.proofs.Entries.{same_tasks}
-use Rattle.core_relation.specs.Counts.{IsQuiet}
+use Rattle.core_relation.specs.Counts.{IsQuiet, IsMarked}
 use Rattle.core_relation.specs.Worker.{IsBy}
 use Rattle.core_relation.proofs.Counts.{chunk_worker, chunk_snapshot}
 
@@ -85,3 +85,27 @@ module _ (p : ProgramText) (s : Limits) (l : Ledger) where
   quiet_off w u (More t n) q ne h idle = with_off l t u _ (λ e. both_ways (is_waiting (slice_get l.machine.tasks u)) idle (ap (λ z. is_waiting (slice_get l.machine.tasks z)) e ∙ (wait_tells l t _ h).0))
   quiet_off w u (Sweep t g) q ne h idle = absurd q
   quiet_off w u Fuel q ne h idle = refl
+
+  -- a heap is marked further, or the marks of its account stay
+  pub marked_or : (w : ℕ) (kind : Kind) → IsQuiet kind → (u : ℕ) → IsMarked kind u ⊎ ((IsMarked kind u → ⊥) × ((heap_of (after_kind p s l w kind) u).marked ≡ (heap_of l u).marked))
+  marked_or w (Took t) q u = absurd q
+  marked_or w (Ran t k) q u = absurd q
+  marked_or w (Chunk t) q u = inr ((λ e. e), by (nat_lt s.chunks (in_use l + chunk_units (asked p l.machine t))))
+    where
+      chunk_marked : (o : Option ℕ) (h : Heap) → (with_chunk o h).marked ≡ h.marked
+      chunk_marked o h = go (on_asked o is_small)
+        where
+          go : (b : Bool) → (cond b (record h { chunks = h.chunks ++ [] ∷ []; room = chunk_words }) (record h { reserved = chunk_units o })).marked ≡ h.marked
+          go true = refl
+          go false = refl
+
+      by : (b : Bool) → (heap_of (cond b (record l { end = Some (Pool (in_use l)) }) (with_heap l t (with_chunk (asked p l.machine t)))) u).marked ≡ (heap_of l u).marked
+      by true = refl
+      by false = view_then (λ h. h.marked) l t (with_chunk (asked p l.machine t)) (chunk_marked (asked p l.machine t)) u
+  marked_or w (Begin t) q u = inr ((λ e. e), view_then (λ h. h.marked) l t _ (λ h. refl) u)
+  marked_or w (EndOf t a g n) q u = absurd q
+  marked_or w (PutOff t) q u = inr ((λ e. e), view_then (λ h. h.marked) l t _ (λ h. refl) u)
+  marked_or w (Mark t) q u = elim (cases_eq u t) [ inl e ↦ inl (sym e) | inr ne ↦ inr ((λ e. ne (sym e)), ap (λ o. (or_fresh o).marked) (with_off l t u _ ne)) ]
+  marked_or w (More t n) q u = elim (cases_eq u t) [ inl e ↦ inl (sym e) | inr ne ↦ inr ((λ e. ne (sym e)), ap (λ o. (or_fresh o).marked) (with_off l t u _ ne)) ]
+  marked_or w (Sweep t g) q u = absurd q
+  marked_or w Fuel q u = inr ((λ e. e), refl)
