@@ -7,7 +7,7 @@ use Rattle.run_ledger.specs.declared.data.Ledger.{Ledger}
 use Rattle.run_ledger.specs.Heaps.{heap_of, or_fresh}
 use Rattle.run_ledger.specs.Entries.{held_from, is_held_by}
 use Rattle.core_relation.specs.Whole.{Totals, TotalsStand}
-use Rattle.core_relation.specs.Laws.{HandsAreHeld}
+use Rattle.core_relation.specs.EntryLaws.{HandsAreHeld}
 
 none_some : {A : Type 0} {w : ℕ} → ◌≡◌ {A = Option ℕ} None (Some w) → A
 none_some e = absurd cc

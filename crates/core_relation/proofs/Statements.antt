@@ -33,7 +33,7 @@ use Rattle.core_relation.specs.Stands.{Place, Stands}
 use Rattle.core_relation.specs.Fits.{Part, FitsAt, StillFits, with_home, ahead, part_for}
 use Rattle.core_relation.specs.Changes.{KeepsJust, Moves, SameBut, SameObjects, JoinsHomes, ForksHome, StoresAt, register, StepsAtHome, HomeIsRead, Allocates, WritesAt, with_field, HasResult, EndsHome, StoresNumberAt, gone_on}
 use Rattle.ledger_steps.specs.Kinds.{JoinsTasks, CanJoin, ForksTask, StoresOne, EndsTask, StoresNumber, onward_with}
-use Rattle.core_relation.specs.Frames.{AllFit, with_homes, all_ahead, Collects, IsSteady, Beside, EndsBeside, IsOut, AreOut}
+use Rattle.core_relation.specs.Frames.{AllFitAt, with_homes, all_ahead, Collects, IsSteady, Beside, EndsBeside, IsOut, AreOut}
 
 abbrev pub ForksLeaveFitting : Type 0
 ForksLeaveFitting =

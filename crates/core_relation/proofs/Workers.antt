@@ -32,7 +32,7 @@ use Rattle.core_relation.specs.Copies.{PartFits}
 use Rattle.core_relation.specs.Makes.{Stores, Makes, taken_by}
 use Rattle.core_relation.specs.Whole.{BegunBy}
 use Rattle.core_relation.specs.Worker.{Fits, IsBy}
-use Rattle.core_relation.specs.WorkerLaws.{RanLeaves}
+use Rattle.core_relation.specs.WorkerLaws.{RanAlike, RanLeaves}
 use Rattle.core_relation.proofs.Alike as alike
 use Rattle.core_relation.proofs.Along.{alike_alone}
 use Rattle.core_relation.proofs.Copies.{part_stays, rested_heap}
@@ -179,3 +179,8 @@ ran_leaves p s v v' l l' t w k h E Q C r ne R =
     let alive = alive_machine p s l l' t w k E in
     let F = (part_now p s (part_for s t h (taken_by E.splits.kind k)) v l alive Q).fits in
     by p s v v' l l' t w k h E r ne R E.splits.kind E.splits.last E.splits.on F C (ran.ran_leaves_still p s v v' l l' t w k h E r R.task (out p s r v l alive R) ne (part_now p s r v l alive R).fits F C)
+
+pub ran_alike : RanAlike
+ran_alike p s v l l' t w k h E Q r ne R g =
+    let alive = alive_machine p s l l' t w k E in
+    alike.alike_by p s v l l' t w k h E (E.splits.on g) r R.task (out p s r v l alive R) ne (part_now p s r v l alive R).fits E.splits.kind E.splits.last (part_now p s (part_for s t h (taken_by E.splits.kind k)) v l alive Q).fits g
