@@ -1,24 +1,18 @@
 -- The whole relation past an entry of steps.
-use Rattle.std.proofs.Common.{suc, ◌≡◌, ℕ, true, false, Option, Some, None, is_none, is_some, slice_get, refl, ap, sym, subst, ◌∙◌}
-use Rattle.hh_lang.specs.Form.{ProgramText, IsProgram}
-use Rattle.run_trace.specs.Settings.{Limits}
+use Rattle.std.proofs.Common.{suc, ◌≡◌, ℕ, false, Option, Some, None, is_none, slice_get, refl, ap, subst, ◌∙◌}
 use Rattle.run_trace.specs.Entry.{Event}
 use Rattle.run_trace.specs.declared.entry.Kind.TheVariants.{Ran}
 use Rattle.run_ledger.specs.declared.data.Heap.{Heap}
 use Rattle.run_ledger.specs.declared.data.Ledger.{Ledger}
 use Rattle.run_ledger.specs.Heaps.{heap_of, or_fresh}
 use Rattle.run_ledger.specs.Steps.{task_steps}
-use Rattle.run_ledger.specs.Entries.{refusal, after}
-use Rattle.run_ledger.specs.Journals.{ledger_of, is_legal}
+use Rattle.run_ledger.specs.Entries.{after}
+use Rattle.run_ledger.specs.Journals.{ledger_of}
 use Rattle.run_ledger.proofs.Journals.{entry_tells}
 use Rattle.run_ledger.proofs.Sound.{collecting}
-use Rattle.ledger_steps.specs.Accounts.{Rests}
-use Rattle.ledger_steps.specs.Last.{Runs}
 use Rattle.ledger_steps.proofs.Ahead.{steps_sound}
 use Rattle.ledger_steps.proofs.Rested.{rested_view}
 use Rattle.ledger_steps.proofs.Use.{entries_use}
-use Rattle.core_relation.specs.Value.{Begun, Home, Value}
-use Rattle.core_relation.specs.Copies.{PartFits}
 use Rattle.core_relation.specs.Fits.{part_for, with_home}
 use Rattle.core_relation.specs.Makes.{taken_by}
 use Rattle.core_relation.specs.EntryLaws.{RanStandsFor}

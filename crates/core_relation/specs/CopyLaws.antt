@@ -1,5 +1,4 @@
 -- The laws of leaf collections that have begun, and of copies.
-use Rattle.run_ledger.specs.Entries.{after}
 use Rattle.core_relation.specs.Whole.{BegunStands, Begins}
 use Rattle.core_relation.specs.Copies.{PartFits, CopyFits, EndsAt, before}
 use Rattle.run_ledger.specs.declared.data.Heap.{Heap}
