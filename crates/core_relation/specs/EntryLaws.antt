@@ -10,12 +10,13 @@ use Rattle.run_ledger.specs.Journals.{ledger_of, is_legal}
 use Rattle.run_ledger.specs.Entries.{refusal, after, held_from}
 use Rattle.run_ledger.specs.Steps.{task_steps}
 use Rattle.core_relation.specs.Since.{AllNoted, MarksOn, NotesStay, OthersNotes}
-use Rattle.core_relation.specs.Whole.{StandsForAll, Totals, TotalsStand, StandsFor}
+use Rattle.core_relation.specs.Whole.{StandsForAll, handed, Totals, TotalsStand, StandsFor}
 use Rattle.core_relation.specs.Copies.{CopyFits, EndsAt}
-use Rattle.std.specs.Prelude.{◌≡◌, ℕ, suc, true, None, List}
+use Rattle.std.specs.Prelude.{◌≡◌, ℕ, suc, true, None, List, Some}
 use Rattle.object_layout.specs.declared.word.Addr.{Addr}
 use Rattle.hh_lang.specs.Form.{ProgramText, IsProgram}
 use Rattle.run_trace.specs.Settings.{Limits}
+use Rattle.hh_model.specs.declared.data.End.TheVariants.{Done}
 use Rattle.run_ledger.specs.declared.data.Ledger.{Ledger}
 use Rattle.run_ledger.specs.Heaps.{heap_of}
 use Rattle.core_relation.specs.Value.{Home, Value}
@@ -61,6 +62,11 @@ EndsStandFor =
     (p : ProgramText) (s : Limits) (journal : List Event) → IsProgram p → is_legal p s journal ≡ true → (v v' : Value) (c c' : Totals) (w t taken given left : ℕ) (h h' : Home) (f : Addr → Addr) → let l : Ledger = ledger_of p s journal in
     let e : Event = record { worker = w; kind = End t taken given left } in
     refusal p s l e ≡ None → StandsForAll v c l → CopyFits p s t h h' f v l → EndsAt v v' t h' f → h'.begun ≡ None → OthersNotes v v' t → CountsGo p s l c c' w (End t taken given left) → StandsForAll v' c' (after p s l e)
+
+-- once the run is done every heap is handed back
+abbrev pub DoneHandsAll : Type 0
+DoneHandsAll =
+    (p : ProgramText) (s : Limits) (l l' : Ledger) (t w k : ℕ) → Runs p s l l' t w k → l'.machine.end ≡ Some Done → (u : ℕ) → Rests (handed l') u
 
 -- ITS PARTS
 
