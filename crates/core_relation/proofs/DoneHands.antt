@@ -1,6 +1,6 @@
 -- Once the run is done every heap is handed back: the root ran alone, and is let go of.
 use Rattle.std.proofs.Common.{◌≡◌, ℕ, Bool, true, false, Option, Some, None, slice_get, refl, inl, inr, ap, sym, subst, ◌∙◌}
-use Rattle.std.proofs.lemmas.Bool.{cases_eq, false≢true}
+use Rattle.std.proofs.lemmas.Bool.{cases_eq}
 use Rattle.std.proofs.lemmas.Option.{same_Some}
 use Rattle.hh_lang.specs.Form.{ProgramText}
 use Rattle.run_trace.specs.Settings.{Limits}
@@ -10,7 +10,7 @@ use Rattle.hh_model.specs.declared.data.State.{State}
 use Rattle.hh_model.specs.declared.data.Task.{Task}
 use Rattle.hh_model.specs.Step.{is_running, runs}
 use Rattle.run_ledger.specs.declared.data.Ledger.{Ledger}
-use Rattle.run_ledger.specs.Heaps.{heap_of, or_fresh, let_go}
+use Rattle.run_ledger.specs.Heaps.{or_fresh, let_go}
 use Rattle.run_ledger.specs.Steps.{task_steps}
 use Rattle.ledger_steps.specs.Accounts.{Rests, rested}
 use Rattle.ledger_steps.specs.Last.{EndsDone, LastKind, Private, Reading, Writing, Printing, Forking, Ending, Joining, Finishing, Halting, IsOfKind, GoesOn, Runs}
