@@ -13,6 +13,3 @@ mod space;
 pub use heap::LeafHeap;
 pub use laws::{placed_is_read, put_where_placed};
 pub use space::{New, Space};
-
-#[cfg(test)]
-mod tests;

@@ -4,8 +4,6 @@
 mod count;
 mod links;
 mod state;
-#[cfg(test)]
-mod tests;
 mod tree;
 
 pub use count::LinkCount;

@@ -5,6 +5,3 @@ mod moved;
 mod remembered;
 
 pub use remembered::{Remembered, Source};
-
-#[cfg(test)]
-mod tests;
