@@ -1,6 +1,6 @@
 // Collections of heaps that were checked.
 
-ghost use Rattle.std.specs.Prelude.{◌+◌, ◌*◌, ◌/◌, ◌≤◌, IsTrue};
+ghost use Rattle.std.specs.Prelude.{IsTrue};
 ghost use Rattle.memory_tests.specs.Fit.{IsReady};
 
 use crate::cells::{is_fit_heap, small_in_all};
@@ -40,10 +40,10 @@ pub fn collect(
     roots: &[Addr],
     number: u32,
 ) -> Result<Moved, Fail> {
+    let mut to = ToChunks::reserve(alloc, heap, 1)?;
+    to.chunks.push(Chunk::new(alloc, number, 1)?)?;
     if !is_ready(heap, frames, roots, number) {
         return Err("not as a collection asks")?;
     }
-    let mut to = ToChunks::reserve(alloc, heap, 1)?;
-    to.chunks.push(Chunk::new(alloc, number, 1)?)?;
     Ok(copy(heap, frames, roots, to, &EmptyGate, 0, 3))
 }
