@@ -3,7 +3,7 @@
 ghost use Rattle.hh_model.specs.PathLaw.{PathIsPrecedence};
 ghost use Rattle.hh_model.specs.ReadLaws.{OwnReadsGo, FrozenReadsGo, StopsNameOwners, ReadsAreDecided, StopsAreReads};
 ghost use Rattle.hh_model.specs.Winner.{OneWinner};
-ghost use Rattle.hh_model.specs.NextLaw.{AlwaysNext};
+ghost use Rattle.hh_model.specs.NextLaw.{AlwaysNext, PacksAreFew};
 ghost use Rattle.hh_model.specs.Store.{NothingLeaves, ObjectsStay, NamesAreStored, OutputsGrow, TasksAreNumbered};
 ghost use Rattle.hh_model.specs.Tree.{RunsAreKept, StepsKeep, RunsHaveOneRoot};
 ghost use Rattle.hh_model.specs.Paths.{PathsAreWalks, OwnersAreWalks, OwnersJoin, PathsStay};
@@ -166,4 +166,9 @@ pub fn reads_are_decided()
 /// Nothing but a read that is stopped ends the machine as entangled.
 pub fn stops_are_reads()
     ensures { StopsAreReads }
+{}
+
+/// Each `pack` of a program takes at most 16 registers of each kind.
+pub fn packs_are_few()
+    ensures { PacksAreFew }
 {}
