@@ -13,6 +13,3 @@ mod space;
 pub use heap::LeafHeap;
 pub use laws::{objects_are_near, placed_is_read, put_where_placed, writes_keep_counts};
 pub use space::{New, Space};
-
-#[cfg(test)]
-mod tests;

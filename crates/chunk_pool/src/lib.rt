@@ -4,8 +4,6 @@
 mod laws;
 mod numbers;
 mod pool;
-#[cfg(test)]
-mod tests;
 
 pub use laws::{owners_are_told, taken_are_owned};
 pub use pool::{Held, NotTaken, Pool};

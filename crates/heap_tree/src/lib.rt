@@ -5,8 +5,6 @@ mod count;
 mod laws;
 mod links;
 mod state;
-#[cfg(test)]
-mod tests;
 mod tree;
 
 pub use count::LinkCount;

@@ -2,10 +2,17 @@ pub mod Precedence
 pub mod Effect
 pub mod Names
 pub mod Step
+pub mod Tree
+pub mod Paths
 pub mod PathLaw
 pub mod Action
 pub mod Machine
 pub mod Store
+pub mod Closed
+pub mod Disentangled
+pub mod Counts
+pub mod Turns
+pub mod Ends
 pub mod ReadLaws
 pub mod Winner
 pub mod NextLaw

@@ -7,6 +7,3 @@ mod remembered;
 
 pub use laws::{known_are_there, lifted_are_there, noted_are_there};
 pub use remembered::{Remembered, Source};
-
-#[cfg(test)]
-mod tests;
