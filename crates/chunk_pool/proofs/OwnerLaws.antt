@@ -28,10 +28,13 @@ pub owners_are_told : OwnersAreTold
 owners_are_told = record {
   taken = λ old new n held t. (from old new n held.owner t.rest (λ u e. mapped held u (held_at new n) t.taken e), stay old new n t.rest);
   relabelled = λ old new n o used r. (from old new n o r.rest (relabelled new n o (held_at old n) used r.relabelled), stay old new n r.rest);
-  given = λ old new n g. ((λ k u e. elim (cases_eq k n) [
-    | inl is ↦ absurd (let q : None ≡ Some u = ap (λ (x : Option Held). option_map (λ (y : Held). y.owner) x) (sym g.free) ∙ (ap (owner_of new) (sym is) ∙ e) in cc)
-    | inr ne ↦ sym (stay old new n g.rest k ne) ∙ e
-  ]), stay old new n g.rest);
+  given = λ old new n g. (
+    (λ k u e. elim (cases_eq k n) [
+      | inl is ↦ absurd (let q : None ≡ Some u = ap (λ (x : Option Held). option_map (λ (y : Held). y.owner) x) (sym g.free) ∙ (ap (owner_of new) (sym is) ∙ e) in cc)
+      | inr ne ↦ sym (stay old new n g.rest k ne) ∙ e
+    ]),
+    stay old new n g.rest,
+  );
 }
 
 pub taken_are_owned : TakenAreOwned

@@ -51,12 +51,7 @@ fn number_one(slots: &mut Slab<Held>, owner: u32, chunk: &mut Chunk)
 }
 
 /// Numbers all chunks of a list for an owner, and puts them behind those of another.
-pub fn number_all(
-    slots: &mut Slab<Held>,
-    owner: u32,
-    blank: &mut Vec<Chunk>,
-    list: &mut Vec<Chunk>,
-)
+pub fn number_all(slots: &mut Slab<Held>, owner: u32, blank: &mut Vec<Chunk>, list: &mut Vec<Chunk>)
     requires room { HasRoomFor slots.old (length blank.old.items) }
     requires small { slots.old.capacity ≤ 2 ^ 32 }
     requires places { vec_len list.old + length blank.old.items ≤ vec_capacity list.old }

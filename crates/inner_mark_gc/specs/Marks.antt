@@ -3,7 +3,7 @@ use Rattle.std.specs.Prelude.{◌≡◌, ◌⊎◌, ℕ, ◌+◌, ◌<◌, ◌�
 use Rattle.std.specs.List.{list_any}
 use Rattle.object_layout.specs.declared.word.Addr.{Addr}
 use Rattle.object_layout.specs.Content.{Content}
-use Rattle.object_layout.specs.Chunks.{same_address}
+pub use Rattle.object_layout.specs.Chunks.{same_address}
 use Rattle.inner_mark_gc.specs.Snapshot.{Fork, IsHeld, IsInSnapshot, Leads, object_count}
 
 -- the objects that were found, in the order in which they were found; how many of the first of them

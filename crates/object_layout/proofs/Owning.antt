@@ -66,7 +66,7 @@ apart_more (x ∷ xs) k A f =
     let rest : has_chunk xs k.number ≡ false = found_any xs k.number ∙ right_false (eqb x.number k.number) (list_any (λ y. eqb y.number k.number) xs) both in
     let apart : eqb k.number x.number ≡ false = ne_eqb k.number x.number (λ e. eq_false x.number k.number ne (sym e)) in (
       (fresh_none (xs ++ k ∷ []) x.number).1
-      (has_append xs (k ∷ []) x.number ∙ or_false (has_chunk xs x.number) (has_chunk (k ∷ []) x.number) ((fresh_none xs x.number).0 A.0) (has_one k x.number ∙ apart)),
+          (has_append xs (k ∷ []) x.number ∙ or_false (has_chunk xs x.number) (has_chunk (k ∷ []) x.number) ((fresh_none xs x.number).0 A.0) (has_one k x.number ∙ apart)),
       apart_more xs k A.1 rest,
     )
   where
