@@ -5,6 +5,7 @@ use Rattle.std.specs.List.{list_any}
 use Rattle.std.proofs.lemmas.Bool.{cases_Bool, eq-eqb, false≢true, lt-ltb, ne_eqb}
 use Rattle.std.proofs.lemmas.List.Folds.{list_any-append}
 use Rattle.object_layout.specs.Content.{Content}
+use Rattle.object_layout.specs.Laws.{ApartTogether}
 use Rattle.object_layout.specs.Chunks.{has_chunk, place_in, place_of, AreApart, IsFresh}
 
 -- the list's length stands for none
@@ -56,6 +57,24 @@ left_false false b e = refl
 right_false : (a b : Bool) → (a || b) ≡ false → b ≡ false
 right_false true b e = absurd cc
 right_false false b e = e
+
+any_first : (k : Content) (ks : List Content) → has_chunk (k ∷ ks) k.number ≡ true
+any_first k ks = found_any (k ∷ ks) k.number ∙ ap (λ b. b || list_any (λ y. eqb y.number k.number) ks) (eq-eqb k.number k.number refl)
+
+any_rest : (k : Content) (ks : List Content) (n : ℕ) → has_chunk ks n ≡ true → has_chunk (k ∷ ks) n ≡ true
+any_rest k ks n e = found_any (k ∷ ks) n ∙ (ap (λ b. eqb k.number n || b) (sym (found_any ks n) ∙ e) ∙ or_true (eqb k.number n))
+  where
+    or_true : (b : Bool) → (b || true) ≡ true
+    or_true true = refl
+    or_true false = refl
+
+pub apart_together : ApartTogether
+apart_together [] ls A B off = B
+apart_together (k ∷ ks) ls A B off = (
+  (fresh_none (ks ++ ls) k.number).1
+  (has_append ks ls k.number ∙ or_false (has_chunk ks k.number) (has_chunk ls k.number) ((fresh_none ks k.number).0 A.0) (off k.number (any_first k ks))),
+  apart_together ks ls A.1 B (λ n e. off n (any_rest k ks n e)),
+)
 
 -- chunks stay apart where a fresh one is put behind them
 pub apart_more : (ks : List Content) (k : Content) → AreApart ks → has_chunk ks k.number ≡ false → AreApart (ks ++ k ∷ [])

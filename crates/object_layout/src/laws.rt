@@ -1,6 +1,6 @@
 // Laws of objects by their addresses.
 
-ghost use Rattle.object_layout.specs.Laws.{ChunksAreFound, FreshHasNone, PushLeavesOthers, PutMovesNoChunk, PutWherePushed, SameAddress, SecondPutStays};
+ghost use Rattle.object_layout.specs.Laws.{ApartTogether, ChunksAreFound, FreshHasNone, PushLeavesOthers, PutMovesNoChunk, PutWherePushed, SameAddress, SecondPutStays};
 ghost use Rattle.object_layout.specs.ObjectLaws.{AppendedIsLast, LedAreRead, ObjectsHaveChunks, ObjectsLieThere, PutChangesOne, SiftedAreKept};
 
 /// Addresses with the same parts are the same.
@@ -36,6 +36,11 @@ pub fn chunks_are_found()
 /// A number is fresh exactly where no chunk has it.
 pub fn fresh_has_none()
     ensures { FreshHasNone }
+{}
+
+/// Lists without a number in common are apart together.
+pub fn apart_together()
+    ensures { ApartTogether }
 {}
 
 /// The objects that are read are just those that lie at addresses.
