@@ -1,9 +1,8 @@
 -- What a step leaves of the tasks that run beside it.
-use Rattle.std.proofs.Common.{◌≡◌, ℕ, ℤ, zero, suc, ◌+◌, ◌<◌, ◌≤◌, Bool, true, false, Option, Some, None, List, [], ◌∷◌, ◌++◌, length, slice_get, slice_set, ◌⊎◌, inl, inr, refl, ap, sym, subst, ◌∙◌, arith}
+use Rattle.std.proofs.Common.{◌≡◌, ℕ, ℤ, zero, suc, ◌+◌, ◌<◌, Bool, true, false, Option, Some, None, List, [], ◌∷◌, ◌++◌, length, slice_get, slice_set, ◌⊎◌, inl, inr, refl, ap, sym, ◌∙◌, arith}
 use Rattle.std.proofs.lemmas.Bool.{cases_eq, cases_lt, both_ways, false≢true}
-use Rattle.std.proofs.lemmas.Option.{same_Some}
 use Rattle.std.proofs.Math.Path.{fun_ext}
-use Rattle.listed.proofs.Members.{In, got_same, got_other, got_cases, got_past, got_within, same_view}
+use Rattle.listed.proofs.Members.{got_same, got_other, got_past, got_within, same_view}
 use Rattle.hh_lang.specs.Form.{ProgramText}
 use Rattle.hh_model.specs.declared.data.Name.{Name}
 use Rattle.hh_model.specs.declared.data.Object.{Object}
@@ -13,7 +12,6 @@ use Rattle.hh_model.specs.declared.data.End.{End}
 use Rattle.hh_model.specs.declared.data.State.{State}
 use Rattle.hh_model.specs.Effect.{object_at, onward, put_object, row_of}
 use Rattle.hh_model.specs.Step.{can_step, child, ended_task, goes_on, is_joined, is_left, is_on_path, is_over, is_running, is_waiting, joined, joined_task, owner_in, owner_of, parent_of, parents, result_of, resumed, run, runs, start, step, waits}
-use Rattle.hh_model.specs.Names.{task_names}
 use Rattle.hh_model.specs.Tree.{Kept, waiting, joins_in}
 use Rattle.hh_model.specs.Disentangled.{Disentangled}
 use Rattle.hh_model.specs.Leaves.{LeavesOwner, StepsLeaveOwners, StepsWaitAlone, WaitsAlone}
@@ -22,14 +20,14 @@ use Rattle.hh_model.proofs.FreeReads.{run_disentangled}
 use Rattle.hh_model.proofs.Kept.{run_kept, start_kept}
 use Rattle.hh_model.proofs.Paths.{owner_joins, owner_live, owner_same}
 use Rattle.hh_model.proofs.Root.{runs_tell}
-use Rattle.hh_model.proofs.Runs.{running_tells, grown_other, grown_view, grown_view_front, fork_tree, three_top, three_left, three_right, three_other, three_view, parl, parr, below, dp, drest, wp}
+use Rattle.hh_model.proofs.Runs.{running_tells, grown_other, grown_view, grown_view_front, fork_tree, three_left, three_right, three_other, three_view, parl, parr, below, dp, drest, wp}
 use Rattle.hh_model.proofs.Steps.{Alters, in_registers, names_run, runs_is, step_cases}
 use Rattle.hh_model.proofs.Tree.{not_above}
 
 -- OBJECTS
 
 -- two new rows have no objects
-rows_same : (store : List (List Object)) (k c : ℕ) → slice_get (row_of (slice_get (store ++ [] ∷ [] ∷ []) k)) c ≡ slice_get (row_of (slice_get store k)) c
+pub rows_same : (store : List (List Object)) (k c : ℕ) → slice_get (row_of (slice_get (store ++ [] ∷ [] ∷ []) k)) c ≡ slice_get (row_of (slice_get store k)) c
 rows_same [] zero c = refl
 rows_same [] (suc zero) c = refl
 rows_same [] (suc (suc k)) c = refl
@@ -49,6 +47,35 @@ put_leaves store k n y ne = elim (cases_eq n.task k.task) [
       ∙ (row_same store k.task k.count n.count y (λ c. ne (e, c)) ∙ ap (λ j. slice_get (row_of (slice_get store j)) n.count) (sym e))
   | inr other ↦ ap (λ w. slice_get (row_of w) n.count) (got_other store k.task n.task (slice_set (row_of (slice_get store k.task)) k.count y) other)
 ]
+
+-- owners after a fork
+module _ (m : State) (t : ℕ) (K : Kept m) (x : Task) (g h : ℕ) (is : slice_get m.tasks t ≡ Some x) (run : is_running (Some x) ≡ true) where
+  abbrev fy : Task
+  fy = record x { status = Waiting; top = onward x.top }
+
+  abbrev fl : Task
+  fl = child t (x.depth + 1) g x.top
+
+  abbrev fr : Task
+  fr = child t (x.depth + 1) h x.top
+
+  abbrev pub fork_tasks : List Task
+  fork_tasks = slice_set m.tasks t fy ++ fl ∷ fr ∷ []
+
+  joined_same : joined fork_tasks ≡ joined m.tasks
+  joined_same = fun_ext (grown_view m.tasks t x fy fl fr is is_joined (sym (running_tells x.status run).0) refl refl)
+
+  own_all : (a : ℕ) → owner_in (parents fork_tasks) (joined m.tasks) a ≡ owner_of m.tasks a
+  own_all a = elim (cases_lt a (length m.tasks)) [
+    | inl lt ↦ owner_same (parents m.tasks) (parents fork_tasks) K.tree.low (length m.tasks) (λ v lv. grown_view_front m.tasks t x fy fl fr is parent_of refl v lv) (joined m.tasks) a a lt
+    | inr ge ↦
+        let live : joined m.tasks a ≡ false = ap is_joined (got_past m.tasks a ge) in
+        owner_live (parents fork_tasks) (fork_tree m.tasks m.edges t x (onward x.top) x.top x.top g h is run K.tree).low (joined m.tasks) a a live
+        ∙ sym (owner_live (parents m.tasks) K.tree.low (joined m.tasks) a a live)
+  ]
+
+  pub fork_owner : (a : ℕ) → owner_of fork_tasks a ≡ owner_of m.tasks a
+  fork_owner a = ap (λ f. owner_in (parents fork_tasks) f a) joined_same ∙ own_all a
 
 module _ (p : ProgramText) (m : State) (t : ℕ) (K : Kept m) (D : Disentangled m.tasks m.store) (u : ℕ) (ne : u ≡ t → ⊥) (run_u : is_running (slice_get m.tasks u) ≡ true) where
   abbrev n : ℕ
@@ -115,21 +142,10 @@ module _ (p : ProgramText) (m : State) (t : ℕ) (K : Kept m) (D : Disentangled 
     abbrev all : List Task
     all = slice_set m.tasks t y ++ cl ∷ cr ∷ []
 
-    joined_same : joined all ≡ jd
-    joined_same = fun_ext (grown_view m.tasks t x y cl cr is is_joined (sym (running_tells x.status run).0) refl refl)
-
-    own_all : (a : ℕ) → owner_in (parents all) jd a ≡ owner_of m.tasks a
-    own_all a = elim (cases_lt a n) [
-      | inl lt ↦ owner_same par (parents all) K.tree.low n (λ v lv. grown_view_front m.tasks t x y cl cr is parent_of refl v lv) jd a a lt
-      | inr ge ↦
-          let live : jd a ≡ false = ap is_joined (got_past m.tasks a ge) in
-          owner_live (parents all) (fork_tree m.tasks m.edges t x (onward x.top) x.top x.top g h is run K.tree).low jd a a live ∙ sym (owner_live par K.tree.low jd a a live)
-    ]
-
     forked : (store : List (List Object)) → store ≡ m.store ++ [] ∷ [] ∷ [] → (m' : State) → m'.tasks ≡ all → m'.store ≡ store → LeavesOwner m m' u
     forked store es m' et es' = record {
       task = ap (λ ts. slice_get ts u) et ∙ grown_other m.tasks t x y cl cr is u (let z = runs_tell (slice_get m.tasks u) run_u in got_within m.tasks u z.0 z.1) ne;
-      owned = by_same m'.tasks (λ a. ap (λ ts. owner_of ts a) et ∙ (ap (λ f. owner_in (parents all) f a) joined_same ∙ own_all a));
+      owned = by_same m'.tasks (λ a. ap (λ ts. owner_of ts a) et ∙ fork_owner m t K x g h is run a);
       objects = λ k own. ap (λ w. object_at w k) (es' ∙ es) ∙ rows_same m.store k.task k.count;
     }
 
