@@ -3,6 +3,9 @@ pub mod Heaps
 pub mod Steps
 pub mod Entries
 pub mod Journals
+pub mod Sound
+pub mod Use
+pub mod Frozen
 pub mod Report
 pub mod Pace
 pub mod Text
