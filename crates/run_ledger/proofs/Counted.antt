@@ -1,5 +1,5 @@
 -- The steps of a journal's accounts are those of its entries.
-use Rattle.std.proofs.Common.{◌≡◌, ℕ, ◌+◌, List, [], ◌∷◌, ◌++◌, length, replicate, subst, sym, ◌∙◌, ap, Bool, true, false, cond, nat_lt, arith, length-append, refl}
+use Rattle.std.proofs.Common.{◌≡◌, ℕ, ◌+◌, List, [], ◌∷◌, length, subst, sym, ◌∙◌, nat_lt, arith, length-append, refl}
 use Rattle.std.proofs.lemmas.List.{length-replicate}
 use Rattle.run_trace.specs.declared.entry.Kind.{Kind}
 use Rattle.run_trace.specs.declared.entry.Kind.TheVariants.{Took, Ran, Chunk, Begin, End, PutOff, Mark, More, Sweep, Fuel}

@@ -1,6 +1,6 @@
 -- An entry of fewer steps isn't refused where one of more isn't.
-use Rattle.std.proofs.Common.{◌≡◌, ℕ, zero, suc, ◌≤◌, ◌&&◌, ◌||◌, not, min, Bool, true, false, cond, Option, Some, None, slice_get, nat_le, nat_lt, refl, ap, sym, ◌∙◌, is_some, is_none, arith}
-use Rattle.std.proofs.lemmas.Bool.{leb-true, le-leb}
+use Rattle.std.proofs.Common.{◌≡◌, ℕ, zero, suc, ◌≤◌, ◌&&◌, ◌||◌, not, min, Bool, true, false, cond, Option, None, nat_le, nat_lt, ap, sym, ◌∙◌, is_some, is_none, arith}
+use Rattle.std.proofs.lemmas.Bool.{le-leb}
 use Rattle.run_trace.specs.declared.entry.Kind.TheVariants.{Ran}
 use Rattle.run_trace.specs.Settings.{Limits}
 use Rattle.hh_lang.specs.Form.{ProgramText}
@@ -9,7 +9,7 @@ use Rattle.run_ledger.specs.declared.data.Refused.{Refused}
 use Rattle.run_ledger.specs.declared.data.Refused.TheVariants.{Over, Spent, NoWorker, NotOut, Collecting, Long}
 use Rattle.run_ledger.specs.Heaps.{heap_of}
 use Rattle.run_ledger.specs.Steps.{task_step, is_due, is_in_need, is_private, most_steps, standing}
-use Rattle.run_ledger.specs.Entries.{refusal, refused_if, refused_unless, is_out, long_at}
+use Rattle.run_ledger.specs.Entries.{refused_if, refused_unless, is_out, long_at}
 use Rattle.run_ledger.specs.Cuts.{FewerStepsAreLegal}
 use Rattle.run_ledger.proofs.Bounds.{ran_tells}
 use Rattle.run_ledger.proofs.Cuts.{none_is}

@@ -1,9 +1,9 @@
 -- A fork sets down what was reached within the heap just before it.
-use Rattle.std.proofs.Common.{◌≡◌, ℕ, ℤ, zero, suc, ◌+◌, ◌<◌, ◌≤◌, ◌==◌, ◌&&◌, ◌||◌, not, Bool, true, false, cond, Option, Some, None, List, [], ◌∷◌, ◌++◌, length, filter, slice_get, slice_set, ◌⊎◌, inl, inr, refl, ap, ap₂, sym, subst, ◌∙◌}
+use Rattle.std.proofs.Common.{◌≡◌, ℕ, zero, suc, ◌+◌, ◌<◌, ◌==◌, ◌&&◌, ◌||◌, not, Bool, true, Some, None, List, [], ◌∷◌, ◌++◌, length, filter, slice_get, slice_set, inl, inr, refl, ap, ap₂, sym, ◌∙◌}
 use Rattle.std.specs.List.{flat_map, list_any}
 use Rattle.std.proofs.lemmas.Bool.{false≢true, both_ways, cond-true}
 use Rattle.std.proofs.Math.Path.{fun_ext}
-use Rattle.listed.proofs.Members.{got_past, got_same, got_within}
+use Rattle.listed.proofs.Members.{got_same, got_within}
 use Rattle.hh_lang.specs.declared.instr.Instr.TheVariants.{Par}
 use Rattle.hh_lang.specs.declared.program.Line.{Line}
 use Rattle.hh_lang.specs.Form.{ProgramText}
@@ -12,26 +12,24 @@ use Rattle.hh_model.specs.declared.data.Object.{Object}
 use Rattle.hh_model.specs.declared.data.Status.TheVariants.{Waiting}
 use Rattle.hh_model.specs.declared.data.Task.{Task}
 use Rattle.hh_model.specs.declared.data.State.{State}
-use Rattle.hh_model.specs.Effect.{onward, row_of}
+use Rattle.hh_model.specs.Effect.{onward}
 use Rattle.hh_model.specs.Names.{refs_at, refs_of, registers, words_asked}
-use Rattle.hh_model.specs.Step.{asked, asked_line, can_step, child, ended_task, fetched, is_joined, is_left, is_on_path, is_over, is_running, is_waiting, joined, joined_task, owner_in, owner_of, parent_of, parents, result_of, resumed, runs, step, waits}
+use Rattle.hh_model.specs.Step.{asked, asked_line, can_step, child, ended_task, fetched, is_running, is_waiting, joined_task, owner_of, parent_of, parents, result_of, resumed, step, waits}
 use Rattle.hh_model.specs.Tree.{Kept, waiting}
 use Rattle.hh_model.proofs.Closed.{asked_at}
 use Rattle.hh_model.proofs.Leaves.{fork_owner, rows_same}
 use Rattle.hh_model.proofs.Paths.{path_same}
 use Rattle.hh_model.proofs.Runs.{running_tells, grown_at, grown_view_front, three_left, three_right, below}
 use Rattle.hh_model.proofs.Steps.{step_cases}
-use Rattle.run_ledger.specs.declared.data.Heap.{Heap}
 use Rattle.run_ledger.specs.declared.data.Ledger.{Ledger}
 use Rattle.run_ledger.specs.Frozen.{ForksSetDown}
 use Rattle.run_ledger.specs.Heaps.{frames_of, heap_of, held, held_in, is_above, within}
-use Rattle.run_ledger.specs.Reachable.{holds_name, once_more, reached, reached_by}
+use Rattle.run_ledger.specs.Reachable.{holds_name, reached, reached_by}
 use Rattle.run_ledger.specs.Steps.{allocated_by, allocated_in, at_fork, stepped_to, task_step}
 use Rattle.run_ledger.proofs.History.{fork_set_down, forks_at}
 use Rattle.run_ledger.proofs.Machine.{stepped_machine}
 use Rattle.run_ledger.proofs.Booked.{wait_run}
-use Rattle.run_ledger.proofs.Sound.{SoundLedger}
-use Rattle.run_ledger.proofs.Steps.{SoundAt, can_tells, heap_of_task}
+use Rattle.run_ledger.proofs.Steps.{can_tells, heap_of_task}
 
 -- WHAT IS REACHED, in stores with the same references
 

@@ -1,5 +1,5 @@
 -- As long as the run goes on, so does the machine.
-use Rattle.std.proofs.Common.{◌≡◌, ℕ, zero, suc, ◌+◌, Bool, true, false, cond, Option, Some, None, List, [], ◌∷◌, nat_lt, refl, ap, sym, ◌∙◌}
+use Rattle.std.proofs.Common.{◌≡◌, ℕ, zero, suc, ◌+◌, Bool, true, false, cond, Option, Some, None, List, [], ◌∷◌, nat_lt, refl, ap, ◌∙◌}
 use Rattle.hh_lang.specs.Form.{ProgramText}
 use Rattle.run_trace.specs.declared.entry.Kind.{Kind}
 use Rattle.run_trace.specs.declared.entry.Kind.TheVariants.{Took, Ran, Chunk, Begin, End as EndOf, PutOff, Mark, More, Sweep, Fuel}
@@ -15,7 +15,7 @@ use Rattle.run_ledger.specs.declared.data.RunEnd.TheVariants.{Pool}
 use Rattle.run_ledger.specs.Heaps.{with_heap, with_heap_at, heap_at, in_use}
 use Rattle.run_ledger.specs.Steps.{allocated_in, settled, stepped_to, task_step, task_steps}
 use Rattle.run_ledger.specs.Entries.{after_kind, after, with_chunk, chunk_units}
-use Rattle.run_ledger.specs.Journals.{opening, after_all, ledger_of}
+use Rattle.run_ledger.specs.Journals.{opening, after_all}
 use Rattle.run_ledger.proofs.Machine.{stepped_machine}
 use Rattle.run_ledger.specs.Laws.{MachineGoesOn}
 

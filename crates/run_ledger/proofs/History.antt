@@ -1,5 +1,5 @@
 -- Survivors and snapshots are what was reached where they were set down.
-use Rattle.std.proofs.Common.{◌≡◌, ℕ, zero, suc, ◌+◌, ◌<◌, ◌==◌, ◌≤◌, Bool, true, false, cond, Option, Some, None, List, [], ◌∷◌, ◌++◌, length, slice_get, slice_set, sum_by, nat_lt, Contains, ◌⊎◌, inl, inr, refl, ap, sym, subst, ◌∙◌, is_none, is_some, append_assoc, append-nil, arith, eqb-true}
+use Rattle.std.proofs.Common.{◌≡◌, ℕ, zero, suc, ◌+◌, ◌≤◌, Bool, true, false, cond, Option, Some, None, List, [], ◌∷◌, ◌++◌, length, slice_get, slice_set, sum_by, nat_lt, ◌⊎◌, inl, inr, refl, ap, sym, subst, ◌∙◌, is_none, is_some, append_assoc, append-nil, arith, eqb-true}
 use Rattle.std.proofs.lemmas.Bool.{false≢true, cases_eq, both_ways, and_parts, eqb-false}
 use Rattle.std.proofs.lemmas.List.Sums.{sum_by-cons}
 use Rattle.listed.proofs.Members.{In, in_append_cases, in_from_contains, in_from_kept, contains_from_in, got_front, got_other, got_same, got_within}
@@ -10,10 +10,8 @@ use Rattle.run_trace.specs.Settings.{Limits}
 use Rattle.hh_lang.specs.Form.{ProgramText}
 use Rattle.hh_model.specs.declared.data.Name.{Name}
 use Rattle.hh_model.specs.declared.data.Object.{Object}
-use Rattle.hh_model.specs.declared.data.Status.TheVariants.{Waiting}
 use Rattle.hh_model.specs.declared.data.Task.{Task}
 use Rattle.hh_model.specs.declared.data.State.{State}
-use Rattle.hh_model.specs.Leaves.{WaitsAlone}
 use Rattle.hh_model.specs.Step.{asked, can_step, is_running, is_waiting, step, waits}
 use Rattle.hh_model.specs.Tree.{waiting}
 use Rattle.hh_model.proofs.Closed.{waits_is}
@@ -22,24 +20,23 @@ use Rattle.run_ledger.specs.declared.data.Heap.{Heap}
 use Rattle.run_ledger.specs.declared.data.Ledger.{Ledger}
 use Rattle.run_ledger.specs.declared.data.RunEnd.TheVariants.{Pool}
 use Rattle.run_ledger.specs.Reachable.{reached_by}
-use Rattle.run_ledger.specs.Heaps.{chunk_words, collected, emptied, forked_heap, fresh, heap_at, heap_of, held_in, in_use, is_small, let_go, merged, or_fresh, roots_of, swept_heap, take_of, with_heap, with_heap_at, within}
+use Rattle.run_ledger.specs.Heaps.{chunk_words, collected, forked_heap, fresh, heap_at, heap_of, held_in, in_use, is_small, or_fresh, roots_of, swept_heap, take_of, with_heap, with_heap_at, within}
 use Rattle.run_ledger.specs.Steps.{allocated_by, allocated_in, at_fork, moved_on, moved_to, on_asked, settled, stepped_to, task_step, task_steps}
 use Rattle.run_ledger.specs.Entries.{after, after_kind, chunk_units, is_out, kind_refusal, refusal, with_chunk}
-use Rattle.run_ledger.specs.Journals.{after_all, is_legal_from, ledger_of, opening}
+use Rattle.run_ledger.specs.Journals.{is_legal_from, ledger_of, opening}
 use Rattle.run_ledger.specs.Frozen.{BeganWith, ForkedWith, HasNone, SnapshotsAreHeld, SnapshotsAreWithin, SurvivorsAreWithin, begins, is_of_steps}
 use Rattle.run_ledger.proofs.Booked.{wait_run}
 use Rattle.run_ledger.proofs.Cuts.{after_cut, cut_legal}
 use Rattle.run_ledger.proofs.Frames.{left_step}
 use Rattle.run_ledger.proofs.Held.{chunk_up, swept_up}
-use Rattle.run_ledger.proofs.Journals.{entry_sound, entry_tells, legal_sound, none_unless, opening_sound, out_runs, out_tells}
+use Rattle.run_ledger.proofs.Journals.{entry_sound, entry_tells, none_unless, opening_sound, out_runs, out_tells}
 use Rattle.run_ledger.proofs.Machine.{stepped_machine}
 use Rattle.run_ledger.proofs.Moves.{moves_each}
 use Rattle.run_ledger.proofs.OfNames.{flat_fresh, flat_set, held_fresh, held_set, within_same}
-use Rattle.run_ledger.proofs.Reached.{reached_is_walks}
 use Rattle.run_ledger.proofs.Sound.{SoundLedger, collecting}
-use Rattle.run_ledger.proofs.Steps.{SoundAt, StepLeaves, heap_of_task, step_leaves, task_step_sound, can_tells}
+use Rattle.run_ledger.proofs.Steps.{SoundAt, heap_of_task, step_leaves, task_step_sound, can_tells}
 use Rattle.run_ledger.proofs.Stocks.{copies, distinct, hit, legal_stocked, with_heap_any}
-use Rattle.run_ledger.proofs.Weights.{kept_weight, total, weight}
+use Rattle.run_ledger.proofs.Weights.{kept_weight, weight}
 
 -- ONE HEAP OF A LEDGER
 

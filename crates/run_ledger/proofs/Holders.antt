@@ -217,7 +217,7 @@ task_steps_manned p (suc k) l t S I = task_steps_manned p k (task_step p l t) t 
 -- ENTRIES
 
 -- who isn't found holding a task holds none
-holding_none : (w t : ℕ) (heaps : List Heap) → held_from w t heaps ≡ None → (u : ℕ) → worker_at (slice_get heaps u) ≡ Some w → ⊥
+pub holding_none : (w t : ℕ) (heaps : List Heap) → held_from w t heaps ≡ None → (u : ℕ) → worker_at (slice_get heaps u) ≡ Some w → ⊥
 holding_none w t [] h u q = none_held q
 holding_none w t (g ∷ heaps) h u q = by (is_held_by g.worker w) refl h (λ v free r. holding_none w (t + 1) heaps free v r) u q
   where

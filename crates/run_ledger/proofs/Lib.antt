@@ -35,3 +35,4 @@ pub mod Waiters
 pub mod History
 pub mod Forked
 pub mod RunOn
+pub mod Accepted

@@ -5,13 +5,11 @@ use Rattle.std.proofs.lemmas.Bool.{cases_eq}
 use Rattle.std.proofs.lemmas.Option.{same_Some}
 use Rattle.listed.proofs.Members.{got_same, got_other}
 use Rattle.hh_model.specs.declared.data.Name.{Name}
-use Rattle.hh_model.specs.declared.data.Object.{Object}
-use Rattle.hh_model.specs.declared.data.Task.{Task}
 use Rattle.hh_model.specs.Names.{registers, refs_at}
 use Rattle.hh_model.specs.Step.{owner_of}
 use Rattle.run_ledger.specs.declared.data.Heap.{Heap}
 use Rattle.run_ledger.specs.declared.data.Ledger.{Ledger}
-use Rattle.run_ledger.specs.Heaps.{fresh, held, frames_of, held_in, heap_at, heap_of, is_above, or_fresh, with_heap, with_heap_at, within}
+use Rattle.run_ledger.specs.Heaps.{fresh, held, frames_of, held_in, heap_at, heap_of, is_above, or_fresh, with_heap_at, within}
 use Rattle.run_ledger.specs.Reachable.{reached}
 use Rattle.run_ledger.specs.Laws.{WithinIsOfNames}
 

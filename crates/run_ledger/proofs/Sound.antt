@@ -1,5 +1,5 @@
 -- What every legal journal keeps of the heaps, and what a change of one heap's account leaves of it.
-use Rattle.std.proofs.Common.{◌≡◌, ℕ, ◌<◌, ◌==◌, Bool, true, false, not, Option, Some, None, List, [], length, slice_get, slice_set, inl, inr, refl, ap, sym, subst, ◌∙◌, length-set, is_some, ne_eqb}
+use Rattle.std.proofs.Common.{◌≡◌, ℕ, ◌==◌, true, not, Option, Some, None, List, slice_get, slice_set, inl, inr, refl, ap, sym, subst, ◌∙◌, length-set, is_some, ne_eqb}
 use Rattle.std.proofs.lemmas.Bool.{cases_eq, and_from}
 use Rattle.listed.proofs.Members.{In, got_same, got_other, got_in, in_flat, flat_in, in_kept, in_append_left, in_append_right}
 use Rattle.hh_model.specs.declared.data.Name.{Name}
@@ -9,12 +9,11 @@ use Rattle.hh_model.specs.declared.data.Task.{Task}
 use Rattle.hh_model.specs.Names.{refs_at, registers, task_names}
 use Rattle.hh_model.specs.Step.{is_running, owner_of, is_on_path}
 use Rattle.hh_model.proofs.Runs.{waiting}
-use Rattle.hh_model.proofs.Kept.{KeptIn}
 use Rattle.hh_model.proofs.Closed.{Closed}
 use Rattle.hh_model.proofs.Disentangled.{Disentangled}
 use Rattle.run_ledger.specs.declared.data.Heap.{Heap}
 use Rattle.run_ledger.specs.declared.data.Ledger.{Ledger}
-use Rattle.run_ledger.specs.Heaps.{held, held_in, or_fresh, heap_at, frames_of, roots_of, within, is_above}
+use Rattle.run_ledger.specs.Heaps.{held, held_in, heap_at, frames_of, roots_of, within, is_above}
 use Rattle.run_ledger.proofs.Reached.{reached_root, reached_more}
 pub use Rattle.run_ledger.specs.Sound.{names_of, InHeaps, Keeps, Owners, Spares, collecting, snapshot_at, survivors_at, Sound, SoundLedger}
 

@@ -22,7 +22,7 @@ use Rattle.run_ledger.specs.Heaps.{chunk_words, units, is_small, words_of, words
 use Rattle.run_ledger.specs.Steps.{on_asked, allocated_by, allocated_in, stepped_to, task_step, task_steps, is_due, is_in_need, is_private, standing}
 use Rattle.run_ledger.specs.Entries.{refusal, after, after_kind, chunk_units, with_chunk, is_out, counted}
 use Rattle.run_ledger.specs.Journals.{ledger_of, is_legal}
-use Rattle.run_ledger.proofs.Booked.{BookedLedger, asked_runs, total_same, task_steps_booked}
+use Rattle.run_ledger.proofs.Booked.{BookedLedger, asked_runs, put_length, units_additive, total_same, task_steps_booked}
 use Rattle.run_ledger.proofs.Bounds.{asked_bounds, stands_by, ran_tells}
 use Rattle.run_ledger.proofs.Chunks.{sum_same}
 use Rattle.run_ledger.proofs.Grown.{Grown}
@@ -33,28 +33,10 @@ use Rattle.run_ledger.proofs.Sound.{collecting, names_of, SoundLedger}
 use Rattle.run_ledger.proofs.Space.{legal_booked}
 use Rattle.run_ledger.proofs.Steps.{SoundAt, StepLeaves, heap_of_task, can_tells, task_step_sound}
 use Rattle.run_ledger.proofs.Stocks.{StockedLedger, G, L, task_step_stocked, legal_stocked}
-use Rattle.run_ledger.proofs.Weights.{total, total_set, Additive, moves_total, kept_weight}
-use Rattle.run_ledger.specs.Use.{ChunkGoes, UseGoes, EntriesUse, StepsUseNone, UsesChunks, ChunksAreUsed}
+use Rattle.run_ledger.proofs.Weights.{total, total_set, moves_total, kept_weight}
+use Rattle.run_ledger.specs.Use.{ChunkGoes, UseGoes, EntriesUse, StepsUseNone, ChunksAreUsed}
 use Rattle.run_ledger.proofs.Exact.{PacksAreSmall, large_exact}
 use Rattle.hh_model.proofs.Next.{packs_are_few}
-
-units_additive : (m : State) → Additive (units_in m)
-units_additive m = record {
-  let_go = λ h. refl;
-  fresh = refl;
-  forked = λ ns h. refl;
-  merged = λ p l r.
-      let a = sum_by-append (λ n. units (words_at m n)) (l.large ++ r.large) p.large in
-      let b = sum_by-append (λ n. units (words_at m n)) l.large r.large in
-      let c = length-append (l.chunks ++ r.chunks) p.chunks in
-      let d = length-append l.chunks r.chunks in
-      omega arith;
-}
-
-put_length : (lists : List (List Name)) (n : Name) → 0 < length lists → length (put_last lists n) ≡ length lists
-put_length [] n l = absurd (omega arith)
-put_length (ns ∷ []) n l = refl
-put_length (ns ∷ ms ∷ rest) n l = ap suc (put_length (ms ∷ rest) n (omega arith))
 
 -- ONE STEP
 

@@ -15,7 +15,7 @@ use Rattle.hh_model.proofs.Leaves.{waits_alone}
 use Rattle.run_ledger.specs.declared.data.Heap.{Heap}
 use Rattle.run_ledger.specs.declared.data.Ledger.{Ledger}
 use Rattle.run_ledger.specs.declared.data.RunEnd.TheVariants.{Pool}
-use Rattle.run_ledger.specs.Heaps.{with_heap, fresh, in_use, collected, swept_heap}
+use Rattle.run_ledger.specs.Heaps.{with_heap, in_use, collected, swept_heap}
 use Rattle.run_ledger.specs.Steps.{allocated_in, stepped_to, task_step, task_steps, on_asked}
 use Rattle.run_ledger.specs.Heaps.{is_small}
 use Rattle.run_ledger.specs.Entries.{refusal, kind_refusal, after_kind, after, is_ready, with_chunk, chunk_units}

@@ -14,14 +14,15 @@ use Rattle.hh_model.specs.declared.data.State.{State}
 use Rattle.hh_model.specs.Names.{refs_at, task_names}
 use Rattle.hh_model.specs.Store.{IsStored}
 use Rattle.hh_model.specs.Leaves.{LeavesOwner}
-use Rattle.hh_model.specs.Step.{can_step, owner_of, is_running, is_waiting, step}
+use Rattle.hh_model.specs.Step.{can_step, owner_of, is_running, is_waiting, run_from, step}
 use Rattle.run_ledger.specs.Steps.{allocated_in, task_step}
 use Rattle.run_ledger.specs.declared.data.Ledger.{Ledger}
 use Rattle.run_ledger.specs.declared.data.Heap.{Heap}
 use Rattle.run_ledger.specs.Reachable.{is_name, reached, IsReachedWithin}
-use Rattle.run_ledger.specs.Heaps.{held_in, held, heap_of, with_heap, roots_of, within, name_le, small_in, collected, swept_heap}
+use Rattle.run_ledger.specs.Heaps.{held_in, held, heap_of, with_heap, roots_of, within, name_le, small_in, small_survivors, collected, swept_heap}
 use Rattle.run_ledger.specs.Entries.{after}
-use Rattle.run_ledger.specs.Journals.{opening, ledger_of, machine_of, is_legal}
+use Rattle.run_ledger.specs.Journals.{opening, ledger_of, machine_of, is_legal, tasks_in}
+use Rattle.run_ledger.specs.Sound.{SoundAt}
 
 -- of these names, exactly those are reached to which a walk through them leads
 abbrev pub ReachedIsWalks : Type 0
@@ -32,6 +33,13 @@ ReachedIsWalks =
 -- the ledger's machine is the machine that never collects, over the journal's steps
 abbrev pub MachineIsRun : Type 0
 MachineIsRun = (p : ProgramText) (s : Limits) (journal : List Event) → (ledger_of p s journal).machine ≡ machine_of p s journal
+
+-- and each step and each entry moves it by its steps alone
+abbrev pub StepsMoveMachine : Type 0
+StepsMoveMachine = (p : ProgramText) (l : Ledger) (t : ℕ) → (task_step p l t).machine ≡ step p l.machine t
+
+abbrev pub EntriesMoveMachine : Type 0
+EntriesMoveMachine = (p : ProgramText) (s : Limits) (l : Ledger) (e : Event) → (after p s l e).machine ≡ run_from p l.machine (tasks_in e.kind)
 
 -- where the run goes on so does the machine
 abbrev pub MachineGoesOn : Type 0
@@ -105,10 +113,11 @@ abbrev pub AreByBirth : List Name → Type 0
 AreByBirth [] = Unit {0}
 AreByBirth (n ∷ ns) = ((k : Name) → Contains ns k → name_le n k ≡ true) × AreByBirth ns
 
--- a leaf collection keeps just the survivors among the held names, the small ones by birth; a sweep keeps just the snapshot
+-- a leaf collection keeps just the survivors among the held names, the small ones by birth and laid one after the other; a sweep keeps just the snapshot
 pub record KeepsJust (m : State) (h : Heap) : Type 0 where
   pub survivors : (n : Name) → Contains (held_in (collected m h)) n ↔ (Contains (held_in h) n × Contains h.survivors n)
   pub order : AreByBirth (small_in (collected m h))
+  pub laid : small_in (collected m h) ≡ small_survivors h
   pub snapshot : (n : Name) → Contains (held_in (swept_heap h)) n ↔ (Contains (held_in h) n × Contains h.snapshot n)
 
 abbrev pub CollectionsKeepJust : Type 0
@@ -142,6 +151,13 @@ StepsRunOn =
     (p : ProgramText) (l : Ledger) (t : ℕ) → can_step l.machine t ≡ true
     → let m = step p l.machine t in
     let b = allocated_in p l t in m.end ≡ None → is_running (slice_get m.tasks t) ≡ true → task_step p l t ≡ record b { machine = m; steps = b.steps + 1 }
+
+-- a step leaves the heaps of the other tasks that ran before it or wait after it
+abbrev pub StepsLeaveHeaps : Type 0
+StepsLeaveHeaps =
+    (p : ProgramText) (l : Ledger) (t u : ℕ) → SoundAt t l
+    → let l' = task_step p l t in (u ≡ t → ⊥) → (is_running (slice_get l.machine.tasks u) ≡ true) ⊎ (is_waiting (slice_get l'.machine.tasks u) ≡ true)
+    → slice_get l'.heaps u ≡ slice_get l.heaps u
 
 -- WHAT AN ENTRY LEAVES ALONE
 

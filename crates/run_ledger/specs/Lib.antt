@@ -2,6 +2,7 @@ pub mod Reachable
 pub mod Heaps
 pub mod Steps
 pub mod Entries
+pub mod Accepted
 pub mod Journals
 pub mod Sound
 pub mod Use

@@ -1,5 +1,5 @@
 -- Sound accounts: what every legal journal keeps of its heaps.
-use Rattle.std.specs.Prelude.{◌≡◌, ℕ, ◌<◌, Bool, true, false, Option, Some, None, List, [], length, slice_get, is_some, is_none}
+use Rattle.std.specs.Prelude.{◌≡◌, ℕ, ◌<◌, Bool, true, false, Option, Some, None, List, [], length, slice_get, is_some}
 use Rattle.listed.specs.Members.{In}
 use Rattle.run_trace.specs.Entry.{Event}
 use Rattle.run_trace.specs.Settings.{Limits}
@@ -14,7 +14,7 @@ use Rattle.hh_model.specs.Closed.{Closed}
 use Rattle.hh_model.specs.Disentangled.{Disentangled}
 use Rattle.run_ledger.specs.declared.data.Heap.{Heap}
 use Rattle.run_ledger.specs.declared.data.Ledger.{Ledger}
-use Rattle.run_ledger.specs.Heaps.{held_in, or_fresh}
+use Rattle.run_ledger.specs.Heaps.{held_in, or_fresh, with_heap}
 use Rattle.run_ledger.specs.Steps.{task_step}
 use Rattle.run_ledger.specs.Entries.{refusal, after}
 use Rattle.run_ledger.specs.Journals.{ledger_of, is_legal}
@@ -80,6 +80,12 @@ JournalsAreSound = (p : ProgramText) (s : Limits) (journal : List Event) → is_
 -- an entry that isn't refused keeps accounts sound
 abbrev pub EntriesKeepSound : Type 0
 EntriesKeepSound = (p : ProgramText) (s : Limits) (l : Ledger) (e : Event) → SoundLedger l → refusal p s l e ≡ None → SoundLedger (after p s l e)
+
+-- so does a change of a heap's account that leaves its names, its collection and what was set down at the fork
+abbrev pub ChangesKeepSound : Type 0
+ChangesKeepSound =
+    (l : Ledger) (t : ℕ) (f : Heap → Heap) → SoundLedger l → ((h : Heap) → held_in (f h) ≡ held_in h) → ((h : Heap) → (f h).begun ≡ h.begun) → ((h : Heap) → (f h).survivors ≡ h.survivors)
+    → ((h : Heap) → (f h).snapshot ≡ h.snapshot) → SoundLedger (with_heap l t f)
 
 -- and so does a step of a task that isn't amid a leaf collection
 abbrev pub SoundAt : ℕ → Ledger → Type 0

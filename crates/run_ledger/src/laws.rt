@@ -1,10 +1,11 @@
 // The laws of journals, each the clause of a function that does nothing.
 
-ghost use Rattle.run_ledger.specs.Laws.{ReachedIsWalks, MachineIsRun, NothingReachableIsFreed, NamesAreHeldOnce, CollectionsKeepJust, TasksAreHeldOnce, EntriesLeaveOthers, HeldIsUndropped, WithinIsOwned, MachineGoesOn, WithinIsOfNames, WaitersAreFree, StepsRunOn};
+ghost use Rattle.run_ledger.specs.Laws.{ReachedIsWalks, MachineIsRun, NothingReachableIsFreed, NamesAreHeldOnce, CollectionsKeepJust, TasksAreHeldOnce, EntriesLeaveOthers, HeldIsUndropped, WithinIsOwned, MachineGoesOn, WithinIsOfNames, WaitersAreFree, StepsRunOn, StepsMoveMachine, EntriesMoveMachine, StepsLeaveHeaps};
+ghost use Rattle.run_ledger.specs.Accepted.{AcceptedIsAllowed};
 ghost use Rattle.run_ledger.specs.Frozen.{SurvivorsAreWithin, SnapshotsAreWithin, SnapshotsAreHeld, ForksSetDown};
 ghost use Rattle.run_ledger.specs.Cuts.{LegalIsUnrefused, JournalsCanBeCut, FirstRefusedIsFirst, PacedIsMeant, OwedCanBeGiven, PaceGoesOn, FewerStepsAreLegal};
 ghost use Rattle.run_ledger.specs.Space.{StepsAreBounded, AllocationsAreInBounds, UseIsBounded, LeafCollectionsAreBounded, SweepsAreBounded, HeapsFit, WordsAreAccounted, SinceIsBounded, ProgramsAskFew, JournalsAreCounted};
-ghost use Rattle.run_ledger.specs.Sound.{JournalsAreSound, EntriesKeepSound, StepsKeepSound};
+ghost use Rattle.run_ledger.specs.Sound.{JournalsAreSound, ChangesKeepSound, EntriesKeepSound, StepsKeepSound};
 ghost use Rattle.run_ledger.specs.Use.{EntriesUse, StepsUseNone, ChunksAreUsed};
 
 /// Of some names, those are reached to which walks along references lead, through these names alone.
@@ -207,4 +208,29 @@ pub fn forks_set_down()
 /// A step after which its task runs on changes the accounts by what it allocates alone.
 pub fn steps_run_on()
     ensures { StepsRunOn }
+{}
+
+/// An entry is accepted exactly where it finds what its kind asks of the accounts.
+pub fn accepted_is_allowed()
+    ensures { AcceptedIsAllowed }
+{}
+
+/// A step of the accounts moves the machine by that step.
+pub fn steps_move_machine()
+    ensures { StepsMoveMachine }
+{}
+
+/// An entry moves the machine by its steps.
+pub fn entries_move_machine()
+    ensures { EntriesMoveMachine }
+{}
+
+/// A step leaves the heaps of the other tasks that ran before it or wait after it.
+pub fn steps_leave_heaps()
+    ensures { StepsLeaveHeaps }
+{}
+
+/// A change of counts, of who holds a task or of marks keeps accounts sound.
+pub fn changes_keep_sound()
+    ensures { ChangesKeepSound }
 {}
