@@ -2,9 +2,9 @@
 
 ghost use Rattle.std.specs.Prelude.{◌≡◌, ◌++◌, ◌≤◌, ◌+◌, length, IfOk, OnErr, IfErr, OnOk, Option, Some, None};
 ghost use Rattle.run_trace.specs.Line.{said_by};
-ghost use Rattle.run_trace.specs.Trace.{version_by, version_of, first_bad, entries_in, onto_entries, trace_fault, IsTraceText, version_line, TraceFails, NotesLine};
+ghost use Rattle.run_trace.specs.Trace.{version_by, version_of_words, version_of, first_bad, entries_in, onto_entries, trace_fault, IsTraceText, version_line, TraceFails, NotesLine};
 ghost use Rattle.run_trace.specs.Trace.{trace_text as text_of};
-ghost use Rattle.text_lines.specs.Lines.{lines_of};
+ghost use Rattle.text_lines.specs.Lines.{lines_of, words_of};
 
 use crate::entry::Entry;
 use crate::line::{Said, add_entry, read_line};
@@ -53,15 +53,25 @@ fn version_named(word: &[u8]) -> Option<Version>
     }
 }
 
-/// The version that the first line of a trace text bears; None where it isn't such a line.
-pub fn read_version(line: &[u8]) -> Option<Version>
-    ensures { result ≡ version_of line.now }
+// The version that the words of a line name.
+fn version_in_words(line: &[u8]) -> Option<Version>
+    ensures { result ≡ version_of_words (words_of line.now) }
 {
     let (word, rest) = next_word(line)?;
     let (version, rest) = next_word(rest)?;
     match next_word(rest) {
         None if word == b"trace".as_slice() => version_named(version),
         _ => None,
+    }
+}
+
+/// The version that the first line of a trace text bears; None where it isn't such a line.
+pub fn read_version(line: &[u8]) -> Option<Version>
+    ensures { result ≡ version_of line.now }
+{
+    match str::from_utf8(line) {
+        Ok(_) => version_in_words(line),
+        Err(_) => None,
     }
 }
 

@@ -60,7 +60,10 @@ fn parts(instr: &Instr) -> (&'static str, [i64; 5]) {
         Instr::Cnti(d, o) => ("cnti", three(d.index(), o.index(), 0)),
         Instr::Cas(d, o, k, e, v) => {
             let [first, second, third, ..] = three(d.index(), o.index(), k.index());
-            ("cas", [first, second, third, e.index() as i64, v.index() as i64])
+            (
+                "cas",
+                [first, second, third, e.index() as i64, v.index() as i64],
+            )
         }
         _ => number_parts(instr),
     }
@@ -129,7 +132,10 @@ fn each_instruction(rt: HostRuntime) -> Result<(), Fail> {
         (35, "ret", [0; 5]),
         (36, "ret", [0; 5]),
     ];
-    assert_eq!(rt; code_of(rt.alloc(), EACH, 0)?.as_slice(), expected.as_slice());
+    assert_eq!(rt;
+        code_of(rt.alloc(), EACH, 0)?.as_slice(),
+        expected.as_slice()
+    );
     Ok(())
 }
 
@@ -182,10 +188,22 @@ fn functions_of_a_loop(rt: HostRuntime) -> Result<(), Fail> {
         (8, "call", [2, 0, 0, 0, 0]),
         (8, "ret", [0; 5]),
     ];
-    assert_eq!(rt; code_of(rt.alloc(), DOUBLES, 1)?.as_slice(), main.as_slice());
-    assert_eq!(rt; code_of(rt.alloc(), DOUBLES, 2)?.as_slice(), whole.as_slice());
-    assert_eq!(rt; code_of(rt.alloc(), DOUBLES, 3)?.as_slice(), left.as_slice());
-    assert_eq!(rt; code_of(rt.alloc(), DOUBLES, 4)?.as_slice(), right.as_slice());
+    assert_eq!(rt;
+        code_of(rt.alloc(), DOUBLES, 1)?.as_slice(),
+        main.as_slice()
+    );
+    assert_eq!(rt;
+        code_of(rt.alloc(), DOUBLES, 2)?.as_slice(),
+        whole.as_slice()
+    );
+    assert_eq!(rt;
+        code_of(rt.alloc(), DOUBLES, 3)?.as_slice(),
+        left.as_slice()
+    );
+    assert_eq!(rt;
+        code_of(rt.alloc(), DOUBLES, 4)?.as_slice(),
+        right.as_slice()
+    );
     assert!(rt; code_of(rt.alloc(), DOUBLES, 5)?.is_empty());
     Ok(())
 }

@@ -1,6 +1,8 @@
 // Sources and sinks: of readers and writers, in memory, and those that never fail.
 
-use outside_io::{Failed, FileSource, MemSink, MemSource, OutSink, Sink, Source, SureSink, SureSource};
+use outside_io::{
+    Failed, FileSource, MemSink, MemSource, OutSink, Sink, Source, SureSink, SureSource,
+};
 use std::io;
 use std::io::{ErrorKind, Read, Write};
 use std::test::Fail;

@@ -33,11 +33,12 @@ fn a_trace_is_read_and_written(rt: HostRuntime) -> Result<(), Fail> {
 
 #[test]
 fn the_first_bad_line_is_told(rt: HostRuntime) {
-    let cases: [(&[u8], u32); 19] = [
+    let cases: [(&[u8], u32); 20] = [
         (b"trace 9\n64 took 0", 6),
         (b"trace 01", 6),
         (b"trace", 6),
         (b"trace 1 1", 6),
+        (b"trace 1 # \xff", 6),
         (b"", 6),
         (b"trace 1\n64 took 0", 7),
         (b"trace 1\n0 ran 0 258", 7),
@@ -70,7 +71,10 @@ fn settings_of_versions(rt: HostRuntime) {
     assert_eq!(rt; (least.leaf(), least.inner()), (16, 16));
     assert_eq!(rt; least.version().field_limit(), 1022);
     let usual = Settings::usual();
-    assert_eq!(rt; usual, Settings::new(Version::Two, 1, 1000000, 4096, 4096, 8192));
+    assert_eq!(rt;
+        usual,
+        Settings::new(Version::Two, 1, 1000000, 4096, 4096, 8192)
+    );
     assert_eq!(rt; usual.with_version(Version::One) == usual, false);
     assert_eq!(rt; usual.version().field_limit(), 1000000);
 }
