@@ -14,7 +14,7 @@ use Rattle.run_ledger.specs.declared.data.Ledger.{Ledger}
 use Rattle.run_ledger.specs.Heaps.{heap_of, or_fresh, let_go}
 use Rattle.run_ledger.specs.Steps.{task_steps}
 use Rattle.run_ledger.proofs.Machine.{task_step_machine}
-use Rattle.run_ledger.proofs.Sound.{SoundLedger}
+use Rattle.run_ledger.specs.Sound.{SoundLedger}
 use Rattle.ledger_steps.specs.Accounts.{StepsAlone, Knows, aside, rested}
 use Rattle.ledger_steps.specs.Kinds.{StoresOne}
 use Rattle.ledger_steps.specs.Last.{WritesOther, LastKind, Private, Reading, Writing, Printing, Forking, Ending, Joining, Finishing, Halting, IsOfKind, GoesOn, Runs, Splits, stepped_by}

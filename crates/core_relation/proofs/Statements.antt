@@ -13,7 +13,7 @@ use Rattle.hh_model.specs.declared.data.Task.{Task}
 use Rattle.hh_model.specs.Step.{is_waiting}
 use Rattle.run_ledger.specs.declared.data.Ledger.{Ledger}
 use Rattle.run_ledger.specs.Heaps.{heap_of, with_heap, collected}
-use Rattle.run_ledger.proofs.Sound.{SoundLedger}
+use Rattle.run_ledger.specs.Sound.{SoundLedger}
 use Rattle.core_relation.specs.Value.{Frame, Home, Value}
 use Rattle.ledger_steps.specs.Accounts.{Rests, rested, StepsAlone, Takes, SameTasks, Knows, Leaves}
 use Rattle.core_relation.specs.Fits.{Part, FitsAt, with_home, ahead, part_for}

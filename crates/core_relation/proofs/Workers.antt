@@ -9,7 +9,7 @@ use Rattle.hh_model.specs.Step.{can_step, goes_on, is_running, runs}
 use Rattle.run_ledger.specs.declared.data.Ledger.{Ledger}
 use Rattle.run_ledger.specs.Heaps.{heap_of, or_fresh}
 use Rattle.run_ledger.specs.Steps.{task_steps}
-use Rattle.run_ledger.proofs.Sound.{collecting}
+use Rattle.run_ledger.specs.Sound.{collecting}
 use Rattle.ledger_steps.specs.Accounts.{AlikeFor, ArePrivate, Knows, aside}
 use Rattle.ledger_steps.specs.Last.{WritesOther, LastKind, Private, Reading, Writing, Printing, Forking, Ending, Joining, Finishing, Halting, IsOfKind, GoesOn, Halts, Runs, Splits}
 use Rattle.ledger_steps.proofs.Ahead.{SameOf, steps_alone_all}

@@ -16,7 +16,7 @@ use Rattle.run_ledger.specs.Heaps.{heap_of, with_heap, collected, held_in, left_
 use Rattle.run_ledger.specs.Reachable.{is_name}
 use Rattle.hh_model.specs.declared.data.Name.{Name}
 use Rattle.core_relation.specs.Marking.{MarksStand}
-use Rattle.run_ledger.proofs.Sound.{SoundLedger}
+use Rattle.run_ledger.specs.Sound.{SoundLedger}
 use Rattle.core_relation.specs.Value.{Begun, Home, Value, Seen, In, objects}
 use Rattle.ledger_steps.specs.Accounts.{Rests, rested, AlikeFor}
 use Rattle.core_relation.specs.Stands.{Stands}
