@@ -6,7 +6,7 @@ use Rattle.core_relation.specs.Counts.{CountsGo, IsQuiet, IsMarked}
 use Rattle.core_relation.specs.RanCounts.{RanCounts}
 use Rattle.run_trace.specs.Entry.{Event}
 use Rattle.run_trace.specs.declared.entry.Kind.TheVariants.{Took, Ran, Sweep, End}
-use Rattle.run_ledger.specs.Journals.{ledger_of, is_legal}
+use Rattle.run_ledger.specs.Journals.{ledger_of, is_legal, opening}
 use Rattle.run_ledger.specs.Entries.{refusal, after, held_from}
 use Rattle.run_ledger.specs.Steps.{task_steps}
 use Rattle.core_relation.specs.Since.{AllNoted, MarksOn, NotesStay, OthersNotes}
@@ -24,9 +24,15 @@ use Rattle.ledger_steps.specs.Accounts.{Rests}
 use Rattle.core_relation.specs.Stands.{Stands}
 use Rattle.core_relation.specs.Fits.{part_for}
 use Rattle.core_relation.specs.Changes.{KeepsJust, SameBut, SameObjects}
+use Rattle.core_relation.specs.First.{first, first_totals}
 use Rattle.core_relation.specs.Worker.{Fits}
 
--- THE WHOLE RELATION past each accepted entry
+-- THE WHOLE RELATION before any entry
+
+abbrev pub FirstStandsFor : Type 0
+FirstStandsFor = (p : ProgramText) (s : Limits) → StandsForAll (first p) first_totals (opening p s)
+
+-- and past each accepted one
 
 -- a worker takes a task
 abbrev pub TookStandsFor : Type 0
