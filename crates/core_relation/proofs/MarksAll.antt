@@ -139,8 +139,7 @@ marks_are_all v l t marked V rests distinct held M =
     let once = once_marked v l t V rests marked M.each M.once in
     let as_many : length ns ≡ length marked = as_many v l t V rests marked M.each in
     let count : marked_in (heap_of l t) ≡ length marked = ap (λ (o : Option ℕ). unwrap_or o 0) M.count in
-    let all : ((n : Name) → In ns n → In (heap_of l t).snapshot n) = λ n i. (named_by v l t V rests marked M.each n i).4 in
-    (
+    let all : ((n : Name) → In ns n → In (heap_of l t).snapshot n) = λ n i. (named_by v l t V rests marked M.each n i).4 in (
       (λ none q i j.
           let le : length (heap_of l t).snapshot ≤ length ns = (let z : length (heap_of l t).snapshot - marked_in (heap_of l t) ≡ 0 = none in omega (arith, z, count, as_many)) in
           let r = named_by v l t V rests marked M.each q.name (all_of ns (heap_of l t).snapshot once all le q.name j) in
