@@ -1,5 +1,5 @@
 -- Chunks of three heaps that are apart.
-use Rattle.std.proofs.Common.{◌≡◌, ℕ, Bool, true, false, ◌||◌, List, [], ◌∷◌, ◌++◌, sym, ap, ◌∙◌, subst, eqb, eqb-true, ◌⊎◌, inl, inr}
+use Rattle.std.proofs.Common.{◌≡◌, ℕ, Bool, true, false, ◌||◌, List, [], ◌∷◌, ◌++◌, sym, ap, ◌∙◌, subst, eqb, eqb-true, inl, inr}
 use Rattle.std.specs.Prelude.{All}
 use Rattle.std.specs.List.{list_any}
 use Rattle.std.proofs.lemmas.Bool.{false≢true, or_cases}
@@ -11,11 +11,10 @@ use Rattle.object_layout.proofs.Owning.{apart_together, found_any, fresh_none, h
 -- what holds of each chunk holds of each number that a chunk has
 off : (ks ls : List Content) → All (λ k. IsFresh ls k.number) ks → (n : ℕ) → has_chunk ks n ≡ true → has_chunk ls n ≡ false
 off [] ls a n e = absurd (false≢true (sym (found_any [] n) ∙ e))
-off (k ∷ ks) ls a n e = by (or_cases (eqb k.number n) (list_any (λ x. eqb x.number n) ks) (sym (found_any (k ∷ ks) n) ∙ e))
-  where
-    by : (eqb k.number n ≡ true) ⊎ (list_any (λ x. eqb x.number n) ks ≡ true) → has_chunk ls n ≡ false
-    by (inl h) = subst (λ (m : ℕ). has_chunk ls m ≡ false) (eqb-true k.number n h) ((fresh_none ls k.number).0 (All-head (λ x. IsFresh ls x.number) k ks a))
-    by (inr h) = off ks ls (All-tail (λ x. IsFresh ls x.number) k ks a) n (found_any ks n ∙ h)
+off (k ∷ ks) ls a n e = elim (or_cases (eqb k.number n) (list_any (λ (x : Content). eqb x.number n) ks) (sym (found_any (k ∷ ks) n) ∙ e)) [
+  | inl h ↦ subst (λ (m : ℕ). has_chunk ls m ≡ false) (eqb-true k.number n h) ((fresh_none ls k.number).0 (All-head (λ (x : Content). IsFresh ls x.number) k ks a))
+  | inr h ↦ off ks ls (All-tail (λ (x : Content). IsFresh ls x.number) k ks a) n (found_any ks n ∙ h)
+]
 
 both_off : (a b : Bool) → a ≡ false → b ≡ false → (a || b) ≡ false
 both_off true b e f = e

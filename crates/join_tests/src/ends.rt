@@ -1,6 +1,6 @@
 // Children that end in either order.
 
-use crate::scenes::{NOWHERE, take};
+use crate::scene::{start, take};
 use fork_join::{Child, finish, fork};
 use heap_tree::Tree;
 use std::alloc::Global;
@@ -8,37 +8,48 @@ use std::test::Fail;
 use task_frames::Frames;
 
 // The root forks; its two children.
-fn forked(alloc: Global, tree: &mut Tree) -> Result<(Child, Child), Fail> {
-    let frames = Frames::start(alloc, 4, &[7; 16], &[NOWHERE; 16]);
+fn forked(alloc: Global, tree: &mut Tree, frames: &Frames) -> Result<(Child, Child), Fail> {
     take(tree, 0)?;
     if tree.made() > 1 || tree.depth(0) > 0 {
         return Err("not a root")?;
     }
-    Ok(fork(alloc, tree, 0, &frames, 5, 6)?)
+    Ok(fork(alloc, tree, 0, frames, 5, 6)?)
+}
+
+// What the end of a child answers.
+fn ended(tree: &mut Tree, t: u32) -> Result<Option<u32>, Fail> {
+    take(tree, t)?;
+    if t == 0 {
+        return Err("the root")?;
+    }
+    Ok(finish(tree, t))
 }
 
 // Each child has one frame of its function, with the root's registers.
 #[test]
+fn children_begin(rt: HostRuntime) -> Result<(), Fail> {
+    let mut scene = start(rt.alloc())?;
+    let (left, right) = forked(rt.alloc(), &mut scene.tree, &scene.frames)?;
+    assert_eq!(rt; (left.task, right.task), (1, 2));
+    assert_eq!(rt; (left.frames.fun(), right.frames.fun()), (5, 6));
+    assert_eq!(rt; (left.frames.depth(), left.frames.int(15)), (1, 7));
+    Ok(())
+}
+
+#[test]
 fn right_ends_first(rt: HostRuntime) -> Result<(), Fail> {
-    let mut tree = Tree::new(rt.alloc())?;
-    let (first, second) = forked(rt.alloc(), &mut tree)?;
-    assert_eq!(rt; (first.task, second.task), (1, 2));
-    assert_eq!(rt; (first.frames.fun(), second.frames.fun()), (5, 6));
-    assert_eq!(rt; (first.frames.depth(), first.frames.int(15)), (1, 7));
-    take(&mut tree, 2)?;
-    assert_eq!(rt; finish(&mut tree, 2), None);
-    take(&mut tree, 1)?;
-    assert_eq!(rt; finish(&mut tree, 1), Some(0));
+    let mut scene = start(rt.alloc())?;
+    forked(rt.alloc(), &mut scene.tree, &scene.frames)?;
+    assert_eq!(rt; ended(&mut scene.tree, 2)?, None);
+    assert_eq!(rt; ended(&mut scene.tree, 1)?, Some(0));
     Ok(())
 }
 
 #[test]
 fn left_ends_first(rt: HostRuntime) -> Result<(), Fail> {
-    let mut tree = Tree::new(rt.alloc())?;
-    forked(rt.alloc(), &mut tree)?;
-    take(&mut tree, 1)?;
-    assert_eq!(rt; finish(&mut tree, 1), None);
-    take(&mut tree, 2)?;
-    assert_eq!(rt; finish(&mut tree, 2), Some(0));
+    let mut scene = start(rt.alloc())?;
+    forked(rt.alloc(), &mut scene.tree, &scene.frames)?;
+    assert_eq!(rt; ended(&mut scene.tree, 1)?, None);
+    assert_eq!(rt; ended(&mut scene.tree, 2)?, Some(0));
     Ok(())
 }

@@ -1,35 +1,21 @@
 // What a parent takes over from its children.
 
-use crate::scenes::{NOWHERE, at, bare, joined, side, split};
+use crate::scene::{Scene, at, bare, end, ended, joined, side, split, start};
 use alloc_path::New;
-use chunk_pool::{Held, Pool};
+use chunk_pool::Held;
 use fork_join::{EndedChild, Side};
-use heap_tree::{State, Tree};
+use heap_tree::State;
 use object_layout::{Addr, Birth, Header};
 use remembered_set::Source;
 use std::alloc::Global;
 use std::test::Fail;
-use task_frames::Frames;
 
 // A child without chunks, with two remembered fields.
-fn ended(alloc: Global, task: u32, first: Addr, second: Addr) -> Result<EndedChild, Fail> {
+fn noting(alloc: Global, task: u32, first: Addr, second: Addr) -> Result<EndedChild, Fail> {
     let mut side = bare(alloc, task);
     side.remembered.note(first, 0)?;
     side.remembered.note(second, 1)?;
-    Ok(EndedChild {
-        side,
-        result: (task as i64, Some(first)),
-    })
-}
-
-// Both children of a task end.
-fn both_end(tree: &mut Tree, left: u32, right: u32) -> Result<(), Fail> {
-    if left >= tree.made() || right >= tree.made() {
-        return Err("no such task")?;
-    }
-    tree.set_state(left, State::Ended);
-    tree.set_state(right, State::Ended);
-    Ok(())
+    Ok(ended(side))
 }
 
 fn source(side: &Side, i: usize) -> Option<Source> {
@@ -40,75 +26,67 @@ fn field(object: Addr, field: u32) -> Option<Source> {
     Some(Source { object, field })
 }
 
-fn registers(alloc: Global) -> Frames {
-    Frames::start(alloc, 4, &[7; 16], &[NOWHERE; 16])
+// The root, whose chunk has number 0, joins two children whose sets have these sources.
+fn root_of(
+    alloc: Global,
+    scene: &mut Scene,
+    left: (Addr, Addr),
+    right: (Addr, Addr),
+) -> Result<Side, Fail> {
+    let mut root = side(alloc, &mut scene.pool, 0)?;
+    split(&mut scene.tree, 0)?;
+    let first = noting(alloc, 1, left.0, left.1)?;
+    let second = noting(alloc, 2, right.0, right.1)?;
+    joined(scene, &mut root, first, second)?;
+    Ok(root)
 }
 
 // Of what the children's sets hold, the source in the parent's own chunk is dropped; each other
 // stands once.
 #[test]
 fn sources_go_up(rt: HostRuntime) -> Result<(), Fail> {
-    let alloc = rt.alloc();
-    let mut tree = Tree::new(alloc)?;
-    let mut pool = Pool::new(alloc, 4);
-    let mut frames = registers(alloc);
-    let mut parent = side(alloc, &mut pool, 0)?;
-    let (l, r) = split(&mut tree, 0)?;
-    both_end(&mut tree, l, r)?;
-    let left = ended(alloc, l, at(0), at(77))?;
-    let right = ended(alloc, r, at(78), at(77))?;
-    joined(&mut tree, &mut pool, &mut parent, &mut frames, left, right)?;
-    assert_eq!(rt; parent.remembered.sources().len(), 2);
-    assert_eq!(rt; source(&parent, 0), field(at(77), 1));
-    assert_eq!(rt; source(&parent, 1), field(at(78), 0));
-    assert_eq!(rt; (frames.int(0), frames.int(1), frames.int(2)), (1, 2, 7));
-    assert_eq!(rt;
-        (frames.reference(0), frames.reference(1)),
-        (Some(at(0)), Some(at(78)))
-    );
-    assert_eq!(rt;
-        (tree.state(0), tree.state(1), tree.state(2)),
-        (Some(State::Ready), Some(State::Joined), Some(State::Joined))
-    );
+    let mut scene = start(rt.alloc())?;
+    let root = root_of(rt.alloc(), &mut scene, (at(0), at(77)), (at(78), at(77)))?;
+    assert_eq!(rt; root.remembered.sources().len(), 2);
+    assert_eq!(rt; source(&root, 0), field(at(77), 1));
+    assert_eq!(rt; source(&root, 1), field(at(78), 0));
     Ok(())
+}
+
+// Both results go into the parent's first registers, and it may be taken.
+#[test]
+fn results_come(rt: HostRuntime) -> Result<(), Fail> {
+    let mut scene = start(rt.alloc())?;
+    root_of(rt.alloc(), &mut scene, (at(0), at(77)), (at(78), at(77)))?;
+    let frames = &scene.frames;
+    assert_eq!(rt; (frames.int(0), frames.int(1), frames.int(2)), (1, 2, 7));
+    assert_eq!(rt; scene.tree.state(0), Some(State::Ready));
+    assert_eq!(rt; scene.tree.state(2), Some(State::Joined));
+    Ok(())
+}
+
+// A task between the root and two grandchildren, which it has joined.
+fn middle(alloc: Global, scene: &mut Scene) -> Result<EndedChild, Fail> {
+    split(&mut scene.tree, 0)?;
+    split(&mut scene.tree, 1)?;
+    let mut middle = bare(alloc, 1);
+    let first = noting(alloc, 3, at(0), at(77))?;
+    let second = noting(alloc, 4, at(0), at(77))?;
+    joined(scene, &mut middle, first, second)?;
+    end(&mut scene.tree, 1);
+    Ok(ended(middle))
 }
 
 // A source of a grandchild goes up twice, unless its object lies in the root's chunk.
 #[test]
 fn sources_go_up_twice(rt: HostRuntime) -> Result<(), Fail> {
-    let alloc = rt.alloc();
-    let mut tree = Tree::new(alloc)?;
-    let mut pool = Pool::new(alloc, 4);
-    let mut frames = registers(alloc);
-    let mut root = side(alloc, &mut pool, 0)?;
-    let (l, r) = split(&mut tree, 0)?;
-    let (ll, lr) = split(&mut tree, l)?;
-    both_end(&mut tree, ll, lr)?;
-    let mut middle = bare(alloc, l);
-    let first = ended(alloc, ll, at(0), at(77))?;
-    let second = ended(alloc, lr, at(0), at(77))?;
-    joined(
-        &mut tree,
-        &mut pool,
-        &mut middle,
-        &mut frames,
-        first,
-        second,
-    )?;
-    assert_eq!(rt; middle.remembered.sources().len(), 2);
-    both_end(&mut tree, l, r)?;
-    let left = EndedChild {
-        side: middle,
-        result: (5, None),
-    };
-    let right = EndedChild {
-        side: bare(alloc, r),
-        result: (6, None),
-    };
-    joined(&mut tree, &mut pool, &mut root, &mut frames, left, right)?;
+    let mut scene = start(rt.alloc())?;
+    let mut root = side(rt.alloc(), &mut scene.pool, 0)?;
+    let left = middle(rt.alloc(), &mut scene)?;
+    assert_eq!(rt; left.side.remembered.sources().len(), 2);
+    joined(&mut scene, &mut root, left, ended(bare(rt.alloc(), 2)))?;
     assert_eq!(rt; root.remembered.sources().len(), 1);
     assert_eq!(rt; source(&root, 0), field(at(77), 1));
-    assert_eq!(rt; (frames.int(0), frames.int(1)), (5, 6));
     Ok(())
 }
 
@@ -128,53 +106,28 @@ fn placed(side: &mut Side, count: u32) -> Result<bool, Fail> {
     Ok(side.heap.place(new)?.is_some())
 }
 
-// The left child's chunk comes before the right one's, and both before the parent's own, which is
-// filled on; the words placed are summed.
+// A root and its left child, with a chunk each and an object in it, which are joined.
+fn root_with_chunks(alloc: Global, scene: &mut Scene) -> Result<Side, Fail> {
+    let mut root = side(alloc, &mut scene.pool, 0)?;
+    let mut left = side(alloc, &mut scene.pool, 1)?;
+    placed(&mut root, 0)?;
+    placed(&mut left, 0)?;
+    split(&mut scene.tree, 0)?;
+    joined(scene, &mut root, ended(left), ended(bare(alloc, 2)))?;
+    Ok(root)
+}
+
+// The child's chunk comes before the parent's own, which is filled on; the words placed are summed;
+// the pool knows the new owner.
 #[test]
 fn chunks_change_hands(rt: HostRuntime) -> Result<(), Fail> {
-    let alloc = rt.alloc();
-    let mut tree = Tree::new(alloc)?;
-    let mut pool = Pool::new(alloc, 4);
-    let mut frames = registers(alloc);
-    let mut parent = side(alloc, &mut pool, 0)?;
-    let mut left = side(alloc, &mut pool, 1)?;
-    let right = side(alloc, &mut pool, 2)?;
-    assert!(rt; placed(&mut parent, 0)? && placed(&mut parent, 1)? && placed(&mut left, 0)?);
-    split(&mut tree, 0)?;
-    both_end(&mut tree, 1, 2)?;
-    let first = EndedChild {
-        side: left,
-        result: (5, None),
-    };
-    let second = EndedChild {
-        side: right,
-        result: (6, None),
-    };
-    joined(
-        &mut tree,
-        &mut pool,
-        &mut parent,
-        &mut frames,
-        first,
-        second,
-    )?;
-    assert_eq!(rt; (parent.heap.chunks().len(), parent.heap.room()), (3, 1020));
-    assert_eq!(rt; parent.heap.since(), 6);
+    let mut scene = start(rt.alloc())?;
+    let root = root_with_chunks(rt.alloc(), &mut scene)?;
+    assert_eq!(rt; (root.heap.room(), root.heap.since()), (1022, 4));
     assert_eq!(rt;
-        (
-            parent.heap.place_of(1),
-            parent.heap.place_of(2),
-            parent.heap.place_of(0)
-        ),
-        (Some(0), Some(1), Some(2))
+        (root.heap.place_of(1), root.heap.place_of(0)),
+        (Some(0), Some(1))
     );
-    assert_eq!(rt;
-        (pool.held(0), pool.held(1), pool.held(2)),
-        (
-            Some(Held { owner: 0, units: 1 }),
-            Some(Held { owner: 0, units: 1 }),
-            Some(Held { owner: 0, units: 1 })
-        )
-    );
+    assert_eq!(rt; scene.pool.held(1), Some(Held { owner: 0, units: 1 }));
     Ok(())
 }

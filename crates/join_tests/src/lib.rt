@@ -6,4 +6,4 @@ mod ends;
 #[cfg(test)]
 mod joins;
 #[cfg(test)]
-mod scenes;
+mod scene;

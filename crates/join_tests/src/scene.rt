@@ -1,4 +1,4 @@
-// Trees, sides and chunks for tests, with what is known of them.
+// A tree, a pool and the parent of a join, for tests.
 
 ghost use Rattle.std.specs.Prelude.{◌≡◌, [], All, OnOk, Some};
 ghost use Rattle.heap_tree.specs.Node.{state_of};
@@ -15,13 +15,30 @@ use std::alloc::Global;
 use std::test::Fail;
 use task_frames::Frames;
 
-pub const NOWHERE: Option<Addr> = None;
-
 /// An address in a chunk.
 pub const fn at(chunk: u32) -> Addr
     ensures { result ≡ record { chunk = chunk; offset = 8 } }
 {
     Addr { chunk, offset: 8 }
+}
+
+/// A tree and a pool, and the frames into which results go.
+#[derive(Drop)]
+pub struct Scene {
+    pub tree: Tree,
+    pub pool: Pool,
+    pub frames: Frames,
+}
+
+/// The root alone.
+pub fn start(alloc: Global) -> Result<Scene, Fail> {
+    let nowhere: Option<Addr> = None;
+    let tree = Tree::new(alloc)?;
+    Ok(Scene {
+        tree,
+        pool: Pool::new(alloc, 4),
+        frames: Frames::start(alloc, 4, &[7; 16], &[nowhere; 16]),
+    })
 }
 
 /// A worker takes a task.
@@ -38,17 +55,27 @@ pub fn take(tree: &mut Tree, t: u32) -> Result<(), Fail>
     Ok(())
 }
 
-/// A task that a worker holds forks.
-pub fn split(tree: &mut Tree, t: u32) -> Result<(u32, u32), Fail> {
+/// A task forks, and both its children end.
+pub fn split(tree: &mut Tree, t: u32) -> Result<(), Fail> {
     take(tree, t)?;
     if tree.made() > 100 || tree.depth(t) > 100 {
         return Err("too many")?;
     }
-    Ok(tree.fork(t)?)
+    let (left, right) = tree.fork(t)?;
+    end(tree, left);
+    end(tree, right);
+    Ok(())
 }
 
-/// Whether two tasks can be joined.
-pub fn have_ended(tree: &Tree, parent: u32, left: u32, right: u32) -> Result<(), Fail>
+/// A task ends, if it was made.
+pub fn end(tree: &mut Tree, t: u32) {
+    if t < tree.made() {
+        tree.set_state(t, State::Ended);
+    }
+}
+
+// Whether two tasks can be joined.
+fn have_ended(tree: &Tree, parent: u32, left: u32, right: u32) -> Result<(), Fail>
     ensures { OnOk result (HaveEnded tree.now parent left right) }
 {
     if tree.state(parent) != Some(State::Waiting)
@@ -83,6 +110,15 @@ pub fn side(alloc: Global, pool: &mut Pool, task: u32) -> Result<Side, Fail> {
     };
     side.heap.add(chunk)?;
     Ok(side)
+}
+
+/// A child that has ended, with its number for a result, and no reference.
+pub fn ended(side: Side) -> EndedChild {
+    let number = side.task as i64;
+    EndedChild {
+        side,
+        result: (number, None),
+    }
 }
 
 // Whether all these chunks are in use.
@@ -122,20 +158,35 @@ fn are_apart(parent: &LeafHeap, left: &LeafHeap, right: &LeafHeap) -> Result<(),
     are_fresh(parent, rights)
 }
 
+// What a join needs of the tree and the pool.
+fn can_join(scene: &Scene, parent: &Side, left: &EndedChild, right: &EndedChild) -> Result<(), Fail>
+    ensures ended { OnOk result (HaveEnded scene.now.tree parent.now.task left.now.side.task right.now.side.task) }
+    ensures left { OnOk result (AreInUse scene.now.pool left.now.side.heap.chunks) }
+    ensures right { OnOk result (AreInUse scene.now.pool right.now.side.heap.chunks) }
+    ensures apart { OnOk result (AreApart (merged parent.now.heap left.now.side.heap right.now.side.heap).chunks) }
+{
+    have_ended(&scene.tree, parent.task, left.side.task, right.side.task)?;
+    in_use(&scene.pool, left.side.heap.chunks())?;
+    in_use(&scene.pool, right.side.heap.chunks())?;
+    are_apart(&parent.heap, &left.side.heap, &right.side.heap)
+}
+
 /// Joins two children, if they can be.
 pub fn joined(
-    tree: &mut Tree,
-    pool: &mut Pool,
+    scene: &mut Scene,
     parent: &mut Side,
-    frames: &mut Frames,
     left: EndedChild,
     right: EndedChild,
 ) -> Result<(), Fail> {
-    have_ended(tree, parent.task, left.side.task, right.side.task)?;
-    in_use(pool, left.side.heap.chunks())?;
-    in_use(pool, right.side.heap.chunks())?;
+    can_join(scene, parent, &left, &right)?;
     make_room(parent, &left.side, &right.side)?;
-    are_apart(&parent.heap, &left.side.heap, &right.side.heap)?;
-    join(tree, pool, parent, frames, left, right);
+    join(
+        &mut scene.tree,
+        &mut scene.pool,
+        parent,
+        &mut scene.frames,
+        left,
+        right,
+    );
     Ok(())
 }
