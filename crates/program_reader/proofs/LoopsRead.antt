@@ -24,7 +24,7 @@ use Rattle.program_reader.specs.Sense.{sense_of, loop_function, looping, only_na
 use Rattle.program_reader.specs.Around.{head_of_line, operands_of_line, begun_name, noted_if, outline_line, outline_above, outline_onto, outline_of, no_labels, labels_onto}
 use Rattle.program_reader.specs.Fault.{spot_of, is_misplaced, has_wrong_operand, leaves_open, is_among, is_second, names_no_function, names_no_label, lacks_main, is_too_many, first_cause, fault_by, fault_on, or_later, fault_from}
 use Rattle.program_reader.specs.Program.{on_line, function_of, loop_functions, loops_from, number_of, whole_code, left_code, right_code, with_function, functions_from, code_from}
-use Rattle.program_reader.specs.Loop.{instrs_of}
+use Rattle.hh_lang.specs.Loop.{instrs_of}
 use Rattle.program_reader.specs.LoopLaw.{LoopsAreRead}
 
 -- AS MANY FUNCTIONS AS NAMES

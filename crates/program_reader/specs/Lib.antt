@@ -8,5 +8,4 @@ pub mod Fault
 pub mod Program
 pub mod Reading
 pub mod Laws
-pub mod Loop
 pub mod LoopLaw

@@ -1,7 +1,7 @@
 -- The loops of a text.
 use Rattle.std.specs.Prelude.{◌≡◌, ℕ, true, Some, None, List}
 use Rattle.hh_lang.specs.declared.instr.Instr.TheVariants.{Call}
-use Rattle.program_reader.specs.Loop.{Loop, IsLoop}
+use Rattle.hh_lang.specs.Loop.{Loop, IsLoop}
 use Rattle.program_reader.specs.declared.sense.Sense.TheVariants.{Does}
 use Rattle.program_reader.specs.Names.{is_name, place_of}
 use Rattle.program_reader.specs.Sense.{loop_over}
