@@ -114,12 +114,12 @@ module _ (p : ProgramText) (s : Limits) (v v' : Value) (l l' : Ledger) (t w k : 
       forked u r =
           let a : ℕ = length m.machine.tasks in
           elim (cases_eq u t) [
-            | inl e ↦ ap (λ z. (v'.homes z).begun) e ∙ (ap (λ (z : Home). z.begun) C.0.home ∙ (ap (λ (z : Home). z.begun) (at_home v t h) ∙ own))
+            | inl e ↦ ap (λ z. (v'.homes z).begun) e ∙ (ap (λ (z : Home). z.begun) C.home ∙ (ap (λ (z : Home). z.begun) (at_home v t h) ∙ own))
             | inr nt ↦ elim (cases_eq u a) [
-              | inl e ↦ ap (λ z. (v'.homes z).begun) e ∙ ap (λ (z : Home). z.begun) C.0.left
+              | inl e ↦ ap (λ z. (v'.homes z).begun) e ∙ ap (λ (z : Home). z.begun) C.left
               | inr na ↦ elim (cases_eq u (a + 1)) [
-                | inl e ↦ ap (λ z. (v'.homes z).begun) e ∙ ap (λ (z : Home). z.begun) C.0.right
-                | inr nb ↦ ap (λ (z : Home). z.begun) (C.0.others u nt na nb) ∙ before u (ap (λ (z : Heap). z.worker) (sym (K.forks.heaps u nt na nb)) ∙ r)
+                | inl e ↦ ap (λ z. (v'.homes z).begun) e ∙ ap (λ (z : Home). z.begun) C.right
+                | inr nb ↦ ap (λ (z : Home). z.begun) (C.others u nt na nb) ∙ before u (ap (λ (z : Heap). z.worker) (sym (K.forks.heaps u nt na nb)) ∙ r)
               ]
             ]
           ]

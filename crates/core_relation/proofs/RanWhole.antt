@@ -20,6 +20,7 @@ use Rattle.ledger_steps.proofs.Use.{entries_use}
 use Rattle.core_relation.specs.Value.{Begun, Home, Value}
 use Rattle.core_relation.specs.Copies.{PartFits}
 use Rattle.core_relation.specs.Fits.{with_home}
+use Rattle.core_relation.specs.Makes.{taken_by}
 use Rattle.core_relation.specs.Laws.{RanStandsFor}
 use Rattle.core_relation.proofs.Past.{home_rests, legal_rests, none_of, rests_then}
 use Rattle.core_relation.proofs.RanBegun.{ran_idle}
@@ -27,7 +28,7 @@ use Rattle.core_relation.proofs.RanCounts.{ran_counts}
 use Rattle.core_relation.proofs.RanPast.{ran_keeps}
 use Rattle.core_relation.proofs.Together.{whole_stands, whole_notes}
 
-none_collects : (o : Option Heap) → collecting o ≡ false → (or_fresh o).begun ≡ None
+pub none_collects : (o : Option Heap) → collecting o ≡ false → (or_fresh o).begun ≡ None
 none_collects None h = refl
 none_collects (Some h) e = none_of h.begun e
 
@@ -35,11 +36,11 @@ pub ran_stands_for : RanStandsFor
 ran_stands_for p s journal program legal v v' c c' w t k h accepted E W F C M N =
     let l : Ledger = ledger_of p s journal in
     let e : Event = record { worker = w; kind = Ran t (suc k) } in
-    let m : Ledger = task_steps p l t k in
     let alive : l.end ≡ None = none_of l.end (entry_tells p s l e (ap is_none accepted)).0 in
     let both = ran_keeps p s v v' l (after p s l e) t w k h E alive W.homes (whole_notes v c l W) F.fits C M in
     let counts = ran_counts p s l (after p s l e) t w k E c c' W.totals alive (entries_use p s journal program legal e accepted) N in
-    let still : (heap_of m t).begun ≡ None = none_collects (slice_get m.heaps t) (steps_sound p s t k l (E.knows.sound, E.collects)).1 in
-    let own : h.begun ≡ None = home_rests (with_home v t h) _ t h.begun F.begun (rested_view (λ z. z.begun) (λ z. refl) m t ∙ still) in
-    let idle = ran_idle p s v v' l (after p s l e) t w k h E alive (λ u r. home_rests v l u (v.homes u).begun (W.begun u r) (legal_rests p s journal legal u r)) own (rests_then p s journal program legal v v' c c' e accepted) still C in
+    let still : (j : ℕ) → (heap_of (task_steps p l t j) t).begun ≡ None = λ j. none_collects (slice_get (task_steps p l t j).heaps t) (steps_sound p s t j l (E.knows.sound, E.collects)).1 in
+    let n : ℕ = taken_by E.splits.kind k in
+    let own : h.begun ≡ None = home_rests (with_home v t h) _ t h.begun F.begun (rested_view (λ z. z.begun) (λ z. refl) (task_steps p l t n) t ∙ still n) in
+    let idle = ran_idle p s v v' l (after p s l e) t w k h E alive (λ u r. home_rests v l u (v.homes u).begun (W.begun u r) (legal_rests p s journal legal u r)) own (rests_then p s journal program legal v v' c c' e accepted) (still k) C in
     whole_stands v' c' _ both.0 counts (λ u r. (idle u r).0) (λ u r. (idle u r).1) both.1
