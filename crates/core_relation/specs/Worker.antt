@@ -1,5 +1,5 @@
 -- What a worker holds fits a value.
-use Rattle.std.specs.Prelude.{◌≡◌, ◌⊎◌, ℕ, true, Some, slice_get}
+use Rattle.std.specs.Prelude.{◌≡◌, ℕ, true, Some, List, [], ◌∷◌, slice_get}
 use Rattle.hh_lang.specs.Form.{ProgramText}
 use Rattle.run_trace.specs.Settings.{Limits, field_limit}
 use Rattle.hh_model.specs.declared.data.Task.{Task}
@@ -10,7 +10,7 @@ use Rattle.run_trace.specs.declared.entry.Kind.TheVariants.{Took, Ran, Chunk, Be
 use Rattle.ledger_steps.specs.Accounts.{aside}
 use Rattle.core_relation.specs.Value.{Value}
 use Rattle.core_relation.specs.Fits.{Part}
-use Rattle.core_relation.specs.Frames.{IsSteady}
+use Rattle.core_relation.specs.Frames.{IsSteady, NotOf}
 use Rattle.core_relation.specs.Copies.{PartFits}
 
 -- its task runs, and with its home the value stands for the accounts after its fresh steps, in which the task rests; the
@@ -37,3 +37,8 @@ IsBy (Mark t) u = ⊥
 IsBy (More t n) u = ⊥
 IsBy (Sweep t given) u = ⊥
 IsBy Fuel u = ⊥
+
+-- each of these fits, and no two are of one task
+abbrev pub AllFit : ProgramText → Limits → List Part → Value → Ledger → Type 0
+AllFit p s [] v l = Unit {0}
+AllFit p s (q ∷ qs) v l = Fits p s q v l × NotOf q.task qs × AllFit p s qs v l

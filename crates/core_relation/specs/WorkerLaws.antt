@@ -1,29 +1,30 @@
 -- The laws of what workers hold: an entry of one leaves what every other holds fitting, and what it makes of its own fits.
 use Rattle.std.specs.Prelude.{◌≡◌, ℕ, ℤ, true, Option, None, List, ◌∷◌, slice_set}
 use Rattle.object_layout.specs.declared.word.Addr.{Addr}
-use Rattle.hh_lang.specs.Form.{ProgramText, IsProgram}
+use Rattle.hh_lang.specs.Form.{ProgramText}
 use Rattle.run_trace.specs.Entry.{Event}
 use Rattle.run_trace.specs.Settings.{Limits}
-use Rattle.run_trace.specs.declared.entry.Kind.TheVariants.{Took, Ran, Sweep, End}
+use Rattle.run_trace.specs.declared.entry.Kind.TheVariants.{Took, Sweep, End}
 use Rattle.run_ledger.specs.declared.data.Ledger.{Ledger}
 use Rattle.run_ledger.specs.Entries.{refusal, after}
 use Rattle.run_ledger.specs.Heaps.{heap_of}
 use Rattle.run_ledger.specs.Journals.{ledger_of, is_legal}
 use Rattle.run_ledger.specs.Steps.{task_steps}
 use Rattle.hh_model.specs.declared.data.Frame.{Frame as ModelFrame}
-use Rattle.ledger_steps.specs.Accounts.{StepsAlone, rested}
+use Rattle.ledger_steps.specs.Accounts.{AlikeFor, Knows, StepsAlone, rested}
 use Rattle.ledger_steps.specs.Kinds.{onward_with}
-use Rattle.ledger_steps.specs.Last.{Runs, stepped_by}
+use Rattle.ledger_steps.specs.Last.{GoesOn, Runs, stepped_by}
 use Rattle.core_relation.specs.Value.{Frame, Home, Value}
 use Rattle.core_relation.specs.Changes.{KeepsJust, SameBut, SameObjects, gone_on}
 use Rattle.core_relation.specs.Reads.{FrameIsRead}
-use Rattle.core_relation.specs.Stands.{Place}
+use Rattle.core_relation.specs.Stands.{Place, Stands}
 use Rattle.core_relation.specs.Copies.{CopyFits, EndsAt}
 use Rattle.core_relation.specs.Counts.{IsQuiet}
 use Rattle.core_relation.specs.Fits.{Part, part_for, with_home}
 use Rattle.core_relation.specs.Makes.{Makes, GoesHome, StepsTo, taken_by}
-use Rattle.core_relation.specs.Whole.{Totals, BegunBy, StandsFor}
-use Rattle.core_relation.specs.Worker.{Fits, IsBy}
+use Rattle.core_relation.specs.Whole.{Totals, BegunBy, StandsForAll}
+use Rattle.core_relation.specs.Worker.{AllFit, Fits, IsBy}
+use Rattle.core_relation.specs.Frames.{with_homes, all_ahead}
 
 -- WHAT ANOTHER HOLDS
 
@@ -60,7 +61,7 @@ EndsLeave =
 abbrev pub TookFits : Type 0
 TookFits =
     (p : ProgramText) (s : Limits) (journal : List Event) → is_legal p s journal ≡ true → (v v' : Value) (c : Totals) (w t : ℕ) → let l : Ledger = ledger_of p s journal in let e : Event = record { worker = w; kind = Took t } in
-    refusal p s l e ≡ None → StandsFor v c l → SameBut v v' t → Fits p s (part_for s t (v.homes t) 0) v' (after p s l e)
+    refusal p s l e ≡ None → StandsForAll v c l → SameBut v v' t → Fits p s (part_for s t (v.homes t) 0) v' (after p s l e)
 
 -- after an entry of steps, where the worker goes on with the task or the run halts
 abbrev pub RanFits : Type 0
@@ -100,3 +101,14 @@ NumbersGo =
     → (f : Frame) (fs : List Frame) (c : Option (ℕ × ℤ)) (outs : List ℤ) → let m : Ledger = task_steps p l t k in
     StepsAlone m l' t → l' ≡ stepped_by m (record m.machine { tasks = slice_set m.machine.tasks t (record E.splits.task { top = onward_with c E.splits.task.top }); outputs = outs }) → h.frames ≡ f ∷ fs
     → StepsTo v l' t h (record h { frames = gone_on c f ∷ fs })
+
+-- PARTS TOGETHER: any number of parts that fit a value fit it together, with all homes and the steps of all
+abbrev pub AllFitTogether : Type 0
+AllFitTogether =
+    (p : ProgramText) (s : Limits) (qs : List Part) (v : Value) (l : Ledger) → Knows l → l.machine.end ≡ None → Stands v l → AllFit p s qs v l → Stands (with_homes v qs) (all_ahead p qs l)
+
+-- an entry of steps leaves the accounts alike for each other task with a part
+abbrev pub RanAlike : Type 0
+RanAlike =
+    (p : ProgramText) (s : Limits) (v : Value) (l l' : Ledger) (t w k : ℕ) (h : Home) → (E : Runs p s l l' t w k) → Fits p s (part_for s t h (taken_by E.splits.kind k)) v l
+    → (r : Part) → (t ≡ r.task → ⊥) → Fits p s r v l → GoesOn E.splits.kind → AlikeFor r.task l l'
