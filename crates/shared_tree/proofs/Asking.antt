@@ -19,7 +19,7 @@ use Rattle.alloc_path.specs.Heap.{counted, room_of}
 use Rattle.task_frames.specs.declared.frames.Frame.{Frame}
 use Rattle.task_machine.specs.declared.part.Private.{Private}
 use Rattle.task_machine.specs.Accounts.{AreReserved, IsCounted}
-use Rattle.task_machine.specs.Fits.{Fits as FitsMachine}
+use Rattle.task_machine.specs.Fits.{FitsNow as FitsMachine}
 use Rattle.task_machine.specs.Place.{FrameStands, Places}
 use Rattle.task_machine.specs.Plan.{int_of}
 use Rattle.task_machine.proofs.Agreement.{same_line}
@@ -82,7 +82,7 @@ module _ (w : World) (k : ℕ) (p : Private) (I : IsWorld w) (F : Fits w k p) (o
   M = task_steps w.program (accounts w) p.task p.fresh
 
   abbrev L : Ledger
-  L = ahead w.program (part_of p) (accounts w)
+  L = ahead w.program (part_of w.settings p) (accounts w)
 
   abbrev h : Home
   h = home_of_part p
@@ -111,7 +111,9 @@ module _ (w : World) (k : ℕ) (p : Private) (I : IsWorld w) (F : Fits w k p) (o
   pub counted_is : IsCounted p.heap (heap_of M t)
   counted_is = record {
     chunks = C.chunks ∙ rested_view (λ (z : Account). z.chunks) (λ z. refl) M t;
+    large = C.large ∙ rested_view (λ (z : Account). z.large) (λ z. refl) M t;
     last = C.last;
+    last_large = C.last_large;
     room = C.room ∙ rested_view (λ (z : Account). z.room) (λ z. refl) M t;
     since = C.since ∙ ap counted (rested_view (λ (z : Account). z.since) (λ z. refl) M t);
     reserved = subst (AreReserved p.heap.chunks p.heap.reserved) (rested_view (λ (z : Account). z.reserved) (λ z. refl) M t) C.reserved;

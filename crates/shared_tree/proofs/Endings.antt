@@ -26,7 +26,7 @@ use Rattle.hh_model.proofs.FreeReads.{own_reads_go}
 use Rattle.hh_model.proofs.Steps.{in_registers, names_run, runs_is}
 use Rattle.run_ledger.specs.Steps.{has_no_caller, is_open, is_private, owns, touched}
 use Rattle.task_machine.specs.declared.part.Private.{Private}
-use Rattle.task_machine.specs.Fits.{Fits}
+use Rattle.task_machine.specs.Fits.{FitsNow as Fits}
 use Rattle.task_machine.specs.Place.{IsAt, Places}
 use Rattle.task_machine.specs.Plan.{int_of, ref_of}
 use Rattle.task_machine.proofs.Fitting.{is_alone, step_by, x}

@@ -1,6 +1,7 @@
 -- An entry is made: the shared value that the entry leaves.
 use Rattle.std.proofs.Common.{◌≡◌, ℕ, ℤ, Option, Some, None, List, [], ◌∷◌, ◌++◌, length, slice_get, is_none, is_some, false, inl, inr, refl, ap, sym, subst, ◌∙◌}
 use Rattle.std.proofs.lemmas.Bool.{cases_eq, false≢true}
+use Rattle.std.proofs.lemmas.Option.{same_Some}
 use Rattle.run_trace.specs.Entry.{Event}
 use Rattle.run_ledger.specs.declared.data.Ledger.{Ledger}
 use Rattle.run_ledger.specs.declared.data.RunEnd.{RunEnd}
@@ -54,6 +55,10 @@ held_by_end l (Some (Pool n)) t u e = e
 held_by_end l (Some (Machine Done)) t u e = held_rested l t u e
 held_by_end l (Some (Machine (Trapped kind a line))) t u e = e
 held_by_end l (Some (Machine (Entangled a b))) t u e = e
+
+-- two workers hold two tasks
+pub held_apart : (w : World) (k u : ℕ) (p q : Private) → Fits w k p → Fits w u q → (u ≡ k → ⊥) → p.task ≡ q.task → ⊥
+held_apart w k u p q F G ne e = ne (same_Some u k (sym G.held ∙ (ap (λ t. (heap_of (accounts w) t).worker) (sym e) ∙ F.held)))
 
 -- the value with other fields and one entry more
 abbrev pub entered : World → Event → List Node → Chunks → List (Option Rest) → List SetOf → List (Option ℕ) → List ℤ → ℕ → Option RunEnd → ℕ → World

@@ -16,35 +16,25 @@ use Rattle.run_ledger.specs.declared.data.Ledger.{Ledger}
 use Rattle.run_ledger.specs.Heaps.{heap_of, in_use, or_fresh}
 use Rattle.run_ledger.specs.Steps.{is_private, task_steps}
 use Rattle.run_ledger.specs.Entries.{after}
-use Rattle.run_ledger.proofs.Bounds.{task_steps_steps}
 use Rattle.run_ledger.proofs.Journals.{entry_tells}
 use Rattle.run_ledger.proofs.Machine.{task_step_machine}
-use Rattle.run_ledger.proofs.Space.{legal_booked}
-use Rattle.run_ledger.proofs.Stocks.{legal_stocked}
-use Rattle.ledger_steps.specs.Accounts.{Knows, StepsAlone}
+use Rattle.ledger_steps.specs.Accounts.{Knows}
 use Rattle.ledger_steps.specs.Last.{Runs, Splits}
-use Rattle.ledger_steps.proofs.Ahead.{steps_alone_all}
 use Rattle.ledger_steps.proofs.Along.{steps_know}
 use Rattle.ledger_steps.proofs.Known.{legal_knows}
 use Rattle.ledger_steps.proofs.Split.{entry_runs}
 use Rattle.task_machine.specs.declared.part.Private.{Private}
-use Rattle.core_relation.specs.Whole.{state_by}
-use Rattle.core_relation.specs.Fits.{Fits as FitsValue}
+use Rattle.core_relation.specs.Worker.{Fits as FitsValue}
 use Rattle.shared_tree.specs.World.{World, accounts, value_of}
-use Rattle.shared_tree.specs.Stands.{HoldsFor, IsWorld}
+use Rattle.shared_tree.specs.Stands.{IsWorld}
 use Rattle.shared_tree.specs.Fits.{Fits, part_of}
 use Rattle.shared_tree.specs.Alone.{IsShared, SaysOf, Tells}
 use Rattle.shared_tree.specs.declared.next.Ending.{Ending}
 use Rattle.shared_tree.specs.Entered.{refused}
-use Rattle.shared_tree.proofs.Asking.{account_is}
 use Rattle.shared_tree.proofs.LastSteps.{shared_now}
 use Rattle.shared_tree.proofs.Linked as link
-use Rattle.shared_tree.proofs.Now.{calm_now, holds_now}
-use Rattle.shared_tree.proofs.Packs.{packs_few}
-use Rattle.shared_tree.proofs.Running.{fits_now, goes, status}
-use Rattle.shared_tree.proofs.Stepping.{After, hold, hold_same, worker_view}
-use Rattle.shared_tree.proofs.Taking.{told}
-use Rattle.shared_tree.proofs.Using.{steps_use}
+use Rattle.shared_tree.proofs.Running.{goes, status}
+use Rattle.shared_tree.proofs.Stepping.{After, hold, hold_same}
 
 abbrev pub last_event : ℕ → Private → Event
 last_event k p = record { worker = k; kind = Ran p.task (suc p.fresh) }
@@ -76,16 +66,13 @@ module _ (w : World) (k : ℕ) (p : Private) (I : IsWorld w) (F : Fits w k p) (s
   abbrev pub S : Splits w.program w.settings l L t p.fresh
   S = runs_so.splits
 
-  pub now : HoldsFor w l
-  now = holds_now w I on
-
-  pub V : FitsValue w.program w.settings (part_of p) (value_of w) l
-  V = fits_now w k p I F on
+  pub own : FitsValue w.program w.settings (part_of w.settings p) (value_of w) l
+  own = F.fits
 
   pub before_goes : l.machine.end ≡ None
   before_goes = goes w k p I F on
 
-  pub A : After l M t F.task
+  pub A : After l M t F.fits.task
   A = link.A w k p I F on
 
   pub knows : Knows l
@@ -100,17 +87,8 @@ module _ (w : World) (k : ℕ) (p : Private) (I : IsWorld w) (F : Fits w k p) (s
   pub mid_can : can_step M.machine t ≡ true
   mid_can = ap₂ (λ e o. goes_on e (is_running o)) mid_goes S.at.task ∙ ap runs S.at.runs
 
-  pub can : can_step l.machine t ≡ true
-  can = ap₂ (λ e o. goes_on e (is_running o)) before_goes F.is ∙ F.runs
-
   pub idle : is_waiting (slice_get l.machine.tasks t) ≡ false
-  idle = ap is_waiting F.is ∙ ap waits (status w k p I F on)
-
-  pub mid_idle : is_waiting (slice_get M.machine.tasks t) ≡ false
-  mid_idle = ap is_waiting S.at.task ∙ ap waits S.at.runs
-
-  pub alone : StepsAlone l M t
-  alone = steps_alone_all w.program w.settings t p.fresh l (knows.sound, calm_now w I t) V.private
+  idle = ap is_waiting F.fits.is ∙ ap waits (status w k p I F on)
 
   -- what is known of the next step in the machine then
   pub said : (ending : Ending) (number : ℕ) → Tells w p ending number → (S.line.number ≡ number) × SaysOf w.program M.machine t S.task S.line ending
@@ -131,25 +109,14 @@ module _ (w : World) (k : ℕ) (p : Private) (I : IsWorld w) (F : Fits w k p) (s
   pub taken : step w.program M.machine t ≡ follow M.machine t S.task S.line.number (effect (setting M.machine t S.task) S.task.top M.machine.store S.line.instr)
   taken = step_taken w.program M.machine t S.task S.line mid_can S.at.task S.at.next
 
-  pub steps_then : L.steps ≡ l.steps + suc p.fresh
-  steps_then = task_steps_steps w.program (suc p.fresh) l t
-
   pub is_not_private : is_private w.program M.machine t ≡ false
   is_not_private = shared_now w k p I F shared on
 
   pub held_mid : (heap_of M t).worker ≡ Some k
   held_mid = link.worker_then w k p I F on
 
-  pub account : (z : Heap) × (slice_get M.heaps t ≡ Some z)
-  account = account_is w k p I F on
-
   pub holds_mid : hold (heap_of M t) ≡ hold (heap_of l t)
   holds_mid = hold_same (slice_get l.heaps t) (slice_get M.heaps t) A.heap
-
-  pub use_mid : in_use M ≡ in_use l
-  use_mid =
-      steps_use w.program w.settings (packs_few w.program I.form) t p.fresh l F.task before_goes F.is (status w k p I F on) (knows.sound, calm_now w I t)
-      (legal_stocked w.program w.settings w.journal.items I.legal) (legal_booked w.program w.settings w.journal.items I.legal) V.private
 
   -- heaps of others, and whose home is in the value
   pub heap_off : (u : ℕ) → (u ≡ t → ⊥) → slice_get M.heaps u ≡ slice_get l.heaps u
@@ -159,23 +126,4 @@ module _ (w : World) (k : ℕ) (p : Private) (I : IsWorld w) (F : Fits w k p) (s
   calm_mid u = elim (cases_eq u t) [
     | inl q ↦ ap (λ z. (heap_of M z).begun) q ∙ (ap (λ (x : Option ℕ × Option ℕ × List Name × Bool). x.1) holds_mid ∙ I.calm t)
     | inr ne ↦ ap (λ o. (or_fresh o).begun) (heap_off u ne) ∙ I.calm u
-  ]
-
-  -- the tree, where t stands as it stood
-  pub node_mid : (u : ℕ) → option_map (told (heap_of M u).worker) (slice_get M.machine.tasks u) ≡ option_map (told (heap_of l u).worker) (slice_get l.machine.tasks u)
-  node_mid u = elim (cases_eq u t) [
-    | inl q ↦
-        ap (λ z. option_map (told (heap_of M z).worker) (slice_get M.machine.tasks z)) q
-        ∙ (ap (option_map (told (heap_of M t).worker)) A.is
-        ∙ (ap₂ (λ a b. Some (record { parent = a; state = state_by b (heap_of M t).worker })) A.parent A.status
-        ∙ (ap (λ o. Some (told o F.task)) (held_mid ∙ sym F.held)
-        ∙ (ap (option_map (told (heap_of l t).worker)) (sym F.is) ∙ ap (λ z. option_map (told (heap_of l z).worker) (slice_get l.machine.tasks z)) (sym q)))))
-    | inr ne ↦ ap₂ (λ (h : Heap) o. option_map (told h.worker) o) (ap or_fresh (heap_off u ne)) (A.others u ne)
-  ]
-
-  -- who holds what
-  pub workers_mid : (u : ℕ) → option_map (λ (h : Heap). h.worker) (slice_get M.heaps u) ≡ option_map (λ (h : Heap). h.worker) (slice_get l.heaps u)
-  workers_mid u = elim (cases_eq u t) [
-    | inl q ↦ ap (λ z. option_map (λ (h : Heap). h.worker) (slice_get M.heaps z)) q ∙ (worker_view (slice_get l.heaps t) (slice_get M.heaps t) A.heap ∙ ap (λ z. option_map (λ (h : Heap). h.worker) (slice_get l.heaps z)) (sym q))
-    | inr ne ↦ ap (option_map (λ (h : Heap). h.worker)) (heap_off u ne)
   ]

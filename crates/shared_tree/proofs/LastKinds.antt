@@ -17,7 +17,8 @@ use Rattle.hh_model.specs.declared.data.Trap.{Trap}
 use Rattle.hh_model.specs.Step.{ended_by, is_joined, is_over, runs}
 use Rattle.run_ledger.specs.declared.data.Ledger.{Ledger}
 use Rattle.run_ledger.specs.Steps.{is_private, touched}
-use Rattle.ledger_steps.specs.Last.{EndsDone, EndsLast, GoesOn, Halts, LastStep, Prints}
+use Rattle.ledger_steps.specs.Last.{EndsDone, EndsLast, GoesOn, Halts, IsOfKind, LastKind, Prints}
+use Rattle.ledger_steps.specs.Last.{Private, Reading, Writing, Printing, Forking, Ending, Joining, Finishing, Halting}
 
 none_end : {A : Type 0} {e : End} → ◌≡◌ {A = Option End} None (Some e) → A
 none_end e = absurd cc
@@ -32,8 +33,8 @@ forks_not : {A : Type 0} {g h a : ℕ} → Par g h ≡ Out a → A
 forks_not e = absurd cc
 
 module _ (p : ProgramText) (m l' : Ledger) (t : ℕ) (x : Task) (line : Line) (shared : is_private p m.machine t ≡ false) where
-  abbrev Last : Type 0
-  Last = LastStep p m l' t x line
+  abbrev Last : LastKind → Type 0
+  Last kind = IsOfKind p m l' t x line kind
 
   -- the task runs after it, and so does the machine: an output
   module _ (a : ℕ) (il : line.instr ≡ Out a) (y : Task) (is : slice_get l'.machine.tasks t ≡ Some y) (run : runs y.status ≡ true) (goes : l'.machine.end ≡ None) where
@@ -53,42 +54,42 @@ module _ (p : ProgramText) (m l' : Ledger) (t : ℕ) (x : Task) (line : Line) (s
         by (inl h) = off j.left h.0 j.joins.left
         by (inr h) = off (j.left + 1) h.0 j.joins.right
 
-    pub prints : Last → Prints m l' t x line
-    prints (inl private) = absurd (both_ways (is_private p m.machine t) shared private)
-    prints (inr (inl r)) = none_name (sym (ap (touched x.top) il) ∙ r.touches)
-    prints (inr (inr (inl r))) = none_name (sym (ap (touched x.top) il) ∙ r.touches)
-    prints (inr (inr (inr (inl q)))) = q
-    prints (inr (inr (inr (inr (inl f))))) = forks_not (sym f.by ∙ il)
-    prints (inr (inr (inr (inr (inr (inl e)))))) =
+    pub prints : (kind : LastKind) → Last kind → Prints m l' t x line
+    prints Private private = absurd (both_ways (is_private p m.machine t) shared private)
+    prints Reading r = none_name (sym (ap (touched x.top) il) ∙ r.touches)
+    prints Writing r = none_name (sym (ap (touched x.top) il) ∙ r.touches)
+    prints Printing q = q
+    prints Forking f = forks_not (sym f.by ∙ il)
+    prints Ending e =
         let same = same_Some _ y (sym e.ends.ended ∙ is) in
         absurd (false≢true (ap (λ (z : Task). runs z.status) same ∙ run))
-    prints (inr (inr (inr (inr (inr (inr (inl j))))))) = joined_not j
-    prints (inr (inr (inr (inr (inr (inr (inr (inl d)))))))) = none_end (sym goes ∙ d.ended)
-    prints (inr (inr (inr (inr (inr (inr (inr (inr h)))))))) = none_end (sym goes ∙ ap (λ (z : State). z.end) h.machine)
+    prints Joining j = joined_not j
+    prints Finishing d = none_end (sym goes ∙ d.ended)
+    prints Halting h = none_end (sym goes ∙ ap (λ (z : State). z.end) h.machine)
 
   -- it can't be done
-  pub halts : (kind : Trap) (n : ℕ) → l'.machine ≡ ended_by m.machine (Trapped kind t n) → (last : Last) → (GoesOn p m l' t x line last → l'.machine.end ≡ None) → Halts m l'
-  halts kind n e (inl private) on = absurd (both_ways (is_private p m.machine t) shared private)
-  halts kind n e (inr (inl r)) on = none_end (sym (on tt) ∙ ap (λ (z : State). z.end) e)
-  halts kind n e (inr (inr (inl r))) on = none_end (sym (on tt) ∙ ap (λ (z : State). z.end) e)
-  halts kind n e (inr (inr (inr (inl q)))) on = none_end (sym (on tt) ∙ ap (λ (z : State). z.end) e)
-  halts kind n e (inr (inr (inr (inr (inl f))))) on = none_end (sym (on tt) ∙ ap (λ (z : State). z.end) e)
-  halts kind n e (inr (inr (inr (inr (inr (inl f)))))) on = none_end (sym (on tt) ∙ ap (λ (z : State). z.end) e)
-  halts kind n e (inr (inr (inr (inr (inr (inr (inl j))))))) on = none_end (sym (on tt) ∙ ap (λ (z : State). z.end) e)
-  halts kind n e (inr (inr (inr (inr (inr (inr (inr (inl d)))))))) on = two_ends (sym d.ended ∙ ap (λ (z : State). z.end) e)
-  halts kind n e (inr (inr (inr (inr (inr (inr (inr (inr h)))))))) on = h
+  pub halts : (kind : Trap) (n : ℕ) → l'.machine ≡ ended_by m.machine (Trapped kind t n) → (of : LastKind) → Last of → (GoesOn of → l'.machine.end ≡ None) → Halts m l'
+  halts kind n e Private private on = absurd (both_ways (is_private p m.machine t) shared private)
+  halts kind n e Reading r on = none_end (sym (on tt) ∙ ap (λ (z : State). z.end) e)
+  halts kind n e Writing r on = none_end (sym (on tt) ∙ ap (λ (z : State). z.end) e)
+  halts kind n e Printing q on = none_end (sym (on tt) ∙ ap (λ (z : State). z.end) e)
+  halts kind n e Forking f on = none_end (sym (on tt) ∙ ap (λ (z : State). z.end) e)
+  halts kind n e Ending f on = none_end (sym (on tt) ∙ ap (λ (z : State). z.end) e)
+  halts kind n e Joining j on = none_end (sym (on tt) ∙ ap (λ (z : State). z.end) e)
+  halts kind n e Finishing d on = two_ends (sym d.ended ∙ ap (λ (z : State). z.end) e)
+  halts kind n e Halting h on = h
 
   -- the run is done, and the task has ended
   module _ (ended : l'.machine.end ≡ Some Done) (y : Task) (is' : slice_get l'.machine.tasks t ≡ Some y) (over : runs y.status ≡ false) (is : slice_get m.machine.tasks t ≡ Some x) (run : runs x.status ≡ true) where
-    pub done : (last : Last) → (GoesOn p m l' t x line last → l'.machine.end ≡ None) → EndsDone m l' t x
-    done (inl private) on = absurd (both_ways (is_private p m.machine t) shared private)
-    done (inr (inl r)) on = none_end (sym (on tt) ∙ ended)
-    done (inr (inr (inl r))) on = none_end (sym (on tt) ∙ ended)
-    done (inr (inr (inr (inl q)))) on = none_end (sym (on tt) ∙ ended)
-    done (inr (inr (inr (inr (inl f))))) on = none_end (sym (on tt) ∙ ended)
-    done (inr (inr (inr (inr (inr (inl f)))))) on = none_end (sym (on tt) ∙ ended)
-    done (inr (inr (inr (inr (inr (inr (inl j))))))) on = none_end (sym (on tt) ∙ ended)
-    done (inr (inr (inr (inr (inr (inr (inr (inl d)))))))) on = d
-    done (inr (inr (inr (inr (inr (inr (inr (inr h)))))))) on =
+    pub done : (of : LastKind) → Last of → (GoesOn of → l'.machine.end ≡ None) → EndsDone m l' t x
+    done Private private on = absurd (both_ways (is_private p m.machine t) shared private)
+    done Reading r on = none_end (sym (on tt) ∙ ended)
+    done Writing r on = none_end (sym (on tt) ∙ ended)
+    done Printing q on = none_end (sym (on tt) ∙ ended)
+    done Forking f on = none_end (sym (on tt) ∙ ended)
+    done Ending f on = none_end (sym (on tt) ∙ ended)
+    done Joining j on = none_end (sym (on tt) ∙ ended)
+    done Finishing d on = d
+    done Halting h on =
         let same : y ≡ x = same_Some y x (sym is' ∙ (ap (λ (z : State). slice_get z.tasks t) h.machine ∙ is)) in
         absurd (both_ways (runs y.status) over (ap (λ (z : Task). runs z.status) same ∙ run))

@@ -16,10 +16,10 @@ use Rattle.run_ledger.specs.Steps.{is_due, is_in_need, is_private, most_steps, o
 use Rattle.run_ledger.specs.Entries.{is_out, is_held_by, kind_refusal, refused_if, refused_unless}
 use Rattle.ledger_steps.specs.Accounts.{ArePrivate}
 use Rattle.task_machine.specs.declared.part.Private.{Private}
-use Rattle.task_machine.specs.Fits.{Fits as FitsMachine}
+use Rattle.task_machine.specs.Fits.{FitsNow as FitsMachine}
 use Rattle.task_machine.specs.Place.{Places}
 use Rattle.task_machine.proofs.Agreement.{has_line, same_line}
-use Rattle.core_relation.specs.Fits.{Fits as FitsValue, ahead}
+use Rattle.core_relation.specs.Fits.{FitsAt as FitsValue, ahead}
 use Rattle.shared_tree.specs.World.{World, accounts, value_of}
 use Rattle.shared_tree.specs.Stands.{IsWorld}
 use Rattle.shared_tree.specs.Fits.{Fits, part_of}
@@ -57,7 +57,7 @@ module _ (w : World) (k : ℕ) (p : Private) (I : IsWorld w) (F : Fits w k p) (s
   abbrev M : Ledger
   M = task_steps w.program l t p.fresh
 
-  V : FitsValue w.program w.settings (part_of p) (value_of w) l
+  V : FitsValue w.program w.settings (part_of w.settings p) (value_of w) l
   V = fits_now w k p I F on
 
   abbrev above : Places
@@ -68,7 +68,7 @@ module _ (w : World) (k : ℕ) (p : Private) (I : IsWorld w) (F : Fits w k p) (s
 
   -- the machine that the contracts speak of
   pub machine_same : machine_after w p ≡ M.machine
-  machine_same = ap (λ (z : Ledger). (ahead w.program (part_of p) z).machine) (same_going l (goes w k p I F on)) ∙ link.machine_is w k p I F on
+  machine_same = ap (λ (z : Ledger). (ahead w.program (part_of w.settings p) z).machine) (same_going l (goes w k p I F on)) ∙ link.machine_is w k p I F on
 
   pub shared_now : is_private w.program M.machine t ≡ false
   shared_now = ap (λ (m : State). is_private w.program m t) (sym machine_same) ∙ shared
@@ -104,7 +104,7 @@ module _ (w : World) (k : ℕ) (p : Private) (I : IsWorld w) (F : Fits w k p) (s
       let m : ℕ = min most_steps (standing w.settings w.program l t (suc p.fresh)) in
       let fits : nat_le (suc p.fresh) m ≡ true = le-leb (suc p.fresh) m (omega (arith, stands_so, few)) in
       running_by (is_out l k t) (is_some (heap_of l t).begun) (refused_unless (nat_le (suc p.fresh) m) (Long m) None)
-      (and_from (is_running (slice_get l.machine.tasks t)) (is_held_by (heap_of l t).worker k) (ap is_running F.is ∙ F.runs) (ap (λ o. is_held_by o k) F.held ∙ eq-eqb k k refl))
+      (and_from (is_running (slice_get l.machine.tasks t)) (is_held_by (heap_of l t).worker k) (ap is_running F.fits.is ∙ F.fits.runs) (ap (λ o. is_held_by o k) F.held ∙ eq-eqb k k refl))
       (ap is_some (I.calm t))
       ∙ ap (λ b. refused_unless b (Long m) None) fits
 

@@ -49,7 +49,7 @@ module _ (w : World) (k : ℕ) (p : Private) (I : IsWorld w) (F : Fits w k (reco
   pub at_work : (rest : Option Refused) → on_running l k t rest ≡ rest
   at_work rest =
       running_by (is_out l k t) (is_some h.begun) rest
-      (and_from (is_running (slice_get l.machine.tasks t)) (is_held_by h.worker k) (ap is_running F.is ∙ F.runs) (ap (λ o. is_held_by o k) F.held ∙ eq-eqb k k refl))
+      (and_from (is_running (slice_get l.machine.tasks t)) (is_held_by h.worker k) (ap is_running F.fits.is ∙ F.fits.runs) (ap (λ o. is_held_by o k) F.held ∙ eq-eqb k k refl))
       (ap is_some (I.calm t))
 
   asks : asked w.program l.machine t ≡ part_asks w.program p
@@ -64,7 +64,7 @@ module _ (w : World) (k : ℕ) (p : Private) (I : IsWorld w) (F : Fits w k (reco
       ∙ ap (λ n. Some (NotNeeded n)) (sym (room_is w k P I F on))
   by_asks (Some words) e =
       let need : is_in_need w.program l t ≡ is_none (place_for p.heap words) =
-      ap (λ o. on_asked o (lacks_room h)) e ∙ sym (lacks_same p.heap h F.shaped (counted_is w k P I F on) words (asks_two p.field_limit p.frames.top (next_line w.program p) words (sym asks ∙ e))) in
+      ap (λ o. on_asked o (lacks_room h)) e ∙ sym (lacks_same p.heap h F.form.shaped (counted_is w k P I F on) words (asks_two p.field_limit p.frames.top (next_line w.program p) words (sym asks ∙ e))) in
       ap₂ (λ a b. refused_if a (Due h.since) (refused_unless b (NotNeeded h.room) None)) (ap (λ o. on_asked o (λ n. nat_le w.settings.leaf h.since)) e ∙ due_same) need
       ∙ (ap₂ (λ s r. refused_if (nat_le p.leaf_limit p.heap.since) (Due s) (refused_unless (is_none (place_for p.heap words)) (NotNeeded r) None)) (sym (since_is w k P I F on)) (sym (room_is w k P I F on))
       ∙ ap (refused_if (nat_le p.leaf_limit p.heap.since) (Due p.heap.since)) (unless_none (place_for p.heap words) (NotNeeded (room_of p.heap))))

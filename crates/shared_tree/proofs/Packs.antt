@@ -6,7 +6,6 @@ use Rattle.hh_lang.specs.declared.instr.Instr.TheVariants.{Pack}
 use Rattle.hh_lang.specs.declared.program.Fun.{Fun}
 use Rattle.hh_lang.specs.declared.program.Line.{Line}
 use Rattle.hh_lang.specs.Form.{IsFunction, IsProgram, NamesExist, ProgramText, code_of, line_at}
-use Rattle.ledger_steps.specs.Use.{PacksAreSmall}
 
 abbrev pub IsFew : Instr → Type 0
 IsFew (Pack d r i) = (r ≤ 16) × (i ≤ 16)
@@ -30,6 +29,3 @@ packs_few p I f place line at = by (slice_get p.functions f) refl at
     by (Some fun) is e =
         let F : IsFunction (length p.functions) fun = all_at (IsFunction (length p.functions)) p.functions f fun I.each is in
         few_of (length p.functions) (length fun.code) line.instr (all_at (λ (l : Line). NamesExist (length p.functions) (length fun.code) l.instr) fun.code place line F.names e)
-
-pub packs_small : (p : ProgramText) → IsProgram p → PacksAreSmall p
-packs_small p I g n line d r i at is = subst IsFew is (packs_few p I g n line at)
