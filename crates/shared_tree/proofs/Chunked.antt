@@ -1,70 +1,109 @@
 -- A part gets a chunk.
-use Rattle.std.proofs.Common.{◌≡◌, ◌⊎◌, ℕ, ◌+◌, ◌*◌, ◌<◌, ◌≤◌, true, false, ◌&&◌, not, Bool, cond, Option, Some, None, List, [], ◌∷◌, ◌++◌, length, map, slice_get, option_map, is_none, nat_lt, ◌==◌, inl, inr, refl, ap, ap₂, sym, subst, ◌∙◌, arith, lt-ltb, le-ltb}
-use Rattle.std.proofs.lemmas.Bool.{cases_eq, cond-false, cond-true, false≢true}
+use Rattle.std.proofs.Common.{◌≡◌, ◌⊎◌, ℕ, zero, suc, ◌+◌, ◌*◌, ◌/◌, ◌<◌, ◌≤◌, true, false, ◌&&◌, not, Bool, cond, Option, Some, None, List, [], ◌∷◌, ◌++◌, length, map, slice_get, option_map, is_none, is_some, nat_lt, ◌==◌, inl, inr, refl, ap, ap₂, sym, subst, ◌∙◌, arith, lt-ltb, le-ltb, eq-eqb, ne_eqb}
+use Rattle.std.proofs.lemmas.Bool.{cases_eq, cases_lt, cond-false, cond-true, false≢true, leb-false}
 use Rattle.std.proofs.lemmas.Option.{same_Some}
 use Rattle.listed.specs.Space.{Space}
 use Rattle.object_layout.specs.Chunks.{place_in}
 use Rattle.object_layout.specs.Content.{Content}
 use Rattle.run_trace.specs.declared.entry.Kind.TheVariants.{Chunk as ChunkOf}
 use Rattle.run_trace.specs.Entry.{Event}
-use Rattle.hh_model.specs.declared.data.Status.TheVariants.{Running}
 use Rattle.hh_model.specs.declared.data.State.{State}
 use Rattle.hh_model.specs.Effect.{row_of}
 use Rattle.hh_model.specs.Step.{asked, is_waiting, waits}
 use Rattle.run_ledger.specs.declared.data.Heap.{Heap as Account}
 use Rattle.run_ledger.specs.declared.data.Ledger.{Ledger}
+use Rattle.run_ledger.specs.declared.data.Refused.{Refused}
+use Rattle.run_ledger.specs.declared.data.Refused.TheVariants.{Due, NotNeeded}
+use Rattle.run_ledger.specs.declared.data.RunEnd.{RunEnd}
 use Rattle.run_ledger.specs.declared.data.RunEnd.TheVariants.{Pool as PoolOf}
-use Rattle.run_ledger.specs.Heaps.{heap_of, in_use, let_go, or_fresh, with_heap, with_heap_at}
-use Rattle.run_ledger.specs.Entries.{after, chunk_units, kind_refusal, with_chunk}
-use Rattle.run_ledger.proofs.Journals.{entry_sound, entry_tells, legal_sound}
-use Rattle.run_ledger.proofs.Sound.{SoundLedger, collecting}
+use Rattle.run_ledger.specs.Heaps.{chunk_words, heap_of, in_use, is_small, lacks_room, let_go, or_fresh, units, with_heap}
+use Rattle.run_ledger.specs.Entries.{after, chunk_units, kind_refusal, refused_if, refused_unless, with_chunk}
+use Rattle.run_ledger.specs.Steps.{is_due, is_in_need, on_asked}
+use Rattle.run_ledger.proofs.Journals.{entry_tells}
+use Rattle.run_ledger.proofs.Space.{legal_booked}
 use Rattle.chunk_pool.specs.declared.pool.Held.{Held}
-use Rattle.chunk_pool.specs.Chunks.{Chunks, Takes as PoolTakes, held_at, owner_of, units_in_use}
-use Rattle.alloc_path.specs.Heap.{Heap, IsFresh, added, room_of, with_places}
+use Rattle.chunk_pool.specs.Chunks.{Chunks, Takes as PoolTakes, owner_of, units_in_use}
+use Rattle.alloc_path.specs.Heap.{Heap, IsFresh, added, with_places}
 use Rattle.task_machine.specs.declared.part.Private.{Private}
-use Rattle.task_machine.specs.Accounts.{IsCounted}
+use Rattle.task_machine.specs.Accounts.{AreReserved, IsCounted}
 use Rattle.task_machine.specs.Fits.{IsShaped}
 use Rattle.task_machine.proofs.Added.{chunks_added, shape_added}
 use Rattle.core_relation.specs.Value.{Chunk, Home, In, Seen, Value, objects, objects_in}
-use Rattle.core_relation.specs.Stands.{HasNames, HomeStands, Stands, large_chunks, names_of, small_chunks}
+use Rattle.core_relation.specs.Layout.{AreLaidOut, reserved_chunks, reserved_units}
+use Rattle.core_relation.specs.Stands.{HasNames, HomeStands, large_chunks}
 use Rattle.core_relation.specs.Changes.{SameObjects}
-use Rattle.core_relation.specs.Counts.{AsksUnits}
+use Rattle.core_relation.specs.Counts.{AsksUnits, CountsGo}
 use Rattle.core_relation.specs.Since.{NotesStay}
-use Rattle.core_relation.specs.Whole.{StandsFor, by_end, handed}
-use Rattle.core_relation.specs.Fits.{Fits as FitsValue, ahead, with_home}
-use Rattle.core_relation.specs.Frames.{IsSteady}
+use Rattle.core_relation.specs.Whole.{StandsFor}
+use Rattle.core_relation.specs.Fits.{with_home}
 use Rattle.core_relation.proofs.Alone.{home_kept}
-use Rattle.core_relation.proofs.Counts.{chunk_snapshot, chunk_worker}
-use Rattle.core_relation.proofs.Handed.{quiet_fits}
-use Rattle.core_relation.proofs.Leave.{quiet}
 use Rattle.core_relation.proofs.Members.{in_map}
-use Rattle.core_relation.proofs.Parts.{ahead_same}
-use Rattle.core_relation.proofs.Past.{quiet_stands_for}
 use Rattle.core_relation.proofs.With.{at_home, off_home}
-use Rattle.ledger_steps.specs.Accounts.{Rests, SameTasks, rested}
+use Rattle.ledger_steps.specs.Accounts.{Rests, rested}
 use Rattle.ledger_steps.proofs.Ahead.{heap_then, with_at, with_machine, with_off}
-use Rattle.ledger_steps.proofs.Entries.{same_tasks}
-use Rattle.ledger_steps.proofs.Rested.{rested_view, rested_worker}
-use Rattle.shared_tree.specs.Objects.{AreNear, chunk_of, chunks_of}
-use Rattle.shared_tree.specs.World.{World, accounts, rest_at, totals_of, value_of}
-use Rattle.shared_tree.specs.Stands.{HoldsFor, IsWorld, RestStands}
-use Rattle.shared_tree.specs.Fits.{Fits, FitsFor, OthersFit, going, home_of_part, part_of}
+use Rattle.shared_tree.specs.Objects.{chunk_of, chunks_of}
+use Rattle.shared_tree.specs.World.{World, accounts, totals_of, value_of}
+use Rattle.shared_tree.specs.Stands.{HeapForm, IsWorld, NoneBegun}
+use Rattle.shared_tree.specs.Fits.{Fits, OthersFit, home_of_part, part_of}
 use Rattle.shared_tree.specs.Next.{part_asks}
 use Rattle.shared_tree.specs.Causes.{chunk_cause}
 use Rattle.shared_tree.specs.Entered.{refused}
-use Rattle.shared_tree.proofs.Again.{small_names}
-use Rattle.shared_tree.proofs.Asking.{account_is, asks_is, counted_is, home_is}
-use Rattle.shared_tree.proofs.Entered.{accounts_then, legal_then}
-use Rattle.shared_tree.proofs.FuelEnds.{ended_fits, ended_world}
-use Rattle.shared_tree.proofs.Going.{same_going}
+use Rattle.shared_tree.proofs.Asking.{account_is, asks_is, counted_is}
+use Rattle.shared_tree.proofs.Counts.{small_names}
+use Rattle.shared_tree.proofs.Entering.{entered, entry_on, held_apart}
+use Rattle.shared_tree.proofs.FuelEnds.{quiet_others, quiet_own, quiet_world, same_value}
 use Rattle.shared_tree.proofs.Growing.{units_some, chunk_begun, chunk_held, chunk_large, chunk_since, chunk_with, grown_counted, in_more, large_more, none_in, objects_more}
+use Rattle.shared_tree.proofs.Grown.{form_more, laid_more, reserved_none}
 use Rattle.shared_tree.proofs.Linked as link
-use Rattle.shared_tree.proofs.Needs.{chunk_is}
-use Rattle.shared_tree.proofs.Now.{holds_now, used_now}
-use Rattle.shared_tree.proofs.Packs.{packs_small}
-use Rattle.shared_tree.proofs.Running.{counted_now, fits_now, goes, status}
-use Rattle.shared_tree.proofs.Stepping.{held_same}
-use Rattle.shared_tree.proofs.Taking.{none_some}
+use Rattle.shared_tree.proofs.Needs.{at_work, chunk_is}
+use Rattle.shared_tree.proofs.Now.{stands_now, used_now}
+use Rattle.shared_tree.proofs.Running.{fits_now, home_is, status}
+use Rattle.shared_tree.proofs.Taking.{calm_with}
+
+needed : (due need : Bool) (x y : Refused) → is_none (refused_if due x (refused_unless need y None)) ≡ true → need ≡ true
+needed true need x y h = absurd (false≢true h)
+needed false true x y h = refl
+needed false false x y h = absurd (false≢true h)
+
+append_none : (ns : List ℕ) → ns ++ [] ≡ ns
+append_none [] = refl
+append_none (n ∷ ns) = ap (λ ms. n ∷ ms) (append_none ns)
+
+some_units : (n : ℕ) → 1 ≤ n → reserved_units n ≡ n ∷ []
+some_units zero lt = absurd (omega (arith, lt))
+some_units (suc n) lt = refl
+
+-- the reserved chunk after it
+units_more : (number words : ℕ) (z : Account) → (is_small words ≡ false → z.reserved ≡ 0)
+    → reserved_units z.reserved ++ map (λ (c : Chunk). c.units) (reserved_chunks (chunk_of (chunk_with number (chunk_units (Some words))) ∷ [])) ≡ reserved_units (with_chunk (Some words) z).reserved
+units_more number words z none = by (is_small words) refl
+  where
+    big_spare : (n : ℕ) → 2 ≤ n → map (λ (c : Chunk). c.units) (reserved_chunks (chunk_of (chunk_with number n) ∷ [])) ≡ n ∷ []
+    big_spare n two =
+        ap (λ b. map (λ (c : Chunk). c.units) (cond (not b && true) (chunk_of (chunk_with number n) ∷ []) [])) (ne_eqb (1024 * n) 1024 (λ e. omega (arith, e, two))) ∙ ap (λ m. m ∷ []) (let q : (1024 * n) / 1024 ≡ n = omega arith in q)
+
+    by : (b : Bool) → is_small words ≡ b → reserved_units z.reserved ++ map (λ (c : Chunk). c.units) (reserved_chunks (chunk_of (chunk_with number (cond b 1 (units words))) ∷ []))
+        ≡ reserved_units (cond b (record z { chunks = z.chunks ++ [] ∷ []; room = chunk_words }) (record z { reserved = chunk_units (Some words) })).reserved
+    by true s = append_none (reserved_units z.reserved)
+    by false s =
+        let big_words : chunk_words < words = leb-false words chunk_words s in
+        let two : 2 ≤ units words = omega (arith, big_words) in
+        ap (λ n. reserved_units n ++ map (λ (c : Chunk). c.units) (reserved_chunks (chunk_of (chunk_with number (units words)) ∷ []))) (none s)
+        ∙ (big_spare (units words) two ∙ (sym (some_units (units words) (omega (arith, two))) ∙ ap reserved_units (sym (cond-false (is_small words) 1 (units words) s))))
+
+-- places for other numbers of chunks tell nothing
+places_form : (h : Heap) (a b : ℕ) → HeapForm h → HeapForm (with_places h a b)
+places_form h a b F = record {
+  shaped = record { apart = F.shaped.apart; current = F.shaped.current; reserved = F.shaped.reserved };
+  near = F.near;
+  tidy = F.tidy;
+  within = F.within;
+  last = F.last;
+  last_large = F.last_large;
+  since = F.since;
+  whole = F.whole;
+  spare = F.spare;
+}
 
 -- the worker that the entry speaks of holds a part without fresh steps
 module _ (w : World) (k : ℕ) (p : Private) (I : IsWorld w) (F : Fits w k (record p { fresh = 0 })) (on : (accounts w).end ≡ None) (free : refused w (record { worker = k; kind = ChunkOf p.task }) ≡ None)
@@ -126,24 +165,34 @@ module _ (w : World) (k : ℕ) (p : Private) (I : IsWorld w) (F : Fits w k (reco
   same_machine : L.machine ≡ l.machine
   same_machine = with_machine l t more
 
-  tasks_same : SameTasks l L
-  tasks_same = same_tasks l t more (chunk_worker (Some words)) (chunk_snapshot (Some words))
-
-  calm_then : (u : ℕ) → (heap_of L u).begun ≡ None
-  calm_then u = elim (cases_eq u t) [
-    | inl q ↦ ap (λ z. (heap_of L z).begun) q ∙ (ap (λ o. (or_fresh o).begun) heap_then_is ∙ (chunk_begun words there.0 ∙ (ap (λ o. (or_fresh o).begun) (sym there.1) ∙ I.calm t)))
-    | inr ne ↦ ap (λ o. (or_fresh o).begun) (heap_off u ne) ∙ I.calm u
-  ]
+  calm_then : NoneBegun L
+  calm_then = calm_with l t more (λ h. chunk_begun words h) I.calm
 
   idle : is_waiting (slice_get l.machine.tasks t) ≡ false
-  idle = ap is_waiting F.is ∙ ap waits (status w k P I F on)
+  idle = ap is_waiting F.fits.is ∙ ap waits (status w k P I F on)
 
-  sound : SoundLedger l
-  sound = legal_sound w.program w.settings w.journal.items I.legal
+  -- it is needed, so that no chunk is reserved where a large one comes
+  need : is_in_need w.program l t ≡ true
+  need =
+      needed (is_due w.settings w.program l t) (is_in_need w.program l t) (Due (heap_of l t).since) (NotNeeded (heap_of l t).room)
+      (ap is_none (sym (at_work w k p I F on (refused_if (is_due w.settings w.program l t) (Due (heap_of l t).since) (refused_unless (is_in_need w.program l t) (NotNeeded (heap_of l t).room) None)))) ∙ (entry_tells w.program w.settings l e (ap is_none free)).2)
 
-  module _ (pool : Chunks) (number units slots spare : ℕ) (within : units_in_use w.pool + units ≤ w.pool.limit) (sized : units ≡ chunk_units (Some words)) (T : PoolTakes w.pool pool number (record { owner = p.task; units = units })) (j : Space Event) where
+  lacks : lacks_room (heap_of l t) words ≡ true
+  lacks = ap (λ o. on_asked o (lacks_room (heap_of l t))) (sym asked_is) ∙ need
+
+  reserved_zero : is_small words ≡ false → there.0.reserved ≡ 0
+  reserved_zero big = elim (cases_lt 0 there.0.reserved) [
+    | inl lt ↦
+        let q = ((legal_booked w.program w.settings w.journal.items I.legal).each t there.0 there.1).reserved lt in
+        let same : q.0 ≡ words = same_Some q.0 words (sym q.1 ∙ asked_is) in
+        let fits : (heap_of l t).reserved ≡ units words = ap (λ o. (or_fresh o).reserved) there.1 ∙ (q.3 ∙ ap units same) in
+        absurd (false≢true (sym (ap not (eq-eqb (heap_of l t).reserved (units words) fits)) ∙ (sym (cond-false (is_small words) (nat_lt (heap_of l t).room words) (not ((heap_of l t).reserved == units words)) big) ∙ lacks)))
+    | inr le ↦ omega (arith, le)
+  ]
+
+  module _ (pool : Chunks) (number u slots spare : ℕ) (within : units_in_use w.pool + u ≤ w.pool.limit) (sized : u ≡ chunk_units (Some words)) (T : PoolTakes w.pool pool number (record { owner = p.task; units = u })) (j : Space Event) where
     abbrev K : Content
-    K = chunk_with number units
+    K = chunk_with number u
 
     abbrev g : Heap
     g = with_places (added p.heap K) slots spare
@@ -152,7 +201,7 @@ module _ (w : World) (k : ℕ) (p : Private) (I : IsWorld w) (F : Fits w k (reco
     Q = record P { heap = g }
 
     abbrev w' : World
-    w' = record w { pool = pool; journal = record { items = w.journal.items ++ e ∷ []; room = j.room } }
+    w' = entered w e w.tree pool w.homes w.sets w.hands w.outputs w.steps w.end j.room
 
     abbrev v' : Value
     v' = value_of w'
@@ -168,8 +217,10 @@ module _ (w : World) (k : ℕ) (p : Private) (I : IsWorld w) (F : Fits w k (reco
         ap given_by asked_is
         ∙ cond-false (nat_lt w.settings.chunks (in_use l + chunk_units (Some words))) (record l { end = Some (PoolOf (in_use l)) }) L fits_free
 
-    accounts_are : accounts w' ≡ L
-    accounts_are = accounts_then w.program w.settings w.journal.items e ∙ then
+    then : after w.program w.settings l e ≡ L
+    then =
+        ap given_by asked_is
+        ∙ cond-false (nat_lt w.settings.chunks (in_use l + chunk_units (Some words))) (record l { end = Some (PoolOf (in_use l)) }) L fits_free
 
     -- owners
     held_same_at : (c : ℕ) → (c ≡ number → ⊥) → v'.owner c ≡ v.owner c
@@ -187,78 +238,50 @@ module _ (w : World) (k : ℕ) (p : Private) (I : IsWorld w) (F : Fits w k (reco
       | inr ne ↦ held_same_at c ne ∙ e
     ]
 
-    owner_back : (c u : ℕ) → (u ≡ t → ⊥) → v'.owner c ≡ Some u → v.owner c ≡ Some u
-    owner_back c u off e = elim (cases_eq c number) [
-      | inl q ↦ absurd (off (same_Some u t (sym e ∙ (ap v'.owner q ∙ owner_new))))
-      | inr ne ↦ sym (held_same_at c ne) ∙ e
+    owner_taken : (c u : ℕ) → v'.owner c ≡ Some u → (v.owner c ≡ Some u) ⊎ ((is_waiting (slice_get l.machine.tasks u) ≡ false) × (is_some (slice_get l.machine.tasks u) ≡ true))
+    owner_taken c u e = elim (cases_eq c number) [
+      | inl q ↦
+          let same : u ≡ t = same_Some u t (sym e ∙ (ap v'.owner q ∙ owner_new)) in
+          inr (ap (λ z. is_waiting (slice_get l.machine.tasks z)) same ∙ idle, ap (λ z. is_some (slice_get l.machine.tasks z)) same ∙ ap is_some F.fits.is)
+      | inr ne ↦ inl (sym (held_same_at c ne) ∙ e)
     ]
 
     -- nothing moves
-    module _ (S : StandsFor v (totals_of w) l) where
-      objects_same : SameObjects v v' l L
-      objects_same = record {
-        home = λ u r. home_kept v v' l L u refl (λ c e. owner_kept c u e) (ap or_fresh (heap_off u (not_t u r))) (ap (λ (m : State). length (row_of (slice_get m.store u))) same_machine) (S.homes.homes u (rested_before u r));
-        objects = λ u. refl;
-        frames = λ u. refl;
-        result = λ u. refl;
-        owner = owner_kept;
-        sources = λ u. refl;
-      }
+    abbrev S : StandsFor v (totals_of w) l
+    S = stands_now w I on
 
-      notes : (u : ℕ) → NotesStay v v' u ⊎ ((u ≡ t) × ((v'.noted u).keeps ≡ false) × (is_waiting (slice_get l.machine.tasks u) ≡ false))
-      notes u = elim (cases_eq u t) [
-        | inl q ↦
-            let waits_not : is_waiting (slice_get l.machine.tasks u) ≡ false = ap (λ z. is_waiting (slice_get l.machine.tasks z)) q ∙ idle in
-            inr (q, S.keeps u ∙ ap (λ b. b && not (heap_of l u).swept) waits_not, waits_not)
-        | inr ne ↦ inl (record { keeps = refl; kept = refl; none_new = λ c e. owner_back c u ne e })
-      ]
-
-      asks_units : AsksUnits (nat_lt w.settings.chunks (units_in_use w.pool + chunk_units (asked w.program l.machine t))) (totals_of w) (totals_of w') (chunk_units (asked w.program l.machine t))
-      asks_units =
-          subst (λ o. AsksUnits (nat_lt w.settings.chunks (units_in_use w.pool + chunk_units o)) (totals_of w) (totals_of w') (chunk_units o)) (sym asked_is)
-          (subst (λ b. AsksUnits b (totals_of w) (totals_of w') (chunk_units (Some words))) (sym (ap (λ n. nat_lt w.settings.chunks (n + chunk_units (Some words))) (used_now w I) ∙ fits_free))
-          (T.units ∙ ap (λ n. units_in_use w.pool + n) sized, refl))
-
-      stands : StandsFor v' (totals_of w') L
-      stands =
-          subst (StandsFor v' (totals_of w')) then
-          (quiet_stands_for w.program w.settings w.journal.items (packs_small w.program I.form) I.legal v v' (totals_of w) (totals_of w') e free tt S (subst (SameObjects v v' l) (sym then) objects_same) (λ u r. refl) t notes
-          (record { node = λ u. refl; steps = refl; outputs = refl }, asks_units))
-
-    now : HoldsFor w l
-    now = holds_now w I on
-
-    holds : HoldsFor w' L
-    holds = record {
-      stands = stands now.stands;
-      rests = λ u r. subst (RestStands (rest_at w.homes u)) (sym (ap or_fresh (heap_off u (not_t u r)))) (now.rests u (rested_before u r));
-      hands = λ c hand is. now.hands c hand is ∙ sym (held_same c 0 l.heaps L.heaps workers);
+    objects_same : SameObjects v v' l L
+    objects_same = record {
+      home = λ u r. home_kept v v' l L u refl (λ c e. owner_kept c u e) (ap or_fresh (heap_off u (not_t u r))) (ap (λ (m : State). length (row_of (slice_get m.store u))) same_machine) (S.homes.homes u (rested_before u r));
+      objects = λ u. refl;
+      frames = λ u. refl;
+      result = λ u. refl;
+      owner = owner_kept;
+      taken = owner_taken;
+      begun = λ u e. refl;
+      sources = λ u. refl;
     }
-      where
-        workers : (u : ℕ) → option_map (λ (h : Account). h.worker) (slice_get L.heaps u) ≡ option_map (λ (h : Account). h.worker) (slice_get l.heaps u)
-        workers u = elim (cases_eq u t) [
-          | inl q ↦ ap (λ z. option_map (λ (h : Account). h.worker) (slice_get L.heaps z)) q ∙ (ap (option_map (λ (h : Account). h.worker)) heap_then_is ∙ (ap Some (chunk_held words there.0) ∙ (ap (option_map (λ (h : Account). h.worker)) (sym there.1) ∙ ap (λ z. option_map (λ (h : Account). h.worker) (slice_get l.heaps z)) (sym q))))
-          | inr ne ↦ ap (option_map (λ (h : Account). h.worker)) (heap_off u ne)
-        ]
 
-    end_same : L.end ≡ None
-    end_same = heap_end (slice_get l.heaps t) ∙ on
-      where
-        heap_end : (o : Option Account) → (with_heap_at l t more o).end ≡ l.end
-        heap_end None = refl
-        heap_end (Some h) = refl
+    notes : (u : ℕ) → NotesStay v v' u
+    notes u = record { keeps = refl; kept = refl; marked = refl }
+
+    asks_units : AsksUnits (nat_lt w.settings.chunks (units_in_use w.pool + chunk_units (asked w.program l.machine t))) (totals_of w) (totals_of w') (chunk_units (asked w.program l.machine t))
+    asks_units =
+        subst (λ o. AsksUnits (nat_lt w.settings.chunks (units_in_use w.pool + chunk_units o)) (totals_of w) (totals_of w') (chunk_units o)) (sym asked_is)
+        (subst (λ b. AsksUnits b (totals_of w) (totals_of w') (chunk_units (Some words))) (sym (ap (λ n. nat_lt w.settings.chunks (n + chunk_units (Some words))) (used_now w I) ∙ fits_free))
+        (T.units ∙ ap (λ n. units_in_use w.pool + n) sized, refl))
+
+    counts : CountsGo w.program w.settings l (totals_of w) (totals_of w') k (ChunkOf t)
+    counts = (record { node = λ u. refl; hand = λ u. refl; steps = refl; outputs = refl }, asks_units)
+
+    same : SameObjects v v' l (after w.program w.settings l e)
+    same = subst (SameObjects v v' l) (sym then) objects_same
+
+    calm : NoneBegun (after w.program w.settings l e)
+    calm = subst NoneBegun (sym then) calm_then
 
     pub chunk_world : IsWorld w'
-    chunk_world = record {
-      limits = I.limits;
-      form = I.form;
-      legal = legal_then w.program w.settings w.journal.items e I.legal free;
-      made = I.made;
-      workers = I.workers;
-      limit = T.rest.limit ∙ I.limit;
-      calm = λ u. ap (λ (z : Ledger). (heap_of z u).begun) accounts_are ∙ calm_then u;
-      holds = subst (λ (z : Ledger). HoldsFor w' (handed z)) (sym accounts_are) (subst (λ o. HoldsFor w' (by_end L o)) (sym end_same) holds);
-    }
+    chunk_world = quiet_world w e I free tt (λ u m. m) pool w.end j.room same notes counts calm T.rest.limit
 
     -- ---- THE PART
     abbrev before : Value
@@ -277,7 +300,7 @@ module _ (w : World) (k : ℕ) (p : Private) (I : IsWorld w) (F : Fits w k (reco
     H = home_is w k P I F on
 
     counted_then : IsCounted g (more there.0)
-    counted_then = grown_counted p.heap there.0 F.shaped (subst (IsCounted p.heap) (ap or_fresh there.1) (counted_is w k P I F on)) number slots spare words units sized
+    counted_then = grown_counted p.heap there.0 F.form.shaped (subst (IsCounted p.heap) (ap or_fresh there.1) (counted_is w k P I F on)) number slots spare words u sized
 
     -- its number is of no chunk of the heap
     pub fresh : IsFresh p.heap.chunks number
@@ -292,13 +315,13 @@ module _ (w : World) (k : ℕ) (p : Private) (I : IsWorld w) (F : Fits w k (reco
             absurd cc
 
     size_least : 1024 ≤ K.size
-    size_least = let a : 1 ≤ units = subst (λ n. 1 ≤ n) (sym sized) (units_some words) in omega (arith, a)
+    size_least = let a : 1 ≤ u = subst (λ n. 1 ≤ n) (sym sized) (units_some words) in omega (arith, a)
 
     chunks_are : g.chunks ≡ p.heap.chunks ++ K ∷ []
     chunks_are = chunks_added p.heap K refl size_least fresh slots spare
 
     shaped_then : IsShaped g
-    shaped_then = shape_added p.heap K refl size_least fresh F.shaped slots spare
+    shaped_then = shape_added p.heap K refl size_least fresh F.form.shaped slots spare
 
     objects_then : objects_in (home_of_part Q).chunks ≡ objects_in (home_of_part P).chunks
     objects_then = ap (λ ks. objects_in (chunks_of ks)) chunks_are ∙ objects_more K refl p.heap.chunks
@@ -310,7 +333,7 @@ module _ (w : World) (k : ℕ) (p : Private) (I : IsWorld w) (F : Fits w k (reco
     account_before = ap or_fresh (with_at l t let_go ∙ ap (heap_then let_go) there.1)
 
     counted_rested : IsCounted g (heap_of (rested L t) t)
-    counted_rested = subst (IsCounted g) (sym account_then) (record { chunks = counted_then.chunks; last = counted_then.last; room = counted_then.room; since = counted_then.since; reserved = counted_then.reserved })
+    counted_rested = subst (IsCounted g) (sym account_then) (record { chunks = counted_then.chunks; large = counted_then.large; last = counted_then.last; last_large = counted_then.last_large; room = counted_then.room; since = counted_then.since; reserved = counted_then.reserved })
 
     names_then : HasNames (home_of_part Q).chunks (heap_of (rested L t) t)
     names_then = record {
@@ -333,6 +356,35 @@ module _ (w : World) (k : ℕ) (p : Private) (I : IsWorld w) (F : Fits w k (reco
     was : (o : Seen) → In (objects after_ t) o → In (objects before t) o
     was o i = subst (λ (z : Home). In (objects_in z.chunks) o) (sym here) (subst (λ os. In os o) objects_then (subst (λ (z : Home). In (objects_in z.chunks) o) here' i))
 
+    abbrev spares : ℕ
+    spares = (heap_of (rested l t) t).reserved
+
+    abbrev spares_then : ℕ
+    spares_then = (heap_of (rested L t) t).reserved
+
+    spare_more : reserved_units spares ++ map (λ (c : Chunk). c.units) (reserved_chunks (chunk_of K ∷ [])) ≡ reserved_units spares_then
+    spare_more =
+        ap₂ (λ n c. reserved_units n ++ map (λ (c : Chunk). c.units) (reserved_chunks (chunk_of (chunk_with number c) ∷ []))) (ap (λ (z : Account). z.reserved) account_before) sized
+        ∙ (units_more number words there.0 reserved_zero ∙ ap (λ (z : Account). reserved_units z.reserved) (sym account_then))
+
+    laid_then : AreLaidOut (after_.homes t).chunks spares_then
+    laid_then =
+        subst (λ (z : Home). AreLaidOut z.chunks spares_then) (sym here')
+        (subst (λ ks. AreLaidOut (chunks_of ks) spares_then) (sym chunks_are)
+        (laid_more K refl p.heap.chunks fresh spares spares_then (subst (λ (z : Home). AreLaidOut z.chunks spares) here H.laid) spare_more))
+
+    none_reserved : 2 ≤ u → p.heap.reserved ≡ None
+    none_reserved two =
+        reserved_none p.heap F.form p.heap.reserved refl
+        (subst (AreReserved p.heap.chunks p.heap.reserved) (ap (λ o. (or_fresh o).reserved) there.1 ∙ reserved_zero (big (is_small words) refl sized)) (counted_is w k P I F on).reserved)
+      where
+        big : (b : Bool) → is_small words ≡ b → u ≡ cond b 1 (units words) → is_small words ≡ false
+        big true s q = absurd (omega (arith, two, q))
+        big false s q = s
+
+    form_then : HeapForm g
+    form_then = form_more p.heap F.form number u slots spare (omega (arith, size_least)) none_reserved shaped_then chunks_are counted_then.last counted_then.last_large
+
     home_then : HomeStands after_ (rested L t) t
     home_then = record {
       names = subst (λ (z : Home). HasNames z.chunks (heap_of (rested L t) t)) (sym here') names_then;
@@ -349,6 +401,7 @@ module _ (w : World) (k : ℕ) (p : Private) (I : IsWorld w) (F : Fits w k (reco
       ];
       once = λ o q a b e. H.once o q (was o a) (was q b) e;
       named = λ o q a b e. H.named o q (was o a) (was q b) e;
+      laid = laid_then;
     }
       where
         added_since : g.since ≡ p.heap.since
@@ -365,6 +418,11 @@ module _ (w : World) (k : ℕ) (p : Private) (I : IsWorld w) (F : Fits w k (reco
       frames = λ u. seen (λ (z : Home). z.frames) refl u;
       result = λ u. seen (λ (z : Home). z.result) refl u;
       owner = owner_kept;
+      taken = λ c u e. elim (owner_taken c u e) [
+        | inl q ↦ inl q
+        | inr q ↦ inr (ap (λ (m : State). is_waiting (slice_get m.tasks u)) (with_machine l t let_go) ∙ q.0, ap (λ (m : State). is_some (slice_get m.tasks u)) (with_machine l t let_go) ∙ q.1)
+      ];
+      begun = λ u e. seen (λ (z : Home). z.begun) refl u;
       sources = λ u. refl;
     }
       where
@@ -385,52 +443,75 @@ module _ (w : World) (k : ℕ) (p : Private) (I : IsWorld w) (F : Fits w k (reco
               ((fits_now w k P I F on).stands.homes u rests)
         ]
 
-    goes_then : L.machine.end ≡ None
-    goes_then = ap (λ (m : State). m.end) same_machine ∙ goes w k P I F on
-
     pub chunk_part : Fits w' k Q
     chunk_part =
-        subst (λ (z : Ledger). FitsFor w' z k Q) (sym accounts_are) (record {
-          held = held_then;
-          task = F.task;
-          is = ap (λ (m : State). slice_get m.tasks t) same_machine ∙ F.is;
-          runs = F.runs;
-          steady = inl refl;
-          fits = subst (FitsValue w.program w.settings (part_of Q) v') (sym (same_going L goes_then)) (quiet_fits w.program w.settings t (home_of_part P) (home_of_part Q) v v' l L tasks_same part_same (fits_now w k P I F on));
-          counted = subst (λ (z : Ledger). IsCounted g (heap_of (rested z t) t)) (sym (same_going L goes_then)) counted_rested;
-          shaped = shaped_then;
-          near = λ o i. F.near o (subst (λ os. In os o) objects_then i);
-          leaf_limit = F.leaf_limit;
-          field_limit = F.field_limit;
-        })
+        quiet_own w e I free tt (λ u m. m) pool w.end j.room same notes counts calm T.rest.limit k p g F form_then
+        (subst (λ (z : Ledger). SameObjects before after_ (rested l t) (rested z t)) (sym then) part_same)
 
     -- ---- THE PARTS OF OTHERS
-    sound_then : SoundLedger L
-    sound_then = subst SoundLedger then (entry_sound w.program w.settings l e sound (ap is_none free))
-
     pub chunk_others : OthersFit w w' k
-    chunk_others u q ne G =
-        let off : q.task ≡ t → ⊥ = λ z. ne (same_Some u k (sym G.held ∙ (ap (λ x. (heap_of l x).worker) z ∙ F.held))) in
-        let heap = heap_off q.task off in
-        let steady : IsSteady (part_of q) L = steady_by q heap G.steady in
-        subst (λ (z : Ledger). FitsFor w' z u q) (sym accounts_are) (record {
-          held = ap (λ o. (or_fresh o).worker) heap ∙ G.held;
-          task = G.task;
-          is = ap (λ (m : State). slice_get m.tasks q.task) same_machine ∙ G.is;
-          runs = G.runs;
-          steady = steady;
-          fits = subst (FitsValue w.program w.settings (part_of q) v') (sym (same_going L goes_then)) (quiet w.program w.settings v v' l L sound sound_then tasks_same (objects_same now.stands) (part_of q) G.steady heap (fits_now w u q I G on));
-          counted = subst (λ (z : Ledger). IsCounted q.heap (heap_of (ahead w.program (part_of q) z) q.task)) (sym (same_going L goes_then))
-              (subst (IsCounted q.heap) (sym (ap or_fresh (ahead_same w.program w.settings (part_of q) l L (record { machine = same_machine; heap = heap }) (fits_now w u q I G on).private).1.heap)) (counted_now w u q I G on));
-          shaped = G.shaped;
-          near = G.near;
-          leaf_limit = G.leaf_limit;
-          field_limit = G.field_limit;
-        })
-      where
-        steady_by : (q : Private) → slice_get L.heaps q.task ≡ slice_get l.heaps q.task → IsSteady (part_of q) l → IsSteady (part_of q) L
-        steady_by q h (inl z) = inl z
-        steady_by q h (inr c) = inr (ap collecting h ∙ c)
+    chunk_others o q ne G = quiet_others w e I free tt (λ u m. m) pool w.end j.room same notes counts calm T.rest.limit o q (held_apart w k o P q F G ne) G
+
+-- ---- WHERE TOO FEW ARE FREE
+module _ (w : World) (k : ℕ) (p : Private) (I : IsWorld w) (F : Fits w k (record p { fresh = 0 })) (on : (accounts w).end ≡ None) (free : refused w (record { worker = k; kind = ChunkOf p.task }) ≡ None)
+    (words : ℕ) (asks : part_asks w.program p ≡ Some words) (full : w.pool.limit < units_in_use w.pool + chunk_units (Some words)) (j : Space Event) where
+  abbrev full_event : Event
+  full_event = record { worker = k; kind = ChunkOf p.task }
+
+  abbrev full_end : Option RunEnd
+  full_end = Some (PoolOf (units_in_use w.pool))
+
+  abbrev ended : World
+  ended = entered w full_event w.tree w.pool w.homes w.sets w.hands w.outputs w.steps full_end j.room
+
+  abbrev full_ledger : Ledger
+  full_ledger = record (accounts w) { end = full_end }
+
+  ends_so : after w.program w.settings (accounts w) full_event ≡ full_ledger
+  ends_so = full_then w k p I F on free words asks full
+
+  full_same : SameObjects (value_of w) (value_of w) (accounts w) (after w.program w.settings (accounts w) full_event)
+  full_same = subst (SameObjects (value_of w) (value_of w) (accounts w)) (sym ends_so) (same_value (value_of w) (accounts w) full_ledger refl (λ u. refl) (stands_now w I on).homes.homes)
+
+  full_notes : (u : ℕ) → NotesStay (value_of w) (value_of w) u
+  full_notes u = record { keeps = refl; kept = refl; marked = refl }
+
+  full_units : AsksUnits (nat_lt w.settings.chunks (units_in_use w.pool + chunk_units (asked w.program (accounts w).machine p.task))) (totals_of w) (totals_of ended) (chunk_units (asked w.program (accounts w).machine p.task))
+  full_units =
+      let limit : w.pool.limit ≡ w.settings.chunks = I.limit in
+      subst (λ o. AsksUnits (nat_lt w.settings.chunks (units_in_use w.pool + chunk_units o)) (totals_of w) (totals_of ended) (chunk_units o)) (sym (asked_is w k p I F on free words asks))
+      (subst (λ b. AsksUnits b (totals_of w) (totals_of ended) (chunk_units (Some words))) (sym (lt-ltb w.settings.chunks (units_in_use w.pool + chunk_units (Some words)) (omega (arith, full, limit))))
+      (refl, refl))
+
+  full_counts : CountsGo w.program w.settings (accounts w) (totals_of w) (totals_of ended) k (ChunkOf p.task)
+  full_counts = (record { node = λ u. refl; hand = λ u. refl; steps = refl; outputs = refl }, full_units)
+
+  full_calm : NoneBegun (after w.program w.settings (accounts w) full_event)
+  full_calm = subst NoneBegun (sym ends_so) I.calm
+
+  pub full_world : IsWorld ended
+  full_world = quiet_world w full_event I free tt (λ u m. m) w.pool full_end j.room full_same full_notes full_counts full_calm refl
+
+  pub full_others : OthersFit w ended k
+  full_others o q ne G = quiet_others w full_event I free tt (λ u m. m) w.pool full_end j.room full_same full_notes full_counts full_calm refl o q (held_apart w k o (record p { fresh = 0 }) q F G ne) G
+
+  abbrev full_home : Value
+  full_home = with_home (value_of w) p.task (home_of_part (record p { fresh = 0 }))
+
+  heaps_rested : (u : ℕ) → heap_of (rested full_ledger p.task) u ≡ heap_of (rested (accounts w) p.task) u
+  heaps_rested u = elim (cases_eq u p.task) [
+    | inl q ↦
+        ap (λ z. heap_of (rested full_ledger p.task) z) q
+        ∙ (ap or_fresh (with_at full_ledger p.task let_go ∙ sym (with_at (accounts w) p.task let_go)) ∙ ap (λ z. heap_of (rested (accounts w) p.task) z) (sym q))
+    | inr ne ↦ ap or_fresh (with_off full_ledger p.task u let_go ne ∙ sym (with_off (accounts w) p.task u let_go ne))
+  ]
+
+  -- the part, whose heap may have places for other numbers of chunks
+  pub full_part : (a b : ℕ) → Fits ended k (record p { fresh = 0; heap = with_places p.heap a b })
+  full_part a b =
+      quiet_own w full_event I free tt (λ u m. m) w.pool full_end j.room full_same full_notes full_counts full_calm refl k p (with_places p.heap a b) F (places_form p.heap a b F.form)
+      (subst (λ (z : Ledger). SameObjects full_home full_home (rested (accounts w) p.task) (rested z p.task)) (sym ends_so)
+      (same_value full_home (rested (accounts w) p.task) (rested full_ledger p.task) (with_machine full_ledger p.task let_go ∙ sym (with_machine (accounts w) p.task let_go)) heaps_rested (fits_now w k (record p { fresh = 0 }) I F on).stands.homes))
 
 -- ---- AS THE CALL HAS IT
 
@@ -449,19 +530,7 @@ places_added h K a b c d = by (K.size == 1024)
     by false = refl
 
 pub places_fit : (w : World) (k : ℕ) (p : Private) (a b : ℕ) → Fits w k p → Fits w k (record p { heap = with_places p.heap a b })
-places_fit w k p a b F = record {
-  held = F.held;
-  task = F.task;
-  is = F.is;
-  runs = F.runs;
-  steady = F.steady;
-  fits = F.fits;
-  counted = record { chunks = F.counted.chunks; last = F.counted.last; room = F.counted.room; since = F.counted.since; reserved = F.counted.reserved };
-  shaped = record { apart = F.shaped.apart; current = F.shaped.current; reserved = F.shaped.reserved };
-  near = F.near;
-  leaf_limit = F.leaf_limit;
-  field_limit = F.field_limit;
-}
+places_fit w k p a b F = record { held = F.held; fits = F.fits; form = places_form p.heap a b F.form; leaf_limit = F.leaf_limit; field_limit = F.field_limit; idle = F.idle }
 
 module _ (w : World) (k : ℕ) (p : Private) (I : IsWorld w) (F : Fits w k p) (none : p.fresh ≡ 0) (free : refused w (record { worker = k; kind = ChunkOf p.task }) ≡ None) where
   part_is : p ≡ record p { fresh = 0 }
@@ -471,7 +540,7 @@ module _ (w : World) (k : ℕ) (p : Private) (I : IsWorld w) (F : Fits w k p) (n
   F0 = subst (Fits w k) part_is F
 
   runs_on : (accounts w).end ≡ None
-  runs_on = none_some (accounts w).end (entry_tells w.program w.settings (accounts w) (record { worker = k; kind = ChunkOf p.task }) (ap is_none free)).0
+  runs_on = entry_on w (record { worker = k; kind = ChunkOf p.task }) free
 
   not_refused : is_none (kind_refusal w.program w.settings (accounts w) k (ChunkOf p.task)) ≡ true
   not_refused = (entry_tells w.program w.settings (accounts w) (record { worker = k; kind = ChunkOf p.task }) (ap is_none free)).2
@@ -481,17 +550,20 @@ module _ (w : World) (k : ℕ) (p : Private) (I : IsWorld w) (F : Fits w k p) (n
 
   -- too few are free
   module _ (units : ℕ) (sized : units ≡ chunk_units (part_asks w.program p)) (full : w.pool.limit < units_in_use w.pool + units) (j : Space Event) where
-    abbrev ended : World
-    ended = record w { journal = record { items = w.journal.items ++ record { worker = k; kind = ChunkOf p.task } ∷ []; room = j.room }; end = Some (PoolOf (units_in_use w.pool)) }
+    full_so : w.pool.limit < units_in_use w.pool + chunk_units (Some needs.0)
+    full_so = subst (λ n. w.pool.limit < units_in_use w.pool + n) (sized ∙ ap chunk_units needs.1) full
 
-    ends_so : after w.program w.settings (accounts w) (record { worker = k; kind = ChunkOf p.task }) ≡ record (accounts w) { end = Some (PoolOf (units_in_use w.pool)) }
-    ends_so = full_then w k p I F0 runs_on free needs.0 needs.1 (subst (λ n. w.pool.limit < units_in_use w.pool + n) (sized ∙ ap chunk_units needs.1) full)
+    abbrev pool_ended : World
+    pool_ended = record w { journal = record { items = w.journal.items ++ record { worker = k; kind = ChunkOf p.task } ∷ []; room = j.room }; end = Some (PoolOf (units_in_use w.pool)) }
 
-    pub pool_world : IsWorld ended
-    pool_world = ended_world w (record { worker = k; kind = ChunkOf p.task }) I free (PoolOf (units_in_use w.pool)) ends_so (λ l. refl) j
+    pub pool_world : IsWorld pool_ended
+    pool_world = full_world w k p I F0 runs_on free needs.0 needs.1 full_so j
 
-    pub pool_fits : (u : ℕ) (q : Private) → Fits w u q → Fits ended u q
-    pool_fits = ended_fits w (record { worker = k; kind = ChunkOf p.task }) I free (PoolOf (units_in_use w.pool)) ends_so (λ l. refl) j
+    pub pool_part : (a b : ℕ) → Fits pool_ended k (record p { heap = with_places p.heap a b })
+    pool_part a b = subst (λ n. Fits pool_ended k (record p { heap = with_places p.heap a b; fresh = n })) (sym none) (full_part w k p I F0 runs_on free needs.0 needs.1 full_so j a b)
+
+    pub pool_others : OthersFit w pool_ended k
+    pool_others = full_others w k p I F0 runs_on free needs.0 needs.1 full_so j
 
   -- it is given
   module _ (pool : Chunks) (K : Content) (number units : ℕ) (K_is : K ≡ chunk_with number units) (sized : units ≡ chunk_units (part_asks w.program p)) (within : units_in_use w.pool + units ≤ w.pool.limit) (T : PoolTakes w.pool pool number (record { owner = p.task; units = units })) (j : Space Event) where

@@ -1,5 +1,5 @@
 -- A heap with an empty chunk more: the objects that are read, and its account.
-use Rattle.std.proofs.Common.{◌≡◌, ◌⊎◌, ℕ, zero, suc, ◌+◌, ◌-◌, ◌*◌, ◌/◌, ◌<◌, ◌≤◌, ◌==◌, not, arith, Bool, true, false, cond, Option, Some, None, List, [], ◌∷◌, ◌++◌, length, length-append, map, filter, nat_le, inl, inr, ne_eqb, refl, ap, sym, subst, ◌∙◌}
+use Rattle.std.proofs.Common.{◌≡◌, ◌⊎◌, ℕ, zero, suc, ◌+◌, ◌-◌, ◌*◌, ◌/◌, ◌<◌, ◌≤◌, ◌==◌, not, arith, Bool, true, false, cond, Option, Some, None, List, [], ◌∷◌, ◌++◌, length, length-append, map, filter, All, nat_le, inl, inr, ne_eqb, refl, ap, sym, subst, ◌∙◌}
 use Rattle.std.proofs.lemmas.Bool.{cases_lt, cond-false, leb-false}
 use Rattle.hh_model.specs.declared.data.Name.{Name}
 use Rattle.run_ledger.specs.declared.data.Heap.{Heap as Account}
@@ -10,7 +10,7 @@ use Rattle.object_layout.specs.Chunks.{chunk_at}
 use Rattle.object_layout.specs.Content.{Content}
 use Rattle.object_layout.specs.Place.{words_in}
 use Rattle.alloc_path.specs.Heap.{Heap, IsCurrent, IsFresh, IsReserved, added, room_at, room_of, with_places}
-use Rattle.task_machine.specs.Accounts.{AreReserved, IsCounted, IsLastSmall, names_in, small_lists}
+use Rattle.task_machine.specs.Accounts.{AreReserved, IsCounted, IsLastLarge, IsLastSmall, large_names, names_in, small_lists}
 use Rattle.task_machine.specs.Fits.{IsShaped}
 use Rattle.core_relation.specs.Value.{Chunk, In, Seen, objects_in}
 use Rattle.core_relation.specs.Stands.{large_chunks}
@@ -78,7 +78,33 @@ module _ (k : Content) (empty : k.cells ≡ []) where
   small_same [] e = ap (λ b. cond b (names_in k.cells ∷ []) []) e
   small_same (x ∷ xs) e = same_by (x.size == 1024) (names_in x.cells) (small_lists (xs ++ k ∷ [])) (small_lists xs) (small_same xs e)
 
+  large_names_by : (b : Bool) (ns xs ys : List Name) → xs ≡ ys → cond b xs (ns ++ xs) ≡ cond b ys (ns ++ ys)
+  large_names_by b ns xs ys e = ap (λ zs. cond b zs (ns ++ zs)) e
+
+  pub large_same : (ks : List Content) → large_names (ks ++ k ∷ []) ≡ large_names ks
+  large_same [] = by (k.size == 1024)
+    where
+      by : (b : Bool) → cond b [] (names_in k.cells ++ []) ≡ []
+      by true = refl
+      by false = ap (λ cs. names_in cs ++ []) empty
+  large_same (x ∷ xs) = large_names_by (x.size == 1024) (names_in x.cells) (large_names (xs ++ k ∷ [])) (large_names xs) (large_same xs)
+
 -- ---- THE ACCOUNT
+
+last_large_same : (ks : List Content) (k : Content) (o : Option ℕ) → k.size ≡ 1024 → IsLastLarge ks o → IsLastLarge (ks ++ k ∷ []) o
+last_large_same ks k None small l = tt
+last_large_same ks k (Some i) small l = λ j lt le. elim (cases_lt j (length ks)) [
+  | inl before ↦ ap (λ (z : Content). z.size) (chunk_at-front ks k j before) ∙ l j lt before
+  | inr after ↦
+      let e : j ≡ length ks = omega (arith, le, after, longer ks k) in
+      ap (λ n. (chunk_at (ks ++ k ∷ []) n).size) e ∙ (ap (λ (z : Content). z.size) (chunk_at-last ks k) ∙ small)
+]
+
+pub all_more : (P : Content → Type 0) (ks : List Content) (k : Content) → All P ks → P k → All P (ks ++ k ∷ [])
+all_more P [] k a b zero d lt = b
+all_more P [] k a b (suc i) d lt = absurd (omega (arith, lt))
+all_more P (x ∷ xs) k a b zero d lt = a 0 d (omega arith)
+all_more P (x ∷ xs) k a b (suc i) d lt = all_more P xs k (λ j e l. a (suc j) e (omega (arith, l))) b i d (omega (arith, lt))
 
 room_same : (ks : List Content) (k : Content) (o : Option ℕ) → IsCurrent ks o → room_at (ks ++ k ∷ []) o ≡ room_at ks o
 room_same ks k None c = refl
@@ -108,7 +134,9 @@ module _ (h : Heap) (l : Account) (S : IsShaped h) (C : IsCounted h l) (number s
   small_counted : IsCounted (with_places (added h (small_one number)) slots spare) (record l { chunks = l.chunks ++ [] ∷ []; room = 1024 })
   small_counted = record {
     chunks = small_more (small_one number) refl h.chunks refl ∙ ap (λ xs. xs ++ [] ∷ []) C.chunks;
+    large = large_same (small_one number) refl h.chunks ∙ C.large;
     last = λ j lt le size. omega (arith, lt, le, longer h.chunks (small_one number));
+    last_large = last_large_same h.chunks (small_one number) h.reserved refl C.last_large;
     room = ap (λ (z : Content). z.size - words_in z.cells) (chunk_at-last h.chunks (small_one number));
     since = C.since;
     reserved = reserved_same h.chunks (small_one number) h.reserved l.reserved S.reserved C.reserved;
@@ -130,7 +158,9 @@ module _ (h : Heap) (l : Account) (S : IsShaped h) (C : IsCounted h l) (number s
     large_counted : IsCounted (with_places (added h k) slots spare) (record l { reserved = u })
     large_counted = subst (λ (z : Heap). IsCounted (with_places z slots spare) (record l { reserved = u })) (sym larger_is) (record {
       chunks = small_same k refl h.chunks big ∙ C.chunks;
+      large = large_same k refl h.chunks ∙ C.large;
       last = last_same h.chunks k h.current (λ e. omega (arith, e, large)) C.last;
+      last_large = λ j lt le. absurd (omega (arith, lt, le, longer h.chunks k));
       room = room_same h.chunks k h.current S.current ∙ C.room;
       since = C.since;
       reserved = ap (λ (z : Content). z.size) (chunk_at-last h.chunks k);

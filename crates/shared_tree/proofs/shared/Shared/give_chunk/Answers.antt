@@ -17,7 +17,7 @@ use Rattle.shared_tree.specs.Fits.{Fits, OthersFit}
 use Rattle.shared_tree.specs.Next.{part_asks}
 use Rattle.shared_tree.specs.Entered.{refused}
 use Rattle.shared_tree.specs.contracts.shared.Shared.{the_view}
-use Rattle.shared_tree.proofs.Chunked.{given_fresh, given_others, given_part, given_world, places_fit, pool_fits, pool_world}
+use Rattle.shared_tree.proofs.Chunked.{given_fresh, given_others, given_part, given_world, places_fit, pool_others, pool_part, pool_world}
 use Rattle.shared_tree.proofs.Entered.{journal_by}
 use Rattle.shared_tree.proofs.shared.Shared.give_chunk.Goals as goal
 
@@ -118,8 +118,8 @@ returns-in-Err-Full-clause-fits c =
     subst (λ (h : Heap). Fits (record w { pool = c.take.new.self; journal = c.push_reserved-in-Err-Full.new.self; end = Some (PoolOf c.in_use.result) }) k (record p { heap = h })) (sym c.make_room.ensures.kept)
     (subst (λ (z : World). Fits z k (record p { heap = with_places p.heap c.make_room.new.self.slots c.make_room.new.self.spare }))
     (pool_same w c.take.new.self (record { items = _; room = w.journal.room - 1 }) c.push_reserved-in-Err-Full.new.self c.in_use.result c.in-Err-Full.ensures.err (journal_by w.journal _ _ e c.new-in-Err-Full.ensures c.push_reserved-in-Err-Full.ensures) c.in_use.ensures.units)
-    (pool_fits w k p c.self.invariant F c.requires.fresh free c.units_for-units.result sized (c.in-Err-Full.ensures.full.0 (ap (λ (x : NotTaken). Err x) c.in-Err-Full.field-0-is)) (record { items = []; room = w.journal.room - 1 }) k
-    (record p { heap = with_places p.heap c.make_room.new.self.slots c.make_room.new.self.spare }) (places_fit w k p c.make_room.new.self.slots c.make_room.new.self.spare F)))
+    (pool_part w k p c.self.invariant F c.requires.fresh free c.units_for-units.result sized (c.in-Err-Full.ensures.full.0 (ap (λ (x : NotTaken). Err x) c.in-Err-Full.field-0-is)) (record { items = []; room = w.journal.room - 1 })
+    c.make_room.new.self.slots c.make_room.new.self.spare))
 
 pub returns-in-Err-Full-clause-others : goal.returns-in-Err-Full-clause-others
 returns-in-Err-Full-clause-others c =
@@ -133,7 +133,7 @@ returns-in-Err-Full-clause-others c =
     subst (λ (z : World). OthersFit z (record w { pool = c.take.new.self; journal = c.push_reserved-in-Err-Full.new.self; end = Some (PoolOf c.in_use.result) }) k) c.self.view_is
     (subst (λ (z : World). OthersFit w z k)
     (pool_same w c.take.new.self (record { items = _; room = w.journal.room - 1 }) c.push_reserved-in-Err-Full.new.self c.in_use.result c.in-Err-Full.ensures.err (journal_by w.journal _ _ e c.new-in-Err-Full.ensures c.push_reserved-in-Err-Full.ensures) c.in_use.ensures.units)
-    (λ u q ne G. pool_fits w k p c.self.invariant F c.requires.fresh free c.units_for-units.result sized (c.in-Err-Full.ensures.full.0 (ap (λ (x : NotTaken). Err x) c.in-Err-Full.field-0-is)) (record { items = []; room = w.journal.room - 1 }) u q G))
+    (pool_others w k p c.self.invariant F c.requires.fresh free c.units_for-units.result sized (c.in-Err-Full.ensures.full.0 (ap (λ (x : NotTaken). Err x) c.in-Err-Full.field-0-is)) (record { items = []; room = w.journal.room - 1 })))
 
 pub returns-in-Err-NoMemory-clause-fits : goal.returns-in-Err-NoMemory-clause-fits
 returns-in-Err-NoMemory-clause-fits c =
