@@ -217,11 +217,6 @@ module _ (w : World) (k : ℕ) (p : Private) (I : IsWorld w) (F : Fits w k (reco
         ap given_by asked_is
         ∙ cond-false (nat_lt w.settings.chunks (in_use l + chunk_units (Some words))) (record l { end = Some (PoolOf (in_use l)) }) L fits_free
 
-    then : after w.program w.settings l e ≡ L
-    then =
-        ap given_by asked_is
-        ∙ cond-false (nat_lt w.settings.chunks (in_use l + chunk_units (Some words))) (record l { end = Some (PoolOf (in_use l)) }) L fits_free
-
     -- owners
     held_same_at : (c : ℕ) → (c ≡ number → ⊥) → v'.owner c ≡ v.owner c
     held_same_at c ne = ap (option_map (λ (z : Held). z.owner)) (T.rest.others c ne)
