@@ -1,0 +1,6 @@
+pub mod Unready
+pub mod Lone
+pub mod Calm
+pub mod Entries
+pub mod Joint
+pub mod Pausing

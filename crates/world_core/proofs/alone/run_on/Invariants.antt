@@ -1,0 +1,13 @@
+use Rattle.std.proofs.Common.{◌≡◌, ℕ, ◌+◌, ◌-◌, true, Option, Some, None, is_some}
+use Rattle.task_machine.specs.declared.part.Private.{Private}
+use Rattle.shared_tree.specs.World.{World}
+use Rattle.world_core.specs.Ready.{IsReady}
+use Rattle.world_core.specs.Alone.{IsUnderWay, Keeps}
+use Rattle.world_core.proofs.Entries.{Standing, left_to_do}
+use Rattle.world_core.proofs.alone.run_on.Given as goal
+
+abbrev pub invariant-loop-next : goal.invariant-loop-next
+invariant-loop-next g l = record { ready : IsReady l.program; keeps : Keeps l.fn.shared.program l.fn.shared.settings l.shared; program : l.shared.program ≡ l.program; standing : Standing l.shared l.next }
+
+abbrev pub decreases-loop-next : goal.decreases-loop-next
+decreases-loop-next g l = left_to_do l.shared l.next

@@ -1,0 +1,6 @@
+use Rattle.std.proofs.Common.{ap, ◌∙◌}
+use Rattle.world_core.proofs.Entries.{root_taken}
+use Rattle.world_core.proofs.alone.take_root.Goals as goal
+
+pub returns-clause-way : goal.returns-clause-way
+returns-clause-way c = root_taken c.reserve.new.self c.took-took.new.self c.in-Ok.part c.stands.ensures c.stands-2.ensures (ap (λ w. w.journal.items) c.reserve.ensures.same ∙ c.requires) c.in-Ok.ensures.enters c.in-Ok.ensures.fresh c.in-Ok.ensures.fits

@@ -1,0 +1,39 @@
+-- A run of one worker, on its way and whole.
+use Rattle.std.specs.Prelude.{◌≡◌, ℕ, ◌<◌, Bool, true, false, Option, Some, None, is_some}
+use Rattle.hh_lang.specs.Form.{ProgramText}
+use Rattle.run_trace.specs.Settings.{Limits}
+use Rattle.run_ledger.specs.declared.data.RunEnd.{RunEnd}
+use Rattle.run_ledger.specs.Journals.{end_of, is_legal}
+use Rattle.run_ledger.specs.Pace.{is_paced}
+use Rattle.task_machine.specs.declared.part.Private.{Private}
+use Rattle.shared_tree.specs.World.{World}
+use Rattle.shared_tree.specs.Fits.{Fits}
+use Rattle.shared_tree.specs.Alone.{IsShared}
+
+-- it runs this program within these limits
+pub record Keeps (p : ProgramText) (s : Limits) (w : World) : Type 0 where
+  pub program : w.program ≡ p
+  pub settings : w.settings ≡ s
+
+-- the run goes on, and worker 0 holds a part that fits, all its steps entered
+pub record IsUnderWay (w : World) (part : Private) : Type 0 where
+  pub goes : w.end ≡ None
+  pub fresh : part.fresh ≡ 0
+  pub fits : Fits w 0 part
+
+-- the part has taken private steps: a shared one comes next, or as many were taken as one entry holds
+abbrev pub IsPaused : World → Private → Bool → Type 0
+IsPaused w part true = Fits w 0 part × IsShared w part
+IsPaused w part false = Fits w 0 part × (part.fresh ≡ 256)
+
+-- an entry more: the run has ended, or goes on with more steps taken, whose fuel wasn't spent before
+abbrev pub Turns : World → World → Option Private → Type 0
+Turns old new None = is_some new.end ≡ true
+Turns old new (Some part) = IsUnderWay new part × (old.steps < old.settings.fuel) × (old.steps < new.steps)
+
+-- a whole run: its journal is legal and paced, and ends so
+pub record IsRun (p : ProgramText) (s : Limits) (w : World) (end : RunEnd) : Type 0 where
+  pub keeps : Keeps p s w
+  pub legal : is_legal p s w.journal.items ≡ true
+  pub ended : end_of p s w.journal.items ≡ Some end
+  pub paced : is_paced p s w.journal.items ≡ true

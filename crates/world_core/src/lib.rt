@@ -1,0 +1,10 @@
+// The whole run as one value, driven by one worker.
+#![tactic(auto)]
+
+mod alone;
+mod laws;
+mod ready;
+
+pub use alone::{Finish, Outcome, run_alone};
+pub use laws::{ready_asks_nothing, ready_has_one_task, ready_is_paced, unready_is_found};
+pub use ready::first_unready;
