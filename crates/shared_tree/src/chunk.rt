@@ -7,8 +7,8 @@ ghost use Rattle.shared_tree.specs.Entered.{refused, Answers, Enters, IsSamePart
 ghost use Rattle.shared_tree.specs.Fits.{Fits, OthersFit};
 ghost use Rattle.shared_tree.specs.Next.{part_asks};
 
-use crate::causes::first_cause;
 use crate::answer::NotEntered;
+use crate::causes::first_cause;
 use crate::next::words_asked;
 use crate::shared::Shared;
 use chunk_pool::NotTaken;

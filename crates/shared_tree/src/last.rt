@@ -5,9 +5,9 @@ ghost use Rattle.shared_tree.specs.Alone.{alone_event, ended_rest, Answered, End
 ghost use Rattle.shared_tree.specs.Entered.{refused, RanAnswers};
 ghost use Rattle.shared_tree.specs.Fits.{Fits};
 
-use crate::causes::first_cause;
 use crate::answer::NotEntered;
-use crate::next::{last_step, Ending};
+use crate::causes::first_cause;
+use crate::next::{Ending, last_step};
 use crate::ran::{Alone, NotRan};
 use crate::rest::{Rest, Work};
 use crate::shared::Shared;
@@ -54,7 +54,13 @@ impl Shared {
     }
 
     // Enters an output.
-    fn enter_output(&mut self, worker: u32, part: &mut Private, value: i64, line: u32) -> Result<(), AllocError>
+    fn enter_output(
+        &mut self,
+        worker: u32,
+        part: &mut Private,
+        value: i64,
+        line: u32,
+    ) -> Result<(), AllocError>
         requires room { 0 < self.old.journal.room }
         requires fits { Fits self.old worker part.old }
         requires shared { IsShared self.old part.old }
