@@ -80,8 +80,7 @@ module _ (w : World) (k : ℕ) (p : Private) (I : IsWorld w) (F : Fits w k p) (s
       enters = record { journal = refl; program = refl; settings = refl };
       goes = subst (λ (z : World). (accounts z).end ≡ None) printed_is (output_goes w k p I F shared last_free value line T j);
       fits = subst (λ (z : World). Fits z k (record p { frames = with_next p.frames (p.frames.top.next + 1); fresh = 0 })) printed_is (output_part w k p I F shared last_free value line T j);
-      task = refl;
-      fresh = refl;
+      part = refl;
       others = subst (λ (z : World). OthersFit w z k) printed_is (output_others w k p I F shared last_free value line T j);
     }
 

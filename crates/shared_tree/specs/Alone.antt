@@ -41,8 +41,8 @@ pub record GoesAlone (w after : World) (k : ℕ) (p q : Private) : Type 0 where
   pub enters : Enters w after (alone_event k p)
   pub goes : (accounts after).end ≡ None
   pub fits : Fits after k q
-  pub task : q.task ≡ p.task
-  pub fresh : q.fresh ≡ 0
+  -- its frames alone are others, and no step is fresh
+  pub part : q ≡ record p { frames = q.frames; fresh = 0 }
   pub others : OthersFit w after k
 
 -- the steps are entered, and the run has ended
