@@ -1,9 +1,7 @@
 -- Where nothing waits, nothing is owed.
-use Rattle.std.proofs.Common.{◌≡◌, ◌||◌, ◌&&◌, ℕ, zero, suc, Bool, true, false, not, Option, Some, None, List, [], ◌∷◌, length, replicate, slice_get, slice_set, refl, ap, sym, subst, ◌∙◌, arith, ◌⊎◌, inl, inr}
-use Rattle.std.specs.Prelude.{is_none, is_some}
+use Rattle.std.proofs.Common.{◌≡◌, ◌||◌, ℕ, zero, suc, true, false, Option, Some, None, List, [], ◌∷◌, replicate, slice_get, slice_set, refl, ap, sym, subst, ◌∙◌, ◌⊎◌, inl, inr}
+use Rattle.std.specs.Prelude.{is_none}
 use Rattle.std.proofs.lemmas.Bool.{false≢true, and_parts, and_from, or_right}
-use Rattle.std.proofs.lemmas.Option.{same_Some}
-use Rattle.listed.proofs.Members.{got_cases}
 use Rattle.run_trace.specs.declared.entry.Kind.{Kind}
 use Rattle.run_trace.specs.declared.entry.Kind.TheVariants.{Took, Ran, Chunk, Begin, End, PutOff, Mark, More, Sweep, Fuel}
 use Rattle.run_trace.specs.Entry.{Event}
@@ -11,15 +9,13 @@ use Rattle.run_trace.specs.Settings.{Limits, field_limit}
 use Rattle.hh_lang.specs.Form.{ProgramText}
 use Rattle.hh_model.specs.declared.data.Task.{Task}
 use Rattle.hh_model.specs.declared.data.State.{State}
-use Rattle.hh_model.specs.Step.{waits, is_waiting, start, run_from}
+use Rattle.hh_model.specs.Step.{waits, is_waiting, run_from}
 use Rattle.hh_model.proofs.Kept.{Kept, start_kept}
 use Rattle.run_ledger.specs.declared.data.Ledger.{Ledger}
-use Rattle.run_ledger.specs.declared.data.Owed.{Owed}
 use Rattle.run_ledger.specs.declared.data.Owed.TheVariants.{Nothing}
-use Rattle.run_ledger.specs.declared.data.Previous.{Previous}
 use Rattle.run_ledger.specs.declared.data.Previous.TheVariants.{Other, Ran as RanBefore}
 use Rattle.run_ledger.specs.declared.data.WorkerPace.{WorkerPace}
-use Rattle.run_ledger.specs.Entries.{refusal, kind_refusal, after, after_kind, is_fuel}
+use Rattle.run_ledger.specs.Entries.{refusal, kind_refusal, after, is_fuel}
 use Rattle.run_ledger.specs.Journals.{opening, is_legal_from, tasks_in}
 use Rattle.run_ledger.specs.Pace.{owed, gives, idle, noted, previous_by, pace_of, pace_after, pace_opening, is_paced_from}
 use Rattle.run_ledger.proofs.Journals.{entry_tells, wait_tells}

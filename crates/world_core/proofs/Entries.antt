@@ -1,15 +1,15 @@
 -- Entries of a run of one worker.
-use Rattle.std.proofs.Common.{◌≡◌, ◌≢◌, ℕ, zero, suc, ◌+◌, ◌-◌, ◌<◌, ◌≤◌, ◌++◌, ◌⊎◌, inl, inr, ◌&&◌, Bool, true, false, cond, Option, Some, None, List, [], ◌∷◌, length, slice_get, is_some, option_map, nat_le, nat_lt, refl, ap, sym, subst, ◌∙◌, arith}
+use Rattle.std.proofs.Common.{◌≡◌, ℕ, zero, suc, ◌+◌, ◌-◌, ◌<◌, ◌≤◌, ◌&&◌, Bool, true, false, Option, Some, None, List, [], ◌∷◌, length, slice_get, is_some, option_map, nat_le, nat_lt, refl, ap, sym, subst, ◌∙◌, arith}
 use Rattle.std.proofs.lemmas.Bool.{false≢true}
-use Rattle.listed.proofs.Members.{got_within}
+use Rattle.alloc_path.specs.Heap.{Heap as HeapOfCode}
 use Rattle.listed.specs.Space.{Space}
 use Rattle.hh_lang.specs.Form.{ProgramText}
 use Rattle.run_trace.specs.declared.entry.Kind.TheVariants.{Took, Fuel, Ran as RanKind}
 use Rattle.run_trace.specs.Entry.{Event}
-use Rattle.run_trace.specs.Settings.{Limits, AreLimits, field_limit}
+use Rattle.run_trace.specs.Settings.{Limits, field_limit}
 use Rattle.hh_model.specs.declared.data.Task.{Task}
 use Rattle.hh_model.specs.declared.data.State.{State}
-use Rattle.hh_model.specs.Step.{is_running, is_waiting, step}
+use Rattle.hh_model.specs.Step.{is_running, step}
 use Rattle.run_ledger.specs.declared.data.Ledger.{Ledger}
 use Rattle.hh_model.specs.declared.data.End.TheVariants.{Done, Trapped, Entangled}
 use Rattle.run_ledger.specs.declared.data.RunEnd.{RunEnd}
@@ -29,25 +29,26 @@ use Rattle.task_machine.specs.declared.part.Private.{Private}
 use Rattle.task_machine.specs.Outline.{steps}
 use Rattle.task_machine.specs.Fits.{unended}
 use Rattle.ledger_steps.proofs.Split.{steps_last}
-use Rattle.shared_tree.specs.World.{World, accounts}
+use Rattle.shared_tree.specs.declared.rest.Rest.{Rest}
+use Rattle.shared_tree.specs.World.{World, accounts, rest_at}
 use Rattle.shared_tree.specs.Stands.{IsWorld}
 use Rattle.shared_tree.specs.Fits.{Fits, beyond}
 use Rattle.ledger_steps.specs.Accounts.{aside}
 use Rattle.core_relation.specs.Whole.{by_end}
 use Rattle.shared_tree.specs.declared.answer.NotEntered.{NotEntered}
-use Rattle.shared_tree.specs.declared.answer.NotEntered.TheVariants.{Refuses}
+use Rattle.shared_tree.specs.declared.answer.NotEntered.TheVariants.{NoMemory, Refuses}
 use Rattle.shared_tree.specs.Entered.{Enters, IsCaused, refused}
 use Rattle.shared_tree.proofs.Running.{ran_answer}
 use Rattle.shared_tree.proofs.LastSteps.{alone_answer}
 use Rattle.shared_tree.specs.Causes.{first_cause}
-use Rattle.shared_tree.specs.Alone.{GoesAlone, EndsAlone, IsShared, alone_event}
+use Rattle.shared_tree.specs.Alone.{GoesAlone, EndsAlone, alone_event}
 use Rattle.shared_tree.specs.Links.{FitsFirst}
 use Rattle.shared_tree.proofs.Entered.{accounts_then}
-use Rattle.shared_tree.proofs.Going.{journal_goes}
+use Rattle.world_core.specs.declared.alone.Finish.TheVariants.{Ended}
 use Rattle.world_core.specs.Ready.{IsReady}
-use Rattle.world_core.specs.Alone.{IsPaused, IsUnderWay, IsRun, Keeps, Turns}
+use Rattle.world_core.specs.Alone.{IsBareRoot, IsPaused, IsUnderWay, IsRun, Keeps, Turns}
 use Rattle.world_core.proofs.Lone.{Lone, run_lone}
-use Rattle.world_core.proofs.Calm.{none_waits, ready_is_paced}
+use Rattle.world_core.proofs.Calm.{ready_is_paced}
 
 -- ---- THE MACHINE BEHIND THE FRESH STEPS
 
@@ -131,8 +132,8 @@ pub private_goes : (w w' : World) (part p : Private) → IsWorld w → IsWorld w
     → Enters w w' (record { worker = 0; kind = RanKind part.task part.fresh }) → w'.end ≡ w.end → p ≡ record part { fresh = 0 } → Fits w' 0 p → Turns w w' (Some p)
 private_goes w w' part p I I' paused goes fuel E end is F =
     let more = steps_by w w' part.task part.fresh I I' E in
-    let some = paused.1 in (
-      record { goes = end ∙ goes; fresh = ap (λ (q : Private). q.fresh) is; fits = F },
+    let some = paused.2 in (
+      record { goes = end ∙ goes; fresh = ap (λ (q : Private). q.fresh) is; fits = F; bare = ap (λ (q : Private). q.heap.chunks) is ∙ paused.1 },
       fuel,
       omega (arith, more, some),
     )
@@ -141,10 +142,10 @@ private_goes w w' part p I I' paused goes fuel E end is F =
 
 module _ (w w' : World) (part : Private) (I : IsWorld w) (I' : IsWorld w') where
   -- the run goes on
-  pub alone_goes : (p : Private) → w.steps < w.settings.fuel → GoesAlone w w' 0 part p → Turns w w' (Some p)
-  alone_goes p fuel G =
+  pub alone_goes : (p : Private) → part.heap.chunks ≡ [] → w.steps < w.settings.fuel → GoesAlone w w' 0 part p → Turns w w' (Some p)
+  alone_goes p bare fuel G =
       let more = steps_by w w' part.task (part.fresh + 1) I I' G.enters in (
-        record { goes = end_is w' I' ∙ G.goes; fresh = G.fresh; fits = G.fits },
+        record { goes = end_is w' I' ∙ G.goes; fresh = ap (λ (q : Private). q.fresh) G.part; fits = G.fits; bare = ap (λ (q : Private). q.heap.chunks) G.part ∙ bare },
         fuel,
         omega (arith, more),
       )
@@ -168,14 +169,15 @@ first_free w I goes fuel =
 
 -- so are the steps of a part that fits
 pub private_free : (w : World) (part : Private) → IsWorld w → IsPaused w part false → w.end ≡ None → w.steps < w.settings.fuel → refused w (record { worker = 0; kind = RanKind part.task part.fresh }) ≡ None
-private_free w part I paused goes fuel = ran_answer w 0 part I paused.0 (sym (end_is w I) ∙ goes) ∙ first_free w I goes fuel
+private_free w part I paused goes fuel = ran_answer w 0 part I paused.0 (let some = paused.2 in omega (arith, some)) ∙ first_free w I goes fuel
 
 pub alone_free : (w : World) (part : Private) → IsWorld w → IsPaused w part true → w.end ≡ None → w.steps < w.settings.fuel → refused w (alone_event 0 part) ≡ None
-alone_free w part I paused goes fuel = alone_answer w 0 part I paused.0 paused.1 ∙ first_free w I goes fuel
+alone_free w part I paused goes fuel = alone_answer w 0 part I paused.0 paused.2 ∙ first_free w I goes fuel
 
--- what isn't refused gives no refusal
-pub never_caused : {A : Type 0} (e : NotEntered) (cause : Refused) (why : Option Refused) → why ≡ None → e ≡ Refuses cause → IsCaused e why → A
-never_caused e cause why none is h = not_refused why cause none (subst (λ (x : NotEntered). IsCaused x why) is h)
+-- what isn't refused fails for want of memory alone
+pub only_memory : (e : NotEntered) (why : Option Refused) → why ≡ None → IsCaused e why → e ≡ NoMemory
+only_memory (Refuses cause) why none h = not_refused why cause none h
+only_memory NoMemory why none h = refl
 
 pub never_refused : {A : Type 0} (e : NotEntered) (why : Option Refused) → why ≡ None → option_map (λ (cause : Refused). Refuses cause) why ≡ Some e → A
 never_refused e why none h = by (sym (ap (option_map (λ (cause : Refused). Refuses cause)) none) ∙ h)
@@ -240,8 +242,8 @@ left_to_do w None = 0
 left_to_do w (Some part) = w.settings.fuel - w.steps + 1
 
 -- the root taken
-pub root_taken : (w w' : World) (part : Private) → IsWorld w → IsWorld w' → w.journal.items ≡ [] → Enters w w' (record { worker = 0; kind = Took 0 }) → part.fresh ≡ 0 → Fits w' 0 part → IsUnderWay w' part
-root_taken w w' part I I' none E fresh F = record { goes = end_is w' I' ∙ (ap (λ (l : Ledger). l.end) (after_entry w w' (record { worker = 0; kind = Took 0 }) E) ∙ ap (λ (j : List Event). (after w.program w.settings (ledger_of w.program w.settings j) (record { worker = 0; kind = Took 0 })).end) none); fresh = fresh; fits = F }
+pub root_taken : (w w' : World) (part : Private) → IsWorld w → IsWorld w' → w.journal.items ≡ [] → Enters w w' (record { worker = 0; kind = Took 0 }) → part.fresh ≡ 0 → Fits w' 0 part → part.heap.chunks ≡ [] → IsUnderWay w' part
+root_taken w w' part I I' none E fresh F bare = record { goes = end_is w' I' ∙ (ap (λ (l : Ledger). l.end) (after_entry w w' (record { worker = 0; kind = Took 0 }) E) ∙ ap (λ (j : List Event). (after w.program w.settings (ledger_of w.program w.settings j) (record { worker = 0; kind = Took 0 })).end) none); fresh = fresh; fits = F; bare = bare }
 
 -- ---- ALLOCATIONS are far fewer than 32 bits count
 
@@ -254,3 +256,30 @@ few_allocations w part I U F =
     let bound : l.steps ≤ w.settings.fuel + 256 = steps_are_bounded w.program w.settings w.journal.items I.legal in
     let fuel = I.limits.fuel.1 in
     omega (arith, count, most, bound, fuel)
+
+-- the root was there, and its heap had no chunks
+pub root_bare : (w w' : World) (j : Space Event) (part : Private) → IsBareRoot w → w' ≡ record w { journal = j } → (r : Rest) × (rest_at w'.homes 0 ≡ Some r) × (part.heap ≡ r.heap) → part.heap.chunks ≡ []
+root_bare w w' j part bare same h = ap (λ (z : HeapOfCode). z.chunks) h.2 ∙ bare h.0 (sym (ap (λ (z : World). rest_at z.homes 0) same) ∙ h.1)
+
+-- fuel is left where the counts say so
+pub fuel_left : (w : World) → IsWorld w → (n k : ℕ) (s : Limits) → n ≡ (accounts w).steps → s ≡ w.settings → k ≡ s.fuel → n < k → w.steps < w.settings.fuel
+fuel_left w I n k s steps same fuel lt =
+    let a : w.steps ≡ (accounts w).steps = steps_is w I in
+    let b : s.fuel ≡ w.settings.fuel = ap (λ (z : Limits). z.fuel) same in
+    omega (arith, a, b, steps, fuel, lt)
+
+pub fuel_spent : (w : World) → IsWorld w → (n k : ℕ) (s : Limits) → n ≡ (accounts w).steps → s ≡ w.settings → k ≡ s.fuel → k ≤ n → w.settings.fuel ≤ w.steps
+fuel_spent w I n k s steps same fuel le =
+    let a : w.steps ≡ (accounts w).steps = steps_is w I in
+    let b : s.fuel ≡ w.settings.fuel = ap (λ (z : Limits). z.fuel) same in
+    omega (arith, a, b, steps, fuel, le)
+
+-- an entry after room was made is one after what was before
+pub turned_from : (w w' : World) (j : Space Event) (o : Option Private) → Turns (record w { journal = j }) w' o → Turns w w' o
+turned_from w w' j None h = h
+turned_from w w' j (Some p) h = h
+
+-- what the run of a value leaves
+pub is_whole_of : (p : ProgramText) (s : Limits) (first w : World) (end e : RunEnd) → IsReady p → IsWorld w → first.program ≡ p → first.settings ≡ s → Keeps first.program first.settings w → w.end ≡ Some end → Ended end ≡ Ended e → IsRun p s w e
+is_whole_of p s first w end e ready I program settings k ends same =
+    is_whole p s w e ready I (record { program = k.program ∙ program; settings = k.settings ∙ settings }) (ends ∙ (let q : end ≡ e = cc in ap Some q))

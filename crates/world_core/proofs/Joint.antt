@@ -1,5 +1,5 @@
 -- In a run of one task no other task has part in a step.
-use Rattle.std.proofs.Common.{◌≡◌, ℕ, zero, suc, ◌+◌, ◌<◌, ◌==◌, ◌&&◌, ◌||◌, ◌++◌, Bool, true, false, not, Option, Some, None, List, [], ◌∷◌, length, replicate, slice_get, is_some, Contains, refl, ap, sym, subst, ◌∙◌, arith, eq-eqb, inl}
+use Rattle.std.proofs.Common.{◌≡◌, ℕ, zero, suc, ◌<◌, ◌==◌, ◌&&◌, ◌++◌, Bool, true, false, Option, Some, None, List, [], ◌∷◌, length, replicate, slice_get, is_some, Contains, refl, ap, sym, subst, ◌∙◌, arith, inl}
 use Rattle.std.proofs.lemmas.Bool.{false≢true}
 use Rattle.listed.proofs.Members.{contains_from_in, got_within}
 use Rattle.hh_lang.specs.declared.instr.Instr.{Instr}
@@ -61,10 +61,16 @@ after_is_run w q I goes =
     ∙ (ap (λ (z : State). steps w.program z q.task q.fresh) (same ∙ is)
     ∙ (steps_run w.program (run w.program limit ts) q.task q.fresh ∙ sym (run_more w.program ts (replicate q.fresh q.task) (start w.program limit))))
 
+pub after_is_kept : (w : World) (q : Private) → IsWorld w → w.end ≡ None → IsReady w.program → Kept (machine_after w q) × Lone (machine_after w q)
+after_is_kept w q I goes ready =
+    let limit : ℕ = field_limit w.settings.version in
+    subst (λ (m : State). Kept m × Lone m) (sym (after_is_run w q I goes))
+    (from_lone w.program ready (tasks_of w.journal.items ++ replicate q.fresh q.task) (start w.program limit) (start_kept w.program limit) (start_lone w.program limit))
+
 -- ---- NO OTHER TASK HAS PART
 
 -- every name in the store is one of the first task's
-stored_first : (m : State) (n : Name) → Kept m → Lone m → IsStored m n → n.task ≡ 0
+pub stored_first : (m : State) (n : Name) → Kept m → Lone m → IsStored m n → n.task ≡ 0
 stored_first m n K L s =
     let k = K.store_of n s.0 s.1 in
     let lt : s.0.strand.task < length m.tasks = k.1.0 in
@@ -125,8 +131,6 @@ never_beyond w part q text ready same I goes F w' B =
     let ts : List ℕ = tasks_of w.journal.items ++ replicate part.fresh part.task in
     let is : machine_after w part ≡ run w.program limit ts = after_is_run w part I goes in
     let here : IsReady w.program = subst IsReady (sym same) ready in
-    let both = from_lone w.program here ts (start w.program limit) (start_kept w.program limit) (start_lone w.program limit) in
-    let K : Kept (machine_after w part) = subst Kept (sym is) both.0 in
-    let L : Lone (machine_after w part) = subst Lone (sym is) both.1 in
+    let both = after_is_kept w part I goes here in
     let stored = subst NamesAreStoredIn (sym is) (names_are_stored w.program limit ts) in
-    false≢true (sym (never_here w.program (machine_after w part) here K L stored.held part.task F.task F.is F.running) ∙ B.beyond)
+    false≢true (sym (never_here w.program (machine_after w part) here both.0 both.1 stored.held part.task F.task F.is F.running) ∙ B.beyond)

@@ -1,5 +1,5 @@
 -- Runs of programs that neither fork nor make objects: no step asks for words, and the root stays the one task.
-use Rattle.std.proofs.Common.{◌≡◌, ◌≢◌, ◌<◌, ◌+◌, ℕ, ℤ, zero, suc, Bool, true, false, cond, Option, Some, None, List, [], ◌∷◌, ◌++◌, length, slice_get, slice_set, slice_index_or, All, is_some, refl, ap, sym, subst, ◌∙◌, arith, ◌⊎◌, inl, inr}
+use Rattle.std.proofs.Common.{◌≡◌, ◌<◌, ◌+◌, ℕ, ℤ, zero, suc, Bool, true, false, cond, Option, Some, None, List, [], ◌∷◌, length, slice_get, slice_set, All, is_some, refl, ap, sym, subst, ◌∙◌, arith, ◌⊎◌, inl, inr}
 use Rattle.std.proofs.lemmas.Bool.{false≢true}
 use Rattle.std.proofs.lemmas.Option.{same_Some}
 use Rattle.std.proofs.Math.ListN.{length-set}
@@ -9,22 +9,18 @@ use Rattle.hh_lang.specs.declared.instr.Instr.TheVariants.{Newm, Pack, Par}
 use Rattle.hh_lang.specs.declared.program.Line.{Line}
 use Rattle.hh_lang.specs.declared.program.Fun.{Fun}
 use Rattle.hh_lang.specs.Form.{ProgramText, line_at, code_of}
-use Rattle.run_trace.specs.Entry.{Event}
-use Rattle.run_trace.specs.Settings.{Limits, field_limit}
+use Rattle.run_trace.specs.Settings.{field_limit}
 use Rattle.hh_model.specs.declared.data.Frame.{Frame}
 use Rattle.hh_model.specs.declared.data.Object.{Object}
 use Rattle.hh_model.specs.declared.data.End.{End}
 use Rattle.hh_model.specs.declared.data.End.TheVariants.{Done}
-use Rattle.hh_model.specs.declared.data.Status.{Status}
 use Rattle.hh_model.specs.declared.data.Task.{Task}
 use Rattle.hh_model.specs.declared.data.State.{State}
-use Rattle.hh_model.specs.Effect.{onward}
 use Rattle.hh_model.specs.Names.{words_asked}
-use Rattle.hh_model.specs.Step.{asked, asked_by, asked_line, fetched, is_running, runs, waits, parent_of, step, run, run_from, start, ended_task, result_of, child, joined_task, resumed}
-use Rattle.hh_model.specs.declared.data.Status.TheVariants.{Waiting}
+use Rattle.hh_model.specs.Step.{asked_by, asked_line, fetched, is_running, runs, waits, parent_of, step, run, run_from, start, ended_task, result_of, child}
 use Rattle.hh_model.proofs.Kept.{Kept, step_kept, start_kept}
 use Rattle.hh_model.proofs.Steps.{step_cases}
-use Rattle.run_ledger.specs.Journals.{is_legal, machine_of, tasks_of}
+use Rattle.run_ledger.specs.Journals.{tasks_of}
 use Rattle.world_core.specs.Ready.{is_ready, IsReady}
 use Rattle.world_core.specs.Laws.{ReadyAsksNothing, ReadyHasOneTask}
 

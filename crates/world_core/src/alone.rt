@@ -3,13 +3,13 @@
 ghost use Rattle.std.specs.Prelude.{◌≡◌, ◌<◌, ◌≤◌, [], IfOk, OnOk, OnErr, IsSomeAnd, None, Some, is_some, true, false};
 ghost use Rattle.run_ledger.specs.declared.data.RunEnd.{RunEnd as EndOfRun};
 ghost use Rattle.world_core.specs.Ready.{IsReady};
-ghost use Rattle.world_core.specs.Alone.{IsPaused, IsUnderWay, IsRun, Keeps, Turns};
+ghost use Rattle.world_core.specs.Alone.{IsBareRoot, IsPaused, IsRun, IsUnderWay, Keeps, Turns};
 
 use hh_lang::Program;
 use outside_io::Gate;
 use run_ledger::RunEnd;
 use run_trace::Settings;
-use shared_tree::{Alone, NotEntered, NotRan, Shared, parts_fit_again};
+use shared_tree::{Alone, NotEntered, NotRan, Shared};
 use std::alloc::{AllocError, Global};
 use task_machine::{Paused, Private, run_local};
 
@@ -46,9 +46,7 @@ fn run_part<G: Gate>(
 {
     shared.stands();
     shared.may_run(0, part);
-    parts_fit_again();
     let paused = run_local(part, program, BUDGET, gate, 0)?;
-    let _ = part.heap.chunks();
     match paused {
         Paused::Shared => Ok(true),
         Paused::Spent => Ok(false),
@@ -74,6 +72,14 @@ fn enter_private(shared: &mut Shared, part: Private) -> Private
     }
 }
 
+// The steps weren't entered for want of memory.
+fn want_of_memory(failed: NotRan) -> AllocError
+    requires { failed.cause ≡ NotEntered.NoMemory }
+{
+    let _ = failed.cause;
+    AllocError
+}
+
 // Enters the fresh steps of the part and the shared one that comes next, and hands the part back where the run goes on.
 fn enter_last(
     shared: &mut Shared,
@@ -97,10 +103,7 @@ fn enter_last(
         Ok(Alone::Goes(part)) => Ok(Some(part)),
         Ok(Alone::Over) => Ok(None),
         Ok(Alone::Beyond(_)) => unreachable!(),
-        Err(NotRan { cause, part: _ }) => match cause {
-            NotEntered::NoMemory => Err(AllocError),
-            NotEntered::Refuses(_) => unreachable!(),
-        },
+        Err(failed) => Err(want_of_memory(failed)),
     }
 }
 
@@ -170,7 +173,8 @@ fn run_on<G: Gate>(
 
 // Takes the root.
 fn take_root(shared: &mut Shared) -> Result<Private, AllocError>
-    requires { shared.old.journal.items ≡ [] }
+    requires none { shared.old.journal.items ≡ [] }
+    requires bare { IsBareRoot shared.old }
     ensures keeps { Keeps shared.old.program shared.old.settings shared.new }
     ensures way { IfOk result (IsUnderWay shared.new) }
     ensures none { OnErr result (shared.new.journal.items ≡ []) }
@@ -186,14 +190,11 @@ fn take_root(shared: &mut Shared) -> Result<Private, AllocError>
 }
 
 // Runs the root to the end of the run.
-fn run_root<G: Gate>(
-    shared: &mut Shared,
-    program: &Program,
-    gate: &G,
-) -> Result<RunEnd, AllocError>
+fn run_root<G: Gate>(shared: &mut Shared, program: &Program, gate: &G) -> Result<RunEnd, AllocError>
     requires ready { IsReady program.now }
     requires program { shared.old.program ≡ program.now }
     requires none { shared.old.journal.items ≡ [] }
+    requires bare { IsBareRoot shared.old }
     ensures keeps { Keeps shared.old.program shared.old.settings shared.new }
     ensures ended { IfOk result (λ e. shared.new.end ≡ Some e) }
 {
@@ -207,12 +208,7 @@ fn run_root<G: Gate>(
 }
 
 /// Runs a program that neither makes objects nor forks, as worker 0, to its end, or until its fuel is spent.
-pub fn run_alone<G: Gate>(
-    alloc: Global,
-    program: &Program,
-    settings: Settings,
-    gate: &G,
-) -> Outcome
+pub fn run_alone<G: Gate>(alloc: Global, program: &Program, settings: Settings, gate: &G) -> Outcome
     requires { IsReady program.now }
     ensures ended { (e : EndOfRun) → result.finish ≡ Finish.Ended e → IsSomeAnd result.shared (λ w. IsRun program.now settings w e) }
 {

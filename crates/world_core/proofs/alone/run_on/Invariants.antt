@@ -1,8 +1,6 @@
-use Rattle.std.proofs.Common.{◌≡◌, ℕ, ◌+◌, ◌-◌, true, Option, Some, None, is_some}
-use Rattle.task_machine.specs.declared.part.Private.{Private}
-use Rattle.shared_tree.specs.World.{World}
+use Rattle.std.proofs.Common.{◌≡◌}
 use Rattle.world_core.specs.Ready.{IsReady}
-use Rattle.world_core.specs.Alone.{IsUnderWay, Keeps}
+use Rattle.world_core.specs.Alone.{Keeps}
 use Rattle.world_core.proofs.Entries.{Standing, left_to_do}
 use Rattle.world_core.proofs.alone.run_on.Given as goal
 
