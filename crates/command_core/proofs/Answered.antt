@@ -11,7 +11,7 @@ use Rattle.run_ledger.specs.declared.data.RefusedAt.{RefusedAt}
 use Rattle.run_ledger.specs.Journals.{end_of, refused_as_run}
 use Rattle.program_reader.specs.declared.cause.Refused.{Refused}
 use Rattle.program_reader.specs.Program.{reading_of}
-use Rattle.straight_run.specs.Ready.{first_unready}
+use Rattle.world_core.specs.Ready.{first_unready}
 use Rattle.trace_input.specs.declared.input.InputFault.{InputFault}
 use Rattle.trace_input.specs.declared.input.InputFault.TheVariants.{Source, BadLine}
 use Rattle.trace_input.specs.declared.input.TraceInput.{TraceInput}

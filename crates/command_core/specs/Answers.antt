@@ -16,8 +16,10 @@ use Rattle.trace_input.specs.declared.input.InputFault.{InputFault}
 use Rattle.trace_input.specs.declared.input.InputFault.TheVariants.{Source as SourceFault, BadLine}
 use Rattle.trace_input.specs.declared.input.TraceInput.{TraceInput}
 use Rattle.trace_input.specs.Input.{input_fault, IsInput}
-use Rattle.straight_run.specs.Ready.{first_unready}
-use Rattle.straight_run.specs.Run.{Held, IsRun}
+use Rattle.shared_tree.specs.World.{World, accounts, without_journal}
+use Rattle.shared_tree.specs.Stands.{IsWorld}
+use Rattle.world_core.specs.Ready.{first_unready}
+use Rattle.world_core.specs.Alone.{IsRun}
 use Rattle.command_line.specs.declared.line.Options.{Options}
 use Rattle.command_line.specs.declared.line.CommandLine.{CommandLine}
 use Rattle.command_line.specs.declared.line.CommandLine.TheVariants.{Check, Run, Model, Make}
@@ -67,24 +69,24 @@ AnswersCheck input = WhereWithin (nat_le (length input) program_limit) (AnswersR
 
 -- RUN
 
--- a run of the usual limits: the bytes and the status are those of its journal, by the definitions alone; the journal is
--- handed back, moved out of the shared value
+-- a run of the usual limits: its journal is legal and paced and has an end, and the shared value stands for it; the bytes and the
+-- status are those of the journal, by the definitions alone; the journal is handed back, moved out of the shared value
 pub record IsWholeRun (p : ProgramText) (a : Answer) : Type 0 where
-  pub held : Held
-  pub run : IsRun p usual_limits held
+  pub held : World
+  pub stands : IsWorld held
   pub end : RunEnd
-  pub ended : end_of p usual_limits held.journal ≡ Some end
+  pub run : IsRun p usual_limits held end
   pub status : a.status ≡ status_of_end end
-  pub bytes : a.bytes ≡ out_text p usual_limits false false held.journal
-  pub journal : a.journal ≡ held.journal
-  pub shared : a.shared ≡ Some (record held { journal = [] })
+  pub bytes : a.bytes ≡ out_text p usual_limits false false held.journal.items
+  pub journal : a.journal ≡ held.journal.items
+  pub shared : a.shared ≡ Some (without_journal held)
 
 -- the same by what was run: its outputs and the end line
-pub record IsAnswerOf (held : Held) (end : RunEnd) (a : Answer) : Type 0 where
+pub record IsAnswerOf (held : World) (end : RunEnd) (a : Answer) : Type 0 where
   pub status : a.status ≡ status_of_end end
-  pub bytes : a.bytes ≡ output_lines held.outputs ++ end_line (end_words end)
-  pub journal : a.journal ≡ held.journal
-  pub shared : a.shared ≡ Some (record held { journal = [] })
+  pub bytes : a.bytes ≡ output_lines (accounts held).machine.outputs ++ end_line (end_words end)
+  pub journal : a.journal ≡ held.journal.items
+  pub shared : a.shared ≡ Some (without_journal held)
 
 -- a program is run where each of its instructions is one that runs; else the first other one is refused as a word
 abbrev pub AnswersProgram : ProgramText → Option ℕ → Answer → Type 0

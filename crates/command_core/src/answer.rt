@@ -7,7 +7,7 @@ use hh_model::End;
 use listed::Listed;
 use run_ledger::RunEnd;
 use run_trace::Entry;
-use straight_run::Shared;
+use shared_tree::Left;
 
 /// How a call ended.
 #[derive(Clone, Copy, PartialEq, Eq, Debug)]
@@ -42,7 +42,7 @@ pub struct Answer {
     pub status: Status,
     pub bytes: Listed<u8>,
     pub journal: Listed<Entry>,
-    pub shared: Option<Shared>,
+    pub shared: Option<Left>,
 }
 
 /// What a call hands back.
@@ -52,7 +52,7 @@ pub struct Ran {
     /// The run's journal, which was moved out of the shared value; empty where no run was made.
     pub journal: Listed<Entry>,
     /// What the workers shared; None where no run was made.
-    pub shared: Option<Shared>,
+    pub shared: Option<Left>,
 }
 
 impl Status {

@@ -2,8 +2,7 @@
 
 ghost use Rattle.std.specs.Prelude.{◌≡◌, ◌≤◌, ◌++◌, ◌∷◌, [], codes, IfOk, Some};
 ghost use Rattle.command_line.specs.CommandLine.{HasSize};
-ghost use Rattle.straight_run.specs.Ready.{IsReady};
-ghost use Rattle.straight_run.specs.Ready.{first_unready};
+ghost use Rattle.world_core.specs.Ready.{first_unready, IsReady};
 ghost use Rattle.run_ledger.specs.Text.{output_lines, end_line, end_words};
 ghost use Rattle.command_core.specs.Answers.{IsText, IsAnswerOf, IsWholeRun, AnswersProgram, AnswersCheck, AnswersRun, AnswersModel, AnswersMake, AnswersTrace, AnswersLine};
 
@@ -13,6 +12,7 @@ use crate::refusals::{bytes_alone, line_refused, source_refused, text_alone, too
 use command_line::{CommandLine, Options};
 use hh_lang::Program;
 use listed::Listed;
+use outside_io::Gate;
 use program_make::make;
 use program_reader::{Cause, Refused, read_program};
 use run_journal::ReplayError;
@@ -20,8 +20,9 @@ use run_ledger::RunEnd;
 use run_report::{end_text, outputs_text, refused_text, whole_run};
 use run_trace::Settings;
 use std::alloc::{AllocError, Global};
-use straight_run::{Shared, first_unready, outputs_are_written, run_program};
+use shared_tree::Shared;
 use trace_input::{InputError, InputFault, TraceInput, read_trace_input};
+use world_core::{Finish, Outcome, first_unready, run_alone};
 
 // The answer to a text that is a program.
 fn accepted(alloc: Global) -> Result<Answer, AllocError>
@@ -59,34 +60,44 @@ fn answer_shared(alloc: Global, shared: Shared, end: RunEnd) -> Result<Answer, A
     ensures { IfOk result (IsAnswerOf shared end) }
 {
     let bytes = run_bytes(alloc, shared.outputs(), end)?;
-    let (journal, shared) = shared.split(alloc);
+    let (journal, left) = shared.take_journal();
     Ok(Answer {
         status: Status::of_end(end),
         bytes: Listed::from_vec(bytes),
         journal,
-        shared: Some(shared),
+        shared: Some(left),
     })
 }
 
 // Runs a program each of whose instructions runs.
-fn answer_ready(alloc: Global, program: &Program) -> Result<Answer, AllocError>
+fn answer_ready<G: Gate>(
+    alloc: Global,
+    program: &Program,
+    gate: &G,
+) -> Result<Answer, AllocError>
     requires { IsReady program.now }
     ensures { IfOk result (IsWholeRun program.now) }
 {
-    outputs_are_written();
-    let shared = run_program(alloc, program, Settings::usual())?;
-    match shared.ended() {
-        Some(end) => answer_shared(alloc, shared, end),
-        None => unreachable!(),
+    let Outcome { finish, shared } = run_alone(alloc, program, Settings::usual(), gate);
+    match (finish, shared) {
+        (Finish::Ended(end), Some(shared)) => {
+            shared.stands();
+            answer_shared(alloc, shared, end)
+        }
+        _ => Err(AllocError),
     }
 }
 
 // Runs a program, unless an instruction doesn't run yet.
-fn answer_program(alloc: Global, program: &Program) -> Result<Answer, AllocError>
+fn answer_program<G: Gate>(
+    alloc: Global,
+    program: &Program,
+    gate: &G,
+) -> Result<Answer, AllocError>
     ensures { IfOk result (AnswersProgram program.now (first_unready program.now)) }
 {
     match first_unready(program) {
-        None => answer_ready(alloc, program),
+        None => answer_ready(alloc, program, gate),
         Some(line) => {
             let cause = Cause::Word;
             source_refused(alloc, Refused { line, cause })
@@ -95,7 +106,7 @@ fn answer_program(alloc: Global, program: &Program) -> Result<Answer, AllocError
 }
 
 // Reads a program and runs it.
-fn answer_run(alloc: Global, input: &[u8]) -> Result<Answer, AllocError>
+fn answer_run<G: Gate>(alloc: Global, input: &[u8], gate: &G) -> Result<Answer, AllocError>
     ensures { IfOk result (AnswersRun input.now) }
 {
     if input.len() > PROGRAM_LIMIT {
@@ -103,7 +114,7 @@ fn answer_run(alloc: Global, input: &[u8]) -> Result<Answer, AllocError>
     }
     match read_program(alloc, input)? {
         Err(refused) => source_refused(alloc, refused),
-        Ok(program) => answer_program(alloc, &program),
+        Ok(program) => answer_program(alloc, &program, gate),
     }
 }
 
@@ -157,17 +168,18 @@ fn answer_make(alloc: Global, seed: u32, size: u32) -> Result<Answer, AllocError
 }
 
 /// The answer of a command to its input.
-pub(crate) fn answer_line(
+pub(crate) fn answer_line<G: Gate>(
     alloc: Global,
     line: &CommandLine,
     input: &[u8],
+    gate: &G,
 ) -> Result<Answer, AllocError>
     requires { HasSize (Some line.now) }
     ensures { IfOk result (AnswersLine line.now input.now) }
 {
     match line {
         CommandLine::Check { file: _ } => answer_check(alloc, input),
-        CommandLine::Run { file: _ } => answer_run(alloc, input),
+        CommandLine::Run { file: _ } => answer_run(alloc, input, gate),
         CommandLine::Model { file: _, options } => answer_model(alloc, *options, input),
         CommandLine::Make { seed, size } => answer_make(alloc, *seed, *size),
     }

@@ -31,13 +31,19 @@ fn refuse_words<K: Sink>(alloc: Global, sink: &mut K) -> Ran
 }
 
 // Answers an input.
-fn serve<K: Sink>(alloc: Global, line: &CommandLine, input: &[u8], sink: &mut K) -> Ran
+fn serve<K: Sink, G: Gate>(
+    alloc: Global,
+    line: &CommandLine,
+    input: &[u8],
+    sink: &mut K,
+    gate: &G,
+) -> Ran
     requires { HasSize (Some line.now) }
     ensures answer { Delivers (AnswersLine line.now input.now) result (K.written sink.old) (K.written sink.new) }
     ensures read { result.status ≢ Status.ReadFault }
     ensures write_fault { result.status ≡ Status.WriteFault → HasRisen (K.faults sink.old) (K.faults sink.new) }
 {
-    match answer_line(alloc, line, input) {
+    match answer_line(alloc, line, input, gate) {
         Ok(answer) => deliver(answer, sink),
         Err(AllocError) => nothing(alloc, Status::NoMemory),
     }
@@ -52,7 +58,7 @@ pub fn command<R: Threads + Wait + Sync, S: Source, K: Sink, G: Gate>(
     words: &[String],
     source: &mut S,
     sink: &mut K,
-    _gate: &G,
+    gate: &G,
 ) -> Ran
     // Other words than a command line are refused.
     ensures words { command_line (map string_bytes words.now) ≡ None → Delivers AnswersWords result (K.written sink.old) (K.written sink.new) }
@@ -76,6 +82,6 @@ pub fn command<R: Threads + Wait + Sync, S: Source, K: Sink, G: Gate>(
     match read_input(alloc, source, &line) {
         Err(ReadError::Fault) => nothing(alloc, Status::ReadFault),
         Err(ReadError::NoMemory) => nothing(alloc, Status::NoMemory),
-        Ok(input) => serve(alloc, &line, input.as_slice(), sink),
+        Ok(input) => serve(alloc, &line, input.as_slice(), sink, gate),
     }
 }

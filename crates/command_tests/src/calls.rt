@@ -96,7 +96,44 @@ fn seven(rt: HostRuntime) -> Result<(), Fail> {
     assert_eq!(rt; shared.outputs(), [7].as_slice());
     assert_eq!(rt; shared.steps(), 3);
     assert_eq!(rt; shared.ended(), Some(RunEnd::Machine(End::Done)));
-    assert_eq!(rt; shared.journal().len(), 0);
+    Ok(())
+}
+
+// Runs that go on over many entries, and how each of them ends.
+#[test]
+fn runs_end(rt: HostRuntime) -> Result<(), Fail> {
+    let cases = [
+        (
+            "fn main\nset i0 300\nset i2 1\nlab n\njz i0 d\nsub i0 i0 i2\njmp n\nlab d\nout i0\nend",
+            0,
+            "0\nend: done\n",
+        ),
+        (
+            "fn main\nset i0 -9223372036854775808\nset i1 -1\ndiv i2 i0 i1\nout i2\nrem i2 i0 i1\nout i2\nset i2 1\nsub i2 i0 i2\nout i2\nset i1 0\ndiv i2 i0 i1\nend",
+            4,
+            "-9223372036854775808\n0\n9223372036854775807\nend: trap div task 0 line 12\n",
+        ),
+        (
+            "fn main\nout i0\ngeti i0 r0 i1\nend",
+            4,
+            "0\nend: trap nil task 0 line 3\n",
+        ),
+        (
+            "fn main\ncall main\nend",
+            4,
+            "end: trap depth task 0 line 2\n",
+        ),
+        (
+            "fn main\nlab a\njmp a\nend",
+            6,
+            "end: fuel 1000192\n",
+        ),
+    ];
+    for (text, status, bytes) in cases {
+        let (code, written) = said(&rt, "run", text)?;
+        assert_eq!(rt; code, status);
+        assert_eq!(rt; written.as_slice(), bytes.as_bytes());
+    }
     Ok(())
 }
 
@@ -121,9 +158,24 @@ fn programs_run(rt: HostRuntime) -> Result<(), Fail> {
         ),
         ("", 3, "end: source refused line 1 nomain\n"),
         (
-            "fn g\ncall main\nend\nfn main\nend",
+            "fn g\nnewm r0 i0 i0\nend\nfn main\nend",
             3,
             "end: source refused line 2 word\n",
+        ),
+        (
+            "fn main\nset i0 1\npack r0 0 1\nend",
+            3,
+            "end: source refused line 3 word\n",
+        ),
+        (
+            "fn main\npar main main\nend",
+            3,
+            "end: source refused line 2 word\n",
+        ),
+        (
+            "fn g\nadd i0 i1 i1\nend\nfn main\nset i1 21\ncall g\nout i0\nend",
+            0,
+            "42\nend: done\n",
         ),
         (
             "fn main\nmov i0 i1\nout r0\nend",

@@ -13,5 +13,3 @@ mod programs;
 mod refusals;
 #[cfg(test)]
 mod reports;
-#[cfg(test)]
-mod straight;

@@ -1,5 +1,0 @@
-pub mod Ready
-pub mod Course
-pub mod Run
-pub mod Drive
-pub mod Laws
