@@ -1,6 +1,8 @@
 -- An entry of steps changes the tree and the counts as the accounts.
-use Rattle.std.proofs.Common.{◌≡◌, ℕ, suc, ◌+◌, ◌++◌, ◌∷◌, [], true, Option, Some, None, length, slice_get, slice_set, option_map, arith, inl, inr, refl, ap, ap₂, sym, subst, ◌∙◌, ◌⊎◌}
+use Rattle.std.proofs.Common.{◌≡◌, ℕ, suc, ◌+◌, ◌++◌, ◌∷◌, [], true, Option, Some, None, length, slice_get, slice_set, option_map, arith, inl, inr, refl, ap, ap₂, sym, subst, ◌∙◌}
 use Rattle.std.proofs.lemmas.Bool.{both_ways, cases_eq, false≢true}
+use Rattle.std.proofs.lemmas.Option.{same_Some}
+use Rattle.std.specs.Prelude.{◌↔◌}
 use Rattle.listed.proofs.Members.{got_same, got_other}
 use Rattle.hh_lang.specs.Form.{ProgramText}
 use Rattle.run_trace.specs.Settings.{Limits}
@@ -9,7 +11,7 @@ use Rattle.hh_model.specs.declared.data.Status.TheVariants.{Running, Waiting, En
 use Rattle.hh_model.specs.declared.data.State.{State as Machine}
 use Rattle.hh_model.specs.declared.data.Task.{Task}
 use Rattle.hh_model.specs.Effect.{int_in, onward}
-use Rattle.hh_model.specs.Step.{is_joined, is_over, is_waiting, parents, parent_of, result_of}
+use Rattle.hh_model.specs.Step.{is_joined, is_over, is_running, is_waiting, parents, parent_of, result_of}
 use Rattle.hh_model.proofs.Steps.{runs_is}
 use Rattle.run_ledger.specs.declared.data.Heap.{Heap}
 use Rattle.run_ledger.specs.declared.data.Ledger.{Ledger}
@@ -24,11 +26,11 @@ use Rattle.ledger_steps.proofs.Ahead.{private_alone, steps_alone_all, with_machi
 use Rattle.ledger_steps.proofs.Along.{steps_know}
 use Rattle.ledger_steps.proofs.Kin.{private_kin, steps_kin}
 use Rattle.ledger_steps.proofs.Private.{private_on}
+use Rattle.ledger_steps.proofs.Rested.{rested_worker}
 use Rattle.ledger_steps.proofs.Split.{worker_step, steps_worker, steps_go}
-use Rattle.ledger_steps.proofs.Use.{same_use}
-use Rattle.core_relation.specs.Whole.{Totals, TotalsStand, Node, State, Ready, Out, Waits, HasEnded, HasJoined, state_by, handed}
-use Rattle.core_relation.specs.RanCounts.{node_then, NodesStay, NodeGoes, NodesFork, NodesJoin, RanCounts}
-use Rattle.core_relation.proofs.Counts.{node_of, with_steps}
+use Rattle.core_relation.specs.Whole.{Totals, TotalsStand, Node, Ready, Out, Waits, HasEnded, HasJoined, state_by, handed}
+use Rattle.core_relation.specs.RanCounts.{node_then, NodesStay, NodeGoes, NodesFork, NodesJoin, HandsStay, LetsGo, RanCounts}
+use Rattle.core_relation.proofs.Counts.{node_of, same_use, with_steps}
 use Rattle.core_relation.proofs.HandedBack.{alive_machine, handed_on, handed_halt, handed_done}
 use Rattle.core_relation.proofs.RunsOn.{ran_end}
 
@@ -180,6 +182,79 @@ module _ (p : ProgramText) (s : Limits) (l l' : Ledger) (t w k : ℕ) (E : Runs 
         | inr ne ↦ others z ne
       ]
 
+  -- WHAT WORKERS HOLD
+
+  -- held by the same as before
+  hand_same : (n : Ledger) → ((z : ℕ) → (heap_of n z).worker ≡ (heap_of l z).worker) → HandsStay c c' → (u z : ℕ) → c'.hand u ≡ Some z ↔ (heap_of n z).worker ≡ Some u
+  hand_same n same C u z = ((λ q. same z ∙ (T.hand u z).0 (sym (C u) ∙ q)), (λ q. C u ∙ (T.hand u z).1 (sym (same z) ∙ q)))
+
+  -- before the last step
+  workers_m : (z : ℕ) → (heap_of m z).worker ≡ (heap_of l z).worker
+  workers_m z = elim (cases_eq z t) [
+    | inl e ↦ subst (λ y. (heap_of m y).worker ≡ (heap_of l y).worker) (sym e) (E.held ∙ sym worker)
+    | inr ne ↦ ap (λ (h : Heap). h.worker) (alone.heaps z ne)
+  ]
+
+  workers_on : (n : Ledger) → (heap_of n t).worker ≡ Some w → ((z : ℕ) → (z ≡ t → ⊥) → (heap_of n z).worker ≡ (heap_of m z).worker) → (z : ℕ) → (heap_of n z).worker ≡ (heap_of l z).worker
+  workers_on n out others z = elim (cases_eq z t) [
+    | inl e ↦ subst (λ y. (heap_of n y).worker ≡ (heap_of l y).worker) (sym e) (out ∙ sym worker)
+    | inr ne ↦ others z ne ∙ workers_m z
+  ]
+
+  -- the worker lets go of its task, and of the others each is held as before
+  hand_goes : (n : Ledger) → ((z : ℕ) → (heap_of n z).worker ≡ (heap_of (rested m t) z).worker) → LetsGo c c' w → (u z : ℕ) → c'.hand u ≡ Some z ↔ (heap_of n z).worker ≡ Some u
+  hand_goes n same C u z = elim (cases_eq z t) [
+    | inl e ↦ subst (λ y. c'.hand u ≡ Some y ↔ (heap_of n y).worker ≡ Some u) (sym e) (elim (cases_eq u w) [
+      | inl f ↦ ((λ q. none_some (sym C.hand ∙ (ap c'.hand (sym f) ∙ q))), (λ q. none_some (sym (rested_worker m t) ∙ (sym (same t) ∙ q))))
+      | inr nu ↦ ((λ q. absurd (nu (same_Some u w (sym ((T.hand u t).0 (sym (C.others u nu) ∙ q)) ∙ worker)))), (λ q. none_some (sym (rested_worker m t) ∙ (sym (same t) ∙ q))))
+    ])
+    | inr nt ↦
+        let before : (heap_of n z).worker ≡ (heap_of l z).worker = same z ∙ (ap (λ (h : Heap). h.worker) (heaps_rested z nt) ∙ workers_m z) in
+        elim (cases_eq u w) [
+          | inl f ↦ ((λ q. none_some (sym C.hand ∙ (ap c'.hand (sym f) ∙ q))), (λ q. absurd (nt (same_Some z t (sym ((T.hand w z).1 (sym before ∙ (q ∙ ap Some f))) ∙ (T.hand w t).1 worker)))))
+          | inr nu ↦ ((λ q. before ∙ (T.hand u z).0 (sym (C.others u nu) ∙ q)), (λ q. C.others u nu ∙ (T.hand u z).1 (sym before ∙ q)))
+        ]
+  ]
+    where
+      none_some : {A : Type 0} {y : ℕ} → ◌≡◌ {A = Option ℕ} None (Some y) → A
+      none_some e = absurd cc
+
+  ended_workers : (n : Ledger) → EndsTask (rested m t) n t x → (z : ℕ) → (heap_of n z).worker ≡ (heap_of (rested m t) z).worker
+  ended_workers n L z = elim (cases_eq z t) [
+    | inl e ↦ subst (λ y. (heap_of n y).worker ≡ (heap_of (rested m t) y).worker) (sym e) (ap (λ (h : Heap). h.worker) L.heap)
+    | inr ne ↦ ap (λ (h : Heap). h.worker) (L.alone.heaps z ne)
+  ]
+
+  -- who isn't made is held by none
+  unmade_rests : (a : ℕ) → (a ≡ t → ⊥) → slice_get (rested m t).machine.tasks a ≡ None → (heap_of (rested m t) a).worker ≡ None
+  unmade_rests a ne none = ap (λ (h : Heap). h.worker) (heaps_rested a ne) ∙ E.idle a (ap is_running (sym (tasks_rested a) ∙ none))
+
+  forked_workers : (g h : ℕ) → ForksTask (rested m t) l' t (length m.machine.tasks) (length m.machine.tasks + 1) g h x → (z : ℕ) → (heap_of l' z).worker ≡ (heap_of (rested m t) z).worker
+  forked_workers g h L z =
+      let a : ℕ = length m.machine.tasks in
+      elim (cases_eq z t) [
+        | inl e ↦ subst (λ y. (heap_of l' y).worker ≡ (heap_of (rested m t) y).worker) (sym e) (ap (λ (i : Heap). i.worker) L.heap ∙ sym (rested_worker m t))
+        | inr nt ↦ elim (cases_eq z a) [
+          | inl e ↦ subst (λ y. (heap_of l' y).worker ≡ (heap_of (rested m t) y).worker) (sym e) (ap (λ (i : Heap). i.worker) L.heap_left ∙ sym (unmade_rests a L.left_apart L.unmade_left))
+          | inr na ↦ elim (cases_eq z (a + 1)) [
+            | inl e ↦ subst (λ y. (heap_of l' y).worker ≡ (heap_of (rested m t) y).worker) (sym e) (ap (λ (i : Heap). i.worker) L.heap_right ∙ sym (unmade_rests (a + 1) L.right_apart L.unmade_right))
+            | inr nb ↦ ap (λ (i : Heap). i.worker) (L.heaps z nt na nb)
+          ]
+        ]
+      ]
+
+  joined_workers : (J : EndsLast m l' t x) → (z : ℕ) → (heap_of l' z).worker ≡ (heap_of (rested m t) z).worker
+  joined_workers J z = elim (cases_eq z J.parent) [
+    | inl e ↦ subst (λ y. (heap_of l' y).worker ≡ (heap_of (rested m t) y).worker) (sym e) (ap (λ (i : Heap). i.worker) J.joins.heap)
+    | inr np ↦ elim (cases_eq z J.left) [
+      | inl e ↦ subst (λ y. (heap_of l' y).worker ≡ (heap_of (rested m t) y).worker) (sym e) (ap (λ (i : Heap). i.worker) J.joins.heap_left ∙ sym J.can.left_rests)
+      | inr nl ↦ elim (cases_eq z (J.left + 1)) [
+        | inl e ↦ subst (λ y. (heap_of l' y).worker ≡ (heap_of (rested m t) y).worker) (sym e) (ap (λ (i : Heap). i.worker) J.joins.heap_right ∙ sym J.can.right_rests)
+        | inr nr ↦ ap (λ (i : Heap). i.worker) (J.joins.heaps z np nl nr)
+      ]
+    ]
+  ]
+
   -- WITH THE COUNTS
 
   outputs_m : m.machine.outputs ≡ l.machine.outputs
@@ -191,9 +266,10 @@ module _ (p : ProgramText) (s : Limits) (l l' : Ledger) (t w k : ℕ) (E : Runs 
       let b : m.steps ≡ l.steps + k = task_steps_steps p k l t in
       omega (arith, a, b)
 
-  totals : (n : Ledger) → n.steps ≡ l'.steps → in_use n ≡ in_use l → n.machine.outputs ≡ c'.outputs → n.end ≡ c'.end → c'.used ≡ c.used → c'.steps ≡ c.steps + suc k → ((u : ℕ) → c'.node u ≡ node_at n u) → TotalsStand c' n
-  totals n same usage outputs end used steps node = record {
+  totals : (n : Ledger) → n.steps ≡ l'.steps → in_use n ≡ in_use l → n.machine.outputs ≡ c'.outputs → n.end ≡ c'.end → c'.used ≡ c.used → c'.steps ≡ c.steps + suc k → ((u z : ℕ) → c'.hand u ≡ Some z ↔ (heap_of n z).worker ≡ Some u) → ((u : ℕ) → c'.node u ≡ node_at n u) → TotalsStand c' n
+  totals n same usage outputs end used steps hand node = record {
     node = node;
+    hand = hand;
     used = used ∙ (T.used ∙ sym usage);
     steps = steps ∙ (ap (λ j. j + suc k) T.steps ∙ (sym steps_then ∙ sym same));
     outputs = sym outputs;
@@ -207,33 +283,39 @@ module _ (p : ProgramText) (s : Limits) (l l' : Ledger) (t w k : ℕ) (E : Runs 
     on_end on = ran_end p s l l' t w k E (alive_machine p s l l' t w k E) on
 
     -- after a step after which the run goes on
-    goes : l'.machine.end ≡ None → l'.machine.outputs ≡ c'.outputs → c'.end ≡ c.end → c'.used ≡ c.used → c'.steps ≡ c.steps + suc k → ((u : ℕ) → c'.node u ≡ node_at l' u) → TotalsStand c' (handed l')
-    goes on outputs end used steps node =
-        subst (TotalsStand c') (sym (handed_on l' (on_end on ∙ alive))) (totals l' refl same_use_then outputs (on_end on ∙ (sym T.end ∙ sym end)) used steps node)
+    goes : l'.machine.end ≡ None → l'.machine.outputs ≡ c'.outputs → c'.end ≡ c.end → c'.used ≡ c.used → c'.steps ≡ c.steps + suc k → ((u z : ℕ) → c'.hand u ≡ Some z ↔ (heap_of l' z).worker ≡ Some u) → ((u : ℕ) → c'.node u ≡ node_at l' u) → TotalsStand c' (handed l')
+    goes on outputs end used steps hand node =
+        subst (TotalsStand c') (sym (handed_on l' (on_end on ∙ alive))) (totals l' refl same_use_then outputs (on_end on ∙ (sym T.end ∙ sym end)) used steps hand node)
 
     -- the same outputs as before
     same_outputs : l'.machine.outputs ≡ m.machine.outputs → c'.outputs ≡ c.outputs → l'.machine.outputs ≡ c'.outputs
     same_outputs e o = e ∙ (outputs_m ∙ (sym T.outputs ∙ sym o))
 
-    by : (kind : LastKind) (K : IsOfKind p m l' t x S.line kind) → (GoesOn kind → l'.machine.end ≡ None) → RanCounts p c c' m l' t k x S.line kind K → TotalsStand c' (handed l')
-    by Private K on N = goes (on tt) (same_outputs (ap (λ (z : Ledger). z.machine.outputs) S.after ∙ (private_kin p m t K).outputs) N.outputs) N.end N.used N.steps (privately K N.tree)
+    private_then : is_private p m.machine t ≡ true → StepsAlone m l' t
+    private_then h = subst (λ (z : Ledger). StepsAlone m z t) (sym S.after) (private_alone p m t h (steps_know p s t k l E.task E.knows (inr E.collects) E.at E.runs E.can S.private).sound)
+
+    set_hand : (m' : Machine) → l' ≡ stepped_by m m' → HandsStay c c' → (u z : ℕ) → c'.hand u ≡ Some z ↔ (heap_of l' z).worker ≡ Some u
+    set_hand m' e = hand_same l' (workers_on l' (ap (λ (z : Ledger). (heap_of z t).worker) e ∙ E.held) (λ z ne. ap (λ (y : Ledger). (heap_of y z).worker) e))
+
+    by : (kind : LastKind) (K : IsOfKind p m l' t x S.line kind) → (GoesOn kind → l'.machine.end ≡ None) → RanCounts p c c' m l' t w k x S.line kind K → TotalsStand c' (handed l')
+    by Private K on N = goes (on tt) (same_outputs (ap (λ (z : Ledger). z.machine.outputs) S.after ∙ (private_kin p m t K).outputs) N.outputs) N.end N.used N.steps (hand_same l' (workers_on l' (ap (λ (z : Ledger). (heap_of z t).worker) S.after ∙ (worker_step p s t m K ∙ E.held)) (λ z ne. ap (λ (h : Heap). h.worker) ((private_then K).heaps z ne))) N.hand) (privately K N.tree)
     by Reading K on N =
-        goes (on tt) (same_outputs (ap (λ (z : Ledger). z.machine.outputs) K.goes) N.outputs) N.end N.used N.steps (sets (record x { top = K.frame }) _ K.goes refl refl refl N.tree)
+        goes (on tt) (same_outputs (ap (λ (z : Ledger). z.machine.outputs) K.goes) N.outputs) N.end N.used N.steps (set_hand _ K.goes N.hand) (sets (record x { top = K.frame }) _ K.goes refl refl refl N.tree)
     by Writing K on N =
-        goes (on tt) (same_outputs (ap (λ (z : Ledger). z.machine.outputs) K.goes) N.outputs) N.end N.used N.steps (sets (record x { top = K.frame }) _ K.goes refl refl refl N.tree)
+        goes (on tt) (same_outputs (ap (λ (z : Ledger). z.machine.outputs) K.goes) N.outputs) N.end N.used N.steps (set_hand _ K.goes N.hand) (sets (record x { top = K.frame }) _ K.goes refl refl refl N.tree)
     by Printing K on N =
         goes (on tt)
-        (ap (λ (z : Ledger). z.machine.outputs) K.goes ∙ (ap (λ os. os ++ int_in x.top K.register ∷ []) (outputs_m ∙ sym T.outputs) ∙ sym N.outputs)) N.end N.used N.steps (sets (record x { top = onward x.top }) _ K.goes refl refl refl N.tree)
-    by Forking K on N = goes (on tt) (same_outputs K.outputs N.outputs) N.end N.used N.steps (forked K.left K.right K.forks N.tree)
-    by Ending K on N = goes (on tt) (same_outputs K.outputs N.outputs) N.end N.used N.steps (ended l' K.ends N.tree)
-    by Joining K on N = goes (on tt) (same_outputs K.outputs N.outputs) N.end N.used N.steps (joined K N.tree)
+        (ap (λ (z : Ledger). z.machine.outputs) K.goes ∙ (ap (λ os. os ++ int_in x.top K.register ∷ []) (outputs_m ∙ sym T.outputs) ∙ sym N.outputs)) N.end N.used N.steps (set_hand _ K.goes N.hand) (sets (record x { top = onward x.top }) _ K.goes refl refl refl N.tree)
+    by Forking K on N = goes (on tt) (same_outputs K.outputs N.outputs) N.end N.used N.steps (hand_goes l' (forked_workers K.left K.right K.forks) N.hand) (forked K.left K.right K.forks N.tree)
+    by Ending K on N = goes (on tt) (same_outputs K.outputs N.outputs) N.end N.used N.steps (hand_goes l' (ended_workers l' K.ends) N.hand) (ended l' K.ends N.tree)
+    by Joining K on N = goes (on tt) (same_outputs K.outputs N.outputs) N.end N.used N.steps (hand_goes l' (joined_workers K) N.hand) (joined K N.tree)
     by Finishing K on N =
         let with = with_steps l' t let_go in
         subst (TotalsStand c') (sym (handed_done l l' t w k p s E K))
-        (totals (rested l' t) with.0 (same_use l' t let_go (λ h. refl) ∙ same_use_then) (ap (λ (z : Machine). z.outputs) (with_machine l' t let_go) ∙ same_outputs K.outputs N.outputs) (with.1 ∙ (K.is ∙ sym N.end)) N.used N.steps (ended (rested l' t) K.ends N.tree))
+        (totals (rested l' t) with.0 (same_use l' t let_go (λ h. refl) ∙ same_use_then) (ap (λ (z : Machine). z.outputs) (with_machine l' t let_go) ∙ same_outputs K.outputs N.outputs) (with.1 ∙ (K.is ∙ sym N.end)) N.used N.steps (hand_goes (rested l' t) (ended_workers (rested l' t) K.ends) N.hand) (ended (rested l' t) K.ends N.tree))
     by Halting K on N =
         subst (TotalsStand c') (sym (handed_halt m l' K))
-        (totals l' refl same_use_then (same_outputs (ap (λ (z : Machine). z.outputs) K.machine) N.outputs) (K.is ∙ sym N.end) N.used N.steps (halted K N.tree))
+        (totals l' refl same_use_then (same_outputs (ap (λ (z : Machine). z.outputs) K.machine) N.outputs) (K.is ∙ sym N.end) N.used N.steps (hand_same l' (workers_on l' (ap (λ hs. (or_fresh (slice_get hs t)).worker) K.heaps ∙ E.held) (λ z ne. ap (λ hs. (or_fresh (slice_get hs z)).worker) K.heaps)) N.hand) (halted K N.tree))
       where
         halted : Halts m l' → NodesStay c c' → (u : ℕ) → c'.node u ≡ node_at l' u
         halted H N =
@@ -241,5 +323,5 @@ module _ (p : ProgramText) (s : Limits) (l l' : Ledger) (t w k : ℕ) (E : Runs 
             let heaps : (u : ℕ) → (heap_of l' u).worker ≡ (heap_of m u).worker = λ u. ap (λ hs. (or_fresh (slice_get hs u)).worker) H.heaps in
             stays x is refl S.at.runs (heaps t ∙ E.held) (λ u ne. ap (λ (z : Machine). slice_get z.tasks u) H.machine) (λ u ne. heaps u) N
 
-    pub ran_counts : RanCounts p c c' m l' t k x S.line S.kind S.last → TotalsStand c' (handed l')
+    pub ran_counts : RanCounts p c c' m l' t w k x S.line S.kind S.last → TotalsStand c' (handed l')
     ran_counts = by S.kind S.last S.on

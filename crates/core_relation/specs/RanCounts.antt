@@ -1,6 +1,6 @@
 -- How an entry of steps changes the tree and the counts of a value, by its last step: x is the task before it, line the line that it
 -- takes, m the accounts.
-use Rattle.std.specs.Prelude.{◌≡◌, ℕ, suc, ◌+◌, ◌++◌, ◌∷◌, [], Some, length, option_map}
+use Rattle.std.specs.Prelude.{◌≡◌, ℕ, suc, ◌+◌, ◌++◌, ◌∷◌, [], Some, None, length, option_map}
 use Rattle.hh_lang.specs.declared.program.Line.{Line}
 use Rattle.hh_lang.specs.Form.{ProgramText}
 use Rattle.hh_model.specs.declared.data.End.TheVariants.{Done}
@@ -49,6 +49,26 @@ TreeGoes p c c' m l' t x line Joining K = NodesJoin c c' K.parent K.left (K.left
 TreeGoes p c c' m l' t x line Finishing K = NodeGoes c c' t HasEnded
 TreeGoes p c c' m l' t x line Halting K = NodesStay c c'
 
+-- WHAT WORKERS HOLD: the worker w goes on with its task, or lets go of it
+
+abbrev pub HandsStay : Totals → Totals → Type 0
+HandsStay c c' = (u : ℕ) → c'.hand u ≡ c.hand u
+
+pub record LetsGo (c c' : Totals) (w : ℕ) : Type 0 where
+  pub hand : c'.hand w ≡ None
+  pub others : (u : ℕ) → (u ≡ w → ⊥) → c'.hand u ≡ c.hand u
+
+abbrev pub HandsGo : Totals → Totals → ℕ → LastKind → Type 0
+HandsGo c c' w Private = HandsStay c c'
+HandsGo c c' w Reading = HandsStay c c'
+HandsGo c c' w Writing = HandsStay c c'
+HandsGo c c' w Printing = HandsStay c c'
+HandsGo c c' w Forking = LetsGo c c' w
+HandsGo c c' w Ending = LetsGo c c' w
+HandsGo c c' w Joining = LetsGo c c' w
+HandsGo c c' w Finishing = LetsGo c c' w
+HandsGo c c' w Halting = HandsStay c c'
+
 -- OUTPUTS AND THE END
 
 abbrev pub OutputsGo : (p : ProgramText) → Totals → Totals → (m l' : Ledger) → (t : ℕ) → (x : Task) → (line : Line) → (kind : LastKind) → IsOfKind p m l' t x line kind → Type 0
@@ -60,10 +80,11 @@ EndGoes p c c' m l' t x line Finishing K = c'.end ≡ Some (Machine Done)
 EndGoes p c c' m l' t x line Halting K = c'.end ≡ Some (Machine K.end)
 EndGoes p c c' m l' t x line _ K = c'.end ≡ c.end
 
--- THE WHOLE: k private steps of t and one more
+-- THE WHOLE: k private steps of t and one more, by the worker w
 
-pub record RanCounts (p : ProgramText) (c c' : Totals) (m l' : Ledger) (t k : ℕ) (x : Task) (line : Line) (kind : LastKind) (K : IsOfKind p m l' t x line kind) : Type 0 where
+pub record RanCounts (p : ProgramText) (c c' : Totals) (m l' : Ledger) (t w k : ℕ) (x : Task) (line : Line) (kind : LastKind) (K : IsOfKind p m l' t x line kind) : Type 0 where
   pub tree : TreeGoes p c c' m l' t x line kind K
+  pub hand : HandsGo c c' w kind
   pub outputs : OutputsGo p c c' m l' t x line kind K
   pub end : EndGoes p c c' m l' t x line kind K
   pub used : c'.used ≡ c.used

@@ -28,3 +28,4 @@ pub mod EndLaws
 pub mod Stopped
 pub mod Sizes
 pub mod TurnLaws
+pub mod Leaves

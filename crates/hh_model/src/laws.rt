@@ -11,6 +11,7 @@ ghost use Rattle.hh_model.specs.Disentangled.{NamesAreOnPath, StepsDisentangle};
 ghost use Rattle.hh_model.specs.Closed.{StoresAreClosed};
 ghost use Rattle.hh_model.specs.Counts.{RunsAreCounted, StepsCount, SizesAreBounded, LimitStays};
 ghost use Rattle.hh_model.specs.Turns.{RunsGoOn, StepsAreTaken};
+ghost use Rattle.hh_model.specs.Leaves.{StepsLeaveOwners, StepsWaitAlone};
 ghost use Rattle.hh_model.specs.Ends.{EndsAreSteps, RunningIsARun};
 
 /// Who owns an object stands on a running task's path exactly where the object's strand precedes the task's.
@@ -171,4 +172,14 @@ pub fn stops_are_reads()
 /// Each `pack` of a program takes at most 16 registers of each kind.
 pub fn packs_are_few()
     ensures { PacksAreFew }
+{}
+
+/// A step leaves another task that runs as it is, with the objects that it owns.
+pub fn steps_leave_owners()
+    ensures { StepsLeaveOwners }
+{}
+
+/// A step makes no other task wait, and where its own task waits then the machine goes on.
+pub fn steps_wait_alone()
+    ensures { StepsWaitAlone }
 {}

@@ -24,6 +24,7 @@ pub use laws::{
     owners_join, packs_are_few, path_is_precedence, paths_are_walks, paths_stay, reads_are_decided,
     running_is_a_run, runs_are_counted, runs_are_kept, runs_go_on, runs_have_one_root,
     sizes_are_bounded, steps_are_taken, steps_count, steps_disentangle, steps_keep,
-    stops_are_reads, stops_name_owners, stores_are_closed, tasks_are_numbered,
+    steps_leave_owners, steps_wait_alone, stops_are_reads, stops_name_owners, stores_are_closed,
+    tasks_are_numbered,
 };
 pub use machine::{Machine, StepError};

@@ -74,6 +74,13 @@ impl Chunk {
         self.used
     }
 
+    /// Gives it another number.
+    pub fn renumber(&mut self, number: u32)
+        ensures { self.new ≡ record self.old { number = number } }
+    {
+        self.number = number;
+    }
+
     /// Forgets its objects and holes.
     pub fn clear(&mut self)
         ensures { self.new ≡ record self.old { cells = [] } }

@@ -1,8 +1,9 @@
 -- What the remembered fields hold, and what becomes of them where objects were moved.
-use Rattle.std.specs.Prelude.{ℕ, ◌+◌, ◌*◌, ◌^◌, ◌<◌, Bool, List, [], ◌∷◌, ◌++◌, ◌==◌, ◌&&◌, if◌then◌else◌, Option, Some, None, length, slice_index_or}
+use Rattle.std.specs.Prelude.{ℕ, ◌+◌, ◌*◌, ◌^◌, ◌<◌, Bool, List, [], ◌∷◌, ◌++◌, ◌==◌, ◌&&◌, if◌then◌else◌, Option, Some, None, length, slice_index_or, unwrap_or}
 use Rattle.std.specs.List.{AllByRecursion}
 use Rattle.object_layout.specs.declared.word.Addr.{Addr}
 use Rattle.object_layout.specs.Content.{Content}
+pub use Rattle.object_layout.specs.Chunks.{same_address}
 use Rattle.remembered_set.specs.declared.remembered.Source.{Source}
 use Rattle.remembered_set.specs.Sources.{has_chunk}
 
@@ -18,9 +19,6 @@ into ks r = into_by (has_chunk ks) r
 -- an address as one number, in the order of addresses
 abbrev pub number_of : Addr → ℕ
 number_of a = a.chunk * 2 ^ 32 + a.offset
-
-abbrev pub same_address : Addr → Addr → Bool
-same_address a b = a.chunk == b.chunk && a.offset == b.offset
 
 -- the new address of what was moved from this one; None where nothing was
 abbrev pub new_of : List (Addr × Addr) → Addr → Option Addr
@@ -63,3 +61,8 @@ module _ {S : Type 0} (refs_at : S → Addr → List (Option Addr)) where
     -- a source that holds an old address led to the new one; any other stays
     abbrev pub redirected : List (Addr × Addr) → S → Source → S
     redirected ms w s = written w s (new_reference ms (held_by w s))
+
+-- a reference led to where its object is now, if that was moved
+abbrev pub led_by : List (Addr × Addr) → Option Addr → Option Addr
+led_by ms None = None
+led_by ms (Some a) = Some (unwrap_or (new_of ms a) a)
