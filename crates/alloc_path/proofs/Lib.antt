@@ -1,3 +1,5 @@
 pub mod HeapLemmas
 pub mod PlacedLaws
 pub mod Settled
+pub mod Near
+pub mod Counting

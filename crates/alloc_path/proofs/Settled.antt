@@ -1,5 +1,5 @@
 -- What a heap keeps between collections, where an object is written or placed, a chunk added, or heaps merged.
-use Rattle.std.proofs.Common.{◌≡◌, ℕ, zero, suc, ◌+◌, ◌-◌, ◌<◌, ◌≤◌, Bool, true, false, cond, List, [], ◌∷◌, ◌++◌, length, get_or, set, refl, sym, ap, ◌∙◌, subst, arith, inl, inr, eqb, Option, Some, None, All}
+use Rattle.std.proofs.Common.{◌≡◌, ℕ, zero, suc, ◌+◌, ◌-◌, ◌*◌, ◌<◌, ◌≤◌, Bool, true, false, cond, List, [], ◌∷◌, ◌++◌, length, get_or, set, refl, sym, ap, ◌∙◌, subst, arith, inl, inr, eqb, Option, Some, None, All}
 use Rattle.std.specs.Prelude.{nat_le}
 use Rattle.std.proofs.lemmas.Bool.{cases_Bool, cases_lt, le-leb, lt-leb}
 use Rattle.std.proofs.lemmas.List.{get_or_read}
@@ -9,7 +9,7 @@ use Rattle.object_layout.specs.Cell.{Cell, moved_to, no_cell, size_of}
 use Rattle.object_layout.specs.Content.{Content}
 use Rattle.object_layout.specs.Place.{cell_at, put_cell, words_in}
 use Rattle.object_layout.specs.Chunks.{cell_of, chunk_at, no_chunk, place_of, put_object, with_cell}
-use Rattle.alloc_path.specs.Heap.{added, AreApart, AreTidy, Heap, IsFresh, IsKept, IsSettled, IsTidy, place_for}
+use Rattle.alloc_path.specs.Heap.{added, AreApart, AreTidy, Heap, IsFresh, IsKept, IsSettled, IsTidy, place_for, units}
 use Rattle.alloc_path.proofs.HeapLemmas as heap
 use Rattle.alloc_path.proofs.PlacedLaws as placed
 
@@ -54,6 +54,11 @@ put_tidy k at d t m s = record {
       let P : Cell → Type 0 = λ (c : Cell). 1024 < size_of c → length k.cells ≡ 1 in
       let here : P d = subst (λ (n : ℕ). 1024 < n → length k.cells ≡ 1) (sym s) (at_offset P k.cells at (λ l. absurd (omega arith)) t.alone) in
       subst (λ (n : ℕ). All (λ (c : Cell). 1024 < size_of c → n ≡ 1) (put_cell k.cells at d)) (sym (put_length k.cells at d)) (put_all P k.cells at d here t.alone);
+  exact =
+      let P : Cell → Type 0 = λ (c : Cell). 1024 < size_of c → k.size ≡ 1024 * units (size_of c) in
+      let here : P d = subst (λ (n : ℕ). 1024 < n → k.size ≡ 1024 * units n) (sym s) (at_offset P k.cells at (λ l. absurd (omega arith)) t.exact) in
+      put_all P k.cells at d here t.exact;
+  few = λ l. subst (λ (n : ℕ). n ≤ 1) (sym (put_length k.cells at d)) (t.few l);
 }
 
 put_all_tidy : (ks : List Content) (a : Addr) (d : Cell) → AreTidy ks → moved_to d.mark ≡ None → size_of d ≡ size_of (cell_of ks a) → AreTidy (put_object ks a d)
@@ -111,6 +116,8 @@ tidy_empty : (k : Content) → k.cells ≡ [] → IsTidy k
 tidy_empty k e = record {
   unmoved = subst (λ (cs : List Cell). All (λ (c : Cell). moved_to c.mark ≡ None) cs) (sym e) (All-nil (λ (c : Cell). moved_to c.mark ≡ None));
   alone = subst (λ (cs : List Cell). All (λ (c : Cell). 1024 < size_of c → length k.cells ≡ 1) cs) (sym e) (All-nil (λ (c : Cell). 1024 < size_of c → length k.cells ≡ 1));
+  exact = subst (λ (cs : List Cell). All (λ (c : Cell). 1024 < size_of c → k.size ≡ 1024 * units (size_of c)) cs) (sym e) (All-nil (λ (c : Cell). 1024 < size_of c → k.size ≡ 1024 * units (size_of c)));
+  few = λ l. let n : length k.cells ≡ 0 = ap (λ (cs : List Cell). length cs) e in omega arith;
 }
 
 added_chunks : (h : Heap) (k : Content) → (added h k).chunks ≡ h.chunks ++ k ∷ []
@@ -169,6 +176,39 @@ module _ (h : Heap) (count many part base : ℕ) (place : ℕ → Option ℕ) (e
             All-push Alone (chunk_at h.chunks i).cells c (small_alone (chunk_at h.chunks i).cells (size_within (chunk_at h.chunks i).cells 1024 (omega arith))) (λ b. absurd (omega arith))
       ]
 
+  abbrev Exact : Cell → Type 0
+  Exact d = 1024 < size_of d → (chunk_at h.chunks i).size ≡ 1024 * units (size_of d)
+
+  few_by : 1024 < (chunk_at h.chunks i).size → length ((chunk_at h.chunks i).cells ++ c ∷ []) ≤ 1
+  few_by big =
+      elim (cases_lt 1024 (size_of c)) [
+        | inl l ↦
+            let none : (chunk_at h.chunks i).cells ≡ [] = (heap.reserved_in h count many part base place entries keeps i (heap.fits_large h (size_of c) i fits l).0).1.1 in
+            let one : length ((chunk_at h.chunks i).cells ++ c ∷ []) ≡ 1 = ap (λ (cs : List Cell). length (cs ++ c ∷ [])) none in
+            omega arith
+        | inr l ↦
+            let size : (chunk_at h.chunks i).size ≡ 1024 = (heap.current_in h count many part base place entries keeps i (heap.fits_small h (size_of c) i fits l).0).1 in
+            absurd (omega arith)
+      ]
+
+  near_at : words_in (chunk_at h.chunks i).cells < 1024
+  near_at =
+      elim (cases_lt 1024 (size_of c)) [
+        | inl l ↦
+            let none : (chunk_at h.chunks i).cells ≡ [] = (heap.reserved_in h count many part base place entries keeps i (heap.fits_large h (size_of c) i fits l).0).1.1 in
+            let zero : words_in (chunk_at h.chunks i).cells ≡ 0 = ap words_in none in
+            omega arith
+        | inr l ↦
+            let size : (chunk_at h.chunks i).size ≡ 1024 = (heap.current_in h count many part base place entries keeps i (heap.fits_small h (size_of c) i fits l).0).1 in
+            let r : words_in (chunk_at h.chunks i).cells + size_of c ≤ (chunk_at h.chunks i).size = room in
+            let s : 0 < size_of c = some in
+            omega arith
+      ]
+
+  -- it begins near
+  pub placed_near : (k : Content) → k ≡ get_or h.chunks i k → words_in k.cells < 1024
+  placed_near k read = subst (λ (x : Content). words_in x.cells < 1024) (sym (get_or_read h.chunks i k inside read no_chunk)) near_at
+
   pub settled_placed : (k : Content) → k ≡ get_or h.chunks i k → IsSettled h.chunks → IsSettled (set h.chunks i (record k { cells = k.cells ++ c ∷ [] }))
   settled_placed k read s =
       let same : k ≡ chunk_at h.chunks i = get_or_read h.chunks i k inside read no_chunk in
@@ -176,6 +216,8 @@ module _ (h : Heap) (count many part base : ℕ) (place : ℕ → Option ℕ) (e
       let tidy : IsTidy (record (chunk_at h.chunks i) { cells = (chunk_at h.chunks i).cells ++ c ∷ [] }) = record {
         unmoved = All-push (λ (d : Cell). moved_to d.mark ≡ None) (chunk_at h.chunks i).cells c t.unmoved unmoved;
         alone = all_alone;
+        exact = All-push Exact (chunk_at h.chunks i).cells c t.exact (λ l. (heap.fits_large h (size_of c) i fits l).1);
+        few = few_by;
       } in
       subst (λ (x : Content). IsSettled (set h.chunks i (record x { cells = x.cells ++ c ∷ [] }))) (sym same)
       (record {

@@ -1,9 +1,11 @@
 -- A task's own heap, as callers see it.
 use Rattle.std.specs.Prelude.{◌≡◌, All, ℕ, ◌+◌, ◌-◌, ◌*◌, ◌/◌, ◌^◌, ◌<◌, ◌≤◌, List, [], ◌∷◌, ◌++◌, ◌==◌, if◌then◌else◌, Option, Some, None, length, min, nat_le, option_map}
-use Rattle.object_layout.specs.Cell.{Cell, moved_to, size_of}
+use Rattle.object_layout.specs.declared.word.Addr.{Addr}
+use Rattle.object_layout.specs.Cell.{Cell, IsObject, moved_to, size_of}
 use Rattle.object_layout.specs.Content.{Content}
 use Rattle.object_layout.specs.Place.{words_in}
-use Rattle.object_layout.specs.Chunks.{chunk_at, held_words, object_count, place_in, push_object, small_words}
+use Rattle.object_layout.specs.Chunks.{cell_of, chunk_at, held_words, object_count, place_in, push_object, small_words}
+pub use Rattle.object_layout.specs.Chunks.{AreApart, IsFresh}
 
 -- its chunks in the order in which they came; at which place the small chunk stands that is being
 -- filled, and at which the chunk that is reserved for a large object; the words that were placed
@@ -63,15 +65,6 @@ added h k = if k.size == 1024
     then record h { chunks = h.chunks ++ k ∷ []; current = Some (length h.chunks) }
     else record h { chunks = h.chunks ++ k ∷ []; reserved = Some (length h.chunks) }
 
--- no chunk of the heap has this number
-abbrev pub IsFresh : List Content → ℕ → Type 0
-IsFresh ks number = place_in ks number ≡ None
-
--- no two of these chunks have one number
-abbrev pub AreApart : List Content → Type 0
-AreApart [] = Unit {0}
-AreApart (k ∷ ks) = IsFresh ks k.number × AreApart ks
-
 -- the heap with other chunks in place of all of its own
 abbrev pub exchanged : Heap → List Content → Option ℕ → Option ℕ → Heap
 exchanged h ks filled kept = record h { chunks = ks; current = filled; reserved = kept }
@@ -121,13 +114,19 @@ pub record IsKept (chunks : List Content) (filled kept : Option ℕ) (count many
 
 -- ---- what a heap keeps between collections
 
--- no object was moved, and a large one has its chunk to itself
+-- no object was moved; a large one has its chunk, of just its units, to itself; and a large chunk holds no more than one
 pub record IsTidy (k : Content) : Type 0 where
   pub unmoved : All (λ c. moved_to c.mark ≡ None) k.cells
   pub alone : All (λ c. 1024 < size_of c → length k.cells ≡ 1) k.cells
+  pub exact : All (λ c. 1024 < size_of c → k.size ≡ 1024 * units (size_of c)) k.cells
+  pub few : 1024 < k.size → length k.cells ≤ 1
 
 abbrev pub AreTidy : List Content → Type 0
 AreTidy ks = All IsTidy ks
+
+-- each object begins within the first 1,024 words of its chunk
+abbrev pub AreNear : List Content → Type 0
+AreNear ks = (a : Addr) → IsObject (cell_of ks a).mark → a.offset < 1024
 
 -- all chunks are so, and no two have one number
 pub record IsSettled (ks : List Content) : Type 0 where

@@ -3,7 +3,7 @@
 ghost use Rattle.std.specs.Prelude.{◌≡◌, ◌^◌, ◌<◌, length, option_copied, option_map, slice_get, is_some, IfSome, Some};
 ghost use Rattle.object_layout.specs.Cell.{Born, frozen, header_of, with_int, IsBorn, IsObject, IsPlace};
 ghost use Rattle.object_layout.specs.Place.{cell_at};
-ghost use Rattle.object_layout.specs.Chunks.{cell_of, chunk_at, object_of, place_in, put_object};
+ghost use Rattle.object_layout.specs.Chunks.{cell_of, chunk_at, has_chunk, object_of, place_in, put_object};
 ghost use Rattle.alloc_path.specs.FieldLaws.{with_ref_of};
 
 use super::heap::LeafHeap;
@@ -12,7 +12,7 @@ use object_layout::{Addr, Birth, Chunk, Header, Words};
 impl LeafHeap {
     /// Whether the address lies in a chunk of this heap.
     pub fn owns(&self, object: Addr) -> bool
-        ensures { result ≡ is_some (place_in self.now.chunks object.chunk) }
+        ensures { result ≡ has_chunk self.now.chunks object.chunk }
     {
         self.space.owns(object)
     }
@@ -33,7 +33,7 @@ impl LeafHeap {
 
     /// The chunk in which an object lies, as all reads of it need it; None where that is not of this heap.
     pub fn own_chunk(&self, object: Addr) -> Option<&Chunk>
-        ensures there { is_some result ≡ is_some (place_in self.now.chunks object.chunk) }
+        ensures there { is_some result ≡ has_chunk self.now.chunks object.chunk }
         ensures cell { IfSome result (λ k. cell_at k.now.cells object.offset ≡ cell_of self.now.chunks object) }
     {
         self.space.own_chunk(object)

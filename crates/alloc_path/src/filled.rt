@@ -19,6 +19,7 @@ impl Space {
         requires few_ints { new.header.nints < 2 ^ 20 }
         requires places { All IsPlace refs.now }
         ensures address { let object = filled_cell new.header new.birth refs.now ints.now in result ≡ option_map (λ i. next_address (chunk_at self.old.chunks i)) (place_for self.old (size_of object)) }
+        ensures near { IsPlace result }
         ensures placed { let object = filled_cell new.header new.birth refs.now ints.now in self.new ≡ placed self.old (place_for self.old (size_of object)) object }
         ensures settled { IsSettled self.old.chunks → IsSettled self.new.chunks }
     {
@@ -38,6 +39,7 @@ impl Space {
         requires places { All IsPlace refs.now }
         requires fits { place_for self.old (size_of (filled_cell new.header new.birth refs.now ints.now)) ≡ Some i }
         ensures address { result ≡ next_address (chunk_at self.old.chunks i) }
+        ensures near { result.offset < 1024 }
         ensures placed { self.new ≡ placed_at self.old i (filled_cell new.header new.birth refs.now ints.now) }
         ensures settled { IsSettled self.old.chunks → IsSettled self.new.chunks }
     {

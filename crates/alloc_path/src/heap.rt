@@ -1,9 +1,9 @@
 // A leaf heap: the chunks of a task, between collections.
 
-ghost use Rattle.std.specs.Prelude.{◌≡◌, ◌+◌, ◌^◌, ◌<◌, ◌≤◌, [], is_some, length, All, option_map, OnOk, OnErr, IfErr, IsOk, None};
+ghost use Rattle.std.specs.Prelude.{◌≡◌, ◌+◌, ◌^◌, ◌<◌, ◌≤◌, [], is_some, length, All, option_map, OnOk, OnErr, IfErr, IfOk, IsOk, None};
 ghost use Rattle.object_layout.specs.Cell.{filled_cell, size_of, new_cell, IsPlace};
 ghost use Rattle.object_layout.specs.Chunks.{chunk_at, held_words, next_address, object_count, small_words};
-ghost use Rattle.alloc_path.specs.Heap.{added, counted, exchanged, merged, placed, place_for, room_of, with_places, AreApart, AreWithin, IsCurrent, IsFresh, IsReserved, IsSettled};
+ghost use Rattle.alloc_path.specs.Heap.{added, counted, exchanged, merged, placed, place_for, room_of, with_places, AreApart, AreNear, AreWithin, IsCurrent, IsFresh, IsReserved, IsSettled};
 
 use super::space::{New, Space};
 use object_layout::{Addr, Chunk};
@@ -44,6 +44,7 @@ impl LeafHeap {
         ensures chunks { result.now ≡ self.now.chunks }
         ensures settled { IsSettled self.now.chunks }
         ensures within { AreWithin self.now.chunks }
+        ensures near { AreNear self.now.chunks }
     {
         &self.space.chunks
     }
@@ -173,6 +174,7 @@ impl LeafHeap {
         requires refs { new.header.nrefs < 2 ^ 20 }
         requires ints { new.header.nints < 2 ^ 20 }
         ensures address { let object = new_cell new.header new.birth in result ≡ Ok (option_map (λ i. next_address (chunk_at self.old.chunks i)) (place_for self.old (size_of object))) }
+        ensures near { IfOk result IsPlace }
         ensures placed { let object = new_cell new.header new.birth in self.new ≡ placed self.old (place_for self.old (size_of object)) object }
     {
         Ok(self.place_spare(new))
@@ -183,6 +185,7 @@ impl LeafHeap {
         requires refs { new.header.nrefs < 2 ^ 20 }
         requires ints { new.header.nints < 2 ^ 20 }
         ensures address { let object = new_cell new.header new.birth in result ≡ option_map (λ i. next_address (chunk_at self.old.chunks i)) (place_for self.old (size_of object)) }
+        ensures near { IsPlace result }
         ensures placed { let object = new_cell new.header new.birth in self.new ≡ placed self.old (place_for self.old (size_of object)) object }
     {
         self.space.place(new)
@@ -196,6 +199,7 @@ impl LeafHeap {
         requires few_ints { new.header.nints < 2 ^ 20 }
         requires places { All IsPlace refs.now }
         ensures address { let object = filled_cell new.header new.birth refs.now ints.now in result ≡ option_map (λ i. next_address (chunk_at self.old.chunks i)) (place_for self.old (size_of object)) }
+        ensures near { IsPlace result }
         ensures placed { let object = filled_cell new.header new.birth refs.now ints.now in self.new ≡ placed self.old (place_for self.old (size_of object)) object }
     {
         self.space.place_filled(new, refs, ints)

@@ -11,8 +11,5 @@ mod own;
 mod space;
 
 pub use heap::LeafHeap;
-pub use laws::{placed_is_read, put_where_placed};
+pub use laws::{objects_are_near, placed_is_read, put_where_placed, writes_keep_counts};
 pub use space::{New, Space};
-
-#[cfg(test)]
-mod tests;

@@ -3,7 +3,7 @@
 ghost use Rattle.std.specs.Prelude.{◌≡◌, ◌+◌, ◌^◌, ◌<◌, ◌≤◌, ◌++◌, ◌∷◌, [], length, option_copied, option_map, slice_get, is_some, IfSome, Some, None};
 ghost use Rattle.object_layout.specs.Cell.{Born, Moved, frozen, header_of, moved_to, size_of, with_int, with_mark, IsBorn, IsObject, IsPlace};
 ghost use Rattle.object_layout.specs.Place.{cell_at, words_in};
-ghost use Rattle.object_layout.specs.Chunks.{cell_of, chunk_at, object_of, place_in, place_of, put_object};
+ghost use Rattle.object_layout.specs.Chunks.{cell_of, chunk_at, has_chunk, object_of, place_in, place_of, put_object};
 ghost use Rattle.alloc_path.specs.FieldLaws.{with_ref_of};
 
 use super::space::Space;
@@ -35,7 +35,7 @@ impl Space {
 
     /// The chunk in which an object lies, as all reads of it need it; None where that is not of this heap.
     pub fn own_chunk(&self, object: Addr) -> Option<&Chunk>
-        ensures there { is_some result ≡ is_some (place_in self.now.chunks object.chunk) }
+        ensures there { is_some result ≡ has_chunk self.now.chunks object.chunk }
         ensures cell { IfSome result (λ k. cell_at k.now.cells object.offset ≡ cell_of self.now.chunks object) }
     {
         self.chunk(object.chunk)
@@ -59,7 +59,7 @@ impl Space {
 
     /// Whether the address lies in a chunk of this heap.
     pub fn owns(&self, object: Addr) -> bool
-        ensures { result ≡ is_some (place_in self.now.chunks object.chunk) }
+        ensures { result ≡ has_chunk self.now.chunks object.chunk }
     {
         self.table.contains_key(&object.chunk)
     }

@@ -1,7 +1,7 @@
 // The chunks of a heap, and where the next object goes.
 
 ghost use Rattle.std.specs.Prelude.{◌≡◌, ◌+◌, ◌-◌, ◌*◌, ◌^◌, ◌<◌, ◌≤◌, [], ◌∷◌, is_some, length, option_map, OnOk, OnErr, IfErr, IsOk, None, Some};
-ghost use Rattle.object_layout.specs.Cell.{size_of, new_cell};
+ghost use Rattle.object_layout.specs.Cell.{size_of, new_cell, IsPlace};
 ghost use Rattle.object_layout.specs.Chunks.{chunk_at, held_words, next_address, object_count, place_in, push_object, small_words};
 ghost use Rattle.alloc_path.specs.Heap.{added, counted, placed, placed_at, place_for, room_of, with_places, IsCurrent, IsFresh, IsReserved, IsSettled};
 
@@ -198,6 +198,7 @@ impl Space {
         requires refs { new.header.nrefs < 2 ^ 20 }
         requires ints { new.header.nints < 2 ^ 20 }
         ensures address { let object = new_cell new.header new.birth in result ≡ option_map (λ i. next_address (chunk_at self.old.chunks i)) (place_for self.old (size_of object)) }
+        ensures near { IsPlace result }
         ensures placed { let object = new_cell new.header new.birth in self.new ≡ placed self.old (place_for self.old (size_of object)) object }
         ensures settled { IsSettled self.old.chunks → IsSettled self.new.chunks }
     {
@@ -238,6 +239,7 @@ impl Space {
         requires ints { new.header.nints < 2 ^ 20 }
         requires fits { place_for self.old (size_of (new_cell new.header new.birth)) ≡ Some i }
         ensures address { result ≡ next_address (chunk_at self.old.chunks i) }
+        ensures near { result.offset < 1024 }
         ensures placed { self.new ≡ placed_at self.old i (new_cell new.header new.birth) }
         ensures settled { IsSettled self.old.chunks → IsSettled self.new.chunks }
     {

@@ -1,1 +1,3 @@
 pub mod UnitLemmas
+pub mod Numbering
+pub mod OwnerLaws

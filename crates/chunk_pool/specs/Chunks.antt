@@ -1,5 +1,7 @@
 -- The pool as callers see it: what it keeps of each chunk's number.
-use Rattle.std.specs.Prelude.{◌≡◌, ◌≢◌, ℕ, ◌+◌, ◌<◌, ◌≤◌, ◌^◌, Option, Some, None, IfSome, List, [], ◌∷◌, option_map, slice_index_or}
+use Rattle.std.specs.Prelude.{◌≡◌, ◌≢◌, ℕ, ◌+◌, ◌<◌, ◌≤◌, ◌^◌, All, Option, Some, None, IfSome, List, [], ◌∷◌, ◌++◌, if◌then◌else◌, length, option_map, slice_index_or}
+use Rattle.object_layout.specs.Content.{Content}
+use Rattle.object_layout.specs.Chunks.{has_chunk, AreApart}
 use Rattle.chunk_pool.specs.declared.pool.Held.{Held}
 
 -- the limit in units, and for each number from 0 on what is kept of its chunk, if it is in use
@@ -7,9 +9,13 @@ pub record Chunks : Type 0 where
   pub limit : ℕ
   pub slots : List (Option Held)
 
+-- what is kept at a number
+abbrev pub held_in : List (Option Held) → ℕ → Option Held
+held_in slots number = slice_index_or slots number None
+
 -- what is kept of the chunk of a number, if that is in use
 abbrev pub held_at : Chunks → ℕ → Option Held
-held_at pool number = slice_index_or pool.slots number None
+held_at pool number = held_in pool.slots number
 
 -- the task that owns the chunk of a number, if that is in use
 abbrev pub owner_of : Chunks → ℕ → Option ℕ
@@ -39,6 +45,35 @@ pub record Takes (old new : Chunks) (number : ℕ) (held : Held) : Type 0 where
   pub taken : held_at new number ≡ Some held
   pub units : units_in_use new ≡ units_in_use old + held.units
   pub rest : KeepsOthers old new number
+
+-- a chunk of one unit for an owner
+abbrev pub one_unit : ℕ → Held
+one_unit owner = record { owner = owner; units = 1 }
+
+-- the numbers of these chunks differ and weren't in use; each is in use for this owner and one unit; all else stays
+pub record AreNumbered (old new : List (Option Held)) (owner : ℕ) (ks : List Content) : Type 0 where
+  pub were_free : All (λ k. held_in old k.number ≡ None) ks
+  pub apart : AreApart ks
+  pub each : (number : ℕ) → held_in new number ≡ (if has_chunk ks number then Some (one_unit owner) else held_in old number)
+  pub units : units_in new ≡ units_in old + length ks
+
+-- an empty chunk of one unit
+pub record IsBlank (k : Content) : Type 0 where
+  pub size : k.size ≡ 1024
+  pub cells : k.cells ≡ []
+
+-- so many empty chunks of one unit were numbered, and stand behind the others of a list
+pub record NumbersBehind (old new : List (Option Held)) (owner number : ℕ) (was is : List Content) : Type 0 where
+  pub chunks : List Content
+  pub behind : is ≡ was ++ chunks
+  pub count : length chunks ≡ number
+  pub blank : All IsBlank chunks
+  pub numbered : AreNumbered old new owner chunks
+
+-- so many empty chunks of one unit were taken for an owner, and stand behind the others of a list
+pub record TakesAll (old new : Chunks) (owner count : ℕ) (was is : List Content) : Type 0 where
+  pub limit : new.limit ≡ old.limit
+  pub numbers : NumbersBehind old.slots new.slots owner count was is
 
 -- the number is no longer in use; all else stays
 pub record Gives (old new : Chunks) (number : ℕ) : Type 0 where

@@ -1,8 +1,9 @@
 // The numbers of chunks: which are in use, who owns each, and how many units they take together.
 #![tactic(auto)]
 
+mod laws;
+mod numbers;
 mod pool;
-#[cfg(test)]
-mod tests;
 
+pub use laws::{owners_are_told, taken_are_owned};
 pub use pool::{Held, NotTaken, Pool};

@@ -1,8 +1,9 @@
 // The pool of chunks: a limit in units, and an owner for each number in use.
 
-ghost use Rattle.std.specs.Prelude.{◌≡◌, ◌+◌, ◌*◌, ◌^◌, ◌<◌, ◌≤◌, ◌↔◌, [], OnErr, IfOk, Err, Some, IsSome};
-ghost use Rattle.chunk_pool.specs.Chunks.{Chunks, held_at, owner_of, units_in_use, Takes, Gives, Relabels};
+ghost use Rattle.std.specs.Prelude.{◌≡◌, ℕ, ◌+◌, ◌*◌, ◌^◌, ◌<◌, ◌≤◌, ◌↔◌, [], OnErr, OnOk, IfOk, Err, Some, IsSome};
+ghost use Rattle.chunk_pool.specs.Chunks.{held_at, owner_of, units_in_use, Takes, TakesAll, Gives, Relabels};
 
+use crate::numbers::{blank_chunks, make_numbers, number_all};
 use object_layout::Chunk;
 use slab::Slab;
 use std::alloc::{AllocError, Global};
@@ -85,6 +86,38 @@ impl Pool {
         Ok(chunk)
     }
 
+    /// So many empty chunks of one unit for this owner, put behind those of a list. All of them or none
+    /// are taken: whether the limit allows them is checked before memory is asked for, and memory is
+    /// asked for before the first is taken.
+    pub fn take_all(
+        &mut self,
+        owner: u32,
+        count: u32,
+        list: &mut Vec<Chunk>,
+    ) -> Result<(), NotTaken>
+        requires { count < 2 ^ 22 }
+        ensures full { (result ≡ Err NotTaken.Full) ↔ (self.old.limit < units_in_use self.old + count) }
+        ensures taken { OnOk result (TakesAll self.old self.new owner count list.old.items list.new.items) }
+        ensures err { OnErr result (self.new ≡ self.old) }
+        ensures err_list { OnErr result (list.new.items ≡ list.old.items) }
+    {
+        if count > self.limit - self.used {
+            return Err(NotTaken::Full);
+        }
+        let Ok(mut blank) = blank_chunks(self.alloc, count) else {
+            return Err(NotTaken::NoMemory);
+        };
+        if list.reserve(count as usize).is_err() {
+            return Err(NotTaken::NoMemory);
+        }
+        if make_numbers(&mut self.slots, count).is_err() {
+            return Err(NotTaken::NoMemory);
+        }
+        number_all(&mut self.slots, owner, &mut blank, list);
+        self.used += count;
+        Ok(())
+    }
+
     /// Takes a chunk back. Its number is no longer in use.
     pub fn give(&mut self, chunk: Chunk)
         requires { IsSome (held_at self.old chunk.number) }
@@ -93,6 +126,20 @@ impl Pool {
         let number = chunk.number() as usize;
         let held = self.slots.remove(number);
         self.used -= held.units;
+    }
+
+    /// What is kept of the chunk of a number, if that is in use.
+    pub fn held(&self, number: u32) -> Option<Held>
+        ensures { result ≡ held_at self.now number }
+    {
+        self.slots.get(number as usize).copied()
+    }
+
+    /// The numbers in use are all below this.
+    pub fn numbers(&self) -> usize
+        ensures { (number : ℕ) → IsSome (held_at self.now number) → number < result }
+    {
+        self.slots.capacity()
     }
 
     /// The task that owns the chunk of a number.

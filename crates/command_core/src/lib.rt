@@ -12,8 +12,3 @@ mod top_call;
 pub use answer::{Answer, Ran, Status};
 pub use laws::{no_fault_gives_all, statuses_of_ends};
 pub use top_call::command;
-
-#[cfg(test)]
-mod examples;
-#[cfg(test)]
-mod tests;

@@ -9,6 +9,3 @@ mod read;
 pub use laws::{operands_are_read, words_are_read};
 pub use line::{CommandLine, FileName, Options};
 pub use read::read_command_line;
-
-#[cfg(test)]
-mod tests;

@@ -4,3 +4,4 @@ pub mod RankLemmas
 pub mod CostLemmas
 pub mod GrowLemmas
 pub mod TreeLemmas
+pub mod ChangeLemmas

@@ -2,12 +2,12 @@
 #![tactic(auto)]
 
 mod count;
+mod laws;
 mod links;
 mod state;
-#[cfg(test)]
-mod tests;
 mod tree;
 
 pub use count::LinkCount;
+pub use laws::{forks_make, pairs_stay, states_change};
 pub use state::State;
 pub use tree::Tree;

@@ -38,27 +38,3 @@ pub fn read_i64(bytes: &[u8]) -> Option<i64>
 {
     parse_i64(bytes)
 }
-
-#[cfg(test)]
-mod tests {
-    use super::*;
-
-    #[test]
-    fn numbers_of_texts(rt: HostRuntime) {
-        assert_eq!(rt; read_u32(b"4294967295"), Some(4294967295));
-        assert_eq!(rt; read_u32(b"4294967296"), None);
-        assert_eq!(rt; read_u32(b"007"), Some(7));
-        assert_eq!(rt; read_u32(b"+7"), None);
-        assert_eq!(rt; read_u32(b"-0"), None);
-        assert_eq!(rt; read_u32(b""), None);
-        assert_eq!(rt; read_i64(b"-9223372036854775808"), Some(i64::MIN));
-        assert_eq!(rt; read_i64(b"9223372036854775807"), Some(i64::MAX));
-        assert_eq!(rt; read_i64(b"9223372036854775808"), None);
-        assert_eq!(rt; read_i64(b"-0"), Some(0));
-        assert_eq!(rt; read_i64(b"+1"), None);
-        assert_eq!(rt; read_i64(b"-"), None);
-        assert_eq!(rt; read_i64(b"--1"), None);
-        assert_eq!(rt; read_i64(b"1x"), None);
-        assert_eq!(rt; read_i64(&[255, 49]), None);
-    }
-}

@@ -12,6 +12,7 @@ use Rattle.hh_model.specs.Effect.{Effect, Goes, Prints, Calls, Forks, Returns, T
 use Rattle.hh_model.specs.Precedence.{precedes}
 use Rattle.hh_model.specs.Names.{named, refs_of, refs_at, words_asked, words_for}
 use Rattle.hh_model.proofs.Stores.{put_cases, made_cases}
+pub use Rattle.hh_model.specs.Names.{next_name}
 
 pub in_from_named : (refs : List (Option Name)) (n : Name) → In (named refs) n → In refs (Some n)
 in_from_named [] n h = absurd h
@@ -44,16 +45,12 @@ none_in zero n h = h
 none_in (suc k) n (inl e) = absurd cc
 none_in (suc k) n (inr h) = none_in k n h
 
-flat_at : (o : Option (Option Name)) (n : Name) → flat o ≡ Some n → o ≡ Some (Some n)
+pub flat_at : (o : Option (Option Name)) (n : Name) → flat o ≡ Some n → o ≡ Some (Some n)
 flat_at None n e = absurd cc
 flat_at (Some r) n e = ap (λ x. Some x) e
 
 pub at_in : (refs : List (Option Name)) (i : ℕ) (n : Name) → flat (slice_get refs i) ≡ Some n → In refs (Some n)
 at_in refs i n e = got_in refs i (Some n) (flat_at (slice_get refs i) n e)
-
--- the name of the next object of a task
-abbrev pub next_name : ℕ → List (List Object) → Name
-next_name t store = record { task = t; count = length (row_of (slice_get store t)) }
 
 module _ (s : Setting) (f : Frame) (store : List (List Object)) (alloc : Option ℕ) where
   abbrev new : Name

@@ -1,5 +1,9 @@
 -- What an instruction changes in the store: nothing, or one new object, or one object that a register names.
-use Rattle.std.proofs.Common.{◌≡◌, ℕ, ℤ, pos, ◌==◌, Bool, true, false, cond, Option, Some, None, List, [], ◌∷◌, ◌++◌, length, slice_get, slice_set, ◌⊎◌, inl, inr, refl, sym, subst, eqb-true}
+use Rattle.std.proofs.lemmas.Bool.{leb-true}
+use Rattle.std.proofs.lemmas.List.{length-replicate}
+use Rattle.std.proofs.lemmas.Option.{same_Some}
+use Rattle.hh_model.specs.declared.data.Strand.{Strand}
+use Rattle.std.proofs.Common.{◌≡◌, ℕ, ℤ, zero, suc, pos, negsuc, ◌+◌, ◌≤◌, nat_le, take, replicate, arith, ◌==◌, Bool, true, false, cond, Option, Some, None, List, [], ◌∷◌, ◌++◌, length, slice_get, slice_set, ◌⊎◌, inl, inr, refl, sym, subst, eqb-true}
 use Rattle.listed.proofs.Members.{In}
 use Rattle.hh_lang.specs.declared.instr.Instr.{Instr}
 use Rattle.hh_lang.specs.declared.instr.Instr.TheVariants.{Set, Mov, Movr, Nil as NilOf, Calc, Same, Jmp, Jz, Newm, Pack, Getr, Geti, Putr, Puti, Cntr, Cnti, Freeze, Cas, Call, Par, Ret, Out}
@@ -12,13 +16,18 @@ use Rattle.hh_model.specs.Effect.{Effect, Goes, Prints, Calls, Forks, Returns, T
 use Rattle.hh_model.specs.Precedence.{precedes}
 use Rattle.hh_model.specs.Names.{refs_of, refs_at}
 use Rattle.hh_model.specs.Store.{IsWriteTo}
-use Rattle.hh_model.proofs.Carried.{at_in, in_take, none_in, named_from_in}
+use Rattle.hh_model.proofs.Carried.{at_in, flat_at, in_take, none_in, named_from_in}
+
+-- its fields of each kind are within the limit, or no more than the registers
+abbrev pub IsSized : ℕ → Frame → Object → Type 0
+IsSized limit f o = ((length o.refs ≤ limit) × (length o.ints ≤ limit)) ⊎ ((length o.refs ≤ length f.refs) × (length o.ints ≤ length f.ints))
 
 -- a new object of the task, at its strand; a mutable one refers to nothing, an immutable one to what registers hold
 pub record Allocates (s : Setting) (f : Frame) (store store' : List (List Object)) : Type 0 where
   pub new : Object
   pub strand : new.strand ≡ s.strand
   pub fields : (r : Name) → In new.refs (Some r) → (new.mutable ≡ false) × In f.refs (Some r)
+  pub size : IsSized s.field_limit f new
   pub is : store' ≡ slice_set store s.task (row_of (slice_get store s.task) ++ new ∷ [])
 
 -- a reference field of a mutable object, set to what a register holds
@@ -55,6 +64,19 @@ pub record Writes (s : Setting) (f : Frame) (instr : Instr) (store store' : List
 abbrev pub Change : Setting → Frame → Instr → List (List Object) → List (List Object) → Type 0
 Change s f instr store store' = (store' ≡ store) ⊎ (Allocates s f store store' ⊎ Writes s f instr store store')
 
+-- a read of a reference field, and where the field is
+pub record Reads (f : Frame) (instr : Instr) (store : List (List Object)) (source n : Name) : Type 0 where
+  pub target : ℕ
+  pub register : ℕ
+  pub index : ℕ
+  pub instr_is : instr ≡ Getr target register index
+  pub named : ref_in f register ≡ Some source
+  pub object : Object
+  pub is : object_at store source ≡ Some object
+  pub at : ℕ
+  pub place : place_in (length object.refs) (int_in f index) ≡ Some at
+  pub got : slice_get object.refs at ≡ Some (Some n)
+
 -- a read of a field that names an object which doesn't precede the reader
 pub record StopsAt (s : Setting) (f : Frame) (instr : Instr) (store : List (List Object)) (n : Name) : Type 0 where
   pub source : Name
@@ -63,6 +85,7 @@ pub record StopsAt (s : Setting) (f : Frame) (instr : Instr) (store : List (List
   pub object : Object
   pub is : object_at store n ≡ Some object
   pub apart : precedes s.edges object.strand s.strand ≡ false
+  pub read : Reads f instr store source n
 
 abbrev pub Changes : Setting → Frame → Instr → List (List Object) → Effect → Type 0
 Changes s f instr store (Goes f' store') = Change s f instr store store'
@@ -72,6 +95,30 @@ Changes s f instr store (Forks g h) = instr ≡ Par g h
 Changes s f instr store Returns = Unit {0}
 Changes s f instr store (Traps t) = Unit {0}
 Changes s f instr store (Stops n) = StopsAt s f instr store n
+
+abbrev none_name : Option Name
+none_name = None
+
+take_few : {A : Type 0} (k : ℕ) (xs : List A) → length (take k xs) ≤ length xs
+take_few zero xs = omega arith
+take_few (suc k) [] = omega arith
+take_few (suc k) (x ∷ xs) = let h = take_few k xs in omega (arith, h)
+
+counts_within : (limit : ℕ) (x y : ℤ) (n : ℕ × ℕ) → counts_in limit x y ≡ Some n → n.0 + n.1 ≤ limit
+counts_within limit (pos a) (pos b) n e = by (nat_le (a + b) limit) refl e
+  where
+    by : (v : Bool) → nat_le (a + b) limit ≡ v → cond v (Some (a, b)) None ≡ Some n → n.0 + n.1 ≤ limit
+    by true h q = let le : a + b ≤ limit = leb-true (a + b) limit h in let same : (a, b) ≡ n = same_Some (a, b) n q in subst (λ (k : ℕ × ℕ). k.0 + k.1 ≤ limit) same le
+    by false h q = absurd cc
+counts_within limit (pos a) (negsuc b) n e = absurd cc
+counts_within limit (negsuc a) y n e = absurd cc
+
+newm_sized : (limit : ℕ) (f : Frame) (x y : ℤ) (strand : Strand) (n : ℕ × ℕ) → counts_in limit x y ≡ Some n → IsSized limit f (record { strand = strand; mutable = true; refs = replicate n.0 None; ints = replicate n.1 (pos 0) })
+newm_sized limit f x y strand n e =
+    let le = counts_within limit x y n e in
+    let r : length (replicate n.0 none_name) ≡ n.0 = length-replicate n.0 none_name in
+    let i : length (replicate n.1 (pos 0)) ≡ n.1 = length-replicate n.1 (pos 0) in
+    inl (omega (arith, le, r), omega (arith, le, i))
 
 module _ (s : Setting) (f : Frame) (instr : Instr) (store : List (List Object)) where
   abbrev D : Effect → Type 0
@@ -92,9 +139,9 @@ module _ (s : Setting) (f : Frame) (instr : Instr) (store : List (List Object)) 
   either_changes true x y k l = k refl
   either_changes false x y k l = l refl
 
-  read_changes : (d : ℕ) (m : Name) (x : Object) (r : Option Name) → In f.refs (Some m) → object_at store m ≡ Some x → ((n : Name) → r ≡ Some n → In x.refs (Some n)) → D (read_effect s f store d r)
-  read_changes d m x None reg is from = inl refl
-  read_changes d m x (Some n) reg is from =
+  read_changes : (d : ℕ) (m : Name) (x : Object) (r : Option Name) → In f.refs (Some m) → object_at store m ≡ Some x → ((n : Name) → r ≡ Some n → In x.refs (Some n)) → ((n : Name) → r ≡ Some n → Reads f instr store m n) → D (read_effect s f store d r)
+  read_changes d m x None reg is from reads = inl refl
+  read_changes d m x (Some n) reg is from reads =
       trap_changes Nil (object_at store n) _ (λ o e. either_changes (precedes s.edges o.strand s.strand) _ _ (λ h. inl refl) (λ h. record {
         source = m;
         held = reg;
@@ -102,10 +149,11 @@ module _ (s : Setting) (f : Frame) (instr : Instr) (store : List (List Object)) 
         object = o;
         is = e;
         apart = h;
+        read = reads n refl;
       }))
 
-  made_changes : (d : ℕ) (o : Object) → o.strand ≡ s.strand → ((r : Name) → In o.refs (Some r) → (o.mutable ≡ false) × In f.refs (Some r)) → D (made s f store d o)
-  made_changes d o same fields = inr (inl (record { new = o; strand = same; fields = fields; is = refl }))
+  made_changes : (d : ℕ) (o : Object) → o.strand ≡ s.strand → ((r : Name) → In o.refs (Some r) → (o.mutable ≡ false) × In f.refs (Some r)) → IsSized s.field_limit f o → D (made s f store d o)
+  made_changes d o same fields size = inr (inl (record { new = o; strand = same; fields = fields; size = size; is = refl }))
 
   set_ref : (i v at : ℕ) (n : Name) (x : Object) → ref_in f i ≡ Some n → object_at store n ≡ Some x → IsWriteTo f instr n → x.mutable ≡ true
       → WritesField f instr x (record x { refs = slice_set x.refs at (ref_in f v) }) → (g : Frame)
@@ -163,11 +211,22 @@ effect_changes s f store (Jmp to) = inl refl
 effect_changes s f store (Jz a to) = inl refl
 effect_changes s f store (Newm d a b) =
     trap_changes s f (Newm d a b) store Size (counts_in s.field_limit (int_in f a) (int_in f b)) _ (λ n e.
-    made_changes s f (Newm d a b) store d _ refl (λ r h. absurd (none_in n.0 r h)))
-effect_changes s f store (Pack d r i) = made_changes s f (Pack d r i) store d _ refl (λ n h. (refl, in_take r f.refs (Some n) h))
+    made_changes s f (Newm d a b) store d _ refl (λ r h. absurd (none_in n.0 r h)) (newm_sized s.field_limit f (int_in f a) (int_in f b) s.strand n e))
+effect_changes s f store (Pack d r i) = made_changes s f (Pack d r i) store d _ refl (λ n h. (refl, in_take r f.refs (Some n) h)) (inr (take_few r f.refs, take_few i f.ints))
 effect_changes s f store (Getr d o k) =
     object_changes s f (Getr d o k) store o _ (λ n x reg is. trap_changes s f (Getr d o k) store Range (place_in (length x.refs) (int_in f k)) _ (λ at e.
-    read_changes s f (Getr d o k) store d n x (flat (slice_get x.refs at)) (at_in f.refs o n reg) is (λ r e'. at_in x.refs at r e')))
+    read_changes s f (Getr d o k) store d n x (flat (slice_get x.refs at)) (at_in f.refs o n reg) is (λ r e'. at_in x.refs at r e') (λ r e'. record {
+      target = d;
+      register = o;
+      index = k;
+      instr_is = refl;
+      named = reg;
+      object = x;
+      is = is;
+      at = at;
+      place = e;
+      got = flat_at (slice_get x.refs at) r e';
+    })))
 effect_changes s f store (Geti d o k) =
     object_changes s f (Geti d o k) store o _ (λ n x reg is. trap_changes s f (Geti d o k) store Range (place_in (length x.ints) (int_in f k)) _ (λ at e. inl refl))
 effect_changes s f store (Putr o k v) =

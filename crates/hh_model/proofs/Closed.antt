@@ -16,10 +16,7 @@ use Rattle.hh_model.proofs.Carried.{in_from_named, named_from_in, in_set_cases, 
 use Rattle.hh_model.proofs.Runs.{waiting}
 use Rattle.hh_model.proofs.Kept.{Kept}
 use Rattle.hh_model.proofs.Steps.{Drawn, Put, Allocates, runs_is, names_run, register_cases, step_cases}
-
-pub record Closed (tasks : List Task) (store : List (List Object)) (P : Name → Type 0) : Type 0 where
-  pub of_task : (u : ℕ) (x : Task) (r : Name) → slice_get tasks u ≡ Some x → In (task_names x) r → P r
-  pub of_object : (n r : Name) → P n → In (refs_at store n) r → P r
+pub use Rattle.hh_model.specs.Closed.{Closed}
 
 pub waits_is : (s : Status) → waits s ≡ true → s ≡ Waiting
 waits_is Running h = absurd (false≢true h)

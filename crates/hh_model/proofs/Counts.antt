@@ -15,13 +15,8 @@ use Rattle.hh_model.proofs.Closed.{grown_cases, three_cases}
 use Rattle.hh_model.proofs.Runs.{grown_length}
 use Rattle.hh_model.proofs.Kept.{Kept, step_kept, start_kept, run_kept, path_is_precedence_in}
 use Rattle.hh_model.proofs.Steps.{Alters, step_cases}
-
--- after so many steps
-pub record Counted (k : ℕ) (tasks : List Task) (store : List (List Object)) : Type 0 where
-  pub made : length tasks ≤ 2 * k + 1
-  pub rows : length store ≡ length tasks
-  pub objects : (t : ℕ) → length (row_of (slice_get store t)) ≤ k
-  pub joins : (t : ℕ) (x : Task) → slice_get tasks t ≡ Some x → x.joins ≤ k
+use Rattle.hh_model.specs.Counts.{RunsAreCounted, StepsCount}
+pub use Rattle.hh_model.specs.Counts.{Counted}
 
 -- a row that is set
 row_set : (store : List (List Object)) (u t k : ℕ) (row : List Object) → length row ≤ k → length (row_of (slice_get store t)) ≤ k → length (row_of (slice_get (slice_set store u row) t)) ≤ k
@@ -154,9 +149,15 @@ start_counted p limit = record { made = omega arith; rows = refl; objects = none
     first zero x e = subst (λ (w : Task). w.joins ≤ 0) (same_Some (root p) x e) (omega arith)
     first (suc t) x e = absurd cc
 
-run_counted : (p : ProgramText) (m : State) (ts : List ℕ) (k : ℕ) → Kept m → Counted k m.tasks m.store → (n : ℕ) → n ≡ k + length ts → Counted n (run_from p m ts).tasks (run_from p m ts).store
+pub run_counted : (p : ProgramText) (m : State) (ts : List ℕ) (k : ℕ) → Kept m → Counted k m.tasks m.store → (n : ℕ) → n ≡ k + length ts → Counted n (run_from p m ts).tasks (run_from p m ts).store
 run_counted p m [] k K I n e = subst (λ j. Counted j m.tasks m.store) (let h : k ≡ n = omega arith in h) I
 run_counted p m (t ∷ ts) k K I n e = run_counted p (step p m t) ts (suc k) (step_kept p m t K) (counted_step p m t K k I) n (omega arith)
+
+pub runs_are_counted : RunsAreCounted
+runs_are_counted p limit ts = run_counted p (start p limit) ts 0 (start_kept p limit) (start_counted p limit) (length ts) (omega arith)
+
+pub steps_count : StepsCount
+steps_count p m t k K I = counted_step p m t K k I
 
 -- MACHINES
 

@@ -19,23 +19,8 @@ use Rattle.hh_model.proofs.Runs.{running_tells, grown_length, grown_view, grown_
 use Rattle.hh_model.proofs.Kept.{Kept, seen}
 use Rattle.hh_model.proofs.Steps.{Drawn, Put, runs_is, names_run, register_cases, step_cases}
 use Rattle.hh_model.proofs.Closed.{waits_is, refs_grown, grown_cases, three_cases, joined_names, resumed_names}
-
--- one of two owners is the other or stands above it
-abbrev pub OnePath : (ℕ → Option ℕ) → ℕ → ℕ → Type 0
-OnePath par a b = (path_in par a b ≡ true) ⊎ (path_in par b a ≡ true)
-
-abbrev pub Own : ℕ → (ℕ → Option ℕ) → (ℕ → Bool) → ℕ → Name → Type 0
-Own n par jd u r = (r.task < n) × (path_in par (owner_in par jd r.task) u ≡ true)
-
-abbrev pub Refers : ℕ → (ℕ → Option ℕ) → (ℕ → Bool) → Name → Name → Type 0
-Refers n par jd k r = (k.task < n) × (r.task < n) × OnePath par (owner_in par jd k.task) (owner_in par jd r.task)
-
-pub record Apart (n : ℕ) (par : ℕ → Option ℕ) (jd : ℕ → Bool) (tasks : List Task) (store : List (List Object)) : Type 0 where
-  pub of_task : (u : ℕ) (x : Task) (r : Name) → slice_get tasks u ≡ Some x → In (task_names x) r → Own n par jd u r
-  pub of_object : (k r : Name) → In (refs_at store k) r → Refers n par jd k r
-
-abbrev pub Disentangled : List Task → List (List Object) → Type 0
-Disentangled tasks store = Apart (length tasks) (parents tasks) (joined tasks) tasks store
+pub use Rattle.hh_model.specs.Paths.{OnePath}
+pub use Rattle.hh_model.specs.Disentangled.{IsOnPathOf, AreOnOnePath, Apart, Disentangled}
 
 apart_by : (tasks : List Task) (store : List (List Object)) (n : ℕ) (par : ℕ → Option ℕ) (jd : ℕ → Bool) → length tasks ≡ n → parents tasks ≡ par → joined tasks ≡ jd → Apart n par jd tasks store → Disentangled tasks store
 apart_by tasks store n par jd en ep ed I =
@@ -133,32 +118,32 @@ module _ (p : ProgramText) (m : State) (t : ℕ) (K : Kept m) (I : Disentangled 
   low : AreLow par
   low = K.tree.low
 
-  own_next : (x : Task) → slice_get m.tasks t ≡ Some x → is_running (Some x) ≡ true → Own n par jd t (next_name t m.store)
+  own_next : (x : Task) → slice_get m.tasks t ≡ Some x → is_running (Some x) ≡ true → IsOnPathOf n par jd t (next_name t m.store)
   own_next x is run =
       let live : jd t ≡ false = ap is_joined is ∙ (running_tells x.status run).0 in
       (got_within m.tasks t x is, ap (λ a. path_in par a t) (owner_live par low jd t t live) ∙ path_itself par low t)
 
-  drawn : (x : Task) (r : Name) → slice_get m.tasks t ≡ Some x → is_running (Some x) ≡ true → Drawn p m t x r → Own n par jd t r
+  drawn : (x : Task) (r : Name) → slice_get m.tasks t ≡ Some x → is_running (Some x) ≡ true → Drawn p m t x r → IsOnPathOf n par jd t r
   drawn x r is run (inl old) = I.of_task t x r is old
-  drawn x r is run (inr (inl k)) = subst (Own n par jd t) (sym k.0) (own_next x is run)
+  drawn x r is run (inr (inl k)) = subst (IsOnPathOf n par jd t) (sym k.0) (own_next x is run)
   drawn x r is run (inr (inr read)) =
       ((I.of_object read.0 r read.2).1, sym (seen m K t x r read.3.0 is run read.3.1) ∙ read.3.2)
 
-  put : (x : Task) (k r : Name) → slice_get m.tasks t ≡ Some x → is_running (Some x) ≡ true → Put p m t x k r → Refers n par jd k r
+  put : (x : Task) (k r : Name) → slice_get m.tasks t ≡ Some x → is_running (Some x) ≡ true → Put p m t x k r → AreOnOnePath n par jd k r
   put x k r is run (inl old) = I.of_object k r old
   put x k r is run (inr w) =
-      let ok : Own n par jd t k = elim (w.0) [ inl i ↦ I.of_task t x k is i | inr e ↦ subst (Own n par jd t) (sym e.0) (own_next x is run) ] in
-      let or : Own n par jd t r = I.of_task t x r is w.1 in
+      let ok : IsOnPathOf n par jd t k = elim (w.0) [ inl i ↦ I.of_task t x k is i | inr e ↦ subst (IsOnPathOf n par jd t) (sym e.0) (own_next x is run) ] in
+      let or : IsOnPathOf n par jd t r = I.of_task t x r is w.1 in
       (ok.0, or.0, on_one_path par low (owner_in par jd k.task) (owner_in par jd r.task) t ok.1 or.1)
 
-  written : (y : Task) → ((r : Name) → In (task_names y) r → Own n par jd t r) → (u : ℕ) (z : Task) (r : Name) → slice_get (slice_set m.tasks t y) u ≡ Some z → In (task_names z) r → Own n par jd u r
+  written : (y : Task) → ((r : Name) → In (task_names y) r → IsOnPathOf n par jd t r) → (u : ℕ) (z : Task) (r : Name) → slice_get (slice_set m.tasks t y) u ≡ Some z → In (task_names z) r → IsOnPathOf n par jd u r
   written y names u z r e h = elim (got_cases m.tasks t u y z e) [
-    | inl here ↦ subst (λ w. Own n par jd w r) (sym here.0) (names r (subst (λ (w : Task). In (task_names w) r) here.1 h))
+    | inl here ↦ subst (λ w. IsOnPathOf n par jd w r) (sym here.0) (names r (subst (λ (w : Task). In (task_names w) r) here.1 h))
     | inr old ↦ I.of_task u z r old h
   ]
 
   replaced : (x y : Task) (store : List (List Object)) → slice_get m.tasks t ≡ Some x → y.parent ≡ x.parent → is_over y.status ≡ is_over x.status
-      → ((r : Name) → In (task_names y) r → Own n par jd t r) → ((k r : Name) → In (refs_at store k) r → Refers n par jd k r) → Disentangled (slice_set m.tasks t y) store
+      → ((r : Name) → In (task_names y) r → IsOnPathOf n par jd t r) → ((k r : Name) → In (refs_at store k) r → AreOnOnePath n par jd k r) → Disentangled (slice_set m.tasks t y) store
   replaced x y store is ep ed names fields =
       apart_by (slice_set m.tasks t y) store n par jd (length-set m.tasks t y) (same_view parent_of m.tasks t x y is ep) (same_view is_joined m.tasks t x y is ed)
       (record { of_task = written y names; of_object = fields })
@@ -182,20 +167,20 @@ module _ (p : ProgramText) (m : State) (t : ℕ) (K : Kept m) (I : Disentangled 
     low' : AreLow (parents all)
     low' = (fork_tree m.tasks m.edges t x (onward x.top) x.top x.top g h is run K.tree).low
 
-    kid : (c k : ℕ) (r : Name) → parents all c ≡ Some t → In (task_names (child t (x.depth + 1) k x.top)) r → Own (n + 2) (parents all) jd c r
+    kid : (c k : ℕ) (r : Name) → parents all c ≡ Some t → In (task_names (child t (x.depth + 1) k x.top)) r → IsOnPathOf (n + 2) (parents all) jd c r
     kid c k r pc i =
         let f = I.of_task t x r is (elim (register_cases x.top [] r i) [ inl j ↦ top r j | inr none ↦ absurd none ]) in
         let a : r.task < n = f.0 in
         (omega arith, own_child par (parents all) low low' n agree jd t c r.task (got_within m.tasks t x is) a pc f.1)
 
-    old_task : (u : ℕ) (z : Task) (r : Name) → slice_get (slice_set m.tasks t y) u ≡ Some z → In (task_names z) r → Own (n + 2) (parents all) jd u r
+    old_task : (u : ℕ) (z : Task) (r : Name) → slice_get (slice_set m.tasks t y) u ≡ Some z → In (task_names z) r → IsOnPathOf (n + 2) (parents all) jd u r
     old_task u z r e i =
         let f = written y (λ q j. I.of_task t x q is (names_run x q (runs_is x.status run) j)) u z r e i in
         let a : r.task < n = f.0 in
         let b : u < n = subst (λ k. u < k) (length-set m.tasks t y) (got_within (slice_set m.tasks t y) u z e) in
         (omega arith, own_forks par (parents all) low low' n agree jd u r.task b a f.1)
 
-    forked_task : (u : ℕ) (z : Task) (r : Name) → slice_get all u ≡ Some z → In (task_names z) r → Own (n + 2) (parents all) jd u r
+    forked_task : (u : ℕ) (z : Task) (r : Name) → slice_get all u ≡ Some z → In (task_names z) r → IsOnPathOf (n + 2) (parents all) jd u r
     forked_task u z r e i =
         elim (grown_cases (slice_set m.tasks t y) cl cr u z e) [
           | inl old ↦ old_task u z r old i
@@ -205,7 +190,7 @@ module _ (p : ProgramText) (m : State) (t : ℕ) (K : Kept m) (I : Disentangled 
           ]
         ]
 
-    forked_object : (k r : Name) → In (refs_at (m.store ++ [] ∷ [] ∷ []) k) r → Refers (n + 2) (parents all) jd k r
+    forked_object : (k r : Name) → In (refs_at (m.store ++ [] ∷ [] ∷ []) k) r → AreOnOnePath (n + 2) (parents all) jd k r
     forked_object k r i =
         let f = I.of_object k r (refs_grown m.store k r i) in
         let a : k.task < n = f.0 in
@@ -257,14 +242,14 @@ module _ (p : ProgramText) (m : State) (t : ℕ) (K : Kept m) (I : Disentangled 
     live_p = rest parent (λ e. let b : parent < l = under in omega arith) (λ e. let b : parent < l = under in omega arith)
         ∙ (ap is_joined ip ∙ dp m.tasks m.edges l parent xl xr xp rl rr il ir ip pl left dl dr wl wr K.tree)
 
-    own_up : (u : ℕ) (r : Name) → Own n par jd u r → Own n par (joined after) u r
+    own_up : (u : ℕ) (r : Name) → IsOnPathOf n par jd u r → IsOnPathOf n par (joined after) u r
     own_up u r f = (f.0, own_joins par low jd (joined after) l (l + 1) parent up_l up_r (ap is_joined il ∙ dl) (ap is_joined ir ∙ dr) live_p over_l over_r rest u r.task f.1)
 
-    refers_up : (k r : Name) → Refers n par jd k r → Refers n par (joined after) k r
+    refers_up : (k r : Name) → AreOnOnePath n par jd k r → AreOnOnePath n par (joined after) k r
     refers_up k r f = (f.0, f.1, refers_joins par low jd (joined after) l (l + 1) parent up_l up_r (ap is_joined il ∙ dl) (ap is_joined ir ∙ dr) live_p over_l over_r rest k.task r.task f.2)
 
     -- what a child's path owns, the parent's path owns after the join
-    lift : (c : ℕ) (r : Name) → par c ≡ Some parent → joined after c ≡ true → (c ≡ l) ⊎ (c ≡ l + 1) → Own n par jd c r → Own n par (joined after) parent r
+    lift : (c : ℕ) (r : Name) → par c ≡ Some parent → joined after c ≡ true → (c ≡ l) ⊎ (c ≡ l + 1) → IsOnPathOf n par jd c r → IsOnPathOf n par (joined after) parent r
     lift c r pc dc which f = (f.0, lift_by (owner_joins par low jd (joined after) l (l + 1) parent up_l up_r (ap is_joined il ∙ dl) (ap is_joined ir ∙ dr) live_p over_l over_r rest r.task))
       where
         a : ℕ
@@ -278,10 +263,10 @@ module _ (p : ProgramText) (m : State) (t : ℕ) (K : Kept m) (I : Disentangled 
             ap (λ x. path_in par x parent) k.0
             ∙ (sym (path_child par low (owner_in par jd r.task) c parent pc ∙ ap (λ b. b || path_in par (owner_in par jd r.task) parent) (ne_eqb (owner_in par jd r.task) c ne)) ∙ f.1)
 
-    of_task' : (u : ℕ) (z : Task) (r : Name) → slice_get after u ≡ Some z → In (task_names z) r → Own n par (joined after) u r
+    of_task' : (u : ℕ) (z : Task) (r : Name) → slice_get after u ≡ Some z → In (task_names z) r → IsOnPathOf n par (joined after) u r
     of_task' u z r e i =
         elim (three_cases m.tasks l parent (joined_task xl) (joined_task xr) (resumed xp rl rr) u z e) [
-          | inl top ↦ subst (λ w. Own n par (joined after) w r) (sym top.0) (elim (resumed_names xp rl rr r status (subst (λ (w : Task). In (task_names w) r) top.1 i)) [
+          | inl top ↦ subst (λ w. IsOnPathOf n par (joined after) w r) (sym top.0) (elim (resumed_names xp rl rr r status (subst (λ (w : Task). In (task_names w) r) top.1 i)) [
             | inl old ↦ own_up parent r (I.of_task parent xp r ip old)
             | inr res ↦ elim res [
               | inl a ↦ lift l r up_l over_l (inl refl) (I.of_task l xl r il (nl r a))
@@ -328,6 +313,6 @@ no_refs (suc k) c r h = h
 pub start_disentangled : (p : ProgramText) (limit : ℕ) → Disentangled (start p limit).tasks (start p limit).store
 start_disentangled p limit = record { of_task = no_names; of_object = λ k r h. absurd (no_refs k.task k.count r h) }
   where
-    no_names : (u : ℕ) (x : Task) (r : Name) → slice_get (start p limit).tasks u ≡ Some x → In (task_names x) r → Own 1 (parents (start p limit).tasks) (joined (start p limit).tasks) u r
+    no_names : (u : ℕ) (x : Task) (r : Name) → slice_get (start p limit).tasks u ≡ Some x → In (task_names x) r → IsOnPathOf 1 (parents (start p limit).tasks) (joined (start p limit).tasks) u r
     no_names zero x r e h = absurd (subst (λ (w : Task). In (task_names w) r) (sym (same_Some (root p) x e)) h)
     no_names (suc u) x r e h = absurd cc

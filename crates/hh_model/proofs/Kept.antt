@@ -23,17 +23,8 @@ use Rattle.hh_model.proofs.Walks.{decides_none, same_itself}
 use Rattle.hh_model.proofs.Tree.{Known}
 use Rattle.hh_model.proofs.Stores.{StandsAs, Keeps, effect_keeps}
 use Rattle.hh_model.proofs.Runs.{waiting, joins_of, joins_in, TreeOf, same_tree, running_tells, ended_tells, grown_length, grown_view, fork_tree, join_tree, join_joins, join_length}
-
--- each object stands at a strand of its task
-abbrev pub StoreOf : ℕ → (ℕ → ℕ) → List (List Object) → Type 0
-StoreOf n js store = (m : Name) (o : Object) → object_at store m ≡ Some o → (o.strand.task ≡ m.task) × Known n js o.strand
-
-pub record KeptIn (tasks : List Task) (edges : List Edge) (store : List (List Object)) : Type 0 where
-  pub tree : TreeOf tasks edges
-  pub store_of : StoreOf (length tasks) (joins_in tasks) store
-
-abbrev pub Kept : State → Type 0
-Kept m = KeptIn m.tasks m.edges m.store
+use Rattle.hh_model.specs.Tree.{RunsAreKept}
+pub use Rattle.hh_model.specs.Tree.{StoreOf, KeptIn, Kept}
 
 store_wider : (n n' : ℕ) (js js' : ℕ → ℕ) (store : List (List Object)) → n ≤ n' → ((u : ℕ) → js u ≤ js' u) → StoreOf n js store → StoreOf n' js' store
 store_wider n n' js js' store le more S m o e =
@@ -247,3 +238,6 @@ path_is_precedence_in m K t x n o is run e =
 
 pub path_is_precedence : PathIsPrecedence
 path_is_precedence p limit ts = path_is_precedence_in (run p limit ts) (run_kept p (start p limit) ts (start_kept p limit))
+
+pub runs_are_kept : RunsAreKept
+runs_are_kept p limit ts = run_kept p (start p limit) ts (start_kept p limit)

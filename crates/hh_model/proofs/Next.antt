@@ -18,7 +18,7 @@ use Rattle.hh_model.specs.declared.data.State.{State}
 use Rattle.hh_model.specs.Effect.{Effect, Goes, Prints, Calls, Forks, Returns, Traps, Stops, Setting, effect, object_at, put_object, or_trap, with_object, read_effect, int_in, ref_in, int_eq, onward, same_name, calculated, counts_in, place_in, flat}
 use Rattle.hh_model.specs.Precedence.{precedes}
 use Rattle.hh_model.specs.Step.{fetched, step, start, run_from, root, stepped, follow, setting, can_step, forked, child, entry_frame, frame_limit, depth_limit, returned_to, last_return, child_ended_by, ended_task, joined_task, resumed, join_of, result_of, back_in, last_of, front_of, is_left, sibling, kept_by, or_same}
-use Rattle.hh_model.specs.NextLaw.{HasNext, AlwaysNext}
+use Rattle.hh_model.specs.NextLaw.{HasNext, AlwaysNext, PacksAreFew}
 use Rattle.hh_model.proofs.Closed.{grown_cases, three_cases}
 use Rattle.hh_model.proofs.Steps.{last_in}
 
@@ -284,3 +284,10 @@ start_placed p limit I (suc t) x e = absurd cc
 
 pub always_next : AlwaysNext
 always_next p limit ts t x f I is c = run_placed p I (start p limit) ts (start_placed p limit I) t x is f (in_from_contains (x.top ∷ x.below) f c)
+
+-- a frame that stands at a place of a function
+abbrev frame_at : ℕ → ℕ → Frame
+frame_at g n = record { function = g; next = n; ints = []; refs = [] }
+
+pub packs_are_few : PacksAreFew
+packs_are_few p I g n line d r i at e = subst (NamesExist (length p.functions) (length (fun p I (frame_at g n) line at).0.code)) e (names p I (frame_at g n) line at)

@@ -13,19 +13,7 @@ use Rattle.hh_model.specs.Step.{runs, waits, is_over, result_in, is_running, is_
 use Rattle.hh_model.proofs.Tree.{Tree}
 use Rattle.hh_model.proofs.Joins.{joins_keep}
 use Rattle.hh_model.proofs.Forks.{forks_keep}
-
-abbrev pub waiting : List Task → ℕ → Bool
-waiting tasks t = is_waiting (slice_get tasks t)
-
-abbrev pub joins_of : Option Task → ℕ
-joins_of None = 0
-joins_of (Some x) = x.joins
-
-abbrev pub joins_in : List Task → ℕ → ℕ
-joins_in tasks t = joins_of (slice_get tasks t)
-
-abbrev pub TreeOf : List Task → List Edge → Type 0
-TreeOf tasks edges = Tree (length tasks) (parents tasks) (joined tasks) (waiting tasks) (joins_in tasks) edges
+pub use Rattle.hh_model.specs.Tree.{waiting, joins_of, joins_in, TreeOf}
 
 -- the same tree by equal views
 tree_by : (tasks : List Task) (n : ℕ) (par : ℕ → Option ℕ) (jd wt : ℕ → Bool) (js : ℕ → ℕ) (es es' : List Edge)

@@ -25,12 +25,12 @@ use Rattle.hh_model.proofs.Taken.{step_taken, step_idle}
 
 -- RUNS STEP BY STEP
 
-run_next : (p : ProgramText) (m : State) (ts : List ℕ) (i t : ℕ) → slice_get ts i ≡ Some t → run_from p m (take (suc i) ts) ≡ step p (run_from p m (take i ts)) t
+pub run_next : (p : ProgramText) (m : State) (ts : List ℕ) (i t : ℕ) → slice_get ts i ≡ Some t → run_from p m (take (suc i) ts) ≡ step p (run_from p m (take i ts)) t
 run_next p m [] i t e = absurd cc
 run_next p m (u ∷ ts) zero t e = let h : u ≡ t = cc in ap (step p m) h
 run_next p m (u ∷ ts) (suc i) t e = run_next p (step p m u) ts i t e
 
-run_past : (p : ProgramText) (m : State) (ts : List ℕ) (i : ℕ) → slice_get ts i ≡ None → run_from p m (take (suc i) ts) ≡ run_from p m (take i ts)
+pub run_past : (p : ProgramText) (m : State) (ts : List ℕ) (i : ℕ) → slice_get ts i ≡ None → run_from p m (take (suc i) ts) ≡ run_from p m (take i ts)
 run_past p m [] zero e = refl
 run_past p m [] (suc i) e = refl
 run_past p m (u ∷ ts) zero e = absurd cc

@@ -1,5 +1,5 @@
 -- The names that tasks and objects hold, and the words that a step allocates.
-use Rattle.std.specs.Prelude.{ℕ, ◌+◌, Option, Some, None, List, [], ◌∷◌, ◌++◌}
+use Rattle.std.specs.Prelude.{ℕ, ◌+◌, Option, Some, None, List, [], ◌∷◌, ◌++◌, length, slice_get}
 use Rattle.hh_lang.specs.declared.instr.Instr.{Instr}
 use Rattle.hh_lang.specs.declared.instr.Instr.TheVariants.{Newm, Pack}
 use Rattle.hh_model.specs.declared.data.Name.{Name}
@@ -8,7 +8,7 @@ use Rattle.hh_model.specs.declared.data.Frame.{Frame}
 use Rattle.hh_model.specs.declared.data.Status.{Status}
 use Rattle.hh_model.specs.declared.data.Status.TheVariants.{Running, Waiting, Ended, Joined}
 use Rattle.hh_model.specs.declared.data.Task.{Task}
-use Rattle.hh_model.specs.Effect.{object_at, counts_in, int_in}
+use Rattle.hh_model.specs.Effect.{object_at, counts_in, int_in, row_of}
 
 -- the names in a list of references
 abbrev pub named : List (Option Name) → List Name
@@ -38,6 +38,10 @@ held_by Joined frames = []
 
 abbrev pub task_names : Task → List Name
 task_names x = held_by x.status (x.top ∷ x.below)
+
+-- the name of the next object of a task
+abbrev pub next_name : ℕ → List (List Object) → Name
+next_name t store = record { task = t; count = length (row_of (slice_get store t)) }
 
 -- an object takes a word for each field, and two more
 abbrev pub words_for : Option (ℕ × ℕ) → Option ℕ

@@ -1,7 +1,8 @@
--- The law that there is always a next instruction.
-use Rattle.std.specs.Prelude.{◌≡◌, ℕ, List, ◌∷◌, Some, slice_get, Contains}
+-- Laws of a program's instructions: there is always a next one, and each `pack` takes few registers.
+use Rattle.std.specs.Prelude.{◌≡◌, ℕ, ◌≤◌, List, ◌∷◌, Some, slice_get, Contains}
+use Rattle.hh_lang.specs.declared.instr.Instr.TheVariants.{Pack}
 use Rattle.hh_lang.specs.declared.program.Line.{Line}
-use Rattle.hh_lang.specs.Form.{ProgramText, IsProgram}
+use Rattle.hh_lang.specs.Form.{ProgramText, IsProgram, line_at}
 use Rattle.hh_model.specs.declared.data.Frame.{Frame}
 use Rattle.hh_model.specs.declared.data.Task.{Task}
 use Rattle.hh_model.specs.Step.{fetched, run}
@@ -16,3 +17,8 @@ abbrev pub AlwaysNext : Type 0
 AlwaysNext =
     (p : ProgramText) (limit : ℕ) (ts : List ℕ) (t : ℕ) (x : Task) (f : Frame)
     → IsProgram p → slice_get (run p limit ts).tasks t ≡ Some x → Contains (x.top ∷ x.below) f → HasNext p f
+
+-- a `pack` of a program takes at most 16 registers of each kind
+abbrev pub PacksAreFew : Type 0
+PacksAreFew =
+    (p : ProgramText) → IsProgram p → (g n : ℕ) (line : Line) (d r i : ℕ) → line_at p g n ≡ Some line → line.instr ≡ Pack d r i → (r ≤ 16) × (i ≤ 16)

@@ -1,15 +1,18 @@
 -- Laws of reads: which are never stopped, and whom a stop names.
-use Rattle.std.specs.Prelude.{◌≡◌, ℕ, true, false, Some, None, List, slice_get, Contains}
+use Rattle.std.specs.Prelude.{◌≡◌, ◌↔◌, ℕ, true, false, Some, None, List, length, slice_get, Contains}
+use Rattle.hh_lang.specs.declared.instr.Instr.TheVariants.{Getr}
+use Rattle.hh_lang.specs.declared.program.Line.{Line}
 use Rattle.hh_lang.specs.Form.{ProgramText}
 use Rattle.hh_model.specs.declared.data.Name.{Name}
 use Rattle.hh_model.specs.declared.data.Object.{Object}
 use Rattle.hh_model.specs.declared.data.Task.{Task}
 use Rattle.hh_model.specs.declared.data.End.TheVariants.{Entangled}
 use Rattle.hh_model.specs.declared.data.State.{State}
-use Rattle.hh_model.specs.Effect.{Goes, flat, object_at, onward, read_effect, with_ref}
+use Rattle.hh_model.specs.Effect.{Goes, flat, int_in, object_at, onward, place_in, read_effect, ref_in, with_ref}
 use Rattle.hh_model.specs.Names.{task_names, refs_at}
 use Rattle.hh_model.specs.Precedence.{Precedes}
-use Rattle.hh_model.specs.Step.{is_running, joined, is_on_path, owner_of, run, setting, step, strand_of}
+use Rattle.hh_model.specs.Step.{ended_by, is_running, joined, is_on_path, owner_of, run, setting, step, strand_of, with_task}
+use Rattle.hh_model.specs.Store.{IsNext}
 
 -- a running task holds an object, in a register
 pub record Holds (m : State) (t : ℕ) (x : Task) (n : Name) (o : Object) : Type 0 where
@@ -58,3 +61,58 @@ abbrev pub StopsNameOwners : Type 0
 StopsNameOwners =
     (p : ProgramText) (limit : ℕ) (ts : List ℕ) (t reader owner : ℕ)
     → let m = run p limit ts in m.end ≡ None → (step p m t).end ≡ Some (Entangled reader owner) → (reader ≡ t) × IsStop m t owner
+
+-- WHERE A READ IS STOPPED
+
+-- the next step of the running task t reads a reference field into the register d, and the field names the object o
+pub record ReadsNext (p : ProgramText) (m : State) (t : ℕ) (x : Task) (d : ℕ) (n : Name) (o : Object) : Type 0 where
+  pub running : is_running (Some x) ≡ true
+  pub line : Line
+  pub next : IsNext p m t x line
+  pub register : ℕ
+  pub index : ℕ
+  pub instr : line.instr ≡ Getr d register index
+  pub source : Name
+  pub named : ref_in x.top register ≡ Some source
+  pub read : Object
+  pub is : object_at m.store source ≡ Some read
+  pub at : ℕ
+  pub place : place_in (length read.refs) (int_in x.top index) ≡ Some at
+  pub field : slice_get read.refs at ≡ Some (Some n)
+  pub object : object_at m.store n ≡ Some o
+
+-- the register holds what was read
+abbrev pub IsRead : ProgramText → State → ℕ → Task → ℕ → Name → Type 0
+IsRead p m t x d n = step p m t ≡ with_task m t (record x { top = onward (with_ref x.top d (Some n)) })
+
+-- the machine ends as entangled with the reader and the owner, and nothing else changes
+abbrev pub IsStopped : ProgramText → State → ℕ → Name → Type 0
+IsStopped p m t n = step p m t ≡ ended_by m (Entangled t (owner_of m.tasks n.task))
+
+-- a read goes on exactly where the strand of what it reads precedes the reader's, and is stopped exactly where it doesn't.
+-- The owner that a stop names hasn't joined
+pub record IsDecided (p : ProgramText) (m : State) (t : ℕ) (x : Task) (d : ℕ) (n : Name) (o : Object) : Type 0 where
+  pub goes : Precedes m.edges o.strand (strand_of t x) ↔ IsRead p m t x d n
+  pub stops : (Precedes m.edges o.strand (strand_of t x) → ⊥) ↔ IsStopped p m t n
+  pub live : joined m.tasks (owner_of m.tasks n.task) ≡ false
+
+abbrev pub ReadsAreDecided : Type 0
+ReadsAreDecided =
+    (p : ProgramText) (limit : ℕ) (ts : List ℕ) (t : ℕ) (x : Task) (d : ℕ) (n : Name) (o : Object)
+    → let m = run p limit ts in m.end ≡ None → ReadsNext p m t x d n o → IsDecided p m t x d n o
+
+-- a read of t that is stopped, and names this owner
+pub record StopsRead (p : ProgramText) (m : State) (t owner : ℕ) : Type 0 where
+  pub task : Task
+  pub register : ℕ
+  pub name : Name
+  pub object : Object
+  pub reads : ReadsNext p m t task register name object
+  pub apart : Precedes m.edges object.strand (strand_of t task) → ⊥
+  pub owns : owner ≡ owner_of m.tasks name.task
+
+-- and nothing else ends the machine as entangled
+abbrev pub StopsAreReads : Type 0
+StopsAreReads =
+    (p : ProgramText) (limit : ℕ) (ts : List ℕ) (t reader owner : ℕ)
+    → let m = run p limit ts in m.end ≡ None → (step p m t).end ≡ Some (Entangled reader owner) → (reader ≡ t) × StopsRead p m t owner

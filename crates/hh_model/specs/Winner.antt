@@ -1,5 +1,5 @@
 -- One winner of compare and swap: of the tasks that try to set a nil field, the first one does.
-use Rattle.std.specs.Prelude.{◌≡◌, ℕ, ℤ, pos, ◌+◌, ◌<◌, ◌≤◌, true, Option, Some, None, List, take, length, slice_get}
+use Rattle.std.specs.Prelude.{◌≡◌, ℕ, ℤ, pos, ◌+◌, ◌<◌, ◌≤◌, true, Option, Some, None, List, length, slice_get}
 use Rattle.hh_lang.specs.declared.instr.Instr.TheVariants.{Putr, Cas}
 use Rattle.hh_lang.specs.declared.program.Line.{Line}
 use Rattle.hh_lang.specs.Form.{ProgramText}
@@ -9,8 +9,8 @@ use Rattle.hh_model.specs.declared.data.Frame.{Frame}
 use Rattle.hh_model.specs.declared.data.Task.{Task}
 use Rattle.hh_model.specs.declared.data.State.{State}
 use Rattle.hh_model.specs.Effect.{int_in, ref_in, with_int, onward, object_at}
-use Rattle.hh_model.specs.Step.{can_step, run}
 use Rattle.hh_model.specs.Store.{IsNext}
+pub use Rattle.hh_model.specs.Turns.{after, IsTurn}
 
 -- a reference field: its object, and its index among the object's reference fields
 pub record Field : Type 0 where
@@ -33,15 +33,6 @@ pub record MayWrite (m : State) (f : Frame) (o k : ℕ) (field : Field) : Type 0
   pub mutable : object.mutable ≡ true
 
 module _ (p : ProgramText) (limit : ℕ) (ts : List ℕ) where
-  -- the machine after the first so many steps of the list
-  abbrev pub after : ℕ → State
-  after i = run p limit (take i ts)
-
-  -- the task whose step comes after the first i steps, where it can take one
-  pub record IsTurn (i t : ℕ) : Type 0 where
-    pub task : slice_get ts i ≡ Some t
-    pub can : can_step (after i) t ≡ true
-
   -- that step is a putr on the field, without a trap
   pub record IsPutr (field : Field) (i : ℕ) : Type 0 where
     pub t : ℕ
@@ -50,10 +41,10 @@ module _ (p : ProgramText) (limit : ℕ) (ts : List ℕ) where
     pub object : ℕ
     pub index : ℕ
     pub value : ℕ
-    pub turn : IsTurn i t
-    pub next : IsNext p (after i) t task line
+    pub turn : IsTurn p limit ts i t
+    pub next : IsNext p (after p limit ts i) t task line
     pub instr : line.instr ≡ Putr object index value
-    pub writes : MayWrite (after i) task.top object index field
+    pub writes : MayWrite (after p limit ts i) task.top object index field
 
   -- that step is a cas on the field, without a trap
   pub record IsCas (field : Field) (i : ℕ) : Type 0 where
@@ -65,10 +56,10 @@ module _ (p : ProgramText) (limit : ℕ) (ts : List ℕ) where
     pub index : ℕ
     pub expected : ℕ
     pub value : ℕ
-    pub turn : IsTurn i t
-    pub next : IsNext p (after i) t task line
+    pub turn : IsTurn p limit ts i t
+    pub next : IsNext p (after p limit ts i) t task line
     pub instr : line.instr ≡ Cas target object index expected value
-    pub writes : MayWrite (after i) task.top object index field
+    pub writes : MayWrite (after p limit ts i) task.top object index field
 
   module _ (field : Field) (i : ℕ) (c : IsCas field i) where
     -- what a cas expects, and what it brings: its registers before the step
@@ -80,7 +71,7 @@ module _ (p : ProgramText) (limit : ℕ) (ts : List ℕ) where
 
     -- it yields this number: its task goes on with the number in the target register
     abbrev pub Yields : ℤ → Type 0
-    Yields y = slice_get (after (i + 1)).tasks c.t ≡ Some (record c.task { top = onward (with_int c.task.top c.target y) })
+    Yields y = slice_get (after p limit ts (i + 1)).tasks c.t ≡ Some (record c.task { top = onward (with_int c.task.top c.target y) })
 
   -- no putr is taken on the field, and each cas on it expects nil and brings an object
   pub record OnlyFromNil (field : Field) : Type 0 where
@@ -94,13 +85,13 @@ module _ (p : ProgramText) (limit : ℕ) (ts : List ℕ) where
 
   pub record HasOneWinner (field : Field) : Type 0 where
     -- the field of an object that is or was mutable (so a newm made it) is nil as long as no cas was taken on it
-    pub nil_at_first : (i h : ℕ) (o : Object) (r : Option Name) → IsUntried field i → object_at (after h).store field.object ≡ Some o → o.mutable ≡ true → FieldHolds (after i) field r → r ≡ None
+    pub nil_at_first : (i h : ℕ) (o : Object) (r : Option Name) → IsUntried field i → object_at (after p limit ts h).store field.object ≡ Some o → o.mutable ≡ true → FieldHolds (after p limit ts i) field r → r ≡ None
     -- the first cas yields 1
     pub first_wins : (i : ℕ) (c : IsCas field i) → IsUntried field i → Yields field i c (pos 1)
     -- each other one yields 0
     pub others_lose : (i j : ℕ) (c : IsCas field i) (d : IsCas field j) → IsUntried field i → i < j → Yields field j d (pos 0)
     -- from the first one on the field holds what that one brought
-    pub keeps : (i j : ℕ) (c : IsCas field i) → IsUntried field i → i < j → FieldHolds (after j) field (brings field i c)
+    pub keeps : (i j : ℕ) (c : IsCas field i) → IsUntried field i → i < j → FieldHolds (after p limit ts j) field (brings field i c)
 
 -- ONE WINNER: for every list of steps and every reference field that no putr writes, and which each cas would set from nil
 -- to an object

@@ -7,7 +7,7 @@ use crate::data::Name;
 use hh_lang::Operator;
 
 /// What an operator gives, or none where it divides by 0.
-pub(crate) fn calculate(operator: Operator, x: i64, y: i64) -> Option<i64>
+pub fn calculate(operator: Operator, x: i64, y: i64) -> Option<i64>
     ensures { result ≡ calculated operator x y }
 {
     match operator {
@@ -34,7 +34,7 @@ pub(crate) fn calculate(operator: Operator, x: i64, y: i64) -> Option<i64>
 }
 
 /// The counts of fields that two numbers ask for, where both are counts and together within the limit.
-pub(crate) fn field_counts(limit: u32, refs: i64, ints: i64) -> Option<(usize, usize)>
+pub fn field_counts(limit: u32, refs: i64, ints: i64) -> Option<(usize, usize)>
     ensures { result ≡ counts_in limit refs ints }
 {
     if refs < 0 || ints < 0 {
@@ -50,7 +50,7 @@ pub(crate) fn field_counts(limit: u32, refs: i64, ints: i64) -> Option<(usize, u
 }
 
 /// A number as the index of one of so many fields.
-pub(crate) fn field_index(count: usize, index: i64) -> Option<usize>
+pub fn field_index(count: usize, index: i64) -> Option<usize>
     ensures { result ≡ place_in count index }
 {
     if index < 0 {
@@ -61,7 +61,7 @@ pub(crate) fn field_index(count: usize, index: i64) -> Option<usize>
 }
 
 /// Whether both are nil, or the same object.
-pub(crate) fn is_same(left: Option<Name>, right: Option<Name>) -> bool
+pub fn is_same(left: Option<Name>, right: Option<Name>) -> bool
     ensures { result ≡ same_name left right }
 {
     match (left, right) {

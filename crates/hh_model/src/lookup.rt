@@ -45,7 +45,7 @@ impl State {
     }
 
     /// The strand that a task is on.
-    pub(crate) fn strand(&self, t: u32) -> Strand
+    pub fn strand(&self, t: u32) -> Strand
         requires { t < length self.now.tasks }
         ensures { IfSome (slice_get self.now.tasks t) (λ x. result ≡ strand_of t x) }
     {

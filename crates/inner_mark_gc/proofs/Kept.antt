@@ -1,5 +1,5 @@
 -- The chunks that a sweep leaves: what they are, and what is read in them.
-use Rattle.std.proofs.Common.{◌≡◌, ℕ, zero, suc, ◌+◌, ◌<◌, ◌≤◌, Bool, true, false, cond, one-add, List, [], ◌∷◌, length, map, filter, refl, sym, ap, ◌∙◌, subst, arith, ◌⊎◌, inl, inr, eqb, Option, Some, None, All}
+use Rattle.std.proofs.Common.{◌≡◌, ℕ, zero, suc, ◌+◌, ◌*◌, ◌<◌, ◌≤◌, Bool, true, false, cond, one-add, List, [], ◌∷◌, length, map, filter, refl, sym, ap, ◌∙◌, subst, arith, ◌⊎◌, inl, inr, eqb, Option, Some, None, All}
 use Rattle.std.specs.Prelude.{◌||◌, nat_lt}
 use Rattle.std.proofs.lemmas.Bool.{cases_Bool, eq-eqb, eqb-true, false≢true, ne_eqb}
 use Rattle.std.proofs.lemmas.List.{length-map}
@@ -11,7 +11,7 @@ use Rattle.object_layout.specs.Place.{cell_at}
 use Rattle.object_layout.specs.Chunks.{cell_of, chunk_at, object_of, place_of}
 use Rattle.object_layout.proofs.ChunkLaws as laws
 use Rattle.listed.proofs.Members.{In, contains_from_in, in_from_contains}
-use Rattle.alloc_path.specs.Heap.{AreApart, IsCurrent, IsFresh, IsReserved, IsSettled, IsTidy}
+use Rattle.alloc_path.specs.Heap.{AreApart, IsCurrent, IsFresh, IsReserved, IsSettled, IsTidy, units}
 use Rattle.alloc_path.proofs.HeapLemmas.{fresh_at, fresh_cons, fresh_head, fresh_tail, none_there}
 use Rattle.inner_mark_gc.specs.Laws.{AllMarkedIsDone, EachLeftHolds, SweptAreRead, SweptIsSnapshot}
 use Rattle.inner_mark_gc.specs.Marks.{has_address, marked_of}
@@ -126,19 +126,21 @@ module _ (kept : List Addr) (reserved : Option ℕ) (ks : List Content) (settled
       (swept_unmoved (has_address kept (record { chunk = n; offset = at })) c (All-head (λ (d : Cell). moved_to d.mark ≡ None) c cs a))
       (cells_unmoved n (at + size_of c) cs (All-tail (λ (d : Cell). moved_to d.mark ≡ None) c cs a))
 
-  cells_alone : (one : Type 0) (n at : ℕ) (cs : List Cell) → All (λ c. 1024 < size_of c → one) cs → All (λ c. 1024 < size_of c → one) (swept_cells kept n at cs)
-  cells_alone one n at [] a = a
-  cells_alone one n at (c ∷ cs) a =
-      All-cons (λ (d : Cell). 1024 < size_of d → one) (swept_cell (has_address kept (record { chunk = n; offset = at })) c) (swept_cells kept n (at + size_of c) cs)
-      (subst (λ (m : ℕ). 1024 < m → one) (sym (size_swept (has_address kept (record { chunk = n; offset = at })) c)) (All-head (λ (d : Cell). 1024 < size_of d → one) c cs a))
-      (cells_alone one n (at + size_of c) cs (All-tail (λ (d : Cell). 1024 < size_of d → one) c cs a))
+  cells_sized : (P : ℕ → Type 0) (n at : ℕ) (cs : List Cell) → All (λ c. P (size_of c)) cs → All (λ c. P (size_of c)) (swept_cells kept n at cs)
+  cells_sized P n at [] a = a
+  cells_sized P n at (c ∷ cs) a =
+      All-cons (λ (d : Cell). P (size_of d)) (swept_cell (has_address kept (record { chunk = n; offset = at })) c) (swept_cells kept n (at + size_of c) cs)
+      (subst P (sym (size_swept (has_address kept (record { chunk = n; offset = at })) c)) (All-head (λ (d : Cell). P (size_of d)) c cs a))
+      (cells_sized P n (at + size_of c) cs (All-tail (λ (d : Cell). P (size_of d)) c cs a))
 
   swept_tidy : (k : Content) → IsTidy k → IsTidy (swept_chunk kept k)
   swept_tidy k t = record {
     unmoved = cells_unmoved k.number 0 k.cells t.unmoved;
     alone =
         subst (λ (n : ℕ). All (λ (c : Cell). 1024 < size_of c → n ≡ 1) (swept_cells kept k.number 0 k.cells)) (sym (swept_count k.number 0 k.cells))
-        (cells_alone (length k.cells ≡ 1) k.number 0 k.cells t.alone);
+        (cells_sized (λ m. 1024 < m → length k.cells ≡ 1) k.number 0 k.cells t.alone);
+    exact = cells_sized (λ m. 1024 < m → k.size ≡ 1024 * units m) k.number 0 k.cells t.exact;
+    few = λ l. subst (λ (n : ℕ). n ≤ 1) (sym (swept_count k.number 0 k.cells)) (t.few l);
   }
 
   pub now_settled : IsSettled (map (swept_chunk kept) (filter (stays kept reserved) ks))

@@ -3,6 +3,7 @@ use Rattle.std.specs.Prelude.{◌≡◌, ◌⊎◌, ℕ, ◌+◌, ◌<◌, ◌�
 use Rattle.std.specs.List.{list_any}
 use Rattle.object_layout.specs.declared.word.Addr.{Addr}
 use Rattle.object_layout.specs.Content.{Content}
+pub use Rattle.object_layout.specs.Chunks.{same_address}
 use Rattle.inner_mark_gc.specs.Snapshot.{Fork, IsHeld, IsInSnapshot, Leads, object_count}
 
 -- the objects that were found, in the order in which they were found; how many of the first of them
@@ -15,9 +16,6 @@ pub record Marks : Type 0 where
   pub slots : ℕ
   pub spare : ℕ
   pub places : ℕ
-
-abbrev pub same_address : Addr → Addr → Bool
-same_address a b = a.chunk == b.chunk && a.offset == b.offset
 
 abbrev pub has_address : List Addr → Addr → Bool
 has_address xs a = list_any (same_address a) xs

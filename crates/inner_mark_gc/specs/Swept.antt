@@ -2,24 +2,20 @@
 use Rattle.std.specs.Prelude.{◌≡◌, ℕ, ◌+◌, ◌||◌, Bool, true, false, List, [], ◌∷◌, ◌==◌, Option, Some, None, All, filter, map, not}
 use Rattle.std.specs.List.{list_any}
 use Rattle.object_layout.specs.declared.word.Addr.{Addr}
-use Rattle.object_layout.specs.Cell.{Born, Cell, Hole, Mark, Moved, size_of, with_mark}
+use Rattle.object_layout.specs.Cell.{Born, Cell, Hole, Mark, Moved}
 use Rattle.object_layout.specs.Content.{Content}
 use Rattle.object_layout.specs.Chunks.{chunk_at, place_in}
+use Rattle.object_layout.specs.Objects.{sifted_cells}
+pub use Rattle.object_layout.specs.Objects.{swept_cell}
 use Rattle.alloc_path.specs.Heap.{Heap, IsFresh}
 use Rattle.chunk_pool.specs.Chunks.{Chunks, held_at, units_held, units_in_use}
 use Rattle.inner_mark_gc.specs.Marks.{has_address}
 
 -- ---- a chunk
 
--- what is kept stays; all else is a hole of its words
-abbrev pub swept_cell : Bool → Cell → Cell
-swept_cell true c = c
-swept_cell false c = with_mark c Hole
-
 -- cells of a chunk, the first of them at an offset: those at the addresses that are kept stay
 abbrev pub swept_cells : List Addr → ℕ → ℕ → List Cell → List Cell
-swept_cells kept number at [] = []
-swept_cells kept number at (c ∷ cs) = swept_cell (has_address kept (record { chunk = number; offset = at })) c ∷ swept_cells kept number (at + size_of c) cs
+swept_cells kept number at cs = sifted_cells (has_address kept) number at cs
 
 abbrev pub swept_chunk : List Addr → Content → Content
 swept_chunk kept k = record k { cells = swept_cells kept k.number 0 k.cells }

@@ -10,6 +10,3 @@ pub use laws::{
     swept_are_read, swept_is_snapshot,
 };
 pub use marking::Marking;
-
-#[cfg(test)]
-mod tests;

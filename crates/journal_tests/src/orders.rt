@@ -1,7 +1,7 @@
 // Entries that could be refused for two causes: which one comes first. And what a refused entry stops.
 
 use crate::programs::{COLLECTS, MARKS, PRINTS, SWEEPS, TO_BEGIN, TO_FORK, limits};
-use crate::tests::told;
+use crate::refusals::told;
 use run_journal::{ApplyError, Book};
 use run_ledger::Refused;
 use run_trace::Settings;

@@ -17,10 +17,6 @@ pub(crate) const MARKS: &str =
 
 pub(crate) const TO_FORK: &str = "0 took 0\n0 ran 0 2\n0 chunk 0\n0 ran 0 9\n";
 
-/// It reads what the other child makes, and is stopped where that child came first.
-pub(crate) const READS: &str =
-    "fn left\nset i0 0\nset i1 1\nnewm r1 i0 i1\nputr r0 i0 r1\nret\nend\nfn right\nset i0 0\ngetr r1 r0 i0\nret\nend\nfn main\nset i0 1\nset i1 0\nnewm r0 i0 i1\npar left right\nret\nend\n";
-
 /// It makes two objects of 16 words.
 pub(crate) const TWO_OBJECTS: &str =
     "fn main\nset i0 1\nset i1 13\nnewm r0 i0 i1\nset i2 0\nputr r0 i2 r0\nmovr r1 r0\nnewm r2 i0 i1\ngetr r3 r0 i2\nsame i3 r0 r1\nsame i4 r3 r1\nout i3\nout i4\nret\nend\n";

@@ -1,9 +1,6 @@
 // What is written of runs, and the pace of their journals.
 
-use crate::programs::{
-    COLLECTS, LARGE, LARGE_AND_SMALL, LISTS, MARKS, READS, SWEEPS, TO_BEGIN, TO_FORK, TWO_OBJECTS,
-    limits,
-};
+use crate::programs::{LARGE, LARGE_AND_SMALL, LISTS, SWEEPS, TWO_OBJECTS, limits};
 use listed::Listed;
 use run_journal::{model_replay, replayed};
 use run_report::{is_paced, out_text, report_of, whole_run};
@@ -51,22 +48,6 @@ fn runs_are_written_whole(rt: HostRuntime) -> Result<(), Fail> {
     let cases = [
         (
             usual,
-            READS,
-            "trace 1\n0 took 0\n0 ran 0 2\n0 chunk 0\n0 ran 0 2\n0 took 1\n0 ran 1 2\n0 chunk 1\n0 ran 1 2\n0 ran 1 1\n0 took 2\n0 ran 2 2\n",
-            true,
-            "report tasks 3 steps 11 turns 11\nreport leaf 0 putoff 0 freed 0\nreport inner 0 freed 0\nreport chunks 2 peak 2\nreport held 2 words 6\n",
-            "end: entangled reader 2 owner 1\n",
-        ),
-        (
-            usual,
-            READS,
-            "trace 1\n0 took 0\n0 ran 0 2\n0 chunk 0\n0 ran 0 2\n0 took 2\n0 ran 2 2\n0 ran 2 1\n0 took 1\n0 ran 1 2\n0 chunk 1\n0 ran 1 2\n0 ran 1 1\n0 took 0\n0 ran 0 1\n",
-            false,
-            "report tasks 3 steps 13 turns 14\nreport leaf 0 putoff 0 freed 0\nreport inner 0 freed 0\nreport chunks 2 peak 2\nreport held 2 words 6\n",
-            "end: done\n",
-        ),
-        (
-            usual,
             LARGE,
             "trace 2\n0 took 0\n0 ran 0 2\n0 chunk 0\n0 ran 0 2\n",
             false,
@@ -98,24 +79,10 @@ fn collections_are_counted(rt: HostRuntime) -> Result<(), Fail> {
     let cases = [
         (
             leaf,
-            COLLECTS,
-            TO_BEGIN,
-            "0 begin 1\n1 ran 2 3\n0 end 1 1 1 16\n0 ran 1 2\n1 ran 2 1\n1 took 0\n1 ran 0 5\n1 ran 0 1\n",
-            "1\nreport tasks 3 steps 21 turns 18\nreport leaf 1 putoff 0 freed 0\nreport inner 0 freed 0\nreport chunks 2 peak 3\nreport held 3 words 35\n",
-        ),
-        (
-            leaf,
             TWO_OBJECTS,
             "0 took 0\n0 ran 0 2\n0 chunk 0\n0 ran 0 4\n0 begin 0\n",
             "0 end 0 1 1 16\n0 ran 0 5\n0 ran 0 1\n0 ran 0 1\n",
             "1\n1\nreport tasks 1 steps 13 turns 9\nreport leaf 1 putoff 0 freed 0\nreport inner 0 freed 0\nreport chunks 1 peak 2\nreport held 2 words 32\n",
-        ),
-        (
-            inner,
-            MARKS,
-            TO_FORK,
-            "0 took 1\n0 ran 1 2\n0 ran 1 2\n0 mark 0\n0 some 0 64\n0 sweep 0 0\n0 ran 1 1\n0 ran 1 1\n0 took 2\n0 ran 2 1\n0 took 0\n0 ran 0 1\n0 ran 0 1\n",
-            "5\nreport tasks 3 steps 20 turns 17\nreport leaf 0 putoff 0 freed 0\nreport inner 1 freed 0\nreport chunks 1 peak 1\nreport held 2 words 19\n",
         ),
         (
             inner,

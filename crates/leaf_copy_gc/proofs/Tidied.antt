@@ -1,5 +1,5 @@
 -- What a collection leaves is tidy: no object in it was moved, and a large one has its chunk to itself.
-use Rattle.std.proofs.Common.{◌≡◌, ℕ, zero, suc, ◌<◌, ◌≤◌, Bool, true, false, cond, List, [], ◌∷◌, ◌++◌, length, map, filter, refl, sym, ◌∙◌, subst, arith, inl, inr, Option, Some, None, All}
+use Rattle.std.proofs.Common.{◌≡◌, ℕ, zero, suc, ◌+◌, ◌*◌, ◌<◌, ◌≤◌, Bool, true, false, cond, List, [], ◌∷◌, ◌++◌, length, map, filter, refl, sym, ap, ◌∙◌, subst, arith, inl, inr, Option, Some, None, All}
 use Rattle.std.specs.Prelude.{remove, nat_lt, reverse}
 use Rattle.std.proofs.lemmas.Bool.{leb-true}
 use Rattle.std.proofs.lemmas.List.{length-map}
@@ -8,7 +8,7 @@ use Rattle.object_layout.specs.declared.word.Addr.{Addr}
 use Rattle.object_layout.specs.Cell.{Cell, moved_to, size_of}
 use Rattle.object_layout.specs.Content.{Content}
 use Rattle.object_layout.specs.Chunks.{cell_of, no_chunk}
-use Rattle.alloc_path.specs.Heap.{AreTidy, IsTidy}
+use Rattle.alloc_path.specs.Heap.{AreTidy, IsTidy, units}
 use Rattle.alloc_path.proofs.Settled.{unmoved_at}
 use Rattle.listed.proofs.Members.{In}
 use Rattle.leaf_copy_gc.specs.declared.lists.Survivor.{Survivor}
@@ -27,16 +27,18 @@ abbrev IsLaid : Cell → Type 0
 IsLaid c = (moved_to c.mark ≡ None) × (size_of c ≤ 1024)
 
 abbrev HoldsLaid : Content → Type 0
-HoldsLaid k = All IsLaid k.cells
+HoldsLaid k = All IsLaid k.cells × (k.size ≡ 1024)
 
 laid_placed : (ks : List Content) (c : Cell) → IsLaid c → All HoldsLaid ks → All HoldsLaid (placed ks c)
 laid_placed [] c p a = a
-laid_placed (k ∷ []) c p a = All-cons HoldsLaid (record k { cells = k.cells ++ c ∷ [] }) [] (All-push IsLaid k.cells c (All-head HoldsLaid k [] a) p) (All-nil HoldsLaid)
+laid_placed (k ∷ []) c p a =
+    let here = All-head HoldsLaid k [] a in
+    All-cons HoldsLaid (record k { cells = k.cells ++ c ∷ [] }) [] (All-push IsLaid k.cells c here.0 p, here.1) (All-nil HoldsLaid)
 laid_placed (k ∷ (l ∷ ks)) c p a = All-cons HoldsLaid k (placed (l ∷ ks) c) (All-head HoldsLaid k (l ∷ ks) a) (laid_placed (l ∷ ks) c p (All-tail HoldsLaid k (l ∷ ks) a))
 
 laid_open : (laid spare : List Content) → All HoldsLaid laid → AreNew spare → All HoldsLaid (open_next laid spare).laid × AreNew (open_next laid spare).spare
 laid_open laid [] a n = (a, n)
-laid_open laid (k ∷ ks) a n = (All-push HoldsLaid laid k a (subst (λ (cs : List Cell). All IsLaid cs) (sym n.0.0) (All-nil IsLaid)), n.1)
+laid_open laid (k ∷ ks) a n = (All-push HoldsLaid laid k a (subst (λ (cs : List Cell). All IsLaid cs) (sym n.0.0) (All-nil IsLaid), n.0.1), n.1)
 
 laid_opened : (y : Laying) (b : Bool) → All HoldsLaid y.laid → AreNew y.spare → All HoldsLaid (cond b (open_next y.laid y.spare) y).laid × AreNew (cond b (open_next y.laid y.spare) y).spare
 laid_opened y true a n = laid_open y.laid y.spare a n
@@ -50,8 +52,10 @@ all_laid y h (x ∷ xs) f a n =
 
 laid_tidy : (k : Content) → HoldsLaid k → IsTidy k
 laid_tidy k a = record {
-  unmoved = All-weaker IsLaid (λ (c : Cell). moved_to c.mark ≡ None) (λ c p. p.0) k.cells a;
-  alone = All-weaker IsLaid (λ (c : Cell). 1024 < size_of c → length k.cells ≡ 1) (λ c p l. let m : size_of c ≤ 1024 = p.1 in absurd (omega arith)) k.cells a;
+  unmoved = All-weaker IsLaid (λ (c : Cell). moved_to c.mark ≡ None) (λ c p. p.0) k.cells a.0;
+  alone = All-weaker IsLaid (λ (c : Cell). 1024 < size_of c → length k.cells ≡ 1) (λ c p l. let m : size_of c ≤ 1024 = p.1 in absurd (omega arith)) k.cells a.0;
+  exact = All-weaker IsLaid (λ (c : Cell). 1024 < size_of c → k.size ≡ 1024 * units (size_of c)) (λ c p l. let m : size_of c ≤ 1024 = p.1 in absurd (omega arith)) k.cells a.0;
+  few = λ l. let s : k.size ≡ 1024 = a.1 in absurd (omega arith);
 }
 
 -- ---- references are led
@@ -64,6 +68,13 @@ led_tidy f k t = record {
       All-map (λ (c : Cell). 1024 < size_of c → length (map (led f) k.cells) ≡ 1) (led f) k.cells
       (All-weaker (λ (c : Cell). 1024 < size_of c → length k.cells ≡ 1) (λ (c : Cell). 1024 < size_of (led f c) → length (map (led f) k.cells) ≡ 1)
       (λ c p l. let n : length (map f c.refs) ≡ length c.refs = length-map c.refs f in count ∙ p (omega arith)) k.cells t.alone);
+  exact =
+      All-map (λ (c : Cell). 1024 < size_of c → k.size ≡ 1024 * units (size_of c)) (led f) k.cells
+      (All-weaker (λ (c : Cell). 1024 < size_of c → k.size ≡ 1024 * units (size_of c)) (λ (c : Cell). 1024 < size_of (led f c) → k.size ≡ 1024 * units (size_of (led f c)))
+      (λ c p l.
+      let n : length (map f c.refs) ≡ length c.refs = length-map c.refs f in
+      p (omega arith) ∙ ap (λ (m : ℕ). 1024 * units (2 + (m + length c.ints))) (sym n)) k.cells t.exact);
+  few = λ l. let n : length (map (led f) k.cells) ≡ length k.cells = length-map k.cells (led f) in let m : length k.cells ≤ 1 = t.few l in omega arith;
 }
 
 all_led : (f : Option Addr → Option Addr) (ks : List Content) → AreTidy ks → AreTidy (map (led_chunk f) ks)

@@ -1,10 +1,10 @@
 -- Which chunks a heap keeps, and which it gives back.
-use Rattle.std.specs.Prelude.{◌≡◌, true, ℕ, ◌+◌, ◌-◌, ◌^◌, Bool, List, [], ◌∷◌, ◌&&◌, Option, Some, None, is_some, length, min, nat_le, not, remove, if◌then◌else◌}
+use Rattle.std.specs.Prelude.{◌≡◌, true, ℕ, Bool, List, [], ◌∷◌, ◌&&◌, Option, Some, None, is_some, length, nat_le, not, remove, if◌then◌else◌}
 use Rattle.object_layout.specs.Cell.{Born, Cell, IsObject, moved_to, size_of, with_mark}
 use Rattle.object_layout.specs.Content.{Content}
 use Rattle.object_layout.specs.Place.{cell_at}
 use Rattle.object_layout.specs.Chunks.{cell_of, chunk_at, place_in, put_object}
-use Rattle.alloc_path.specs.Heap.{units}
+pub use Rattle.alloc_path.specs.Units.{counted32, unit_count}
 use Rattle.leaf_copy_gc.specs.declared.lists.Survivor.{Survivor}
 
 -- a large object that was found
@@ -40,15 +40,6 @@ last_place (k ∷ ks) = Some (length ks)
 abbrev pub reserved_place : ℕ → Option ℕ → Option ℕ
 reserved_place n None = None
 reserved_place n (Some i) = Some n
-
--- the units of 1,024 words of these chunks
-abbrev pub unit_count : List Content → ℕ
-unit_count [] = 0
-unit_count (k ∷ ks) = units k.size + unit_count ks
-
--- a number, as far as 32 bits count
-abbrev pub counted32 : ℕ → ℕ
-counted32 n = min n (2 ^ 32 - 1)
 
 -- a survivor that is in the heap bears its birth name again
 abbrev pub named : List Content → Survivor → List Content

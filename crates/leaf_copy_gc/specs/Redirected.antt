@@ -4,6 +4,7 @@ use Rattle.object_layout.specs.declared.word.Addr.{Addr}
 use Rattle.object_layout.specs.Cell.{Cell, IsObject, moved_to}
 use Rattle.object_layout.specs.Content.{Content}
 use Rattle.object_layout.specs.Chunks.{cell_of, place_of, put_object}
+pub use Rattle.object_layout.specs.Objects.{led, led_chunk}
 use Rattle.remembered_set.specs.Moved.{new_of}
 use Rattle.task_frames.specs.declared.frames.Frame.{Frame}
 use Rattle.leaf_copy_gc.specs.declared.lists.Survivor.{Survivor}
@@ -20,13 +21,7 @@ abbrev pub redirected : List (Addr × Addr) → Option Addr → Option Addr
 redirected moved None = None
 redirected moved (Some a) = Some (new_address moved a)
 
--- an object, a chunk and a frame with each reference led elsewhere, and nothing else changed
-abbrev pub led : (Option Addr → Option Addr) → Cell → Cell
-led f c = record c { refs = map f c.refs }
-
-abbrev pub led_chunk : (Option Addr → Option Addr) → Content → Content
-led_chunk f k = record k { cells = map (led f) k.cells }
-
+-- a frame with each reference led elsewhere, and nothing else changed
 abbrev pub led_frame : (Option Addr → Option Addr) → Frame → Frame
 led_frame f x = record x { refs = map f x.refs }
 

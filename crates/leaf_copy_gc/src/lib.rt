@@ -14,6 +14,3 @@ mod reserving;
 pub use collection::copy;
 pub use laws::{large_are_read, moved_are_read, needs_are_counted};
 pub use lists::{Moved, Survivor, ToChunks};
-
-#[cfg(test)]
-mod tests;

@@ -11,8 +11,6 @@ mod reachable;
 mod search;
 mod sizes;
 mod sweeping;
-#[cfg(test)]
-mod tests;
 
 pub use collection::{Collected, collect};
 pub use joined::{fresh, join, merge};

@@ -146,26 +146,3 @@ impl<T> Listed<T> {
         items
     }
 }
-
-#[cfg(test)]
-mod tests {
-    use super::*;
-    use std::test::Fail;
-
-    #[test]
-    fn items_come_and_go(rt: HostRuntime) -> Result<(), Fail> {
-        let mut list = Listed::new(rt.alloc());
-        list.push(3)?;
-        list.push_pair(5, 7)?;
-        *list.at_mut(1) = 6;
-        list.set(0, 2);
-        assert_eq!(rt; list.as_slice(), [2, 6, 7].as_slice());
-        assert_eq!(rt; list.pop(), Some(7));
-        assert_eq!(rt; list.get(1).copied(), Some(6));
-        assert_eq!(rt; list.get(2).copied(), None);
-        list.truncate(1);
-        assert_eq!(rt; list.len(), 1);
-        assert!(rt; !list.is_empty());
-        Ok(())
-    }
-}

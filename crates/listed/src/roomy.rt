@@ -89,21 +89,3 @@ impl<T> Roomy<T> {
         Listed::from_vec(items)
     }
 }
-
-#[cfg(test)]
-mod tests {
-    use super::*;
-    use std::test::Fail;
-
-    #[test]
-    fn room_is_used(rt: HostRuntime) -> Result<(), Fail> {
-        let mut list = Roomy::new(rt.alloc());
-        list.reserve(2)?;
-        list.push_reserved(1);
-        list.push_reserved(2);
-        assert_eq!(rt; list.as_slice(), [1, 2].as_slice());
-        assert_eq!(rt; list.pop(), Some(2));
-        assert_eq!(rt; list.into_listed().as_slice(), [1].as_slice());
-        Ok(())
-    }
-}

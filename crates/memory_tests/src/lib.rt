@@ -1,9 +1,29 @@
-// Tests that cross the crates of memory; it has no code of its own.
+// Tests of memory: layout, heaps, trees, barriers and collectors. It has no code of its own.
 #![tactic(auto)]
 
 #[cfg(test)]
+mod cells;
+#[cfg(test)]
+mod chunks;
+#[cfg(test)]
+mod collecting;
+#[cfg(test)]
+mod collections;
+#[cfg(test)]
 mod heaps;
 #[cfg(test)]
-mod tests;
+mod registers;
+#[cfg(test)]
+mod remembered;
+#[cfg(test)]
+mod scenes;
+#[cfg(test)]
+mod soundness;
+#[cfg(test)]
+mod sweeping;
+#[cfg(test)]
+mod sweeps;
+#[cfg(test)]
+mod trees;
 #[cfg(test)]
 mod writes;

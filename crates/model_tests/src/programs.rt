@@ -19,8 +19,8 @@ const ENTANGLED_READ: &str = "\
     fn main / set i0 1 / set i1 0 / newm r0 i0 i1 / par left right / ret / end";
 
 const HUNDRED_OBJECTS: &str = "\
-    fn main / set i0 0 / set i1 8 / set i2 1 / set i3 100 / newm r0 i0 i1 / sub i3 i3 i2 / jz i3 8 / \
-    jmp 4 / ret / end";
+    fn main / set i0 0 / set i1 8 / set i2 1 / set i3 100 / lab a / newm r0 i0 i1 / sub i3 i3 i2 / \
+    jz i3 b / jmp a / lab b / ret / end";
 
 const OWN_DOWN_POINTER: &str = "\
     fn left / set i0 0 / set i1 1 / newm r1 i0 i1 / set i2 42 / puti r1 i0 i2 / putr r0 i0 r1 / \
@@ -64,8 +64,8 @@ const JOINED_CHILDS_OBJECT: &str = "\
     fn main / set i0 1 / set i1 0 / newm r0 i0 i1 / par left right / ret / end";
 
 const ENDLESS_LIST: &str = "\
-    fn main / set i0 1 / set i1 597 / newm r1 i0 i1 / set i2 0 / putr r1 i2 r0 / movr r0 r1 / jmp 2 / \
-    end";
+    fn main / set i0 1 / set i1 597 / lab a / newm r1 i0 i1 / set i2 0 / putr r1 i2 r0 / movr r0 r1 / \
+    jmp a / end";
 
 const MARK_AND_SWEEP: &str = "\
     fn kid / out i0 / ret / end / \
@@ -209,7 +209,7 @@ fn the_deepest_forks(rt: HostRuntime) -> Result<(), Fail> {
 // Each turn of the loop calls, makes an object, and writes a field of each kind.
 const LOOP: &str = "\
     fn f / newm r1 i1 i1 / puti r1 i0 i1 / putr r1 i0 r0 / movr r0 r1 / ret / end / \
-    fn main / set i1 1 / call f / jmp 1 / end";
+    fn main / set i1 1 / lab a / call f / jmp a / end";
 
 #[test]
 fn a_million_steps(rt: HostRuntime) -> Result<(), Fail> {

@@ -1,9 +1,13 @@
 -- Objects of a list of chunks, by their addresses.
-use Rattle.std.specs.Prelude.{ℕ, ◌+◌, List, [], ◌∷◌, ◌++◌, ◌==◌, if◌then◌else◌, Option, Some, None, length, nat_le, nat_lt, slice_index_or, slice_set}
+use Rattle.std.specs.Prelude.{◌≡◌, ℕ, ◌+◌, Bool, List, [], ◌∷◌, ◌++◌, ◌==◌, ◌&&◌, if◌then◌else◌, Option, Some, None, is_some, length, nat_le, nat_lt, slice_index_or, slice_set}
 use Rattle.object_layout.specs.declared.word.Addr.{Addr}
 use Rattle.object_layout.specs.Cell.{Born, Cell, Hole, Mark, Moved, as_object, no_cell, size_of}
 use Rattle.object_layout.specs.Content.{Content}
 use Rattle.object_layout.specs.Place.{cell_at, put_cell, words_in}
+
+-- whether two addresses are one
+abbrev pub same_address : Addr → Addr → Bool
+same_address a b = a.chunk == b.chunk && a.offset == b.offset
 
 -- no chunk: what stands past the end of a list
 abbrev pub no_chunk : Content
@@ -21,6 +25,19 @@ place_of (k ∷ ks) number = if k.number == number then 0 else 1 + place_of ks n
 -- the same; None where none has it
 abbrev pub place_in : List Content → ℕ → Option ℕ
 place_in ks number = if nat_lt (place_of ks number) (length ks) then Some (place_of ks number) else None
+
+-- whether one of these chunks has this number
+abbrev pub has_chunk : List Content → ℕ → Bool
+has_chunk ks number = is_some (place_in ks number)
+
+-- none of these chunks has this number
+abbrev pub IsFresh : List Content → ℕ → Type 0
+IsFresh ks number = place_in ks number ≡ None
+
+-- no two of these chunks have one number
+abbrev pub AreApart : List Content → Type 0
+AreApart [] = Unit {0}
+AreApart (k ∷ ks) = IsFresh ks k.number × AreApart ks
 
 -- what begins at an address: an object or a hole; no object where none does
 abbrev pub cell_of : List Content → Addr → Cell

@@ -1,9 +1,10 @@
 -- Laws of objects by their addresses, for crates above.
-use Rattle.std.specs.Prelude.{◌≡◌, ◌≢◌, ℕ, ◌<◌, List, length}
+use Rattle.std.specs.Prelude.{◌≡◌, ◌≢◌, ◌==◌, ◌↔◌, ℕ, ◌<◌, true, false, List, ◌++◌, length}
+use Rattle.std.specs.List.{list_any}
 use Rattle.object_layout.specs.declared.word.Addr.{Addr}
 use Rattle.object_layout.specs.Cell.{Cell}
 use Rattle.object_layout.specs.Content.{Content}
-use Rattle.object_layout.specs.Chunks.{cell_of, chunk_at, next_address, place_in, place_of, push_object, put_object}
+use Rattle.object_layout.specs.Chunks.{cell_of, chunk_at, has_chunk, next_address, place_in, place_of, push_object, put_object, AreApart, IsFresh}
 
 -- addresses with the same parts are the same
 abbrev pub SameAddress : Type 0
@@ -29,3 +30,17 @@ PutWherePushed =
     (ks : List Content) (i : ℕ) (c d : Cell)
     → place_of ks (chunk_at ks i).number ≡ i → i < length ks
     → put_object (push_object ks i c) (next_address (chunk_at ks i)) d ≡ push_object ks i d
+
+-- chunks are found by their numbers
+abbrev pub ChunksAreFound : Type 0
+ChunksAreFound = (ks : List Content) (number : ℕ) → has_chunk ks number ≡ list_any (λ k. k.number == number) ks
+
+-- a number is fresh exactly where no chunk has it
+abbrev pub FreshHasNone : Type 0
+FreshHasNone = (ks : List Content) (number : ℕ) → IsFresh ks number ↔ (has_chunk ks number ≡ false)
+
+-- lists without a number in common are apart together, if each is
+abbrev pub ApartTogether : Type 0
+ApartTogether =
+    (ks ls : List Content) → AreApart ks → AreApart ls
+    → ((number : ℕ) → has_chunk ks number ≡ true → has_chunk ls number ≡ false) → AreApart (ks ++ ls)

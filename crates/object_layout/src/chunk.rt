@@ -74,6 +74,13 @@ impl Chunk {
         self.used
     }
 
+    /// Gives it another number.
+    pub fn renumber(&mut self, number: u32)
+        ensures { self.new ≡ record self.old { number = number } }
+    {
+        self.number = number;
+    }
+
     /// Forgets its objects and holes.
     pub fn clear(&mut self)
         ensures { self.new ≡ record self.old { cells = [] } }
@@ -342,84 +349,4 @@ pub fn drop_at(chunk: &mut Chunk, at: u32)
 {
     chunk.words[at as usize] |= GONE;
     chunk.words[at as usize + 1] = 0;
-}
-
-#[cfg(test)]
-mod tests {
-    use super::*;
-    use std::test::Fail;
-
-    const TO: Addr = Addr {
-        chunk: 2,
-        offset: 0,
-    };
-
-    // A chunk may cross to another thread.
-    fn sent<T: Send>(value: T) -> T
-        ensures { result ≡ value }
-    {
-        value
-    }
-
-    fn word(chunk: &Chunk, at: usize) -> Option<u64> {
-        chunk.words.as_slice().get(at).copied()
-    }
-
-    // A mutable object of one reference and two numbers, the sixth of task 3, as it is made and
-    // forwarded to word 2049.
-    #[test]
-    fn words_of_an_object(rt: HostRuntime) -> Result<(), Fail> {
-        let mut chunk = Chunk::new(rt.alloc(), 7, 1)?;
-        let header = Header {
-            nrefs: 1,
-            nints: 2,
-            mutable: true,
-        };
-        write_new(&mut chunk, 0, header, Birth { task: 3, count: 5 });
-        assert_eq!(rt; word(&chunk, 0), Some(1099513724929));
-        assert_eq!(rt; word(&chunk, 1), Some(12884901893));
-        assert_eq!(rt; forwarded_at(&chunk, 0), None);
-        forward(&mut chunk, 0, TO);
-        assert_eq!(rt; word(&chunk, 0), Some(3298536980481));
-        assert_eq!(rt; word(&chunk, 1), Some(2049));
-        assert_eq!(rt; forwarded_at(&chunk, 0), Some(TO));
-        assert_eq!(rt; header_at(&chunk, 0), header);
-        set_birth(&mut chunk, 0, Birth { task: 3, count: 5 });
-        assert_eq!(rt; word(&chunk, 0), Some(1099513724929));
-        freeze(&mut chunk, 0);
-        assert_eq!(rt; word(&chunk, 0), Some(2097153));
-        Ok(())
-    }
-
-    #[test]
-    fn fields_and_holes(rt: HostRuntime) -> Result<(), Fail> {
-        let mut chunk = Chunk::new(rt.alloc(), 7, 1)?;
-        let header = Header {
-            nrefs: 1,
-            nints: 2,
-            mutable: true,
-        };
-        write_new(&mut chunk, 0, header, Birth { task: 3, count: 5 });
-        write_new(&mut chunk, 5, header, Birth { task: 3, count: 6 });
-        set_ref(&mut chunk, 5, 0, Some(TO));
-        set_int(&mut chunk, 5, 1, -1);
-        drop_at(&mut chunk, 0);
-        assert_eq!(rt; is_object_at(&chunk, 0), false);
-        let at = next_at(&chunk, 0);
-        assert_eq!(rt; at, 5);
-        assert_eq!(rt; is_born_at(&chunk, 5), true);
-        let mut copies = sent(Chunk::new(rt.alloc(), 8, 1)?);
-        assert_eq!(rt; copy_behind(&chunk, 5, &mut copies), 0);
-        assert_eq!(rt; ref_at(&copies, 0, 0), Some(TO));
-        assert_eq!(rt; int_at(&copies, 0, 0), 0);
-        assert_eq!(rt; int_at(&copies, 0, 1), -1);
-        assert_eq!(rt; birth_at(&copies, 0), Birth { task: 3, count: 6 });
-        assert_eq!(rt;
-            (copies.number(), copies.size(), copies.used()),
-            (8, 1024, 5)
-        );
-        copies.clear();
-        assert_eq!(rt; copies.used(), 0);
-        Ok(())
-    }
 }

@@ -120,24 +120,3 @@ impl Sink for SureSink {
         Ok(bytes.len())
     }
 }
-
-#[cfg(test)]
-mod tests {
-    use super::*;
-    use std::test::Fail;
-
-    #[test]
-    fn sure_ends_never_fail(rt: HostRuntime) -> Result<(), Fail> {
-        let alloc = rt.alloc();
-        let mut source = SureSource::new(b"hello".to_vec(alloc)?, b"file".to_vec(alloc)?);
-        let mut buf = [0u8; 3];
-        assert_eq!(rt; source.take(&mut buf), Ok(3));
-        assert_eq!(rt; &buf, b"hel");
-        assert_eq!(rt; source.left(), b"lo".as_slice());
-        assert_eq!(rt; source.find("a"), Ok(()));
-        assert_eq!(rt; source.left(), b"file".as_slice());
-        let mut sink = SureSink;
-        assert_eq!(rt; sink.put(b"ab"), Ok(2));
-        Ok(())
-    }
-}

@@ -6,6 +6,3 @@ mod text;
 mod whole;
 
 pub use whole::make;
-
-#[cfg(test)]
-mod tests;

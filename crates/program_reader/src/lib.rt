@@ -12,8 +12,6 @@ mod outline;
 mod read;
 mod reader;
 mod sense;
-#[cfg(test)]
-mod tests;
 
 pub use cause::{Cause, Refused};
 pub use laws::{first_fault_is_first, loops_are_read, no_fault_on_any_line};

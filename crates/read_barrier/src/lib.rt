@@ -2,7 +2,5 @@
 #![tactic(auto)]
 
 mod barrier;
-#[cfg(test)]
-mod tests;
 
 pub use barrier::{Stop, check, check_counted};

@@ -1,2 +1,4 @@
 pub mod MovedLemmas
 pub mod SourceLemmas
+pub mod Noting
+pub mod LiftLemmas

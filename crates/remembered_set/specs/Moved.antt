@@ -3,6 +3,7 @@ use Rattle.std.specs.Prelude.{ℕ, ◌+◌, ◌*◌, ◌^◌, ◌<◌, Bool, Lis
 use Rattle.std.specs.List.{AllByRecursion}
 use Rattle.object_layout.specs.declared.word.Addr.{Addr}
 use Rattle.object_layout.specs.Content.{Content}
+pub use Rattle.object_layout.specs.Chunks.{same_address}
 use Rattle.remembered_set.specs.declared.remembered.Source.{Source}
 use Rattle.remembered_set.specs.Sources.{has_chunk}
 
@@ -18,9 +19,6 @@ into ks r = into_by (has_chunk ks) r
 -- an address as one number, in the order of addresses
 abbrev pub number_of : Addr → ℕ
 number_of a = a.chunk * 2 ^ 32 + a.offset
-
-abbrev pub same_address : Addr → Addr → Bool
-same_address a b = a.chunk == b.chunk && a.offset == b.offset
 
 -- the new address of what was moved from this one; None where nothing was
 abbrev pub new_of : List (Addr × Addr) → Addr → Option Addr

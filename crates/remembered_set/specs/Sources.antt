@@ -1,7 +1,8 @@
 -- The down-pointers that a heap remembers.
-use Rattle.std.specs.Prelude.{ℕ, Bool, List, [], ◌∷◌, ◌++◌, ◌==◌, ◌&&◌, if◌then◌else◌, fold, filter, not}
+use Rattle.std.specs.Prelude.{◌≡◌, ℕ, Bool, false, List, [], ◌∷◌, ◌++◌, ◌==◌, ◌&&◌, if◌then◌else◌, fold, filter, not}
 use Rattle.std.specs.List.{list_any}
 use Rattle.object_layout.specs.Content.{Content}
+pub use Rattle.object_layout.specs.Chunks.{has_chunk}
 use Rattle.remembered_set.specs.declared.remembered.Source.{Source}
 
 -- the sources in the order in which they were noted; for how many more its list and its table have
@@ -23,9 +24,10 @@ has_source xs s = list_any (same_source s) xs
 abbrev pub noted : List Source → Source → List Source
 noted xs s = if has_source xs s then xs else xs ++ s ∷ []
 
--- whether one of these chunks has this number
-abbrev pub has_chunk : List Content → ℕ → Bool
-has_chunk ks number = list_any (λ k. k.number == number) ks
+-- each of these stands once
+abbrev pub StandOnce : List Source → Type 0
+StandOnce [] = Unit {0}
+StandOnce (s ∷ ss) = (has_source ss s ≡ false) × StandOnce ss
 
 -- of these sources those whose object doesn't lie in one of these chunks
 abbrev pub outside : List Content → List Source → List Source
@@ -34,3 +36,8 @@ outside ks xs = filter (λ s. not (has_chunk ks s.object.chunk)) xs
 -- the sources with those of another set noted, but for those whose object lies in these chunks
 abbrev pub lifted : List Source → List Source → List Content → List Source
 lifted xs ys ks = fold noted xs (outside ks ys)
+
+-- a table knows just these sources, and each stands once
+pub record IsKept (xs : List Source) (knows : Source → Bool) : Type 0 where
+  pub known : (s : Source) → knows s ≡ has_source xs s
+  pub once : StandOnce xs

@@ -1,10 +1,9 @@
 // The remembered set of a heap: the fields of other objects that point down into it.
 #![tactic(auto)]
 
+mod laws;
 mod moved;
 mod remembered;
 
+pub use laws::{known_are_there, lifted_are_there, noted_are_there};
 pub use remembered::{Remembered, Source};
-
-#[cfg(test)]
-mod tests;

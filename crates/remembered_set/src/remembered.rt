@@ -3,7 +3,7 @@
 ghost use Rattle.std.specs.Prelude.{◌≡◌, ℕ, ◌+◌, ◌-◌, ◌<◌, ◌≤◌, [], ◌++◌, filter, fold, IfOk, OnErr, OnOk, length, nat_eq, not, vec_capacity, vec_len};
 ghost use Rattle.std.specs.HashSet.{contains, hash_set_len, spare};
 ghost use Rattle.remembered_set.specs.declared.remembered.Source.{Source};
-ghost use Rattle.remembered_set.specs.Sources.{has_chunk, has_source, lifted, noted, same_source};
+ghost use Rattle.remembered_set.specs.Sources.{has_chunk, has_source, lifted, noted, same_source, IsKept, StandOnce};
 ghost use Rattle.remembered_set.specs.Moved.{into_by, redirected, targets_of, AreFields, AreInOrder, ArePlaces};
 
 use crate::moved::new_of;
@@ -29,16 +29,15 @@ pub struct Remembered {
 }
 
 impl Model for Remembered {
-    ghost use Rattle.std.specs.Prelude.{◌≡◌, ◌+◌, ◌-◌, vec_capacity, vec_len};
+    ghost use Rattle.std.specs.Prelude.{◌+◌, ◌-◌, vec_capacity, vec_len};
     ghost use Rattle.std.specs.HashSet.{contains, hash_set_len, spare};
-    ghost use Rattle.remembered_set.specs.Sources.{has_source, same_source, Notes};
-    ghost use Rattle.remembered_set.specs.declared.remembered.Source.{Source};
+    ghost use Rattle.remembered_set.specs.Sources.{same_source, IsKept, Notes};
 
     ghost Value = { Notes };
 
     ghost view = { λ r. record { sources = r.sources.items; slots = vec_capacity r.sources - vec_len r.sources; spare = spare r.known; numbers = hash_set_len r.numbers + spare r.numbers } };
 
-    ghost invariant = { λ r. (s : Source) → contains same_source r.known s ≡ has_source r.sources.items s };
+    ghost invariant = { λ r. IsKept r.sources.items (contains same_source r.known) };
 }
 
 impl Remembered {
@@ -55,7 +54,8 @@ impl Remembered {
 
     /// The sources in the order in which they were noted.
     pub fn sources(&self) -> &[Source]
-        ensures { result.now ≡ self.now.sources }
+        ensures sources { result.now ≡ self.now.sources }
+        ensures once { StandOnce self.now.sources }
     {
         &self.sources
     }
@@ -169,9 +169,10 @@ fn push_target(
 fn note_in(sources: &mut Vec<Source>, known: &mut HashSet<Source>, source: Source)
     requires slots { vec_len sources.old < vec_capacity sources.old }
     requires spare { 0 < spare known.old }
-    requires same { (s : Source) → contains same_source known.old s ≡ has_source sources.old.items s }
+    requires kept { IsKept sources.old.items (contains same_source known.old) }
     ensures noted { sources.new.items ≡ noted sources.old.items source }
-    ensures same { (s : Source) → contains same_source known.new s ≡ has_source sources.new.items s }
+    ensures known { (s : Source) → contains same_source known.new s ≡ has_source sources.new.items s }
+    ensures once { StandOnce sources.new.items }
     ensures slots { vec_capacity sources.old - vec_len sources.old ≤ vec_capacity sources.new - vec_len sources.new + 1 }
     ensures spare { spare known.old ≤ spare known.new + 1 }
 {
@@ -189,9 +190,9 @@ fn note_all(
 )
     requires slots { length from.now ≤ vec_capacity sources.old - vec_len sources.old }
     requires spare { length from.now ≤ spare known.old }
-    requires same { (s : Source) → contains same_source known.old s ≡ has_source sources.old.items s }
+    requires kept { IsKept sources.old.items (contains same_source known.old) }
     ensures noted { sources.new.items ≡ fold noted sources.old.items (filter (λ s. not (contains nat_eq numbers.now s.object.chunk)) from.now) }
-    ensures same { (s : Source) → contains same_source known.new s ≡ has_source sources.new.items s }
+    ensures kept { IsKept sources.new.items (contains same_source known.new) }
     ensures slots { vec_capacity sources.old - vec_len sources.old ≤ vec_capacity sources.new - vec_len sources.new + length from.now }
     ensures spare { spare known.old ≤ spare known.new + length from.now }
 {

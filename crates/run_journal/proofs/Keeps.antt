@@ -17,7 +17,7 @@ use Rattle.run_ledger.specs.Heaps.{heap_of, or_fresh, held, held_in, words_of, w
 use Rattle.run_ledger.specs.Journals.{ledger_of, is_legal}
 use Rattle.run_ledger.specs.Report.{kept_from, kept}
 use Rattle.run_ledger.specs.Laws.{HoldsOnce}
-use Rattle.run_ledger.specs.Space.{Fits}
+use Rattle.run_ledger.specs.Space.{AllFit}
 use Rattle.run_ledger.proofs.Stocks.{names_are_held_once}
 use Rattle.run_ledger.proofs.Space.{heaps_fit, use_is_bounded}
 use Rattle.run_journal.specs.Opened.{IsLegalLedger}
@@ -58,7 +58,7 @@ module _ (p : ProgramText) (s : Limits) (A : AreLimits s) where
   legal_countable journal legal =
       let l : Ledger = ledger_of p s journal in
       let H : HoldsOnce l = names_are_held_once p s journal legal in
-      let F : Fits l = heaps_fit p s journal legal in
+      let F : AllFit l = heaps_fit p s journal legal in
       let u : in_use l ≤ s.chunks = (use_is_bounded p s journal legal).now in
       let c : s.chunks ≤ 65536 = A.chunks.1 in
       let w : words_sum l.machine (held l) ≤ 1024 * in_use l = F.words in

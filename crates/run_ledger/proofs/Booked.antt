@@ -40,7 +40,7 @@ total_same f g [] same = refl
 total_same f g (h ∷ heaps) same =
     sum_by-cons f h heaps ∙ (ap₂ (λ a b. a + b) (same zero h refl) (total_same f g heaps (λ u k e. same (suc u) k e)) ∙ sym (sum_by-cons g h heaps))
 
-units_additive : (m : State) → Additive (units_in m)
+pub units_additive : (m : State) → Additive (units_in m)
 units_additive m = record {
   let_go = λ h. refl;
   fresh = refl;
@@ -58,7 +58,7 @@ put_some [] n = omega arith
 put_some (ns ∷ []) n = omega arith
 put_some (ns ∷ ms ∷ rest) n = omega arith
 
-put_length : (lists : List (List Name)) (n : Name) → 0 < length lists → length (put_last lists n) ≡ length lists
+pub put_length : (lists : List (List Name)) (n : Name) → 0 < length lists → length (put_last lists n) ≡ length lists
 put_length [] n l = absurd (omega arith)
 put_length (ns ∷ []) n l = refl
 put_length (ns ∷ ms ∷ rest) n l = ap suc (put_length (ms ∷ rest) n (omega arith))

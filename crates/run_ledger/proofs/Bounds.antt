@@ -27,7 +27,7 @@ heap_at_steps : (l : Ledger) (t : ℕ) (f : Heap → Heap) (o : Option Heap) →
 heap_at_steps l t f None = refl
 heap_at_steps l t f (Some h) = refl
 
-heap_steps : (l : Ledger) (t : ℕ) (f : Heap → Heap) → (with_heap l t f).steps ≡ l.steps
+pub heap_steps : (l : Ledger) (t : ℕ) (f : Heap → Heap) → (with_heap l t f).steps ≡ l.steps
 heap_steps l t f = heap_at_steps l t f (heap_at l t)
 
 join_steps : (l : Ledger) (p c : ℕ) → (join_heaps l p c).steps ≡ l.steps
@@ -64,7 +64,7 @@ task_steps_steps p zero l t = omega arith
 task_steps_steps p (suc k) l t = let more = task_steps_steps p k (task_step p l t) t in let one = task_step_steps p l t in omega arith
 
 -- an entry without steps
-chunk_steps : (l : Ledger) (t : ℕ) (full : Bool) (end : Ledger) (f : Heap → Heap) → end.steps ≡ l.steps → (cond full end (with_heap l t f)).steps ≡ l.steps
+pub chunk_steps : (l : Ledger) (t : ℕ) (full : Bool) (end : Ledger) (f : Heap → Heap) → end.steps ≡ l.steps → (cond full end (with_heap l t f)).steps ≡ l.steps
 chunk_steps l t true end f e = e
 chunk_steps l t false end f e = heap_steps l t f
 

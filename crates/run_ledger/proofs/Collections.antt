@@ -77,6 +77,7 @@ collections_keep_just m h = record {
     λ b. contains_from_in (held_in (collected m h)) n (collected_up m h n (in_from_contains (held_in h) n b.0) (in_from_contains h.survivors n b.1)),
   );
   order = subst AreByBirth (sym (laid_flat m (small_survivors h))) (by_birth_from (small_survivors h) (birth_ordered (filter (holds_name h.survivors) (small_in h))));
+  laid = laid_flat m (small_survivors h);
   snapshot = λ n. (
     λ c. let q = swept_down h n (in_from_contains (held_in (swept_heap h)) n c) in (contains_from_in (held_in h) n q.0, contains_from_in h.snapshot n q.1),
     λ b. contains_from_in (held_in (swept_heap h)) n (swept_up h n (in_from_contains (held_in h) n b.0) (in_from_contains h.snapshot n b.1)),

@@ -1,5 +1,5 @@
 -- What an entry of one worker leaves of what another worker holds.
-use Rattle.std.proofs.Common.{◌≡◌, ℕ, zero, suc, ◌+◌, Bool, true, false, cond, Option, Some, None, ◌∷◌, slice_get, nat_lt, inl, refl, ap, sym, ◌∙◌, is_none, is_some}
+use Rattle.std.proofs.Common.{◌≡◌, ℕ, zero, suc, ◌+◌, Bool, true, false, cond, Option, Some, None, ◌∷◌, slice_get, nat_lt, inl, refl, ap, sym, subst, ◌∙◌, is_none, is_some}
 use Rattle.std.proofs.lemmas.Bool.{false≢true, and_parts, eqb-true}
 use Rattle.std.proofs.lemmas.Option.{same_Some}
 use Rattle.listed.proofs.Members.{got_other}
@@ -22,38 +22,50 @@ use Rattle.run_ledger.specs.Laws.{EntriesLeaveOthers}
 use Rattle.run_ledger.proofs.Machine.{stepped_machine}
 use Rattle.run_ledger.proofs.Sound.{SoundLedger}
 use Rattle.run_ledger.proofs.Steps.{SoundAt, step_leaves, task_step_sound}
-use Rattle.run_ledger.proofs.Booked.{step_others, wait_run}
+use Rattle.hh_model.specs.Leaves.{LeavesOwner}
+use Rattle.hh_model.proofs.Leaves.{leaves_owner}
+use Rattle.run_ledger.proofs.Booked.{wait_run}
 use Rattle.run_ledger.proofs.Stocks.{with_heap_any}
 use Rattle.run_ledger.proofs.Cuts.{cut_legal}
 use Rattle.run_ledger.proofs.Holders.{tasks_are_held_once}
 use Rattle.run_ledger.proofs.Journals.{none_unless, out_tells, wait_tells, entry_tells, legal_sound}
 
--- the task u is as it was, and the account of its heap
+-- the task u is as it was, with what it owns, and the account of its heap
 abbrev Left : ℕ → Ledger → Ledger → Type 0
-Left u l k = (slice_get k.machine.tasks u ≡ slice_get l.machine.tasks u) × (slice_get k.heaps u ≡ slice_get l.heaps u)
+Left u l k = LeavesOwner l.machine k.machine u × (slice_get k.heaps u ≡ slice_get l.heaps u)
+
+same_owner : (m : State) (u : ℕ) → LeavesOwner m m u
+same_owner m u = record { task = refl; owned = λ a. ((λ q. q), (λ q. q)); objects = λ n own. refl }
+
+both_owner : (m m' m'' : State) (u : ℕ) → LeavesOwner m m' u → LeavesOwner m' m'' u → LeavesOwner m m'' u
+both_owner m m' m'' u A B = record {
+  task = B.task ∙ A.task;
+  owned = λ a. (let x = A.owned a in let y = B.owned a in ((λ q. x.0 (y.0 q)), (λ q. y.1 (x.1 q))));
+  objects = λ n own. B.objects n ((A.owned n.task).1 own) ∙ A.objects n own;
+}
 
 left_heap : (l : Ledger) (t u : ℕ) (f : Heap → Heap) → (u ≡ t → ⊥) → Left u l (with_heap l t f)
-left_heap l t u f ne = with_heap_any (Left u l) l t f (refl, refl) (λ h e. (refl, got_other l.heaps t u (f h) ne))
+left_heap l t u f ne = with_heap_any (Left u l) l t f (same_owner l.machine u, refl) (λ h e. (same_owner l.machine u, got_other l.heaps t u (f h) ne))
 
-left_step : (p : ProgramText) (l : Ledger) (t u : ℕ) → SoundAt t l → (u ≡ t → ⊥) → is_running (slice_get l.machine.tasks u) ≡ true → Left u l (task_step p l t)
+pub left_step : (p : ProgramText) (l : Ledger) (t u : ℕ) → SoundAt t l → (u ≡ t → ⊥) → is_running (slice_get l.machine.tasks u) ≡ true → Left u l (task_step p l t)
 left_step p l t u S ne run = by (can_step l.machine t) refl
   where
     by : (v : Bool) → can_step l.machine t ≡ v → Left u l (cond v (stepped_to (allocated_in p l t) t (step p l.machine t)) (record l { steps = l.steps + 1 }))
-    by false e = (refl, refl)
+    by false e = (same_owner l.machine u, refl)
     by true e = (
-      ap (λ (m : State). slice_get m.tasks u) (stepped_machine (allocated_in p l t) t (step p l.machine t)) ∙ step_others p l.machine t u S.0.kept ne run,
+      subst (λ m. LeavesOwner l.machine m u) (sym (stepped_machine (allocated_in p l t) t (step p l.machine t))) (leaves_owner p l.machine t S.0.kept S.0.apart u ne run),
       (step_leaves p l t S e).4 u ne (inl run),
     )
 
 left_steps : (p : ProgramText) (k : ℕ) (l : Ledger) (t u : ℕ) → SoundAt t l → (u ≡ t → ⊥) → is_running (slice_get l.machine.tasks u) ≡ true → Left u l (task_steps p l t k)
-left_steps p zero l t u S ne run = (refl, refl)
+left_steps p zero l t u S ne run = (same_owner l.machine u, refl)
 left_steps p (suc k) l t u S ne run =
     let now = left_step p l t u S ne run in
-    let later = left_steps p k (task_step p l t) t u (task_step_sound p l t S) ne (ap is_running now.0 ∙ run) in
-    (later.0 ∙ now.0, later.1 ∙ now.1)
+    let later = left_steps p k (task_step p l t) t u (task_step_sound p l t S) ne (ap is_running (now.0).task ∙ run) in
+    (both_owner l.machine (task_step p l t).machine (task_steps p (task_step p l t) t k).machine u now.0 later.0, later.1 ∙ now.1)
 
 left_chunk : (l : Ledger) (t u : ℕ) (next : Option ℕ) (full : Bool) → (u ≡ t → ⊥) → Left u l (cond full (record l { end = Some (Pool (in_use l)) }) (with_heap l t (with_chunk next)))
-left_chunk l t u next true ne = (refl, refl)
+left_chunk l t u next true ne = (same_owner l.machine u, refl)
 left_chunk l t u next false ne = left_heap l t u (with_chunk next) ne
 
 held_is : (o : Option ℕ) (w : ℕ) → is_held_by o w ≡ true → o ≡ Some w
@@ -91,7 +103,7 @@ module _ (p : ProgramText) (s : Limits) (l : Ledger) (w u v : ℕ) (S : SoundLed
   left_kind (Mark t) h = left_heap l t u _ (not_waiting_one t (wait_tells l t _ h).0)
   left_kind (More t n) h = left_heap l t u _ (not_waiting_one t (wait_tells l t _ h).0)
   left_kind (Sweep t g) h = left_heap l t u _ (not_waiting_one t (wait_tells l t _ h).0)
-  left_kind Fuel h = (refl, refl)
+  left_kind Fuel h = (same_owner l.machine u, refl)
 
 no_end : (o : Option RunEnd) → is_some o ≡ false → o ≡ None
 no_end None h = refl
@@ -105,4 +117,4 @@ entries_leave_others p s before rest e u v legal held other =
     let tells = entry_tells p s l e now in
     let run = (tasks_are_held_once p s before c.0).runs (no_end l.end tells.0) u v held in
     let q = left_kind p s l e.worker u v (legal_sound p s before c.0) other held run e.kind tells.2 in
-    record { task = q.0; heap = ap or_fresh q.1 }
+    record { owner = q.0; heap = ap or_fresh q.1 }

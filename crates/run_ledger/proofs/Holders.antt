@@ -217,7 +217,7 @@ task_steps_manned p (suc k) l t S I = task_steps_manned p k (task_step p l t) t 
 -- ENTRIES
 
 -- who isn't found holding a task holds none
-holding_none : (w t : ℕ) (heaps : List Heap) → held_from w t heaps ≡ None → (u : ℕ) → worker_at (slice_get heaps u) ≡ Some w → ⊥
+pub holding_none : (w t : ℕ) (heaps : List Heap) → held_from w t heaps ≡ None → (u : ℕ) → worker_at (slice_get heaps u) ≡ Some w → ⊥
 holding_none w t [] h u q = none_held q
 holding_none w t (g ∷ heaps) h u q = by (is_held_by g.worker w) refl h (λ v free r. holding_none w (t + 1) heaps free v r) u q
   where
@@ -264,7 +264,7 @@ took_manned l w t I run free = with_heap_any MannedLedger l t (λ h. record h { 
       ];
     })
 
-chunk_worker_by : (h : Heap) (n : ℕ) (v : Bool) → (cond v (record h { chunks = h.chunks ++ [] ∷ []; room = chunk_words }) (record h { reserved = n })).worker ≡ h.worker
+pub chunk_worker_by : (h : Heap) (n : ℕ) (v : Bool) → (cond v (record h { chunks = h.chunks ++ [] ∷ []; room = chunk_words }) (record h { reserved = n })).worker ≡ h.worker
 chunk_worker_by h n true = refl
 chunk_worker_by h n false = refl
 
@@ -317,7 +317,7 @@ first_idle (suc u) c = false≢true c
 opening_manned : (p : ProgramText) (s : Limits) → MannedLedger (opening p s)
 opening_manned p s = record { runs = λ on u w q. absurd (first_free u w q); one = λ u v w q r. absurd (first_free u w q); out = λ u c. absurd (first_idle u c) }
 
-worker_of : (l : Ledger) (t : ℕ) → (heap_of l t).worker ≡ worker_at (slice_get l.heaps t)
+pub worker_of : (l : Ledger) (t : ℕ) → (heap_of l t).worker ≡ worker_at (slice_get l.heaps t)
 worker_of l t = by (slice_get l.heaps t)
   where
     by : (o : Option Heap) → (or_fresh o).worker ≡ worker_at o

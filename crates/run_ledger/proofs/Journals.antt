@@ -31,6 +31,7 @@ use Rattle.run_ledger.specs.Entries.{kind_refusal, refusal, refused_unless, refu
 use Rattle.run_ledger.specs.Journals.{opening, after_all, ledger_of, is_legal_from, is_legal}
 use Rattle.run_ledger.specs.Laws.{IsHeldByTask, Refers, KeepsReachable, NothingReachableIsFreed}
 use Rattle.run_ledger.proofs.Held.{chunk_down, chunk_up, collected_down, collected_up, swept_down, swept_up}
+use Rattle.run_ledger.specs.Sound.{ChangesKeepSound, EntriesKeepSound}
 use Rattle.run_ledger.proofs.Sound.{InHeaps, Keeps, Spares, collecting, snapshot_at, survivors_at, Sound, SoundLedger, closed_same, frozen, renewed, changed, cut, spares_kept, up_with, down, in_held, held_keeps}
 use Rattle.run_ledger.proofs.Steps.{task_steps_sound}
 
@@ -178,6 +179,12 @@ entry_tells p s l e h =
 
 pub entry_sound : (p : ProgramText) (s : Limits) (l : Ledger) (e : Event) → SoundLedger l → is_none (refusal p s l e) ≡ true → SoundLedger (after p s l e)
 entry_sound p s l e S h = kind_sound p s l e.worker e.kind S (entry_tells p s l e h).2
+
+pub changes_keep_sound : ChangesKeepSound
+changes_keep_sound l t f S names eb es en = plain l t f S (λ h n i. subst (λ ns. In ns n) (names h) i) (λ h n i. subst (λ ns. In ns n) (sym (names h)) i) eb es en
+
+pub entries_keep_sound : EntriesKeepSound
+entries_keep_sound p s l e S h = entry_sound p s l e S (ap is_none h)
 
 pub journal_sound : (p : ProgramText) (s : Limits) (journal : List Event) (l : Ledger) → SoundLedger l → is_legal_from p s l journal ≡ true → SoundLedger (after_all p s l journal)
 journal_sound p s [] l S h = S

@@ -24,3 +24,15 @@ pub mod Since
 pub mod OwedEntries
 pub mod Frames
 pub mod Collections
+pub mod Exact
+pub mod Use
+pub mod Going
+pub mod Asked
+pub mod Counted
+pub mod Fewer
+pub mod OfNames
+pub mod Waiters
+pub mod History
+pub mod Forked
+pub mod RunOn
+pub mod Accepted

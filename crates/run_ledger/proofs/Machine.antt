@@ -18,7 +18,7 @@ use Rattle.run_ledger.specs.Heaps.{with_heap, with_heap_at, heap_at, within, fre
 use Rattle.run_ledger.specs.Steps.{join_heaps, moved_on, moved_to, settled, stepped_to, allocated_in, task_step, task_steps}
 use Rattle.run_ledger.specs.Entries.{after_kind, after, chunk_units}
 use Rattle.run_ledger.specs.Journals.{after_all, opening, tasks_in, tasks_of}
-use Rattle.run_ledger.specs.Laws.{MachineIsRun}
+use Rattle.run_ledger.specs.Laws.{EntriesMoveMachine, MachineIsRun}
 
 heap_at_machine : (l : Ledger) (t : ℕ) (f : Heap → Heap) (o : Option Heap) → (with_heap_at l t f o).machine ≡ l.machine
 heap_at_machine l t f None = refl
@@ -87,3 +87,6 @@ all_machine p s (e ∷ es) l =
 
 pub machine_is_run : MachineIsRun
 machine_is_run p s journal = all_machine p s journal (opening p s)
+
+pub entries_move_machine : EntriesMoveMachine
+entries_move_machine p s l e = kind_machine p s l e.worker e.kind

@@ -7,9 +7,9 @@ use Rattle.hh_lang.specs.Form.{ProgramText}
 use Rattle.run_ledger.specs.declared.data.Ledger.{Ledger}
 use Rattle.run_ledger.specs.declared.data.WorkerPace.{WorkerPace}
 use Rattle.run_ledger.specs.Entries.{after, is_fuel}
-use Rattle.run_ledger.specs.Journals.{opening, after_all}
-use Rattle.run_ledger.specs.Pace.{gives, owed, pace_of, pace_after, pace_after_all, pace_opening, is_paced_from}
-use Rattle.run_ledger.specs.Cuts.{PacedIsMeant}
+use Rattle.run_ledger.specs.Journals.{opening, after_all, ledger_of}
+use Rattle.run_ledger.specs.Pace.{gives, owed, pace_of, pace_after, pace_after_all, pace_at_end, pace_opening, is_paced_from}
+use Rattle.run_ledger.specs.Cuts.{PacedIsMeant, PaceGoesOn}
 
 module _ (p : ProgramText) (s : Limits) where
   abbrev Each : Ledger → List WorkerPace → List Event → Type 0
@@ -26,6 +26,14 @@ module _ (p : ProgramText) (s : Limits) where
       let both = and_parts now (is_paced_from p s (after p s l e) (pace_after (after p s l e) pace e) (first ++ rest)) h in
       let more = cut_paced first rest (after p s l e) (pace_after (after p s l e) pace e) both.1 in
       (and_from now (is_paced_from p s (after p s l e) (pace_after (after p s l e) pace e) first) both.0 more.0, more.1)
+
+  joined_paced : (first rest : List Event) (l : Ledger) (pace : List WorkerPace) → is_paced_from p s l pace first ≡ true
+      → is_paced_from p s (after_all p s l first) (pace_after_all p s l pace first) rest ≡ true → is_paced_from p s l pace (first ++ rest) ≡ true
+  joined_paced [] rest l pace h g = g
+  joined_paced (e ∷ first) rest l pace h g =
+      let now = is_fuel e.kind || gives (owed s l (pace_of pace e.worker)) e.kind in
+      let both = and_parts now (is_paced_from p s (after p s l e) (pace_after (after p s l e) pace e) first) h in
+      and_from now (is_paced_from p s (after p s l e) (pace_after (after p s l e) pace e) (first ++ rest)) both.0 (joined_paced first rest (after p s l e) (pace_after (after p s l e) pace e) both.1 g)
 
   each_paced : (journal : List Event) (l : Ledger) (pace : List WorkerPace) → is_paced_from p s l pace journal ≡ true → Each l pace journal
   each_paced journal l pace h before e rest is =
@@ -45,3 +53,10 @@ module _ (p : ProgramText) (s : Limits) where
 
 pub paced_is_meant : PacedIsMeant
 paced_is_meant p s journal = (each_paced p s journal (opening p s) (pace_opening s), paced_each p s journal (opening p s) (pace_opening s))
+
+pub pace_goes_on : PaceGoesOn
+pace_goes_on p s journal e h given =
+    let l = ledger_of p s journal in
+    let gave = gives (owed s l (pace_of (pace_at_end p s journal) e.worker)) e.kind in
+    let now : (is_fuel e.kind || gave) ≡ true = elim given [ inl fuel ↦ or_left (is_fuel e.kind) gave fuel | inr g ↦ or_right (is_fuel e.kind) gave g ] in
+    joined_paced p s journal (e ∷ []) (opening p s) (pace_opening s) h (and_from (is_fuel e.kind || gave) true now refl)

@@ -15,11 +15,14 @@ use Rattle.hh_model.proofs.Counts.{step_limit}
 use Rattle.run_ledger.specs.declared.data.Heap.{Heap}
 use Rattle.run_ledger.specs.declared.data.Ledger.{Ledger}
 use Rattle.run_ledger.specs.declared.data.RunEnd.TheVariants.{Pool}
-use Rattle.run_ledger.specs.Heaps.{or_fresh, with_heap, with_heap_at, placed, put_last, is_small, chunk_words, in_use, collected, swept_heap}
+use Rattle.run_ledger.specs.Heaps.{heap_of, or_fresh, with_heap, with_heap_at, placed, put_last, is_small, chunk_words, in_use, collected, swept_heap}
 use Rattle.run_ledger.specs.Steps.{allocated_by, allocated_in, stepped_to, task_step, task_steps, on_asked}
 use Rattle.run_ledger.specs.Entries.{refusal, kind_refusal, after_kind, after, with_chunk, chunk_units}
-use Rattle.run_ledger.specs.Journals.{opening, after_all, ledger_of, is_legal_from}
-use Rattle.run_ledger.specs.Space.{AsksAtMost, SinceIsBounded}
+use Rattle.run_ledger.specs.Journals.{opening, after_all, ledger_of, is_legal, is_legal_from}
+use Rattle.run_ledger.specs.Space.{AsksAtMost, CountsFew, SinceIsBounded}
+use Rattle.run_trace.specs.declared.settings.Version.{Version}
+use Rattle.run_trace.specs.declared.settings.Version.TheVariants.{One, Two}
+use Rattle.run_ledger.proofs.Asked.{programs_ask_few}
 use Rattle.run_ledger.proofs.Machine.{stepped_machine}
 use Rattle.run_ledger.proofs.Sound.{SoundLedger}
 use Rattle.run_ledger.proofs.Steps.{SoundAt, step_leaves, heap_of_task, can_tells, task_step_sound}
@@ -128,10 +131,36 @@ one_of [] t = omega arith
 one_of (h ∷ heaps) zero = let a = sum_by-cons since_in h heaps in omega arith
 one_of (h ∷ heaps) (suc t) = let a = sum_by-cons since_in h heaps in let b = one_of heaps t in omega arith
 
-pub since_is_bounded : SinceIsBounded
+-- with any number that bounds what a step asks for
+pub since_is_bounded : (p : ProgramText) (s : Limits) (journal : List Event) (most : ℕ) → is_legal p s journal ≡ true → AsksAtMost p (field_limit s.version) most
+    → let l = ledger_of p s journal in (t : ℕ) → (heap_of l t).since ≤ most * l.steps
 since_is_bounded p s journal most legal asks t =
     let l : Ledger = ledger_of p s journal in
     let I = journal_bounded p (field_limit s.version) most asks s journal (opening p s) (opening_sound p s) (refl, omega arith) legal in
     let a = one_of l.heaps t in
     let b = I.1 in
     omega arith
+
+limit_small : (v : Version) → field_limit v ≤ 1000000
+limit_small One = omega arith
+limit_small Two = omega arith
+
+counts_few : (s : Limits) (l : Ledger) → total since_in l.heaps ≤ (field_limit s.version + 34) * l.steps → CountsFew s l
+counts_few s l le = record {
+  by_steps = by;
+  below = λ t. more (field_limit s.version + 34) 1000034 l.steps (heap_of l t).since (let z = limit_small s.version in omega arith) (by t);
+}
+  where
+    by : (t : ℕ) → (heap_of l t).since ≤ (field_limit s.version + 34) * l.steps
+    by t = let a = one_of l.heaps t in omega (arith, a, le)
+
+    more : (a b n x : ℕ) → a ≤ b → x ≤ a * n → x ≤ b * n
+    more a b n x h k = grind arith
+
+pub since_is_few : SinceIsBounded
+since_is_few p s journal I legal =
+    let l : Ledger = ledger_of p s journal in
+    let limit : ℕ = field_limit s.version in
+    let asks = programs_ask_few p I limit in
+    let Q = journal_bounded p limit (limit + 34) asks s journal (opening p s) (opening_sound p s) (refl, omega arith) legal in
+    (counts_few s l Q.1, λ t k S. counts_few s (task_steps p l t k) (task_steps_bounded p limit (limit + 34) asks k l t S Q).1)

@@ -1,5 +1,5 @@
 -- What every legal journal keeps of the heaps, and what a change of one heap's account leaves of it.
-use Rattle.std.proofs.Common.{◌≡◌, ℕ, ◌<◌, ◌==◌, Bool, true, false, not, Option, Some, None, List, [], length, slice_get, slice_set, inl, inr, refl, ap, sym, subst, ◌∙◌, length-set, is_some, ne_eqb}
+use Rattle.std.proofs.Common.{◌≡◌, ℕ, ◌==◌, true, not, Option, Some, None, List, slice_get, slice_set, inl, inr, refl, ap, sym, subst, ◌∙◌, length-set, is_some, ne_eqb}
 use Rattle.std.proofs.lemmas.Bool.{cases_eq, and_from}
 use Rattle.listed.proofs.Members.{In, got_same, got_other, got_in, in_flat, flat_in, in_kept, in_append_left, in_append_right}
 use Rattle.hh_model.specs.declared.data.Name.{Name}
@@ -9,56 +9,13 @@ use Rattle.hh_model.specs.declared.data.Task.{Task}
 use Rattle.hh_model.specs.Names.{refs_at, registers, task_names}
 use Rattle.hh_model.specs.Step.{is_running, owner_of, is_on_path}
 use Rattle.hh_model.proofs.Runs.{waiting}
-use Rattle.hh_model.proofs.Kept.{KeptIn}
 use Rattle.hh_model.proofs.Closed.{Closed}
 use Rattle.hh_model.proofs.Disentangled.{Disentangled}
 use Rattle.run_ledger.specs.declared.data.Heap.{Heap}
 use Rattle.run_ledger.specs.declared.data.Ledger.{Ledger}
-use Rattle.run_ledger.specs.Heaps.{held, held_in, or_fresh, heap_at, frames_of, roots_of, within, is_above}
+use Rattle.run_ledger.specs.Heaps.{held, held_in, heap_at, frames_of, roots_of, within, is_above}
 use Rattle.run_ledger.proofs.Reached.{reached_root, reached_more}
-
--- the names of a heap, and none where there is no heap
-abbrev pub names_of : Option Heap → List Name
-names_of o = held_in (or_fresh o)
-
-abbrev pub InHeaps : List Heap → ℕ → Name → Type 0
-InHeaps heaps u n = In (names_of (slice_get heaps u)) n
-
-abbrev pub Keeps : List Heap → Name → Type 0
-Keeps heaps n = (u : ℕ) × InHeaps heaps u n
-
--- each held name lies in its owner's heap
-abbrev pub Owners : List Task → List Heap → Type 0
-Owners tasks heaps = (u : ℕ) (n : Name) → InHeaps heaps u n → (n.task < length tasks) × (owner_of tasks n.task ≡ u)
-
--- with these of its names alone, the heap u lacks nothing that is reached
-abbrev pub Spares : List Task → List (List Object) → List Heap → ℕ → List Name → Type 0
-Spares tasks store heaps u ns = Closed tasks store (λ n. Keeps heaps n × (InHeaps heaps u n → In ns n))
-
-abbrev pub collecting : Option Heap → Bool
-collecting None = false
-collecting (Some h) = is_some h.begun
-
-abbrev pub snapshot_at : Option Heap → List Name
-snapshot_at None = []
-snapshot_at (Some h) = h.snapshot
-
-abbrev pub survivors_at : Option Heap → List Name
-survivors_at None = []
-survivors_at (Some h) = h.survivors
-
-pub record Sound (tasks : List Task) (edges : List Edge) (store : List (List Object)) (heaps : List Heap) : Type 0 where
-  pub kept : KeptIn tasks edges store
-  pub apart : Disentangled tasks store
-  pub lengths : length heaps ≡ length tasks
-  pub owners : Owners tasks heaps
-  pub running : (u : ℕ) → collecting (slice_get heaps u) ≡ true → is_running (slice_get tasks u) ≡ true
-  pub all : Closed tasks store (Keeps heaps)
-  pub waits : (u : ℕ) → waiting tasks u ≡ true → Spares tasks store heaps u (snapshot_at (slice_get heaps u))
-  pub collects : (u : ℕ) → collecting (slice_get heaps u) ≡ true → Spares tasks store heaps u (survivors_at (slice_get heaps u))
-
-abbrev pub SoundLedger : Ledger → Type 0
-SoundLedger l = Sound l.machine.tasks l.machine.edges l.machine.store l.heaps
+pub use Rattle.run_ledger.specs.Sound.{names_of, InHeaps, Keeps, Owners, Spares, collecting, snapshot_at, survivors_at, Sound, SoundLedger}
 
 pub in_held : (l : Ledger) (n : Name) → Keeps l.heaps n → In (held l) n
 in_held l n k = go (slice_get l.heaps k.0) refl k.1

@@ -30,6 +30,7 @@ use Rattle.run_ledger.specs.Steps.{join_heaps, at_join, allocated_by, allocated_
 use Rattle.run_ledger.proofs.Held.{placed_cases, placed_old, placed_new, placed_begun, merged_cases, merged_left, merged_right, merged_own}
 use Rattle.run_ledger.proofs.Moves.{Moves}
 use Rattle.run_ledger.proofs.Sound.{names_of, InHeaps, Keeps, Owners, Spares, collecting, snapshot_at, survivors_at, Sound, SoundLedger, closed_same, frozen, renewed}
+pub use Rattle.run_ledger.specs.Sound.{SoundAt}
 
 pub heap_there : (tasks : List Task) (heaps : List Heap) (t : ℕ) → length heaps ≡ length tasks → t < length tasks → (h : Heap) × (slice_get heaps t ≡ Some h)
 heap_there tasks heaps t len lt = go (slice_get heaps t) refl
@@ -766,10 +767,6 @@ goes_tells (Some e) b h = absurd (false≢true h)
 -- a task can take a step where the machine goes on and the task runs
 pub can_tells : (m : State) (t : ℕ) → can_step m t ≡ true → (m.end ≡ None) × (is_running (slice_get m.tasks t) ≡ true)
 can_tells m t h = goes_tells m.end (is_running (slice_get m.tasks t)) h
-
--- a step of a task that collects nothing, and so many
-abbrev pub SoundAt : ℕ → Ledger → Type 0
-SoundAt t l = SoundLedger l × (collecting (slice_get l.heaps t) ≡ false)
 
 -- what a step of such a task leaves
 abbrev pub StepLeaves : ℕ → Ledger → Ledger → Ledger → Type 0

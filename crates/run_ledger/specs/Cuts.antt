@@ -1,10 +1,10 @@
 -- What the tests of legal and of paced journals mean, and how journals are cut.
-use Rattle.std.specs.Prelude.{◌≡◌, ◌↔◌, ◌⊎◌, ◌+◌, true, List, ◌∷◌, ◌++◌, Some, None, length, ℕ}
+use Rattle.std.specs.Prelude.{◌≡◌, ◌↔◌, ◌⊎◌, ◌+◌, ◌≤◌, true, List, [], ◌∷◌, ◌++◌, Some, None, length, ℕ}
 use Rattle.run_trace.specs.Entry.{Event}
 use Rattle.run_trace.specs.Settings.{Limits}
 use Rattle.hh_lang.specs.Form.{ProgramText}
 use Rattle.run_ledger.specs.declared.data.RefusedAt.{RefusedAt}
-use Rattle.run_trace.specs.declared.entry.Kind.TheVariants.{Mark, More, Sweep}
+use Rattle.run_trace.specs.declared.entry.Kind.TheVariants.{Ran, Mark, More, Sweep}
 use Rattle.run_ledger.specs.declared.data.Ledger.{Ledger}
 use Rattle.run_ledger.specs.declared.data.Owed.{Owed}
 use Rattle.run_ledger.specs.declared.data.Owed.TheVariants.{Mark as OwesMark, More as OwesMore, Sweep as OwesSweep, Nothing}
@@ -26,6 +26,12 @@ pub record GoesOn (p : ProgramText) (s : Limits) (first rest : List Event) : Typ
 
 abbrev pub JournalsCanBeCut : Type 0
 JournalsCanBeCut = (p : ProgramText) (s : Limits) (first rest : List Event) → GoesOn p s first rest
+
+-- an entry of fewer steps isn't refused where one of more isn't
+abbrev pub FewerStepsAreLegal : Type 0
+FewerStepsAreLegal =
+    (p : ProgramText) (s : Limits) (l : Ledger) (w t j k : ℕ) → j ≤ k → refusal p s l (record { worker = w; kind = Ran t k }) ≡ None
+    → refusal p s l (record { worker = w; kind = Ran t j }) ≡ None
 
 -- the entry that is found as the first refused one: those before it are a legal journal, whose accounts refuse it for the
 -- cause that is named, and its number counts from 1
@@ -57,6 +63,12 @@ Paced p s journal =
 
 abbrev pub PacedIsMeant : Type 0
 PacedIsMeant = (p : ProgramText) (s : Limits) (journal : List Event) → (is_paced p s journal ≡ true) ↔ Paced p s journal
+
+-- the pace goes on: a paced journal with one entry more is paced, if that one ends the run for spent fuel or gives what is owed
+abbrev pub PaceGoesOn : Type 0
+PaceGoesOn =
+    (p : ProgramText) (s : Limits) (journal : List Event) (e : Event) → is_paced p s journal ≡ true
+    → (is_fuel e.kind ≡ true) ⊎ (gives (owed s (ledger_of p s journal) (pace_of (pace_at_end p s journal) e.worker)) e.kind ≡ true) → is_paced p s (journal ++ e ∷ []) ≡ true
 
 -- an entry that gives what is owed isn't refused for what it says
 abbrev pub CanBeGiven : ProgramText → Limits → Ledger → ℕ → Owed → Type 0

@@ -117,12 +117,13 @@ abbrev pub frames_of : Option Task → List Frame
 frames_of None = []
 frames_of (Some x) = x.top ∷ x.below
 
--- the roots of a task's heap: what its frames' registers hold, and what the held objects of its proper ancestors refer to
+-- what the held objects of a task's proper ancestors refer to
+abbrev pub down_roots : Ledger → ℕ → List Name
+down_roots l t = flat_map (refs_at l.machine.store) (filter (λ n. is_above l.machine.tasks (owner_of l.machine.tasks n.task) t) (held l))
+
+-- the roots of a task's heap: what its frames' registers hold, and what comes down from its ancestors
 abbrev pub roots_of : Ledger → ℕ → List Name
-roots_of l t =
-    registers (frames_of (slice_get l.machine.tasks t))
-    ++ flat_map (refs_at l.machine.store)
-    (filter (λ n. is_above l.machine.tasks (owner_of l.machine.tasks n.task) t) (held l))
+roots_of l t = registers (frames_of (slice_get l.machine.tasks t)) ++ down_roots l t
 
 -- of the names held in a task's heap, those that are reached from its roots through that heap
 abbrev pub within : Ledger → ℕ → List Name

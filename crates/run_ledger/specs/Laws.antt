@@ -1,5 +1,5 @@
 -- The laws of journals.
-use Rattle.std.specs.Prelude.{◌≡◌, ◌↔◌, ◌⊎◌, ℕ, true, List, [], ◌∷◌, Some, slice_get, Contains, None, length, is_some, ◌++◌}
+use Rattle.std.specs.Prelude.{◌≡◌, ◌↔◌, ◌⊎◌, ◌+◌, ℕ, true, List, [], ◌∷◌, Some, slice_get, Contains, None, length, is_some, ◌++◌}
 use Rattle.std.specs.List.{IsDistinct}
 use Rattle.walks.specs.Reached.{IsReached}
 use Rattle.run_trace.specs.declared.entry.Kind.{Kind}
@@ -13,13 +13,16 @@ use Rattle.hh_model.specs.declared.data.Task.{Task}
 use Rattle.hh_model.specs.declared.data.State.{State}
 use Rattle.hh_model.specs.Names.{refs_at, task_names}
 use Rattle.hh_model.specs.Store.{IsStored}
-use Rattle.hh_model.specs.Step.{owner_of, is_running, is_waiting}
+use Rattle.hh_model.specs.Leaves.{LeavesOwner}
+use Rattle.hh_model.specs.Step.{can_step, owner_of, is_running, is_waiting, run_from, step}
+use Rattle.run_ledger.specs.Steps.{allocated_in, task_step}
 use Rattle.run_ledger.specs.declared.data.Ledger.{Ledger}
 use Rattle.run_ledger.specs.declared.data.Heap.{Heap}
 use Rattle.run_ledger.specs.Reachable.{is_name, reached, IsReachedWithin}
-use Rattle.run_ledger.specs.Heaps.{held_in, held, heap_of, roots_of, within, name_le, small_in, collected, swept_heap}
+use Rattle.run_ledger.specs.Heaps.{held_in, held, heap_of, with_heap, roots_of, within, name_le, small_in, small_survivors, collected, swept_heap}
 use Rattle.run_ledger.specs.Entries.{after}
-use Rattle.run_ledger.specs.Journals.{opening, ledger_of, machine_of, is_legal}
+use Rattle.run_ledger.specs.Journals.{opening, ledger_of, machine_of, is_legal, tasks_in}
+use Rattle.run_ledger.specs.Sound.{SoundAt}
 
 -- of these names, exactly those are reached to which a walk through them leads
 abbrev pub ReachedIsWalks : Type 0
@@ -30,6 +33,18 @@ ReachedIsWalks =
 -- the ledger's machine is the machine that never collects, over the journal's steps
 abbrev pub MachineIsRun : Type 0
 MachineIsRun = (p : ProgramText) (s : Limits) (journal : List Event) → (ledger_of p s journal).machine ≡ machine_of p s journal
+
+-- and each step and each entry moves it by its steps alone
+abbrev pub StepsMoveMachine : Type 0
+StepsMoveMachine = (p : ProgramText) (l : Ledger) (t : ℕ) → (task_step p l t).machine ≡ step p l.machine t
+
+abbrev pub EntriesMoveMachine : Type 0
+EntriesMoveMachine = (p : ProgramText) (s : Limits) (l : Ledger) (e : Event) → (after p s l e).machine ≡ run_from p l.machine (tasks_in e.kind)
+
+-- where the run goes on so does the machine
+abbrev pub MachineGoesOn : Type 0
+MachineGoesOn =
+    (p : ProgramText) (s : Limits) (journal : List Event) → let l = ledger_of p s journal in l.end ≡ None → l.machine.end ≡ None
 
 -- NOTHING REACHABLE IS FREED
 
@@ -74,6 +89,12 @@ WithinIsOwned =
     (p : ProgramText) (s : Limits) (journal : List Event) → is_legal p s journal ≡ true
     → let l = ledger_of p s journal in (t : ℕ) (n : Name) → IsAtWork l t → Contains (within l t) n ↔ IsReached (StartsOwned l t) (LeadsOwned l t) n
 
+-- and what is reached within a heap depends on nothing of the accounts but the names that are held: not on who holds a task,
+-- nor on any count
+abbrev pub WithinIsOfNames : Type 0
+WithinIsOfNames =
+    (l : Ledger) (t u : ℕ) (f : Heap → Heap) → ((h : Heap) → held_in (f h) ≡ held_in h) → within (with_heap l t f) u ≡ within l u
+
 -- EACH HELD NAME IS HELD ONCE
 
 -- no name is held twice; each lies in the heap of the task that owns it, and names an object of the store
@@ -92,10 +113,11 @@ abbrev pub AreByBirth : List Name → Type 0
 AreByBirth [] = Unit {0}
 AreByBirth (n ∷ ns) = ((k : Name) → Contains ns k → name_le n k ≡ true) × AreByBirth ns
 
--- a leaf collection keeps just the survivors among the held names, the small ones by birth; a sweep keeps just the snapshot
+-- a leaf collection keeps just the survivors among the held names, the small ones by birth and laid one after the other; a sweep keeps just the snapshot
 pub record KeepsJust (m : State) (h : Heap) : Type 0 where
   pub survivors : (n : Name) → Contains (held_in (collected m h)) n ↔ (Contains (held_in h) n × Contains h.survivors n)
   pub order : AreByBirth (small_in (collected m h))
+  pub laid : small_in (collected m h) ≡ small_survivors h
   pub snapshot : (n : Name) → Contains (held_in (swept_heap h)) n ↔ (Contains (held_in h) n × Contains h.snapshot n)
 
 abbrev pub CollectionsKeepJust : Type 0
@@ -114,11 +136,34 @@ pub record HoldsTasks (l : Ledger) : Type 0 where
 abbrev pub TasksAreHeldOnce : Type 0
 TasksAreHeldOnce = (p : ProgramText) (s : Limits) (journal : List Event) → is_legal p s journal ≡ true → HoldsTasks (ledger_of p s journal)
 
+-- a task that waits is held by nobody, whether or not the run has ended
+abbrev pub WaitersAreFree : Type 0
+WaitersAreFree =
+    (p : ProgramText) (s : Limits) (journal : List Event) → is_legal p s journal ≡ true
+    → let l = ledger_of p s journal in (t : ℕ) → is_waiting (slice_get l.machine.tasks t) ≡ true → (heap_of l t).worker ≡ None
+
+-- WHAT A STEP CHANGES
+
+-- a step after which its task runs on, and the machine too, changes the accounts by what it allocates alone: so it leaves who
+-- holds which task, the snapshots and the survivors
+abbrev pub StepsRunOn : Type 0
+StepsRunOn =
+    (p : ProgramText) (l : Ledger) (t : ℕ) → can_step l.machine t ≡ true
+    → let m = step p l.machine t in
+    let b = allocated_in p l t in m.end ≡ None → is_running (slice_get m.tasks t) ≡ true → task_step p l t ≡ record b { machine = m; steps = b.steps + 1 }
+
+-- a step leaves the heaps of the other tasks that ran before it or wait after it
+abbrev pub StepsLeaveHeaps : Type 0
+StepsLeaveHeaps =
+    (p : ProgramText) (l : Ledger) (t u : ℕ) → SoundAt t l
+    → let l' = task_step p l t in (u ≡ t → ⊥) → (is_running (slice_get l.machine.tasks u) ≡ true) ⊎ (is_waiting (slice_get l'.machine.tasks u) ≡ true)
+    → slice_get l'.heaps u ≡ slice_get l.heaps u
+
 -- WHAT AN ENTRY LEAVES ALONE
 
--- an entry of one worker leaves what another worker holds: the task and the account of its heap
+-- an entry of one worker leaves what another worker holds: the task, the objects that it owns, and the account of its heap
 pub record LeavesTask (l after : Ledger) (u : ℕ) : Type 0 where
-  pub task : slice_get after.machine.tasks u ≡ slice_get l.machine.tasks u
+  pub owner : LeavesOwner l.machine after.machine u
   pub heap : heap_of after u ≡ heap_of l u
 
 abbrev pub EntriesLeaveOthers : Type 0

@@ -2,7 +2,11 @@ pub mod Reachable
 pub mod Heaps
 pub mod Steps
 pub mod Entries
+pub mod Accepted
 pub mod Journals
+pub mod Sound
+pub mod Use
+pub mod Frozen
 pub mod Report
 pub mod Pace
 pub mod Text

@@ -3,7 +3,7 @@ use Rattle.std.specs.Prelude.{◌≡◌, ℕ, ◌+◌, ◌*◌, ◌<◌, ◌≤�
 use Rattle.run_trace.specs.declared.entry.Kind.TheVariants.{Ran, End, Sweep}
 use Rattle.run_trace.specs.Entry.{Event}
 use Rattle.run_trace.specs.Settings.{Limits, field_limit}
-use Rattle.hh_lang.specs.Form.{ProgramText}
+use Rattle.hh_lang.specs.Form.{ProgramText, IsProgram}
 use Rattle.hh_model.specs.declared.data.Name.{Name}
 use Rattle.hh_model.specs.declared.data.Object.{Object}
 use Rattle.hh_model.specs.declared.data.State.{State}
@@ -13,7 +13,9 @@ use Rattle.run_ledger.specs.declared.data.Ledger.{Ledger}
 use Rattle.run_ledger.specs.Heaps.{chunk_words, words_sum, held, heap_of, lacks_room, begun_in, take_of, in_use, words_of}
 use Rattle.run_ledger.specs.Steps.{task_steps}
 use Rattle.run_ledger.specs.Entries.{after}
-use Rattle.run_ledger.specs.Journals.{ledger_of, is_legal}
+use Rattle.run_ledger.specs.Journals.{ledger_of, is_legal, tasks_of}
+use Rattle.run_ledger.specs.Sound.{SoundAt}
+use Rattle.hh_model.specs.Counts.{Counted}
 use Rattle.run_ledger.specs.Report.{report_of}
 
 -- the steps of a legal journal are at most the fuel and 256 more
@@ -74,11 +76,29 @@ UseIsBounded = (p : ProgramText) (s : Limits) (journal : List Event) → is_lega
 abbrev pub AsksAtMost : ProgramText → ℕ → ℕ → Type 0
 AsksAtMost p limit most = (m : State) (t w : ℕ) → m.field_limit ≡ limit → asked p m t ≡ Some w → w ≤ most
 
--- so the words that a heap counts since its last leaf collection are at most so many for each step taken
+-- a `newm` asks for two words more than fields, and a `pack` for two more than registers
+abbrev pub ProgramsAskFew : Type 0
+ProgramsAskFew = (p : ProgramText) → IsProgram p → (limit : ℕ) → AsksAtMost p limit (limit + 34)
+
+-- so the words that a heap counts since its last leaf collection are at most so many for each step taken, in both versions of
+-- the trace
+pub record CountsFew (s : Limits) (l : Ledger) : Type 0 where
+  pub by_steps : (t : ℕ) → (heap_of l t).since ≤ (field_limit s.version + 34) * l.steps
+  pub below : (t : ℕ) → (heap_of l t).since ≤ 1000034 * l.steps
+
+-- after a legal journal, and after any steps of a task then that isn't amid a leaf collection
 abbrev pub SinceIsBounded : Type 0
 SinceIsBounded =
-    (p : ProgramText) (s : Limits) (journal : List Event) (most : ℕ) → is_legal p s journal ≡ true → AsksAtMost p (field_limit s.version) most
-    → let l = ledger_of p s journal in (t : ℕ) → (heap_of l t).since ≤ most * l.steps
+    (p : ProgramText) (s : Limits) (journal : List Event) → IsProgram p → is_legal p s journal ≡ true
+    → let l = ledger_of p s journal in CountsFew s l × ((t k : ℕ) → SoundAt t l → CountsFew s (task_steps p l t k))
+
+-- the steps of a journal's accounts are those of its entries, and bound the tasks, objects and joins
+pub record IsCountedBy (l : Ledger) (journal : List Event) : Type 0 where
+  pub steps : l.steps ≡ length (tasks_of journal)
+  pub counts : Counted l.steps l.machine.tasks l.machine.store
+
+abbrev pub JournalsAreCounted : Type 0
+JournalsAreCounted = (p : ProgramText) (s : Limits) (journal : List Event) → IsCountedBy (ledger_of p s journal) journal
 
 -- the words in the last list, and none without one
 abbrev pub last_words : State → List (List Name) → ℕ
@@ -92,12 +112,12 @@ pub record FitsInChunks (m : State) (h : Heap) : Type 0 where
   pub last : last_words m h.chunks + h.room ≤ chunk_words
 
 -- the heaps fit in their chunks, and the held names have at most the words of the chunks in use
-pub record Fits (l : Ledger) : Type 0 where
+pub record AllFit (l : Ledger) : Type 0 where
   pub heaps : (t : ℕ) → FitsInChunks l.machine (heap_of l t)
   pub words : words_sum l.machine (held l) ≤ chunk_words * in_use l
 
 abbrev pub HeapsFit : Type 0
-HeapsFit = (p : ProgramText) (s : Limits) (journal : List Event) → is_legal p s journal ≡ true → Fits (ledger_of p s journal)
+HeapsFit = (p : ProgramText) (s : Limits) (journal : List Event) → is_legal p s journal ≡ true → AllFit (ledger_of p s journal)
 
 -- the words of all objects of a store
 abbrev pub store_words : List (List Object) → ℕ

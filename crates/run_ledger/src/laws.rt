@@ -1,8 +1,12 @@
 // The laws of journals, each the clause of a function that does nothing.
 
-ghost use Rattle.run_ledger.specs.Laws.{ReachedIsWalks, MachineIsRun, NothingReachableIsFreed, NamesAreHeldOnce, CollectionsKeepJust, TasksAreHeldOnce, EntriesLeaveOthers, HeldIsUndropped, WithinIsOwned};
-ghost use Rattle.run_ledger.specs.Cuts.{LegalIsUnrefused, JournalsCanBeCut, FirstRefusedIsFirst, PacedIsMeant, OwedCanBeGiven};
-ghost use Rattle.run_ledger.specs.Space.{StepsAreBounded, AllocationsAreInBounds, UseIsBounded, LeafCollectionsAreBounded, SweepsAreBounded, HeapsFit, WordsAreAccounted, SinceIsBounded};
+ghost use Rattle.run_ledger.specs.Laws.{ReachedIsWalks, MachineIsRun, NothingReachableIsFreed, NamesAreHeldOnce, CollectionsKeepJust, TasksAreHeldOnce, EntriesLeaveOthers, HeldIsUndropped, WithinIsOwned, MachineGoesOn, WithinIsOfNames, WaitersAreFree, StepsRunOn, StepsMoveMachine, EntriesMoveMachine, StepsLeaveHeaps};
+ghost use Rattle.run_ledger.specs.Accepted.{AcceptedIsAllowed};
+ghost use Rattle.run_ledger.specs.Frozen.{SurvivorsAreWithin, SnapshotsAreWithin, SnapshotsAreHeld, ForksSetDown};
+ghost use Rattle.run_ledger.specs.Cuts.{LegalIsUnrefused, JournalsCanBeCut, FirstRefusedIsFirst, PacedIsMeant, OwedCanBeGiven, PaceGoesOn, FewerStepsAreLegal};
+ghost use Rattle.run_ledger.specs.Space.{StepsAreBounded, AllocationsAreInBounds, UseIsBounded, LeafCollectionsAreBounded, SweepsAreBounded, HeapsFit, WordsAreAccounted, SinceIsBounded, ProgramsAskFew, JournalsAreCounted};
+ghost use Rattle.run_ledger.specs.Sound.{JournalsAreSound, ChangesKeepSound, EntriesKeepSound, StepsKeepSound};
+ghost use Rattle.run_ledger.specs.Use.{EntriesUse, StepsUseNone, ChunksAreUsed};
 
 /// Of some names, those are reached to which walks along references lead, through these names alone.
 pub fn reached_is_walks()
@@ -109,8 +113,124 @@ pub fn words_are_accounted()
     ensures { WordsAreAccounted }
 {}
 
-/// After a legal journal the words that a heap counts since its last collection are at most so many for each step taken as one
-/// step can ask for.
+/// After a legal journal, and after steps of a task then, the words that a heap counts since its last collection are at most the limit
+/// and 34 for each step taken.
 pub fn since_is_bounded()
     ensures { SinceIsBounded }
+{}
+
+/// The accounts of every legal journal are sound: what a heap that waits is used for is in its snapshot, and what one amid a leaf
+/// collection is used for is among its survivors.
+pub fn journals_are_sound()
+    ensures { JournalsAreSound }
+{}
+
+/// An entry that isn't refused keeps accounts sound.
+pub fn entries_keep_sound()
+    ensures { EntriesKeepSound }
+{}
+
+/// So does a step of a task that isn't amid a leaf collection.
+pub fn steps_keep_sound()
+    ensures { StepsKeepSound }
+{}
+
+/// How each accepted entry changes the chunks in use: steps leave them as they are.
+pub fn entries_use()
+    ensures { EntriesUse }
+{}
+
+/// After a legal journal steps that can stand in one entry leave the chunks in use as they are.
+pub fn steps_use_none()
+    ensures { StepsUseNone }
+{}
+
+/// After a legal journal a heap without a chunk has no room, and only a task that runs reserves a chunk.
+pub fn chunks_are_used()
+    ensures { ChunksAreUsed }
+{}
+
+/// A step of a program asks for at most the limit and 34 words.
+pub fn programs_ask_few()
+    ensures { ProgramsAskFew }
+{}
+
+/// The steps of a journal's accounts are those of its entries, and bound the tasks, objects and joins.
+pub fn journals_are_counted()
+    ensures { JournalsAreCounted }
+{}
+
+/// As long as the run goes on so does the machine.
+pub fn machine_goes_on()
+    ensures { MachineGoesOn }
+{}
+
+/// What is reached within a heap depends on nothing of the accounts but the held names.
+pub fn within_is_of_names()
+    ensures { WithinIsOfNames }
+{}
+
+/// A paced journal is paced with an entry more that ends the run for spent fuel or gives what is owed.
+pub fn pace_goes_on()
+    ensures { PaceGoesOn }
+{}
+
+/// An entry of fewer steps isn't refused where one of more isn't.
+pub fn fewer_steps_are_legal()
+    ensures { FewerStepsAreLegal }
+{}
+
+/// After a legal journal a task that waits is held by nobody, whether or not the run has ended.
+pub fn waiters_are_free()
+    ensures { WaitersAreFree }
+{}
+
+/// The survivors of a leaf collection that goes on are what was reached within its heap as it began.
+pub fn survivors_are_within()
+    ensures { SurvivorsAreWithin }
+{}
+
+/// The snapshot of a task that waits is what was reached within its heap as it forked.
+pub fn snapshots_are_within()
+    ensures { SnapshotsAreWithin }
+{}
+
+/// The snapshot of a task that waits has each name once, and all of it is held.
+pub fn snapshots_are_held()
+    ensures { SnapshotsAreHeld }
+{}
+
+/// A fork sets down what was reached within its task's heap just before it.
+pub fn forks_set_down()
+    ensures { ForksSetDown }
+{}
+
+/// A step after which its task runs on changes the accounts by what it allocates alone.
+pub fn steps_run_on()
+    ensures { StepsRunOn }
+{}
+
+/// An entry is accepted exactly where it finds what its kind asks of the accounts.
+pub fn accepted_is_allowed()
+    ensures { AcceptedIsAllowed }
+{}
+
+/// A step of the accounts moves the machine by that step.
+pub fn steps_move_machine()
+    ensures { StepsMoveMachine }
+{}
+
+/// An entry moves the machine by its steps.
+pub fn entries_move_machine()
+    ensures { EntriesMoveMachine }
+{}
+
+/// A step leaves the heaps of the other tasks that ran before it or wait after it.
+pub fn steps_leave_heaps()
+    ensures { StepsLeaveHeaps }
+{}
+
+/// A change of counts, of who holds a task or of marks keeps accounts sound.
+pub fn changes_keep_sound()
+    ensures { ChangesKeepSound }
 {}

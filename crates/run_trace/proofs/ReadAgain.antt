@@ -17,7 +17,7 @@ use Rattle.run_trace.specs.Line.{said_by, spaced, entry_line}
 use Rattle.run_trace.specs.Trace.{version_of, version_of_words, first_bad, entries_in, fault_in, trace_fault, AreTraceLines, IsTraceText, trace_text}
 use Rattle.run_trace.specs.TraceLaw.{TextsAreReadAgain}
 use Rattle.run_trace.proofs.Words.{AreProper, words_spaced, line_first, decimal_is_proper}
-use Rattle.run_trace.proofs.Said.{entry_words, entry_is_proper, entry_again}
+use Rattle.run_trace.proofs.Said.{entry_words, entry_is_proper, entry_again, spaced_utf8}
 
 -- ENTRIES
 
@@ -61,7 +61,9 @@ words_again One = rw (decimal_digit 1 (omega arith)) refl
 words_again Two = rw (decimal_digit 2 (omega arith)) refl
 
 version_again : (v : Version) → version_of (spaced (version_words v)) ≡ Some v
-version_again v = ap version_of_words (words_spaced (version_words v) (version_is_proper v)) ∙ words_again v
+version_again v =
+    rw (spaced_utf8 (version_words v) (version_is_proper v))
+    (ap version_of_words (words_spaced (version_words v) (version_is_proper v)) ∙ words_again v)
 
 -- THE TEXT
 

@@ -1,7 +1,7 @@
 -- Trace texts: a line with the version, and then a line for each entry.
 use Rattle.std.specs.Prelude.{◌≡◌, ℕ, ◌+◌, Bool, true, false, Option, Some, None, List, [], ◌∷◌, ◌++◌, codes, if◌then◌else◌}
 use Rattle.std.specs.List.{flat_map}
-use Rattle.std.specs.Str.{bytes_eq}
+use Rattle.std.specs.Str.{bytes_eq, is_utf8}
 use Rattle.std.specs.Fmt.{decimal}
 use Rattle.text_lines.specs.Lines.{lines_of, words_of}
 use Rattle.run_trace.specs.declared.settings.Version.{Version}
@@ -27,7 +27,7 @@ version_of_words _ = None
 
 -- the version that the first line of a trace text bears
 abbrev pub version_of : List ℕ → Option Version
-version_of line = version_of_words (words_of line)
+version_of line = if is_utf8 line then version_of_words (words_of line) else None
 
 abbrev pub or_bad : ℕ → Said → Option ℕ → Option ℕ
 or_bad n Wrong later = Some n

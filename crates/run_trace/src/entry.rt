@@ -74,16 +74,3 @@ impl Entry {
         self.kind
     }
 }
-
-#[cfg(test)]
-mod tests {
-    use super::*;
-
-    #[test]
-    fn entries_tell_what_they_were_made_of(rt: HostRuntime) {
-        let entry = Entry::new(63, Kind::Ran(4294967295, 257));
-        assert_eq!(rt; entry.worker(), 63);
-        assert_eq!(rt; entry.kind(), Kind::Ran(4294967295, 257));
-        assert_eq!(rt; entry == Entry::new(62, Kind::Ran(4294967295, 257)), false);
-    }
-}

@@ -148,32 +148,3 @@ impl Settings {
         self.inner
     }
 }
-
-#[cfg(test)]
-mod tests {
-    use super::*;
-
-    #[test]
-    fn limits_tell_what_they_were_made_of(rt: HostRuntime) {
-        let least = Settings::new(Version::One, 1, 1, 2, 16, 16);
-        assert_eq!(rt; (least.workers(), least.fuel(), least.chunks()), (1, 1, 2));
-        assert_eq!(rt;
-            (least.leaf(), least.inner(), least.version()),
-            (16, 16, Version::One)
-        );
-        assert_eq!(rt;
-            (least.version().field_limit(), least.version().number()),
-            (1022, 1)
-        );
-        let usual = Settings::usual();
-        assert_eq!(rt;
-            usual,
-            Settings::new(Version::Two, 1, 1000000, 4096, 4096, 8192)
-        );
-        assert_eq!(rt; usual.with_version(Version::One) == usual, false);
-        assert_eq!(rt;
-            (usual.version().field_limit(), usual.version().number()),
-            (1000000, 2)
-        );
-    }
-}

@@ -2,9 +2,9 @@
 
 ghost use Rattle.std.specs.Prelude.{◌≡◌, ◌++◌, ◌≤◌, ◌+◌, length, IfOk, OnErr, IfErr, OnOk, Option, Some, None};
 ghost use Rattle.run_trace.specs.Line.{said_by};
-ghost use Rattle.run_trace.specs.Trace.{version_by, version_of, first_bad, entries_in, onto_entries, trace_fault, IsTraceText, version_line, TraceFails, NotesLine};
+ghost use Rattle.run_trace.specs.Trace.{version_by, version_of_words, version_of, first_bad, entries_in, onto_entries, trace_fault, IsTraceText, version_line, TraceFails, NotesLine};
 ghost use Rattle.run_trace.specs.Trace.{trace_text as text_of};
-ghost use Rattle.text_lines.specs.Lines.{lines_of};
+ghost use Rattle.text_lines.specs.Lines.{lines_of, words_of};
 
 use crate::entry::Entry;
 use crate::line::{Said, add_entry, read_line};
@@ -53,15 +53,25 @@ fn version_named(word: &[u8]) -> Option<Version>
     }
 }
 
-/// The version that the first line of a trace text bears; None where it isn't such a line.
-pub fn read_version(line: &[u8]) -> Option<Version>
-    ensures { result ≡ version_of line.now }
+// The version that the words of a line name.
+fn version_in_words(line: &[u8]) -> Option<Version>
+    ensures { result ≡ version_of_words (words_of line.now) }
 {
     let (word, rest) = next_word(line)?;
     let (version, rest) = next_word(rest)?;
     match next_word(rest) {
         None if word == b"trace".as_slice() => version_named(version),
         _ => None,
+    }
+}
+
+/// The version that the first line of a trace text bears; None where it isn't such a line.
+pub fn read_version(line: &[u8]) -> Option<Version>
+    ensures { result ≡ version_of line.now }
+{
+    match str::from_utf8(line) {
+        Ok(_) => version_in_words(line),
+        Err(_) => None,
     }
 }
 
@@ -130,67 +140,4 @@ pub fn trace_text(alloc: Global, version: Version, journal: &[Entry]) -> Result<
         add_entry(alloc, &mut text, *entry)?;
     }
     Ok(text)
-}
-
-#[cfg(test)]
-mod tests {
-    use super::*;
-    use crate::entry::Kind;
-    use std::test::Fail;
-
-    #[test]
-    fn a_trace_is_read_and_written(rt: HostRuntime) -> Result<(), Fail> {
-        let text =
-            b"trace 2 # versions\n\n0 took 0\r\n\t63 ran 007 257 #no word\n0 chunk 1\n0 begin 1\n0 end 1 2 3 4\n0 putoff 1\n1 mark 0 # #\n1 some 0 1024\n1 sweep 0 5\n0 fuel";
-        let trace = match read_trace(rt.alloc(), text.as_slice(), 7) {
-            Ok(trace) => trace,
-            Err(_) => Trace {
-                version: Version::One,
-                entries: Listed::new(rt.alloc()),
-            },
-        };
-        assert_eq!(rt; trace.version, Version::Two);
-        let read = trace.entries.as_slice();
-        assert_eq!(rt; read.len(), 10);
-        assert_eq!(rt; read.get(1), Some(&Entry::new(63, Kind::Ran(7, 257))));
-        assert_eq!(rt; read.get(4), Some(&Entry::new(0, Kind::End(1, 2, 3, 4))));
-        assert_eq!(rt; read.get(8), Some(&Entry::new(1, Kind::Sweep(0, 5))));
-        let written = trace_text(rt.alloc(), Version::One, trace.entries.as_slice())?;
-        let wanted =
-            b"trace 1\n0 took 0\n63 ran 7 257\n0 chunk 1\n0 begin 1\n0 end 1 2 3 4\n0 putoff 1\n1 mark 0\n1 some 0 1024\n1 sweep 0 5\n0 fuel\n";
-        assert_eq!(rt; written.as_slice(), wanted.as_slice());
-        Ok(())
-    }
-
-    #[test]
-    fn the_first_bad_line_is_told(rt: HostRuntime) {
-        let cases: [(&[u8], u32); 19] = [
-            (b"trace 9\n64 took 0", 6),
-            (b"trace 01", 6),
-            (b"trace", 6),
-            (b"trace 1 1", 6),
-            (b"", 6),
-            (b"trace 1\n64 took 0", 7),
-            (b"trace 1\n0 ran 0 258", 7),
-            (b"trace 1\n0 ran 0 0", 7),
-            (b"trace 1\n0 some 0 0", 7),
-            (b"trace 1\n0 some 0 1025", 7),
-            (b"trace 1\n0 took 4294967296", 7),
-            (b"trace 1\n0 sweep 0", 7),
-            (b"trace 1\n0 ran 0", 7),
-            (b"trace 1\n0 took +1", 7),
-            (b"trace 1\n0 took 0\n0 end 0 1 2\nx", 8),
-            (b"trace 1\n\n#\n0 fuel 0", 9),
-            (b"trace 1\n0", 7),
-            (b"trace 1\n0 end 0 1 2 3 4", 7),
-            (b"trace 1\n0 fuel # \xff", 7),
-        ];
-        for (text, line) in &cases {
-            let told = match read_trace(rt.alloc(), *text, 6) {
-                Err(TraceError::BadLine(told)) => told,
-                _ => 0,
-            };
-            assert_eq!(rt; told, *line);
-        }
-    }
 }

@@ -1,6 +1,7 @@
 -- What clauses say of a hand.
 use Rattle.std.specs.Prelude.{◌≡◌, ◌≢◌, ℕ, ◌+◌, ◌<◌, ◌≤◌, List, [], ◌∷◌, ◌++◌, Some, slice_get, length}
-use Rattle.crossbeam_deque.specs.Handles.{stealer_deque, worker_deque, worker_port, worker_view, worker_capacity, worker_index}
+use Rattle.crossbeam_deque.specs.Handles.{stealer_deque, worker_deque}
+use Rattle.steal_scheduler.specs.Ends.{owner_port, owner_view, slots, next_put, pops_of_none}
 use Rattle.steal_scheduler.specs.declared.view.View.{View}
 use Rattle.steal_scheduler.specs.declared.theft.Theft.{Theft}
 use Rattle.steal_scheduler.specs.declared.hand.Hand.{Hand}
@@ -10,10 +11,10 @@ use Rattle.steal_scheduler.specs.Thefts.{theft_view, vain_thefts, SameTheft}
 
 -- what the hand's pass keeps at its own deque
 abbrev pub own_view : Hand → View
-own_view h = worker_view h.own.worker
+own_view h = owner_view h.own
 
 abbrev pub own_port : Hand → ℕ
-own_port h = worker_port h.own.worker
+own_port h = owner_port h.own
 
 -- the numbers that the deque had no room for, and those put after them, the newest last
 abbrev pub own_list : Hand → List ℕ
@@ -25,15 +26,15 @@ thefts h = h.thefts.items
 
 -- the slots of the newest ring of the own deque
 abbrev pub capacity : Hand → ℕ
-capacity h = worker_capacity h.own.worker
+capacity h = slots h.own
 
 -- the index of the next put, which taking back takes down again
 abbrev pub index : Hand → ℕ
-index h = worker_index h.own.worker
+index h = next_put h.own
 
 -- how many pops found the own deque empty
 abbrev pub empty_pops : Hand → ℕ
-empty_pops h = h.own.empty_pops
+empty_pops h = pops_of_none h.own
 
 -- it steals from the own deque of this hand
 abbrev pub StealsFrom : Theft → Hand → Type 0

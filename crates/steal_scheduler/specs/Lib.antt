@@ -1,4 +1,5 @@
 pub mod Counts
+pub mod Ends
 pub mod Rule
 pub mod Thefts
 pub mod Hands

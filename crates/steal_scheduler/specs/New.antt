@@ -1,12 +1,12 @@
 -- What the making of hands tells from step to step.
 use Rattle.std.specs.Prelude.{◌≡◌, ℕ, ◌<◌, List, Some, slice_get, length}
 use Rattle.crossbeam_deque.specs.declared.handles.Stealer.{Stealer}
-use Rattle.crossbeam_deque.specs.Handles.{worker_deque, stealer_deque, worker_view, worker_index, worker_capacity}
 use Rattle.std.specs.declared.alloc.Global.{Global}
 use Rattle.steal_scheduler.specs.declared.view.View.{View}
 use Rattle.steal_scheduler.specs.declared.rule.Deals.{Deals}
 use Rattle.steal_scheduler.specs.declared.own_deque.OwnDeque.{OwnDeque}
 use Rattle.steal_scheduler.specs.declared.theft.Theft.{Theft}
+use Rattle.steal_scheduler.specs.Ends.{IsStealerOf, StealsBy, owner_view, slots, next_put, pops_of_none}
 use Rattle.steal_scheduler.specs.Rule.{opening_view, guest_view}
 use Rattle.steal_scheduler.specs.Thefts.{theft_view, vain_thefts}
 use Rattle.steal_scheduler.specs.declared.hand.Hand.{Hand}
@@ -24,19 +24,19 @@ Thief = Stealer ℕ Global View Deals
 
 -- the owner's end of a new deque
 pub record IsNewOwner (o : Owner) : Type 0 where
-  pub view_is : worker_view o.worker ≡ opening_view
-  pub at_start : worker_index o.worker ≡ 0
-  pub room : 0 < worker_capacity o.worker
-  pub none_counted : o.empty_pops ≡ 0
+  pub view_is : owner_view o ≡ opening_view
+  pub at_start : next_put o ≡ 0
+  pub room : 0 < slots o
+  pub none_counted : pops_of_none o ≡ 0
 
 -- a stealer of each deque
 pub record StealFrom (ss : List Thief) (os : List Owner) : Type 0 where
   pub count : length ss ≡ length os
-  pub each : EachPlace (λ s o. stealer_deque s ≡ worker_deque o.worker) ss os
+  pub each : EachPlace IsStealerOf ss os
 
 -- a way to steal from this stealer's deque, which has stolen nothing
 abbrev pub IsNewTheft : Theft → Thief → Type 0
-IsNewTheft t s = (stealer_deque t.victim.stealer ≡ stealer_deque s) × (theft_view t ≡ guest_view) × (vain_thefts t ≡ 0)
+IsNewTheft t s = StealsBy t.victim s × (theft_view t ≡ guest_view) × (vain_thefts t ≡ 0)
 
 -- one from each deque
 pub record AreTheftsOf (ts : List Theft) (ss : List Thief) : Type 0 where

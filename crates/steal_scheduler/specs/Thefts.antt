@@ -1,21 +1,22 @@
 -- What clauses say of a hand's way to steal from one deque.
 use Rattle.std.specs.Prelude.{◌≡◌, ℕ, ◌∷◌, []}
-use Rattle.crossbeam_deque.specs.Handles.{view, stealer_deque}
 use Rattle.steal_scheduler.specs.declared.view.View.{View}
 use Rattle.steal_scheduler.specs.declared.theft.Theft.{Theft}
 use Rattle.steal_scheduler.specs.Counts.{one_more}
+use Rattle.crossbeam_deque.specs.Handles.{stealer_deque}
+use Rattle.steal_scheduler.specs.Ends.{thief_port, thief_view, thefts_of_none}
 use Rattle.steal_scheduler.specs.Rule.{with_taken, HeldAtMost}
 
 -- what its pass keeps
 abbrev pub theft_view : Theft → View
-theft_view t = view t.victim.pass
+theft_view t = thief_view t.victim
 
 abbrev pub theft_port : Theft → ℕ
-theft_port t = t.victim.pass.id
+theft_port t = thief_port t.victim
 
 -- how many thefts found at most one number there
 abbrev pub vain_thefts : Theft → ℕ
-vain_thefts t = t.victim.vain_thefts
+vain_thefts t = thefts_of_none t.victim
 
 -- it steals from the same deque
 abbrev pub SameTheft : Theft → Theft → Type 0

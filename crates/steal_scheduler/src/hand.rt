@@ -1,6 +1,6 @@
 //! A worker's hand: its own deque, the list beside it, and its ways to steal.
 ghost use Rattle.std.specs.Prelude.{◌≡◌, ◌⊎◌, ◌<◌, true, length, OnOk, IfErr, IfSome, IfNone, slice_get, Some};
-ghost use Rattle.crossbeam_deque.specs.Handles.{worker_view};
+ghost use Rattle.steal_scheduler.specs.Ends.{owner_view};
 
 use crate::rule::{Owner, Puts, TakesBack};
 use crate::theft::Theft;
@@ -13,7 +13,7 @@ pub struct Hand {
     own: Owner,
     list: Vec<u32>,
     thefts: Vec<Theft>,
-    ghost owner: { (worker_view own.worker).owns ≡ true },
+    ghost owner: { (owner_view own).owns ≡ true },
 }
 
 impl Hand {

@@ -17,6 +17,3 @@ pub use rule::Deals;
 pub use theft::Theft;
 pub use victim_deque::VictimDeque;
 pub use view::View;
-
-#[cfg(test)]
-mod tests;

@@ -1,6 +1,6 @@
 //! How a hand steals from one deque under the rule.
 ghost use Rattle.std.specs.Prelude.{◌≡◌, false, IfOk, IfSome, IfNone};
-ghost use Rattle.crossbeam_deque.specs.Handles.{view, stealer_deque};
+ghost use Rattle.steal_scheduler.specs.Ends.{StealsBy, thief_view};
 ghost use Rattle.steal_scheduler.specs.Rule.{guest_view};
 
 use crate::rule::{Steals, Thief, Victim};
@@ -12,14 +12,14 @@ use std::sync::Wait;
 #[derive(Drop)]
 pub struct Theft {
     victim: Victim,
-    ghost steals: { (view victim.pass).owns ≡ false },
+    ghost steals: { (thief_view victim).owns ≡ false },
 }
 
 impl Theft {
     ghost use Rattle.steal_scheduler.specs.Thefts.{theft_view, vain_thefts, SameTheft, Stole, StoleNone};
 
     pub(crate) fn new(stealer: &Thief) -> Result<Theft, AllocError>
-        ensures { IfOk result (λ t. (stealer_deque t.victim.stealer ≡ stealer_deque stealer.now) × (theft_view t ≡ guest_view) × (vain_thefts t ≡ 0)) }
+        ensures { IfOk result (λ t. StealsBy t.victim stealer.now × (theft_view t ≡ guest_view) × (vain_thefts t ≡ 0)) }
     {
         let victim = VictimDeque::new(stealer)?;
         Ok(Theft { victim })

@@ -2,7 +2,7 @@
 //! is proved for every rule that the deque may be under.
 ghost use Rattle.std.specs.Prelude.{◌≡◌, ◌∷◌, [], IfOk, IfSome, IfNone};
 ghost use Rattle.crossbeam_deque.specs.Tasks.{Takes, FindsFew, Admits};
-ghost use Rattle.crossbeam_deque.specs.Handles.{view, stealer_deque, IsPassOf, SamePass};
+ghost use Rattle.crossbeam_deque.specs.Handles.{stealer_deque, IsPassOf};
 ghost use Rattle.steal_scheduler.specs.Counts.{one_more};
 
 use crossbeam_deque::protocol::{Outcome, Protocol};
@@ -20,10 +20,12 @@ pub struct VictimDeque<V, P: Protocol<u32, V>> {
 }
 
 impl<V, P: Protocol<u32, V>> VictimDeque<V, P> {
-    // The deque of this stealer, from which nothing was stolen.
-    pub(crate) fn new(stealer: &Stealer<u32, Global, V, P>) -> Result<VictimDeque<V, P>, AllocError>
+    ghost use Rattle.steal_scheduler.specs.Ends.{StealsBy, thief_port, thief_view, thefts_of_none, SameThief};
+
+    /// The deque of this stealer, from which nothing was stolen.
+    pub fn new(stealer: &Stealer<u32, Global, V, P>) -> Result<VictimDeque<V, P>, AllocError>
         requires { Admits P.holds P.guest }
-        ensures { IfOk result (λ v. (stealer_deque v.stealer ≡ stealer_deque stealer.now) × (view v.pass ≡ P.guest) × (v.vain_thefts ≡ 0)) }
+        ensures { IfOk result (λ v. StealsBy v stealer.now × (thief_view v ≡ P.guest) × (thefts_of_none v ≡ 0)) }
     {
         let stealer = stealer.clone()?;
         let pass = stealer.pass();
@@ -34,20 +36,20 @@ impl<V, P: Protocol<u32, V>> VictimDeque<V, P> {
         })
     }
 
-    // How many thefts found at most one number.
-    pub(crate) fn vain_thefts(&self) -> u64
-        ensures { result ≡ self.now.vain_thefts }
+    /// How many thefts found at most one number.
+    pub fn vain_thefts(&self) -> u64
+        ensures { result ≡ thefts_of_none self.now }
     {
         self.vain_thefts
     }
 
-    // Takes the oldest number. None, with one vain theft more, only where a step of the call found at most one number.
-    pub(crate) fn steal<M: Outcome<u32, V>, R: Wait>(&mut self, rt: &R) -> Option<u32>
-        requires takes { Takes P.holds self.old.pass.id (view self.old.pass) 1 (M.then (view self.old.pass)) }
-        requires few { FindsFew P.holds 1 self.old.pass.id (view self.old.pass) (M.empty (view self.old.pass)) }
-        ensures same { (stealer_deque self.new.stealer ≡ stealer_deque self.old.stealer) × SamePass self.old.pass self.new.pass }
-        ensures some { IfSome result (λ x. M.then (view self.old.pass) (x ∷ []) (view self.new.pass) × (self.new.vain_thefts ≡ self.old.vain_thefts)) }
-        ensures none { IfNone result ((view self.new.pass ≡ view self.old.pass) × M.empty (view self.old.pass) × (self.new.vain_thefts ≡ one_more self.old.vain_thefts)) }
+    /// Takes the oldest number. None, with one vain theft more, only where a step of the call found at most one number.
+    pub fn steal<M: Outcome<u32, V>, R: Wait>(&mut self, rt: &R) -> Option<u32>
+        requires takes { Takes P.holds (thief_port self.old) (thief_view self.old) 1 (M.then (thief_view self.old)) }
+        requires few { FindsFew P.holds 1 (thief_port self.old) (thief_view self.old) (M.empty (thief_view self.old)) }
+        ensures same { SameThief self.old self.new }
+        ensures some { IfSome result (λ x. M.then (thief_view self.old) (x ∷ []) (thief_view self.new) × (thefts_of_none self.new ≡ thefts_of_none self.old)) }
+        ensures none { IfNone result ((thief_view self.new ≡ thief_view self.old) × M.empty (thief_view self.old) × (thefts_of_none self.new ≡ one_more (thefts_of_none self.old))) }
     {
         for _ in rt.forever() {
             match self.stealer.steal_as::<M>(&mut self.pass) {

@@ -6,8 +6,6 @@ mod driver;
 mod laws;
 mod ready;
 mod shared;
-#[cfg(test)]
-mod tests;
 
 pub use driver::run_program;
 pub use laws::{outputs_are_written, runs_are_accepted, runs_are_determined, unready_is_found};

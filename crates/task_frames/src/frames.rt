@@ -129,6 +129,13 @@ impl Frames {
         self.below.len() as u32 + 1
     }
 
+    /// The top frame: its function, its next instruction, and its registers.
+    pub fn top(&self) -> &Frame
+        ensures { result.now ≡ self.now.top }
+    {
+        &self.top
+    }
+
     /// The function that the top frame runs.
     pub fn fun(&self) -> u32
         ensures { result ≡ self.now.top.function }

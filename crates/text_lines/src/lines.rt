@@ -28,20 +28,3 @@ pub fn next_line(text: &[u8]) -> (&[u8], Option<&[u8]>)
     }
     (&text[..end], Some(&text[end + 1..]))
 }
-
-#[cfg(test)]
-mod tests {
-    use super::*;
-
-    #[test]
-    fn lines_are_cut_at_line_feeds(rt: HostRuntime) {
-        assert_eq!(rt;
-            next_line(b"a b\n\nc"),
-            (b"a b".as_slice(), Some(b"\nc".as_slice()))
-        );
-        assert_eq!(rt; next_line(b"\nc"), (b"".as_slice(), Some(b"c".as_slice())));
-        assert_eq!(rt; next_line(b"c"), (b"c".as_slice(), None));
-        assert_eq!(rt; next_line(b"c\n"), (b"c".as_slice(), Some(b"".as_slice())));
-        assert_eq!(rt; next_line(b""), (b"".as_slice(), None));
-    }
-}

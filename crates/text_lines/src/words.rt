@@ -66,26 +66,3 @@ pub fn next_word(line: &[u8]) -> Option<(&[u8], &[u8])>
     }
     Some((word, rest))
 }
-
-#[cfg(test)]
-mod tests {
-    use super::*;
-
-    #[test]
-    fn words_stand_between_blanks(rt: HostRuntime) {
-        assert_eq!(rt;
-            next_word(b" \tset\r i0 #1"),
-            Some((b"set".as_slice(), b" i0 #1".as_slice()))
-        );
-        assert_eq!(rt;
-            next_word(b" i0 #1"),
-            Some((b"i0".as_slice(), b"#1".as_slice()))
-        );
-        assert_eq!(rt; next_word(b"#1"), None);
-        assert_eq!(rt;
-            next_word(b"a#1 b"),
-            Some((b"a#1".as_slice(), b"b".as_slice()))
-        );
-        assert_eq!(rt; next_word(b" \r\t"), None);
-    }
-}

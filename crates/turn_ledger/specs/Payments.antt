@@ -1,10 +1,6 @@
 -- What payments come to, and what a call adds to them.
-use Rattle.std.specs.Prelude.{◌≡◌, ◌⊎◌, ℕ, ◌+◌, ◌^◌, ◌<◌, ◌≤◌, length, List, [], ◌∷◌, ◌++◌, Option, sum_by}
-use Rattle.atomic_table.specs.Seated.{TableId}
-use Rattle.atomic_table.specs.declared.shared.Seat.{Seat}
-use Rattle.turn_lock.specs.declared.view.View.{View}
+use Rattle.std.specs.Prelude.{◌≡◌, ◌⊎◌, ℕ, ◌+◌, ◌^◌, ◌<◌, ◌≤◌, length, List, [], ◌∷◌, ◌++◌, sum_by}
 use Rattle.turn_lock.specs.Journal.{entries_by}
-use Rattle.turn_lock.specs.Seats.{view, HasNoTurn}
 use Rattle.turn_ledger.specs.declared.ledger.Payment.{Payment}
 use Rattle.turn_ledger.specs.declared.ledger.Terms.{Terms}
 
@@ -27,9 +23,3 @@ paid_by w ps = sum_by amount_of (entries_by worker_of w ps)
 -- the payments are as before, or this one more
 abbrev pub AtMostOneMore : List Payment → List Payment → Payment → Type 0
 AtMostOneMore before after p = (after ≡ before) ⊎ (after ≡ before ++ p ∷ [])
-
--- the two seats of a turn of two workers, neither with the turn
-pub record AreTwoSeats {T E P S : Type 0} (z : TableId) (a b : Seat (Option T) (View T E P S)) : Type 0 where
-  pub idle : HasNoTurn z a × HasNoTurn z b
-  pub numbers : ((view a).worker ≡ 0) × ((view b).worker ≡ 1)
-  pub first : ((view a).count ≡ 2) × ((view a).joined ≡ [])

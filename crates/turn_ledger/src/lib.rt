@@ -6,6 +6,3 @@ mod workers;
 
 pub use ledger::{Account, Ledger, Payment, Terms};
 pub use workers::{all_pay, pay, pay_all};
-
-#[cfg(test)]
-mod tests;

@@ -1,12 +1,13 @@
-use Rattle.std.proofs.Common.{◌≡◌, ℕ, ◌+◌, ◌≤◌, take}
+use Rattle.std.proofs.Common.{◌≡◌, ◌==◌, ℕ, ◌+◌, ◌≤◌, take}
 use Rattle.std.specs.Prelude.{nat_eq}
 use Rattle.std.specs.HashSet.{contains, hash_set_len, spare}
-use Rattle.remembered_set.specs.Sources.{has_chunk}
+use Rattle.std.specs.List.{list_any}
+use Rattle.object_layout.specs.Content.{Content}
 use Rattle.remembered_set.proofs.remembered.number_chunks.Given as goal
 
 abbrev pub invariant-loop-chunk : goal.invariant-loop-chunk
 invariant-loop-chunk l = record {
   few : hash_set_len l.numbers ≤ l.chunk-index;
   room : hash_set_len l.fn.numbers + spare l.fn.numbers ≤ hash_set_len l.numbers + spare l.numbers;
-  known : (number : ℕ) → contains nat_eq l.numbers number ≡ has_chunk (take l.chunk-index l.chunks) number;
+  known : (number : ℕ) → contains nat_eq l.numbers number ≡ list_any (λ (k : Content). k.number == number) (take l.chunk-index l.chunks);
 }

@@ -41,3 +41,10 @@ returns-clause-settled c = λ s.
           rw (w.self-inside-is, c.write_filled.ensures)
           (settled.settled_placed (the_view c.self.inside) _ _ _ _ _ _ c.self.invariant c.args.i (filled_cell c.args.new.header c.args.new.birth c.args.refs.now c.args.ints.now) fits refl c.index_mut-chunk.result.now c.index_mut-chunk.ensures.value was)
     ]
+
+pub returns-clause-near : goal.returns-clause-near
+returns-clause-near c =
+    let fits = rw (← c.self.view_is) at c.requires.fits in
+    let near =
+    settled.placed_near (the_view c.self.inside) _ _ _ _ _ _ c.self.invariant c.args.i (filled_cell c.args.new.header c.args.new.birth c.args.refs.now c.args.ints.now) fits refl c.index_mut-chunk.result.now c.index_mut-chunk.ensures.value in
+    rw c.used-offset.ensures.words near

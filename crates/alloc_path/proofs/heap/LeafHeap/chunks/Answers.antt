@@ -1,0 +1,10 @@
+use Rattle.std.proofs.Common.{rules}
+use Rattle.alloc_path.specs.Heap.{AreWithin, IsSettled}
+use Rattle.alloc_path.proofs.Near.{are_near}
+use Rattle.alloc_path.proofs.heap.LeafHeap.chunks.Goals as goal
+
+pub returns-clause-near : goal.returns-clause-near
+returns-clause-near c =
+    let settled : IsSettled c.args.self.now.chunks = search rules in
+    let within : AreWithin c.args.self.now.chunks = search rules in
+    are_near c.args.self.now.chunks settled.tidy within

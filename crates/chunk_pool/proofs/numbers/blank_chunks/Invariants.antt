@@ -1,0 +1,7 @@
+use Rattle.std.proofs.Common.{◌≡◌, length}
+use Rattle.std.specs.Prelude.{All}
+use Rattle.chunk_pool.specs.Chunks.{IsBlank}
+use Rattle.chunk_pool.proofs.numbers.blank_chunks.Given as goal
+
+abbrev pub invariant-loop : goal.invariant-loop
+invariant-loop l = record { count : length l.blank.items ≡ l.counter; blank : All IsBlank l.blank.items }

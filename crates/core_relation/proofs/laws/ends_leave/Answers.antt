@@ -1,0 +1,5 @@
+use Rattle.core_relation.proofs.WorkersPast as proved
+use Rattle.core_relation.proofs.laws.ends_leave.Goals as goal
+
+pub returns : goal.returns
+returns c = proved.ends_leave

@@ -1,0 +1,48 @@
+-- The laws of leaf collections that have begun, and of copies.
+use Rattle.run_ledger.specs.Entries.{after}
+use Rattle.core_relation.specs.Whole.{BegunStands, Begins}
+use Rattle.core_relation.specs.Copies.{PartFits, CopyFits, EndsAt, before}
+use Rattle.run_ledger.specs.declared.data.Heap.{Heap}
+use Rattle.core_relation.specs.Begins.{AreRoots}
+use Rattle.std.specs.Prelude.{◌≡◌, ℕ, true, Some, None, slice_get}
+use Rattle.object_layout.specs.declared.word.Addr.{Addr}
+use Rattle.hh_lang.specs.Form.{ProgramText}
+use Rattle.run_trace.specs.Settings.{Limits}
+use Rattle.hh_model.specs.declared.data.Status.TheVariants.{Running}
+use Rattle.hh_model.specs.declared.data.Task.{Task}
+use Rattle.hh_model.specs.Step.{is_waiting}
+use Rattle.run_ledger.specs.declared.data.Ledger.{Ledger}
+use Rattle.run_ledger.specs.Heaps.{heap_of, with_heap, collected}
+use Rattle.run_ledger.proofs.Sound.{SoundLedger}
+use Rattle.core_relation.specs.Value.{Begun, Home, Value}
+use Rattle.ledger_steps.specs.Accounts.{Rests, rested, AlikeFor}
+use Rattle.core_relation.specs.Stands.{Stands}
+use Rattle.core_relation.specs.Fits.{with_home}
+use Rattle.core_relation.specs.Changes.{Moves}
+use Rattle.core_relation.specs.Worker.{Fits}
+
+-- COLLECTIONS THAT HAVE BEGUN
+
+abbrev pub CollectionsBegin : Type 0
+CollectionsBegin =
+    (v v' : Value) (l l' : Ledger) (t : ℕ) (x : Task) (b : Begun) → SoundLedger l → Stands v l → slice_get l.machine.tasks t ≡ Some x → x.status ≡ Running → Rests l t
+    → ((u : ℕ) → is_waiting (slice_get l.machine.tasks u) ≡ true → Rests l u) → AreRoots v l t b.roots → Begins v v' l l' t b → BegunStands v' l' t b
+
+abbrev pub BegunStays : Type 0
+BegunStays =
+    (v v' : Value) (l l' : Ledger) (t : ℕ) (b : Begun) → v'.homes t ≡ v.homes t → ((k : ℕ) → v.owner k ≡ Some t → v'.owner k ≡ Some t) → heap_of l' t ≡ heap_of l t → BegunStands v l t b → BegunStands v' l' t b
+
+-- COPIES: what copying made of a part fits for the end of its collection alone
+
+-- whatever others enter before that
+abbrev pub CopiesStay : Type 0
+CopiesStay =
+    (p : ProgramText) (s : Limits) (t : ℕ) (h h' : Home) (f : Addr → Addr) (v v' : Value) (l l' : Ledger) → SoundLedger l → AlikeFor t l l' → ((k : ℕ) → v.owner k ≡ Some t → v'.owner k ≡ Some t)
+    → l'.machine.end ≡ None → Fits p s (before s t h) v' l' → CopyFits p s t h h' f v l → CopyFits p s t h h' f v' l'
+
+-- the end of the collection is what the law on collections asks for, and after it the part fits
+abbrev pub CopiesEnd : Type 0
+CopiesEnd =
+    (p : ProgramText) (s : Limits) (t : ℕ) (h h' : Home) (f : Addr → Addr) (v v' : Value) (l : Ledger) (x : Task) (hs : Heap) → SoundLedger l → slice_get l.machine.tasks t ≡ Some x → x.status ≡ Running → slice_get l.heaps t ≡ Some hs
+    → CopyFits p s t h h' f v l → EndsAt v v' t h' f → h'.begun ≡ None → let l' : Ledger = with_heap l t (collected l.machine) in
+    Moves (with_home v t h) (with_home v' t h') (rested l t) (rested l' t) t (heap_of (rested l t) t).survivors f × PartFits p s (before s t h') v' l'

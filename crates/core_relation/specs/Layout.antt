@@ -1,0 +1,41 @@
+-- How the objects of a heap are laid out in its chunks.
+use Rattle.std.specs.Prelude.{◌≡◌, ◌⊎◌, ◌&&◌, ◌==◌, ◌+◌, ◌*◌, ◌≤◌, ℕ, zero, suc, Bool, true, false, List, [], ◌∷◌, length, map, filter}
+use Rattle.std.specs.List.{IsDistinct}
+use Rattle.run_ledger.specs.Heaps.{units}
+use Rattle.core_relation.specs.Value.{Seen, Chunk, In, objects_in}
+
+-- the words of an object: its header and its name, its references and its numbers
+abbrev pub words : Seen → ℕ
+words o = 2 + length o.refs + length o.ints
+
+-- two objects don't overlap: they lie in two chunks, or one ends before the other begins
+abbrev pub AreApart : Seen → Seen → Type 0
+AreApart o q = (o.at.chunk ≡ q.at.chunk → ⊥) ⊎ ((o.at.offset + words o ≤ q.at.offset) ⊎ (q.at.offset + words q ≤ o.at.offset))
+
+-- a large chunk holds one object, for which it has just the units, or is empty yet
+abbrev pub HoldsLarge : Chunk → Type 0
+HoldsLarge k = (k.objects ≡ []) ⊎ ((o : Seen) × (k.objects ≡ o ∷ []) × (o.at.offset ≡ 0) × (k.units ≡ units (words o)))
+
+-- the large chunks that hold nothing yet
+abbrev pub has_none : List Seen → Bool
+has_none [] = true
+has_none (o ∷ os) = false
+
+abbrev pub reserved_chunks : List Chunk → List Chunk
+reserved_chunks ks = filter (λ k. k.large && has_none k.objects) ks
+
+-- one of so many units, or none
+abbrev pub reserved_units : ℕ → List ℕ
+reserved_units zero = []
+reserved_units (suc n) = suc n ∷ []
+
+-- the chunks of a heap for which so many units are reserved
+pub record AreLaidOut (ks : List Chunk) (spare : ℕ) : Type 0 where
+  -- no number stands there twice
+  pub numbers : IsDistinct (λ a b. a == b) (map (λ k. k.number) ks)
+  -- each object lies in its chunk by its own words, and apart from the others
+  pub within : (k : Chunk) (o : Seen) → In ks k → In k.objects o → o.at.offset + words o ≤ 1024 * k.units
+  pub apart : (o q : Seen) → In (objects_in ks) o → In (objects_in ks) q → (o ≡ q) ⊎ AreApart o q
+  pub small : (k : Chunk) → In ks k → k.large ≡ false → k.units ≡ 1
+  pub large : (k : Chunk) → In ks k → k.large ≡ true → HoldsLarge k
+  pub reserved : map (λ k. k.units) (reserved_chunks ks) ≡ reserved_units spare

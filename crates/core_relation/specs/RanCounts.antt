@@ -1,0 +1,91 @@
+-- How an entry of steps changes the tree and the counts of a value, by its last step: x is the task before it, line the line that it
+-- takes, m the accounts.
+use Rattle.std.specs.Prelude.{◌≡◌, ℕ, suc, ◌+◌, ◌++◌, ◌∷◌, [], Some, None, length, option_map}
+use Rattle.hh_lang.specs.declared.program.Line.{Line}
+use Rattle.hh_lang.specs.Form.{ProgramText}
+use Rattle.hh_model.specs.declared.data.End.TheVariants.{Done}
+use Rattle.hh_model.specs.declared.data.Task.{Task}
+use Rattle.hh_model.specs.Effect.{int_in}
+use Rattle.run_ledger.specs.declared.data.Ledger.{Ledger}
+use Rattle.run_ledger.specs.declared.data.RunEnd.TheVariants.{Machine}
+use Rattle.ledger_steps.specs.Last.{LastKind, Private, Reading, Writing, Printing, Forking, Ending, Joining, Finishing, Halting, IsOfKind}
+use Rattle.core_relation.specs.Whole.{Totals, Node, State, Ready, Waits, HasEnded, HasJoined}
+
+-- THE TREE
+
+abbrev pub node_then : State → Node → Node
+node_then s n = record n { state = s }
+
+abbrev pub NodesStay : Totals → Totals → Type 0
+NodesStay c c' = (u : ℕ) → c'.node u ≡ c.node u
+
+-- the node of t is in another state
+pub record NodeGoes (c c' : Totals) (t : ℕ) (s : State) : Type 0 where
+  pub node : c'.node t ≡ option_map (node_then s) (c.node t)
+  pub others : (u : ℕ) → (u ≡ t → ⊥) → c'.node u ≡ c.node u
+
+-- t waits for its children a and b, which are ready
+pub record NodesFork (c c' : Totals) (t a b : ℕ) : Type 0 where
+  pub parent : c'.node t ≡ option_map (node_then Waits) (c.node t)
+  pub left : c'.node a ≡ Some (record { parent = Some t; state = Ready })
+  pub right : c'.node b ≡ Some (record { parent = Some t; state = Ready })
+  pub others : (u : ℕ) → (u ≡ t → ⊥) → (u ≡ a → ⊥) → (u ≡ b → ⊥) → c'.node u ≡ c.node u
+
+-- p is ready again, and its children a and b have joined it
+pub record NodesJoin (c c' : Totals) (p a b : ℕ) : Type 0 where
+  pub parent : c'.node p ≡ option_map (node_then Ready) (c.node p)
+  pub left : c'.node a ≡ option_map (node_then HasJoined) (c.node a)
+  pub right : c'.node b ≡ option_map (node_then HasJoined) (c.node b)
+  pub others : (u : ℕ) → (u ≡ p → ⊥) → (u ≡ a → ⊥) → (u ≡ b → ⊥) → c'.node u ≡ c.node u
+
+abbrev pub TreeGoes : (p : ProgramText) → Totals → Totals → (m l' : Ledger) → (t : ℕ) → (x : Task) → (line : Line) → (kind : LastKind) → IsOfKind p m l' t x line kind → Type 0
+TreeGoes p c c' m l' t x line Private K = NodesStay c c'
+TreeGoes p c c' m l' t x line Reading K = NodesStay c c'
+TreeGoes p c c' m l' t x line Writing K = NodesStay c c'
+TreeGoes p c c' m l' t x line Printing K = NodesStay c c'
+TreeGoes p c c' m l' t x line Forking K = NodesFork c c' t (length m.machine.tasks) (length m.machine.tasks + 1)
+TreeGoes p c c' m l' t x line Ending K = NodeGoes c c' t HasEnded
+TreeGoes p c c' m l' t x line Joining K = NodesJoin c c' K.parent K.left (K.left + 1)
+TreeGoes p c c' m l' t x line Finishing K = NodeGoes c c' t HasEnded
+TreeGoes p c c' m l' t x line Halting K = NodesStay c c'
+
+-- WHAT WORKERS HOLD: the worker w goes on with its task, or lets go of it
+
+abbrev pub HandsStay : Totals → Totals → Type 0
+HandsStay c c' = (u : ℕ) → c'.hand u ≡ c.hand u
+
+pub record LetsGo (c c' : Totals) (w : ℕ) : Type 0 where
+  pub hand : c'.hand w ≡ None
+  pub others : (u : ℕ) → (u ≡ w → ⊥) → c'.hand u ≡ c.hand u
+
+abbrev pub HandsGo : Totals → Totals → ℕ → LastKind → Type 0
+HandsGo c c' w Private = HandsStay c c'
+HandsGo c c' w Reading = HandsStay c c'
+HandsGo c c' w Writing = HandsStay c c'
+HandsGo c c' w Printing = HandsStay c c'
+HandsGo c c' w Forking = LetsGo c c' w
+HandsGo c c' w Ending = LetsGo c c' w
+HandsGo c c' w Joining = LetsGo c c' w
+HandsGo c c' w Finishing = LetsGo c c' w
+HandsGo c c' w Halting = HandsStay c c'
+
+-- OUTPUTS AND THE END
+
+abbrev pub OutputsGo : (p : ProgramText) → Totals → Totals → (m l' : Ledger) → (t : ℕ) → (x : Task) → (line : Line) → (kind : LastKind) → IsOfKind p m l' t x line kind → Type 0
+OutputsGo p c c' m l' t x line Printing K = c'.outputs ≡ c.outputs ++ int_in x.top K.register ∷ []
+OutputsGo p c c' m l' t x line _ K = c'.outputs ≡ c.outputs
+
+abbrev pub EndGoes : (p : ProgramText) → Totals → Totals → (m l' : Ledger) → (t : ℕ) → (x : Task) → (line : Line) → (kind : LastKind) → IsOfKind p m l' t x line kind → Type 0
+EndGoes p c c' m l' t x line Finishing K = c'.end ≡ Some (Machine Done)
+EndGoes p c c' m l' t x line Halting K = c'.end ≡ Some (Machine K.end)
+EndGoes p c c' m l' t x line _ K = c'.end ≡ c.end
+
+-- THE WHOLE: k private steps of t and one more, by the worker w
+
+pub record RanCounts (p : ProgramText) (c c' : Totals) (m l' : Ledger) (t w k : ℕ) (x : Task) (line : Line) (kind : LastKind) (K : IsOfKind p m l' t x line kind) : Type 0 where
+  pub tree : TreeGoes p c c' m l' t x line kind K
+  pub hand : HandsGo c c' w kind
+  pub outputs : OutputsGo p c c' m l' t x line kind K
+  pub end : EndGoes p c c' m l' t x line kind K
+  pub used : c'.used ≡ c.used
+  pub steps : c'.steps ≡ c.steps + suc k

@@ -1,0 +1,128 @@
+-- How a run ended, and the run before its end.
+use Rattle.std.proofs.Common.{◌≡◌, ℕ, true, false, Option, Some, None, List, [], ◌∷◌, ◌++◌, slice_get, slice_set, ◌⊎◌, inl, inr, refl, ap, sym, subst, ◌∙◌, is_some, append_assoc}
+use Rattle.std.proofs.lemmas.Bool.{cases_eq, false≢true}
+use Rattle.std.proofs.lemmas.Option.{same_Some}
+use Rattle.listed.proofs.Members.{got_same, got_other}
+use Rattle.hh_lang.specs.Form.{ProgramText}
+use Rattle.hh_model.specs.declared.data.Task.{Task}
+use Rattle.hh_model.specs.declared.data.End.{End}
+use Rattle.hh_model.specs.declared.data.End.TheVariants.{Done}
+use Rattle.hh_model.specs.declared.data.State.{State}
+use Rattle.hh_model.specs.Step.{can_step, ended_task, goes_on, is_running, result_of, run, run_from, start, step}
+use Rattle.hh_model.specs.Tree.{Kept}
+use Rattle.hh_model.specs.Ends.{EndsAreSteps, EndsDone, IsEnded, RunningIsARun, unended}
+use Rattle.hh_model.proofs.Counts.{run_push}
+use Rattle.hh_model.proofs.Kept.{run_kept, start_kept}
+use Rattle.hh_model.proofs.Root.{OneRoot, one_root, run_root}
+use Rattle.hh_model.proofs.Steps.{step_cases}
+use Rattle.hh_model.proofs.Taken.{step_idle}
+
+no_end : {e : End} {A : Type 0} → ◌≡◌ {A = Option End} None (Some e) → A
+no_end e = absurd cc
+
+pub still : (m : State) → m.end ≡ None → unended m ≡ m
+still m none = λ i. record m { end = (sym none) i }
+
+-- the step that ends the run
+module _ (p : ProgramText) (m : State) (t : ℕ) (K : Kept m) (R : OneRoot m.tasks) (none : m.end ≡ None) (e : End) where
+  abbrev Ended : State → Type 0
+  Ended m' = m'.end ≡ Some e → (unended m' ≡ m) ⊎ EndsDone m e m'
+
+  same : (m' : State) → m'.end ≡ m.end → Ended m'
+  same m' q h = no_end (sym none ∙ (sym q ∙ h))
+
+  done : (x : Task) (parent : Option ℕ) (o : Option End) → slice_get m.tasks t ≡ Some x → is_running (Some x) ≡ true → x.parent ≡ parent
+      → ((parent ≡ None) × (o ≡ Some Done)) ⊎ (is_some parent ≡ true) × (o ≡ m.end) → Ended (record m { tasks = slice_set m.tasks t (ended_task x (result_of x.top)); end = o })
+  done x parent o is run pp (inl root) h =
+      let first : t ≡ 0 = R t x is (pp ∙ root.0) in
+      inr (record {
+        done = same_Some e Done (sym h ∙ root.1);
+        root = x;
+        is = ap (slice_get m.tasks) (sym first) ∙ is;
+        running = run;
+        ended = λ i. record m { tasks = slice_set m.tasks (first i) (ended_task x (result_of x.top)); end = (sym none) i };
+      })
+  done x parent o is run pp (inr child) h = no_end (sym none ∙ (sym child.1 ∙ h))
+
+  last_step : Ended (step p m t)
+  last_step =
+      step_cases p m t K Ended (same m refl) (λ x e' is run why h. inl (still m none))
+      (λ x y store outs is run ep ed es ej names fields alters grows h. no_end (sym none ∙ h))
+      (λ x parent o is run pp which result. done x parent o is run pp which)
+      (λ x g h is run next top q. no_end (sym none ∙ q))
+      (λ parent l xp xl xr rl rr ip il ir pl left dl dr wl wr nl nr side h. no_end (sym none ∙ h))
+
+-- nothing changes after the end
+idle_by : (m : State) (t : ℕ) (o : Option End) (e : End) → m.end ≡ Some e → can_step m t ≡ false
+idle_by m t o e h = ap (λ q. goes_on q (is_running (slice_get m.tasks t))) h
+
+pub ended_stays : (p : ProgramText) (m : State) (ts : List ℕ) (e : End) → m.end ≡ Some e → run_from p m ts ≡ m
+ended_stays p m [] e h = refl
+ended_stays p m (t ∷ ts) e h =
+    let idle : step p m t ≡ m = step_idle p m t (idle_by m t m.end e h) in
+    ap (λ k. run_from p k ts) idle ∙ ended_stays p m ts e h
+
+module _ (p : ProgramText) (limit : ℕ) (all : List ℕ) (e : End) where
+  abbrev At : List ℕ → State
+  At ts = run p limit ts
+
+  kept_at : (ts : List ℕ) → Kept (At ts)
+  kept_at ts = run_kept p (start p limit) ts (start_kept p limit)
+
+  ends_here : (before : List ℕ) (t : ℕ) (rest : List ℕ) (q : End) → all ≡ before ++ t ∷ rest → (At before).end ≡ None → (step p (At before) t).end ≡ Some q → run_from p (step p (At before) t) rest ≡ At all
+      → (At all).end ≡ Some e → IsEnded p limit all e
+  ends_here before t rest q is going ends whole h =
+      let last : At all ≡ step p (At before) t = sym whole ∙ ended_stays p (step p (At before) t) rest q ends in
+      let changes = last_step p (At before) t (kept_at before) (run_root p limit before) going e (ap (λ (m : State). m.end) (sym last) ∙ h) in
+      record {
+        before = before;
+        last = t;
+        rest = rest;
+        is = is;
+        going = going;
+        after = last;
+        changes = subst (λ m. (unended m ≡ At before) ⊎ EndsDone (At before) e m) (sym last) changes;
+      }
+
+  module _ (h : (At all).end ≡ Some e) where
+    ends_by : (before : List ℕ) (t : ℕ) (rest : List ℕ) → (((At (before ++ t ∷ [])).end ≡ None) → IsEnded p limit all e) → all ≡ before ++ t ∷ rest → (At before).end ≡ None
+        → run_from p (step p (At before) t) rest ≡ At all → (o : Option End) → (step p (At before) t).end ≡ o → IsEnded p limit all e
+    ends_by before t rest more is going whole None ends = more (ap (λ (m : State). m.end) (run_push p (start p limit) before t) ∙ ends)
+    ends_by before t rest more is going whole (Some q) ends = ends_here before t rest q is going ends whole h
+
+    ends_from : (rest before : List ℕ) → all ≡ before ++ rest → (At before).end ≡ None → run_from p (At before) rest ≡ At all → IsEnded p limit all e
+    ends_from [] before is going whole = no_end (sym going ∙ (ap (λ (m : State). m.end) whole ∙ h))
+    ends_from (t ∷ rest) before is going whole =
+        ends_by before t rest
+        (λ none. ends_from rest (before ++ t ∷ []) (is ∙ sym (append_assoc before (t ∷ []) rest)) none (ap (λ m. run_from p m rest) (run_push p (start p limit) before t) ∙ whole))
+        is going whole (step p (At before) t).end refl
+
+pub ends_are_steps : EndsAreSteps
+ends_are_steps p limit ts e h = ends_from p limit ts e h ts [] refl refl refl
+
+module _ (p : ProgramText) (limit : ℕ) (ts : List ℕ) (t : ℕ) (runs : is_running (slice_get (run p limit ts).tasks t) ≡ true) where
+  abbrev before_of : (e : End) → IsEnded p limit ts e → State
+  before_of e E = run p limit E.before
+
+  root_ran : (e : End) (E : IsEnded p limit ts e) → EndsDone (run p limit E.before) e (run p limit ts) → ⊥
+  root_ran e E D =
+      let b : State = run p limit E.before in
+      let tasks : (run p limit ts).tasks ≡ slice_set b.tasks 0 (ended_task D.root (result_of D.root.top)) = ap (λ (m : State). m.tasks) D.ended in
+      let runs' : is_running (slice_get (slice_set b.tasks 0 (ended_task D.root (result_of D.root.top))) t) ≡ true = ap (λ xs. is_running (slice_get xs t)) (sym tasks) ∙ runs in
+      elim (cases_eq t 0) [
+        | inl first ↦
+            false≢true (ap is_running (sym (got_same b.tasks 0 D.root (ended_task D.root (result_of D.root.top)) D.is))
+            ∙ (ap (λ k. is_running (slice_get (slice_set b.tasks 0 (ended_task D.root (result_of D.root.top))) k)) (sym first) ∙ runs'))
+        | inr other ↦
+            other ((one_root b (run_kept p (start p limit) E.before (start_kept p limit)) (run_root p limit E.before)).alone t (ap is_running D.is ∙ D.running)
+            (ap is_running (sym (got_other b.tasks 0 t (ended_task D.root (result_of D.root.top)) other)) ∙ runs'))
+      ]
+
+  running_by : (o : Option End) → (run p limit ts).end ≡ o → (us : List ℕ) × (unended (run p limit ts) ≡ run p limit us)
+  running_by None h = (ts, still (run p limit ts) h)
+  running_by (Some e) h =
+      let E = ends_are_steps p limit ts e h in
+      elim (E.changes) [ inl same ↦ (E.before, same) | inr D ↦ absurd (root_ran e E D) ]
+
+pub running_is_a_run : RunningIsARun
+running_is_a_run p limit ts t runs = running_by p limit ts t runs (run p limit ts).end refl

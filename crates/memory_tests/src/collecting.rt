@@ -1,0 +1,49 @@
+// Collections of heaps that were checked.
+
+ghost use Rattle.std.specs.Prelude.{IsTrue};
+ghost use Rattle.memory_tests.specs.Fit.{IsReady};
+
+use crate::cells::{is_fit_heap, small_in_all};
+use crate::soundness::{is_fresh, outside_is_sound};
+use alloc_path::LeafHeap;
+use leaf_copy_gc::{Moved, ToChunks, copy};
+use object_layout::{Addr, Chunk};
+use outside_io::EmptyGate;
+use std::alloc::Global;
+use std::test::Fail;
+use task_frames::Frames;
+
+// Whether the heap, the frames and the roots are as a collection into one new chunk of this number asks.
+fn is_ready(heap: &LeafHeap, frames: &Frames, roots: &[Addr], number: u32) -> bool
+    ensures { IsTrue result → IsReady heap.now frames.now roots.now number }
+{
+    let Some(small) = small_in_all(heap.chunks()) else {
+        return false;
+    };
+    if small > 1024 {
+        return false;
+    }
+    if !is_fit_heap(heap) {
+        return false;
+    }
+    if !outside_is_sound(heap, frames, roots) {
+        return false;
+    }
+    is_fresh(heap.chunks(), number)
+}
+
+/// Collects the heap into one new chunk of this number, if all is as a collection asks.
+pub fn collect(
+    alloc: Global,
+    heap: &mut LeafHeap,
+    frames: &mut Frames,
+    roots: &[Addr],
+    number: u32,
+) -> Result<Moved, Fail> {
+    let mut to = ToChunks::reserve(alloc, heap, 1)?;
+    to.chunks.push(Chunk::new(alloc, number, 1)?)?;
+    if !is_ready(heap, frames, roots, number) {
+        return Err("not as a collection asks")?;
+    }
+    Ok(copy(heap, frames, roots, to, &EmptyGate, 0, 3))
+}

@@ -1,0 +1,10 @@
+use Rattle.std.proofs.Common.{◌≡◌, rules, subst, sym, arith}
+use Rattle.std.proofs.lemmas.Grind.{common_steps}
+use Rattle.remembered_set.specs.Sources.{noted, StandOnce}
+use Rattle.remembered_set.proofs.Noting.{once_noted}
+use Rattle.remembered_set.proofs.remembered.note_in.Goals as goal
+
+pub returns-in-Ok-true-clause-once : goal.returns-in-Ok-true-clause-once
+returns-in-Ok-true-clause-once c =
+    let is : c.push_reserved.new.self.items ≡ noted c.args.sources.now.items c.args.source = first_of (search rules, grind (arith, common_steps)) in
+    subst StandOnce (sym is) (once_noted c.args.sources.now.items c.args.source c.requires.kept.once)

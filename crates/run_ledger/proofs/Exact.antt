@@ -1,0 +1,104 @@
+-- A large object has just the words that the step asks for.
+use Rattle.std.proofs.Common.{◌≡◌, ℕ, zero, suc, pos, ◌+◌, ◌<◌, ◌≤◌, arith, true, false, Option, Some, None, List, [], ◌∷◌, ◌++◌, length, slice_get, slice_set, replicate, refl, ap, sym, ◌∙◌}
+use Rattle.std.proofs.lemmas.Bool.{false≢true, leb-false}
+use Rattle.std.proofs.lemmas.Option.{same_Some}
+use Rattle.listed.proofs.Members.{got_same, got_back, got_within}
+use Rattle.hh_lang.specs.declared.instr.Instr.{Instr}
+use Rattle.hh_lang.specs.declared.instr.Instr.TheVariants.{Set, Mov, Movr, Nil as NilOf, Calc, Same, Jmp, Jz, Newm, Pack, Getr, Geti, Putr, Puti, Cntr, Cnti, Freeze, Cas, Call, Par, Ret, Out}
+use Rattle.hh_lang.specs.declared.program.Line.{Line}
+use Rattle.hh_lang.specs.Form.{ProgramText, line_at}
+use Rattle.hh_model.specs.declared.data.Object.{Object}
+use Rattle.hh_model.specs.declared.data.Frame.{Frame}
+use Rattle.hh_model.specs.declared.data.Task.{Task}
+use Rattle.hh_model.specs.declared.data.Trap.TheVariants.{Size}
+use Rattle.hh_model.specs.declared.data.State.{State}
+use Rattle.hh_model.specs.Effect.{Effect, Setting, effect, made, row_of, object_at, counts_in, int_in, or_trap}
+use Rattle.hh_model.specs.Names.{words_asked, words_for}
+use Rattle.hh_model.specs.Step.{setting, fetched, step, follow, can_step, is_running, asked, asked_line}
+use Rattle.hh_model.proofs.Carried.{next_name}
+use Rattle.hh_model.proofs.Closed.{asked_at}
+use Rattle.hh_model.proofs.Taken.{can_runs, step_taken}
+use Rattle.run_ledger.specs.Heaps.{chunk_words, is_small, words_of, words_at}
+
+-- each `pack` of the program takes at most 16 registers of each kind
+abbrev pub PacksAreSmall : ProgramText → Type 0
+PacksAreSmall p = (g n : ℕ) (line : Line) (d r i : ℕ) → line_at p g n ≡ Some line → line.instr ≡ Pack d r i → (r ≤ 16) × (i ≤ 16)
+
+-- it makes an object of so many words
+abbrev MakesJust : Setting → Frame → List (List Object) → ℕ → Effect → Type 0
+MakesJust s f store w e = (d : ℕ) × (o : Object) × (e ≡ made s f store d o) × (words_of (Some o) ≡ w)
+
+length_same : {A : Type 0} (k : ℕ) (x : A) → length (replicate k x) ≡ k
+length_same zero x = refl
+length_same (suc k) x = ap suc (length_same k x)
+
+none_some : {A : Type 0} {w : ℕ} → ◌≡◌ {A = Option ℕ} None (Some w) → A
+none_some e = absurd cc
+
+newm_just : (s : Setting) (f : Frame) (store : List (List Object)) (d : ℕ) (o : Option (ℕ × ℕ)) (w : ℕ) → words_for o ≡ Some w
+    → MakesJust s f store w (or_trap Size o (λ n. made s f store d (record { strand = s.strand; mutable = true; refs = replicate n.0 None; ints = replicate n.1 (pos 0) })))
+newm_just s f store d None w e = none_some e
+newm_just s f store d (Some n) w e = (
+  d,
+  record { strand = s.strand; mutable = true; refs = replicate n.0 None; ints = replicate n.1 (pos 0) },
+  refl,
+  ap (λ k. 2 + k + length (replicate n.1 (pos 0))) (length_same n.0 None) ∙ (ap (λ k. 2 + n.0 + k) (length_same n.1 (pos 0)) ∙ same_Some (2 + n.0 + n.1) w e),
+)
+
+pack_small : {A : Type 0} (r i w : ℕ) → 2 + r + i ≡ w → r ≤ 16 → i ≤ 16 → is_small w ≡ false → A
+pack_small r i w e hr hi large = let a : chunk_words < w = leb-false w chunk_words large in absurd (omega arith)
+
+effect_just : (s : Setting) (f : Frame) (store : List (List Object)) (instr : Instr) (w : ℕ) → ((d r i : ℕ) → instr ≡ Pack d r i → (r ≤ 16) × (i ≤ 16)) → words_asked s.field_limit f instr ≡ Some w → is_small w ≡ false
+    → MakesJust s f store w (effect s f store instr)
+effect_just s f store (Newm d a b) w packs h large = newm_just s f store d (counts_in s.field_limit (int_in f a) (int_in f b)) w h
+effect_just s f store (Pack d r i) w packs h large = let q = packs d r i refl in pack_small r i w (same_Some (2 + r + i) w h) q.0 q.1 large
+effect_just s f store (Set d k) w packs h large = none_some h
+effect_just s f store (Mov d a) w packs h large = none_some h
+effect_just s f store (Movr d a) w packs h large = none_some h
+effect_just s f store (NilOf d) w packs h large = none_some h
+effect_just s f store (Calc op d a b) w packs h large = none_some h
+effect_just s f store (Same d a b) w packs h large = none_some h
+effect_just s f store (Jmp to) w packs h large = none_some h
+effect_just s f store (Jz a to) w packs h large = none_some h
+effect_just s f store (Getr d o k) w packs h large = none_some h
+effect_just s f store (Geti d o k) w packs h large = none_some h
+effect_just s f store (Putr o k v) w packs h large = none_some h
+effect_just s f store (Puti o k v) w packs h large = none_some h
+effect_just s f store (Cntr d o) w packs h large = none_some h
+effect_just s f store (Cnti d o) w packs h large = none_some h
+effect_just s f store (Freeze o) w packs h large = none_some h
+effect_just s f store (Cas d o k c v) w packs h large = none_some h
+effect_just s f store (Call g) w packs h large = none_some h
+effect_just s f store (Par g k) w packs h large = none_some h
+effect_just s f store Ret w packs h large = none_some h
+effect_just s f store (Out a) w packs h large = none_some h
+
+-- the new object has the next name
+made_here : (store : List (List Object)) (t : ℕ) (row : List Object) (o : Object) → slice_get store t ≡ Some row → object_at (slice_set store t (row_of (slice_get store t) ++ o ∷ [])) (next_name t store) ≡ Some o
+made_here store t row o e =
+    ap (λ w. slice_get (row_of w) (length (row_of (slice_get store t)))) (got_same store t row (row_of (slice_get store t) ++ o ∷ []) e)
+    ∙ (ap (slice_get (row_of (slice_get store t) ++ o ∷ [])) (let h : length (row_of (slice_get store t)) ≡ length (row_of (slice_get store t)) + 0 = omega arith in h)
+    ∙ got_back (row_of (slice_get store t)) (o ∷ []) 0)
+
+got_some : {A : Type 0} (xs : List A) (k : ℕ) → k < length xs → (x : A) × (slice_get xs k ≡ Some x)
+got_some [] k lt = absurd (omega arith)
+got_some (x ∷ xs) zero lt = (x, refl)
+got_some (x ∷ xs) (suc k) lt = got_some xs k (omega arith)
+
+module _ (p : ProgramText) (small : PacksAreSmall p) (m : State) (t : ℕ) (can : can_step m t ≡ true) (rows : length m.store ≡ length m.tasks) where
+  line_by : (x : Task) (o : Option Line) (w : ℕ) → slice_get m.tasks t ≡ Some x → fetched p x.top ≡ o → asked_line m.field_limit x.top o ≡ Some w → is_small w ≡ false → words_at (step p m t) (next_name t m.store) ≡ w
+  line_by x None w is il h large = none_some h
+  line_by x (Some line) w is il h large =
+      let e = effect_just (setting m t x) x.top m.store line.instr w (λ d r i. small x.top.function x.top.next line d r i il) h large in
+      let lt : t < length m.store = let a : t < length m.tasks = got_within m.tasks t x is in omega arith in
+      let row = got_some m.store t lt in
+      ap words_of (ap (λ (s : State). object_at s.store (next_name t m.store)) (step_taken p m t x line can is il ∙ ap (follow m t x line.number) e.2) ∙ made_here m.store t row.0 e.1 row.1) ∙ e.3
+
+  task_by : (o : Option Task) → slice_get m.tasks t ≡ o → is_running o ≡ true → (x : Task) × (slice_get m.tasks t ≡ Some x) × (is_running (Some x) ≡ true)
+  task_by None e h = absurd (false≢true h)
+  task_by (Some x) e h = (x, e, h)
+
+  pub large_exact : (w : ℕ) → asked p m t ≡ Some w → is_small w ≡ false → words_at (step p m t) (next_name t m.store) ≡ w
+  large_exact w h large =
+      let x = task_by (slice_get m.tasks t) refl (can_runs m t can) in
+      line_by x.0 (fetched p x.0.top) w x.1 refl (sym (asked_at p m t x.0 x.1 x.2) ∙ h) large

@@ -1,0 +1,71 @@
+-- As long as the run goes on, so does the machine.
+use Rattle.std.proofs.Common.{◌≡◌, ℕ, zero, suc, ◌+◌, Bool, true, false, cond, Option, Some, None, List, [], ◌∷◌, nat_lt, refl, ap, ◌∙◌}
+use Rattle.hh_lang.specs.Form.{ProgramText}
+use Rattle.run_trace.specs.declared.entry.Kind.{Kind}
+use Rattle.run_trace.specs.declared.entry.Kind.TheVariants.{Took, Ran, Chunk, Begin, End as EndOf, PutOff, Mark, More, Sweep, Fuel}
+use Rattle.run_trace.specs.Entry.{Event}
+use Rattle.run_trace.specs.Settings.{Limits}
+use Rattle.hh_model.specs.declared.data.End.{End}
+use Rattle.hh_model.specs.declared.data.State.{State}
+use Rattle.hh_model.specs.Step.{step, can_step, asked}
+use Rattle.run_ledger.specs.declared.data.Heap.{Heap}
+use Rattle.run_ledger.specs.declared.data.Ledger.{Ledger}
+use Rattle.run_ledger.specs.declared.data.RunEnd.{RunEnd}
+use Rattle.run_ledger.specs.declared.data.RunEnd.TheVariants.{Pool}
+use Rattle.run_ledger.specs.Heaps.{with_heap, with_heap_at, heap_at, in_use}
+use Rattle.run_ledger.specs.Steps.{allocated_in, settled, stepped_to, task_step, task_steps}
+use Rattle.run_ledger.specs.Entries.{after_kind, after, with_chunk, chunk_units}
+use Rattle.run_ledger.specs.Journals.{opening, after_all}
+use Rattle.run_ledger.proofs.Machine.{stepped_machine}
+use Rattle.run_ledger.specs.Laws.{MachineGoesOn}
+
+abbrev pub Goes : Ledger → Type 0
+Goes l = l.end ≡ None → l.machine.end ≡ None
+
+heap_goes : (l : Ledger) (t : ℕ) (f : Heap → Heap) → Goes l → Goes (with_heap l t f)
+heap_goes l t f g = by (heap_at l t)
+  where
+    by : (o : Option Heap) → Goes (with_heap_at l t f o)
+    by None = g
+    by (Some h) = g
+
+settled_none : (l : Ledger) (t : ℕ) (o : Option End) → (settled l t o).end ≡ None → o ≡ None
+settled_none l t (Some e) h = absurd cc
+settled_none l t None h = refl
+
+stepped_goes : (l : Ledger) (t : ℕ) (m : State) → Goes (stepped_to l t m)
+stepped_goes l t m h = ap (λ (z : State). z.end) (stepped_machine l t m) ∙ settled_none (record l { machine = m; steps = l.steps + 1 }) t m.end h
+
+step_goes : (p : ProgramText) (l : Ledger) (t : ℕ) → Goes l → Goes (task_step p l t)
+step_goes p l t g = by (can_step l.machine t)
+  where
+    by : (c : Bool) → Goes (cond c (stepped_to (allocated_in p l t) t (step p l.machine t)) (record l { steps = l.steps + 1 }))
+    by true = stepped_goes (allocated_in p l t) t (step p l.machine t)
+    by false = g
+
+steps_go : (p : ProgramText) (k : ℕ) (l : Ledger) (t : ℕ) → Goes l → Goes (task_steps p l t k)
+steps_go p zero l t g = g
+steps_go p (suc k) l t g = steps_go p k (task_step p l t) t (step_goes p l t g)
+
+chunk_goes : (l : Ledger) (t : ℕ) (next : Option ℕ) (e : RunEnd) (full : Bool) → Goes l → Goes (cond full (record l { end = Some e }) (with_heap l t (with_chunk next)))
+chunk_goes l t next e true g h = absurd cc
+chunk_goes l t next e false g h = heap_goes l t (with_chunk next) g h
+
+kind_goes : (p : ProgramText) (s : Limits) (l : Ledger) (w : ℕ) (kind : Kind) → Goes l → Goes (after_kind p s l w kind)
+kind_goes p s l w (Took t) g = heap_goes l t _ g
+kind_goes p s l w (Ran t k) g = steps_go p k l t g
+kind_goes p s l w (Chunk t) g = chunk_goes l t (asked p l.machine t) (Pool (in_use l)) (nat_lt s.chunks (in_use l + chunk_units (asked p l.machine t))) g
+kind_goes p s l w (Begin t) g = heap_goes l t _ g
+kind_goes p s l w (EndOf t x y z) g = heap_goes l t _ g
+kind_goes p s l w (PutOff t) g = heap_goes l t _ g
+kind_goes p s l w (Mark t) g = heap_goes l t _ g
+kind_goes p s l w (More t n) g = heap_goes l t _ g
+kind_goes p s l w (Sweep t n) g = heap_goes l t _ g
+kind_goes p s l w Fuel g = λ h. absurd cc
+
+all_goes : (p : ProgramText) (s : Limits) (j : List Event) (l : Ledger) → Goes l → Goes (after_all p s l j)
+all_goes p s [] l g = g
+all_goes p s (e ∷ es) l g = all_goes p s es (after p s l e) (kind_goes p s l e.worker e.kind g)
+
+pub machine_goes_on : MachineGoesOn
+machine_goes_on p s j = all_goes p s j (opening p s) (λ h. refl)

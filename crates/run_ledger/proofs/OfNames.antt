@@ -1,0 +1,57 @@
+-- What is reached within a heap depends on the held names alone.
+use Rattle.std.proofs.Common.{◌≡◌, ℕ, zero, suc, Option, Some, None, List, [], ◌∷◌, ◌++◌, filter, slice_get, slice_set, inl, inr, refl, ap, ap₂, sym, ◌∙◌}
+use Rattle.std.specs.List.{flat_map}
+use Rattle.std.proofs.lemmas.Bool.{cases_eq}
+use Rattle.std.proofs.lemmas.Option.{same_Some}
+use Rattle.listed.proofs.Members.{got_same, got_other}
+use Rattle.hh_model.specs.declared.data.Name.{Name}
+use Rattle.hh_model.specs.Names.{registers, refs_at}
+use Rattle.hh_model.specs.Step.{owner_of}
+use Rattle.run_ledger.specs.declared.data.Heap.{Heap}
+use Rattle.run_ledger.specs.declared.data.Ledger.{Ledger}
+use Rattle.run_ledger.specs.Heaps.{fresh, held, frames_of, held_in, heap_at, heap_of, is_above, or_fresh, with_heap_at, within}
+use Rattle.run_ledger.specs.Reachable.{reached}
+use Rattle.run_ledger.specs.Laws.{WithinIsOfNames}
+
+-- the names of all heaps, where one heap's account is written with the same names
+pub flat_set : (heaps : List Heap) (t : ℕ) (h h' : Heap) → slice_get heaps t ≡ Some h → held_in h' ≡ held_in h → flat_map held_in (slice_set heaps t h') ≡ flat_map held_in heaps
+flat_set [] t h h' is e = refl
+flat_set (g ∷ heaps) zero h h' is e = ap (λ ns. ns ++ flat_map held_in heaps) (e ∙ ap held_in (sym (same_Some g h is)))
+flat_set (g ∷ heaps) (suc t) h h' is e = ap (λ ns. held_in g ++ ns) (flat_set heaps t h h' is e)
+
+-- and where fresh ones are added
+pub flat_fresh : (heaps : List Heap) → flat_map held_in (heaps ++ fresh ∷ fresh ∷ []) ≡ flat_map held_in heaps
+flat_fresh [] = refl
+flat_fresh (h ∷ heaps) = ap (λ ns. held_in h ++ ns) (flat_fresh heaps)
+
+pub held_set : (heaps : List Heap) (t : ℕ) (h h' : Heap) → slice_get heaps t ≡ Some h → held_in h' ≡ held_in h → (u : ℕ) → held_in (or_fresh (slice_get (slice_set heaps t h') u)) ≡ held_in (or_fresh (slice_get heaps u))
+held_set heaps t h h' is e u = elim (cases_eq u t) [
+  | inl same ↦
+      ap (λ k. held_in (or_fresh (slice_get (slice_set heaps t h') k))) same
+      ∙ (ap (λ o. held_in (or_fresh o)) (got_same heaps t h h' is) ∙ (e ∙ (ap (λ o. held_in (or_fresh o)) (sym is) ∙ ap (λ k. held_in (or_fresh (slice_get heaps k))) (sym same))))
+  | inr ne ↦ ap (λ o. held_in (or_fresh o)) (got_other heaps t u h' ne)
+]
+
+pub held_fresh : (heaps : List Heap) (u : ℕ) → held_in (or_fresh (slice_get (heaps ++ fresh ∷ fresh ∷ []) u)) ≡ held_in (or_fresh (slice_get heaps u))
+held_fresh [] zero = refl
+held_fresh [] (suc zero) = refl
+held_fresh [] (suc (suc u)) = refl
+held_fresh (h ∷ heaps) zero = refl
+held_fresh (h ∷ heaps) (suc u) = held_fresh heaps u
+
+-- what is reached through these names, where those are held
+abbrev within_of : Ledger → ℕ → List Name → List Name → List Name
+within_of l u ns hs =
+    reached l.machine.store ns
+    (registers (frames_of (slice_get l.machine.tasks u)) ++ flat_map (refs_at l.machine.store) (filter (λ n. is_above l.machine.tasks (owner_of l.machine.tasks n.task) u) hs))
+
+-- the same machine and the same names
+pub within_same : (l : Ledger) (heaps : List Heap) (u : ℕ) → flat_map held_in heaps ≡ held l → held_in (or_fresh (slice_get heaps u)) ≡ held_in (heap_of l u) → within (record l { heaps = heaps }) u ≡ within l u
+within_same l heaps u all own = ap₂ (within_of l u) own all
+
+pub within_is_of_names : WithinIsOfNames
+within_is_of_names l t u f same = by (heap_at l t) refl
+  where
+    by : (o : Option Heap) → heap_at l t ≡ o → within (with_heap_at l t f o) u ≡ within l u
+    by None e = refl
+    by (Some h) e = within_same l (slice_set l.heaps t (f h)) u (flat_set l.heaps t h (f h) e (same h)) (held_set l.heaps t h (f h) e (same h) u)

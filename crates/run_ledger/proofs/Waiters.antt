@@ -1,0 +1,118 @@
+-- A task that waits is held by nobody.
+use Rattle.std.proofs.Common.{◌≡◌, ℕ, zero, suc, ◌+◌, Bool, true, false, cond, Option, Some, None, List, [], ◌∷◌, slice_get, slice_set, nat_lt, inl, inr, refl, ap, sym, ◌∙◌, is_none, is_some}
+use Rattle.std.proofs.lemmas.Bool.{false≢true, cases_eq, and_parts}
+use Rattle.listed.proofs.Members.{got_same, got_other}
+use Rattle.run_trace.specs.declared.entry.Kind.{Kind}
+use Rattle.run_trace.specs.declared.entry.Kind.TheVariants.{Took, Ran, Chunk, Begin, End as EndOf, PutOff, Mark, More, Sweep, Fuel}
+use Rattle.run_trace.specs.Entry.{Event}
+use Rattle.run_trace.specs.Settings.{Limits}
+use Rattle.hh_lang.specs.Form.{ProgramText}
+use Rattle.hh_model.specs.declared.data.State.{State}
+use Rattle.hh_model.specs.Step.{step, can_step, asked, is_running}
+use Rattle.hh_model.specs.Tree.{waiting}
+use Rattle.hh_model.specs.Leaves.{WaitsAlone}
+use Rattle.hh_model.proofs.Leaves.{waits_alone}
+use Rattle.run_ledger.specs.declared.data.Heap.{Heap}
+use Rattle.run_ledger.specs.declared.data.Ledger.{Ledger}
+use Rattle.run_ledger.specs.declared.data.RunEnd.TheVariants.{Pool}
+use Rattle.run_ledger.specs.Heaps.{with_heap, in_use, collected, swept_heap}
+use Rattle.run_ledger.specs.Steps.{allocated_in, stepped_to, task_step, task_steps, on_asked}
+use Rattle.run_ledger.specs.Heaps.{is_small}
+use Rattle.run_ledger.specs.Entries.{refusal, kind_refusal, after_kind, after, is_ready, with_chunk, chunk_units}
+use Rattle.run_ledger.specs.Journals.{opening, after_all, ledger_of, is_legal_from}
+use Rattle.run_ledger.specs.Laws.{WaitersAreFree}
+use Rattle.run_ledger.proofs.Machine.{stepped_machine}
+use Rattle.run_ledger.proofs.Sound.{SoundLedger}
+use Rattle.run_ledger.proofs.Steps.{SoundAt, StepLeaves, step_leaves, task_step_sound, worker_at}
+use Rattle.run_ledger.proofs.Booked.{wait_run}
+use Rattle.run_ledger.proofs.Stocks.{with_heap_any}
+use Rattle.run_ledger.proofs.Holders.{chunk_worker_by, worker_of}
+use Rattle.run_ledger.proofs.Journals.{none_unless, out_tells, entry_tells, entry_sound, opening_sound}
+
+abbrev pub Free : Ledger → Type 0
+Free l = (u : ℕ) → waiting l.machine.tasks u ≡ true → worker_at (slice_get l.heaps u) ≡ None
+
+module _ (p : ProgramText) (l : Ledger) (t : ℕ) (S : SoundAt t l) (I : Free l) (can : can_step l.machine t ≡ true) where
+  abbrev k : Ledger
+  k = stepped_to (allocated_in p l t) t (step p l.machine t)
+
+  leaves : StepLeaves t l (allocated_in p l t) k
+  leaves = step_leaves p l t S can
+
+  alone : WaitsAlone p l.machine t
+  alone = waits_alone p l.machine t S.0.kept
+
+  machine_is : k.machine ≡ step p l.machine t
+  machine_is = stepped_machine (allocated_in p l t) t (step p l.machine t)
+
+  waits_now : (u : ℕ) → waiting k.machine.tasks u ≡ true → waiting (step p l.machine t).tasks u ≡ true
+  waits_now u w = ap (λ (m : State). waiting m.tasks u) (sym machine_is) ∙ w
+
+  own_free : waiting k.machine.tasks t ≡ true → worker_at (slice_get k.heaps t) ≡ None
+  own_free w = elim (leaves.3) [
+    | inl over ↦ absurd (false≢true (sym (ap is_some (ap (λ (m : State). m.end) machine_is ∙ alone.own can (waits_now t w))) ∙ over))
+    | inr more ↦ elim more [ inl runs ↦ absurd (wait_run k.machine t w runs) | inr none ↦ none ]
+  ]
+
+  step_free : Free k
+  step_free u w = elim (cases_eq u t) [
+    | inl e ↦ ap (λ v. worker_at (slice_get k.heaps v)) e ∙ own_free (ap (waiting k.machine.tasks) (sym e) ∙ w)
+    | inr ne ↦ ap worker_at (leaves.4 u ne (inr w)) ∙ I u (alone.others u ne (waits_now u w))
+  ]
+
+task_step_free : (p : ProgramText) (l : Ledger) (t : ℕ) → SoundAt t l → Free l → Free (task_step p l t)
+task_step_free p l t S I = by (can_step l.machine t) refl
+  where
+    by : (v : Bool) → can_step l.machine t ≡ v → Free (cond v (stepped_to (allocated_in p l t) t (step p l.machine t)) (record l { steps = l.steps + 1 }))
+    by false e = I
+    by true e = step_free p l t S I e
+
+task_steps_free : (p : ProgramText) (k : ℕ) (l : Ledger) (t : ℕ) → SoundAt t l → Free l → Free (task_steps p l t k)
+task_steps_free p zero l t S I = I
+task_steps_free p (suc k) l t S I = task_steps_free p k (task_step p l t) t (task_step_sound p l t S) (task_step_free p l t S I)
+
+-- a heap's account changes, and not its worker
+set_free : (l : Ledger) (t : ℕ) (f : Heap → Heap) → ((h : Heap) → (f h).worker ≡ h.worker) → Free l → Free (with_heap l t f)
+set_free l t f same I = with_heap_any Free l t f I (λ h e u w. elim (cases_eq u t) [
+  | inl q ↦
+      ap (λ v. worker_at (slice_get (slice_set l.heaps t (f h)) v)) q
+      ∙ (ap worker_at (got_same l.heaps t h (f h) e) ∙ (same h ∙ (sym (ap worker_at e) ∙ (ap (λ v. worker_at (slice_get l.heaps v)) (sym q) ∙ I u w))))
+  | inr ne ↦ ap worker_at (got_other l.heaps t u (f h) ne) ∙ I u w
+])
+
+took_free : (l : Ledger) (w t : ℕ) → is_running (slice_get l.machine.tasks t) ≡ true → Free l → Free (with_heap l t (λ h. record h { worker = Some w }))
+took_free l w t runs I = with_heap_any Free l t (λ h. record h { worker = Some w }) I (λ h e u wait. elim (cases_eq u t) [
+  | inl q ↦ absurd (wait_run l.machine t (ap (waiting l.machine.tasks) (sym q) ∙ wait) runs)
+  | inr ne ↦ ap worker_at (got_other l.heaps t u (record h { worker = Some w }) ne) ∙ I u wait
+])
+
+chunk_free : (l : Ledger) (t : ℕ) (next : Option ℕ) (full : Bool) → Free l → Free (cond full (record l { end = Some (Pool (in_use l)) }) (with_heap l t (with_chunk next)))
+chunk_free l t next true I = I
+chunk_free l t next false I = set_free l t (with_chunk next) (λ h. chunk_worker_by h (chunk_units next) (on_asked next is_small)) I
+
+kind_free : (p : ProgramText) (s : Limits) (l : Ledger) (w : ℕ) (kind : Kind) → SoundLedger l → is_none (kind_refusal p s l w kind) ≡ true → Free l → Free (after_kind p s l w kind)
+kind_free p s l w (Took t) S h I = took_free l w t (and_parts (is_running (slice_get l.machine.tasks t)) _ (none_unless (is_ready l t) _ _ h).0).0 I
+kind_free p s l w (Ran t k) S h I = task_steps_free p k l t (S, (out_tells l w t _ h).1) I
+kind_free p s l w (Chunk t) S h I = chunk_free l t (asked p l.machine t) (nat_lt s.chunks (in_use l + chunk_units (asked p l.machine t))) I
+kind_free p s l w (Begin t) S h I = set_free l t _ (λ g. refl) I
+kind_free p s l w (EndOf t a g n) S h I = set_free l t (collected l.machine) (λ g. refl) I
+kind_free p s l w (PutOff t) S h I = set_free l t _ (λ g. refl) I
+kind_free p s l w (Mark t) S h I = set_free l t _ (λ g. refl) I
+kind_free p s l w (More t n) S h I = set_free l t _ (λ g. refl) I
+kind_free p s l w (Sweep t g) S h I = set_free l t swept_heap (λ g. refl) I
+kind_free p s l w Fuel S h I = I
+
+journal_free : (p : ProgramText) (s : Limits) (journal : List Event) (l : Ledger) → SoundLedger l → Free l → is_legal_from p s l journal ≡ true → Free (after_all p s l journal)
+journal_free p s [] l S I h = I
+journal_free p s (e ∷ es) l S I h =
+    let both = and_parts (is_none (refusal p s l e)) (is_legal_from p s (after p s l e) es) h in
+    journal_free p s es (after p s l e) (entry_sound p s l e S both.0) (kind_free p s l e.worker e.kind S (entry_tells p s l e both.0).2 I) both.1
+
+opening_free : (p : ProgramText) (s : Limits) → Free (opening p s)
+opening_free p s zero w = refl
+opening_free p s (suc u) w = refl
+
+pub waiters_are_free : WaitersAreFree
+waiters_are_free p s journal legal t w =
+    let l : Ledger = ledger_of p s journal in
+    worker_of l t ∙ journal_free p s journal (opening p s) (opening_sound p s) (opening_free p s) legal t w

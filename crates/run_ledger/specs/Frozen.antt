@@ -1,0 +1,75 @@
+-- What is set down of a heap: its survivors as a leaf collection begins, and its snapshot as its task forks.
+use Rattle.std.specs.Prelude.{◌≡◌, ◌==◌, ℕ, Bool, true, false, List, [], ◌∷◌, ◌++◌, slice_get, Contains, is_some}
+use Rattle.std.specs.List.{IsDistinct}
+use Rattle.run_trace.specs.declared.entry.Kind.{Kind}
+use Rattle.run_trace.specs.declared.entry.Kind.TheVariants.{Ran, Begin}
+use Rattle.run_trace.specs.Entry.{Event}
+use Rattle.run_trace.specs.Settings.{Limits}
+use Rattle.hh_lang.specs.Form.{ProgramText}
+use Rattle.hh_model.specs.declared.data.Name.{Name}
+use Rattle.hh_model.specs.Step.{can_step, is_waiting}
+use Rattle.run_ledger.specs.declared.data.Ledger.{Ledger}
+use Rattle.run_ledger.specs.Reachable.{is_name}
+use Rattle.run_ledger.specs.Heaps.{heap_of, held_in, within}
+use Rattle.run_ledger.specs.Journals.{ledger_of, is_legal}
+use Rattle.run_ledger.specs.Sound.{SoundAt}
+use Rattle.run_ledger.specs.Steps.{task_step}
+
+-- an entry begins a leaf collection of t
+abbrev pub begins : ℕ → Kind → Bool
+begins t (Begin u) = u == t
+begins t _ = false
+
+-- an entry is of steps of t
+abbrev pub is_of_steps : ℕ → Kind → Bool
+is_of_steps t (Ran u k) = u == t
+is_of_steps t _ = false
+
+-- none of these entries is of the kind that is asked for
+abbrev pub HasNone : (Kind → Bool) → List Event → Type 0
+HasNone test entries = (e : Event) → Contains entries e → test e.kind ≡ false
+
+-- the last entry of a journal that began a leaf collection of t: the survivors are what was reached within its heap just before
+pub record BeganWith (p : ProgramText) (s : Limits) (journal : List Event) (t : ℕ) : Type 0 where
+  pub before : List Event
+  pub worker : ℕ
+  pub rest : List Event
+  pub is : journal ≡ before ++ record { worker = worker; kind = Begin t } ∷ rest
+  pub last : HasNone (begins t) rest
+  pub survivors : (heap_of (ledger_of p s journal) t).survivors ≡ within (ledger_of p s before) t
+
+abbrev pub SurvivorsAreWithin : Type 0
+SurvivorsAreWithin =
+    (p : ProgramText) (s : Limits) (journal : List Event) (t : ℕ) → is_legal p s journal ≡ true
+    → is_some (heap_of (ledger_of p s journal) t).begun ≡ true → BeganWith p s journal t
+
+-- the last entry of steps of t, which waits since: the snapshot is what is reached within its heap just after
+pub record ForkedWith (p : ProgramText) (s : Limits) (journal : List Event) (t : ℕ) : Type 0 where
+  pub before : List Event
+  pub worker : ℕ
+  pub steps : ℕ
+  pub rest : List Event
+  pub is : journal ≡ before ++ record { worker = worker; kind = Ran t steps } ∷ rest
+  pub last : HasNone (is_of_steps t) rest
+  pub snapshot : (heap_of (ledger_of p s journal) t).snapshot ≡ within (ledger_of p s (before ++ record { worker = worker; kind = Ran t steps } ∷ [])) t
+
+abbrev pub SnapshotsAreWithin : Type 0
+SnapshotsAreWithin =
+    (p : ProgramText) (s : Limits) (journal : List Event) (t : ℕ) → is_legal p s journal ≡ true
+    → is_waiting (slice_get (ledger_of p s journal).machine.tasks t) ≡ true → ForkedWith p s journal t
+
+-- a step after which its task waits is a fork, and sets down what was reached just before it
+abbrev pub ForksSetDown : Type 0
+ForksSetDown =
+    (p : ProgramText) (l : Ledger) (t : ℕ) → SoundAt t l → can_step l.machine t ≡ true → let l' = task_step p l t in is_waiting (slice_get l'.machine.tasks t) ≡ true
+    → (heap_of l' t).snapshot ≡ within l t
+
+-- the snapshot of a task that waits has each name once, and all of it is held in its heap
+pub record HoldsSnapshot (l : Ledger) (t : ℕ) : Type 0 where
+  pub once : IsDistinct is_name (heap_of l t).snapshot
+  pub held : (n : Name) → Contains (heap_of l t).snapshot n → Contains (held_in (heap_of l t)) n
+
+abbrev pub SnapshotsAreHeld : Type 0
+SnapshotsAreHeld =
+    (p : ProgramText) (s : Limits) (journal : List Event) (t : ℕ) → is_legal p s journal ≡ true
+    → let l = ledger_of p s journal in is_waiting (slice_get l.machine.tasks t) ≡ true → HoldsSnapshot l t

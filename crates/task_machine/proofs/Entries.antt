@@ -1,0 +1,144 @@
+-- The root before its first step fits the machine before its first; and parts that entries have changed fit still.
+use Rattle.std.proofs.Common.{◌≡◌, ℕ, Option, Some, None, List, [], replicate, refl, ap, sym, subst, ◌∙◌, arith}
+use Rattle.std.specs.Prelude.{pos}
+use Rattle.object_layout.specs.declared.word.Birth.{Birth}
+use Rattle.object_layout.specs.Cell.{Born, Hole}
+use Rattle.object_layout.specs.Content.{Content}
+use Rattle.alloc_path.specs.Heap.{AreApart, Heap, IsCurrent, IsReserved, with_places}
+use Rattle.hh_lang.specs.Form.{ProgramText}
+use Rattle.hh_model.specs.declared.data.State.{State}
+use Rattle.hh_model.specs.Step.{is_running, owner_of, root, start}
+use Rattle.task_machine.specs.declared.part.Begun.{Begun}
+use Rattle.task_machine.specs.declared.part.Private.{Private}
+use Rattle.task_machine.specs.Place.{Places}
+use Rattle.task_machine.specs.Begin.{FitsAsWell, FitsFromThere, nowhere}
+use Rattle.task_machine.specs.Fits.{Fits, FitsNow, HeapStands, IsShaped, after_fresh, unended}
+use Rattle.task_machine.proofs.Stands.{at_nils}
+
+-- its part
+abbrev pub first_part : ProgramText → Heap → ℕ → ℕ → Private
+first_part p h leaf limit = record {
+  task = 0;
+  frames = record { below = []; top = record { function = p.main; next = 0; ints = replicate 16 (pos 0); refs = replicate 16 None } };
+  heap = h;
+  allocations = 0;
+  leaf_limit = leaf;
+  field_limit = limit;
+  fresh = 0;
+  begun = None;
+}
+
+none_some : {A : Type 0} (x : A) → None ≡ Some x → ⊥
+none_some x e = cc
+
+no_birth : (b : Birth) → Hole ≡ Born b → ⊥
+no_birth b e = cc
+
+empty_stands : (p : ProgramText) (limit : ℕ) → HeapStands nowhere (owner_of (start p limit).tasks) 0 (start p limit).store [] nowhere
+empty_stands p limit = record {
+  objects = λ a b e. absurd (no_birth b e);
+  own = λ n a o e. absurd (none_some a e);
+  others = λ n o. refl;
+  once = λ n k a e f. absurd (none_some a e);
+  apart = λ n a e. absurd (none_some a e);
+  within = λ n a e. absurd (none_some a e);
+}
+
+empty_shape : (h : Heap) → h.chunks ≡ [] → h.current ≡ None → h.reserved ≡ None → IsShaped h
+empty_shape h k c r = record {
+  apart = subst AreApart (sym k) tt;
+  current = subst (IsCurrent h.chunks) (sym c) tt;
+  reserved = subst (IsReserved h.chunks) (sym r) tt;
+}
+
+pub root_now : (p : ProgramText) (h : Heap) (leaf limit : ℕ) → h.chunks ≡ [] → h.current ≡ None → h.reserved ≡ None → FitsNow p (first_part p h leaf limit) (start p limit) nowhere
+root_now p h leaf limit k c r =
+    let Q : List Content → Type 0 = λ ks. HeapStands nowhere (owner_of (start p limit).tasks) 0 (start p limit).store ks nowhere in
+    record {
+      reached = (limit, [], refl);
+      going = refl;
+      task = root p;
+      is = refl;
+      running = refl;
+      limit = refl;
+      count = refl;
+      place = nowhere;
+      stack = record { top = record { function = refl; next = refl; ints = refl; refs = at_nils nowhere 16 }; below = tt };
+      heap = subst Q (sym k) (empty_stands p limit);
+      shape = empty_shape h k c r;
+    }
+
+pub root_fits : (p : ProgramText) (h : Heap) (leaf limit : ℕ) → h.chunks ≡ [] → h.current ≡ None → h.reserved ≡ None → Fits p (first_part p h leaf limit) (start p limit) nowhere
+root_fits p h leaf limit k c r = record { running = refl; private = λ i lt. absurd (omega arith); now = root_now p h leaf limit k c r }
+
+-- ---- WHAT ENTRIES CHANGE
+
+-- a part that differs in its heap, its fresh steps and its collection
+abbrev pub changed : Private → Heap → ℕ → Option Begun → Private
+changed old h fresh begun = record old { heap = h; fresh = fresh; begun = begun }
+
+-- it fits as it is now, where its heap stands for the same
+pub now_changed : (p : ProgramText) (old : Private) (m : State) (above : Places) (F : FitsNow p old m above) (h : Heap) (fresh : ℕ) (begun : Option Begun)
+    → HeapStands F.place (owner_of m.tasks) old.task m.store h.chunks above → IsShaped h → FitsNow p (changed old h fresh begun) m above
+now_changed p old m above F h fresh begun H S = record {
+  reached = F.reached;
+  going = F.going;
+  task = F.task;
+  is = F.is;
+  running = F.running;
+  limit = F.limit;
+  count = F.count;
+  place = F.place;
+  stack = F.stack;
+  heap = H;
+  shape = S;
+}
+
+-- and behind its fresh steps, where they are as many
+pub behind_changed : (p : ProgramText) (old : Private) (m : State) (above : Places) (F : Fits p old m above) (h : Heap) (begun : Option Begun)
+    → HeapStands F.now.place (owner_of (after_fresh p old m).tasks) old.task (after_fresh p old m).store h.chunks above → IsShaped h → Fits p (changed old h old.fresh begun) m above
+behind_changed p old m above F h begun H S = record { running = F.running; private = F.private; now = now_changed p old (after_fresh p old m) above F.now h old.fresh begun H S }
+
+abbrev with_since : Heap → ℕ → Heap
+with_since h n = record h { since = n }
+
+since_shape : (h : Heap) (n : ℕ) → IsShaped h → IsShaped (with_since h n)
+since_shape h n S = record { apart = S.apart; current = S.current; reserved = S.reserved }
+
+places_shape : (h : Heap) (slots spare : ℕ) → IsShaped h → IsShaped (with_places h slots spare)
+places_shape h slots spare S = record { apart = S.apart; current = S.current; reserved = S.reserved }
+
+pub since_fits : (old : Private) (n : ℕ) → FitsAsWell old (record old { heap = with_since old.heap n })
+since_fits old n = record {
+  now = λ p m above F. now_changed p old m above F (with_since old.heap n) old.fresh old.begun F.heap (since_shape old.heap n F.shape);
+  behind = λ p m above F. behind_changed p old m above F (with_since old.heap n) old.begun F.now.heap (since_shape old.heap n F.now.shape);
+}
+
+pub places_fit : (old new : Private) (slots spare : ℕ) → new ≡ record old { heap = with_places old.heap slots spare } → FitsAsWell old new
+places_fit old new slots spare is =
+    let P : Private → Type 0 = λ z. FitsAsWell old z in
+    subst P (sym is) (record {
+      now = λ p m above F. now_changed p old m above F (with_places old.heap slots spare) old.fresh old.begun F.heap (places_shape old.heap slots spare F.shape);
+      behind = λ p m above F. behind_changed p old m above F (with_places old.heap slots spare) old.begun F.now.heap (places_shape old.heap slots spare F.now.shape);
+    })
+
+pub begun_fits : (old : Private) (begun : Option Begun) → FitsAsWell old (record old { begun = begun })
+begun_fits old begun = record {
+  now = λ p m above F. now_changed p old m above F old.heap old.fresh begun F.heap F.shape;
+  behind = λ p m above F. behind_changed p old m above F old.heap begun F.now.heap F.now.shape;
+}
+
+-- where a state has no end there is none to leave aside
+unended_is : (m : State) → m.end ≡ None → unended m ≡ m
+unended_is m h = ap (λ e. let w : State = record m { end = e } in w) (sym h)
+
+-- how many steps are fresh is nothing that a part as it is now has to fit
+pub fresh_fits : (old : Private) → FitsFromThere old (record old { fresh = 0 })
+fresh_fits old = record {
+  now = λ p m above F. now_changed p old m above F old.heap 0 old.begun F.heap F.shape;
+  there = λ p m above F.
+      let here = after_fresh p old m in
+      let N = now_changed p old here above F.now old.heap 0 old.begun F.now.heap F.now.shape in
+      let P : State → Type 0 = λ w. FitsNow p (record old { fresh = 0 }) w above in
+      record { running = ap is_running F.now.is ∙ F.now.running; private = λ i lt. absurd (omega arith); now = subst P (sym (unended_is here F.now.going)) N };
+}

@@ -1,0 +1,50 @@
+# What the scripts share: a folder that goes with the script, and calls that end with it.
+
+# The folder, if there is one, and the process group of the call under way.
+room=
+job=
+
+say() {
+  printf 'hheap: %s\n' "$*" >&2
+}
+
+# Makes the folder.
+make_room() {
+  if ! room=$(mktemp -d "${TMPDIR:-/tmp}/hheap-$1-XXXXXX"); then
+    say "no folder can be made among the temporary files"
+    exit 1
+  fi
+}
+
+leave_room() {
+  [ -z "$room" ] || rm -rf "$room"
+  room=
+}
+
+# Ends the call under way, and the script with this status.
+stop() {
+  trap '' HUP INT TERM
+  if [ -n "$job" ]; then
+    kill -TERM -- "-$job"
+    wait "$job"
+  fi 2>/dev/null
+  exit "$1"
+}
+
+# Runs a command in a process group of its own, waits for it, and gives its status.
+run_apart() {
+  local status
+  set -m
+  "$@" &
+  job=$!
+  set +m
+  wait "$job"
+  status=$?
+  job=
+  return "$status"
+}
+
+trap leave_room EXIT
+trap 'stop 129' HUP
+trap 'stop 130' INT
+trap 'stop 143' TERM

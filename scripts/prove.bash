@@ -1,0 +1,121 @@
+# Proves and builds the program, in a copy of its crates, by the tests' own command. So what a run of the tests or of this
+# has proved before on this machine isn't proved again, whoever is interrupted, and in whatever copy of the repository.
+
+# By crate: its line in crates.txt, and the libraries that it names.
+declare -A line_of libraries_of
+# The crates that the program consists of, lowest first, and those that are proved.
+needed=()
+declare -A is_proved
+
+read_crates() {
+  local line name
+  while IFS= read -r line; do
+    line=${line%%#*}
+    [[ $line == *:* ]] || continue
+    name=${line%%[ :]*}
+    line_of[$name]=$line
+    libraries_of[$name]=${line#*:}
+  done <"$top/crates.txt"
+}
+
+# Adds a crate and those below it.
+need() {
+  local name
+  [[ -n ${line_of[$1]+x} && " ${needed[*]-} " != *" $1 "* ]] || return 0
+  for name in ${libraries_of[$1]}; do
+    need "$name"
+  done
+  needed+=("$1")
+}
+
+# The sum of all that the proof reads in this folder.
+sum_of() {
+  (
+    cd "$1" || exit 1
+    for name in "${needed[@]}"; do
+      printf '%s\n' "${line_of[$name]}"
+    done
+    cat HANDLES
+    find "${needed[@]/#/crates/}" \( -name out -o -name must-fail \) -prune -o -type f -print0 | LC_ALL=C sort -z | xargs -0 sha256sum
+  ) | sha256sum | cut -c 1-32
+}
+
+# Copies all that the proof reads to this folder, which is then the top of a repository.
+copy_to() {
+  mkdir -p "$1/.git" && cp "$top/HANDLES" "$1" || return
+  for name in "${needed[@]}"; do
+    printf '%s\n' "${line_of[$name]}"
+  done >"$1/crates.txt"
+  tar -C "$top" --exclude=out --exclude=must-fail -cf - "${needed[@]/#/crates/}" | tar -C "$1" -xf -
+}
+
+# The crates that can be in proof now: those whose libraries are proved.
+in_proof() {
+  local name library found=
+  for name in "${needed[@]}"; do
+    [ -z "${is_proved[$name]+x}" ] || continue
+    for library in ${libraries_of[$name]}; do
+      [[ -z ${line_of[$library]+x} || -n ${is_proved[$library]+x} ]] || continue 2
+    done
+    found+=" $name"
+  done
+  printf '%s' "${found:- the program, built and tried}"
+}
+
+# Keeps what the proof says, and tells how far it is.
+tell_progress() {
+  local line count=0 of=${#needed[@]}
+  say "the program isn't proved as its sources stand: proving its $of crates; first$(in_proof)"
+  while IFS= read -r line; do
+    printf '%s\n' "$line" >>"$top/out/proof.log"
+    [[ $line =~ ^rt:\ ([a-z0-9_]+)\ (proved$|is\ kept:) ]] || continue
+    is_proved[${BASH_REMATCH[1]}]=1
+    count=$((count + 1))
+    say "$count of $of ${BASH_REMATCH[1]}" "$([ "${BASH_REMATCH[2]}" = proved ] && echo proved || echo "proved earlier"), after $SECONDS s; now$(in_proof)"
+  done
+}
+
+prove_in() {
+  set -o pipefail
+  cd "$1" && rt ci 2>&1 | tell_progress
+}
+
+# Proves the program, one call at a time in this copy of the repository.
+prove() {
+  mkdir -p "$top/out" && exec 9>"$top/out/lock" || exit 1
+  if ! flock -n 9; then
+    say "another call is proving the program: waiting for it"
+    flock 9
+  fi
+  program=$top/out/hheap-$(sum_of "$top")
+  [ ! -x "$program" ] || return 0
+  # (a call that was killed left its folder)
+  local left
+  left=$(cat "$top/out/proving" 2>/dev/null)
+  [[ $left != */hheap-proof-* ]] || rm -rf "$left"
+  make_room proof
+  printf '%s\n' "$room" >"$top/out/proving"
+  : >"$top/out/proof.log"
+  copy_to "$room" || exit 1
+  program=$top/out/hheap-$(sum_of "$room")
+  if ! run_apart prove_in "$room" </dev/null >&2 9>&-; then
+    grep -E '^rt: .*(NOT PROVED|FAILED|refused)|error' "$top/out/proof.log" | tail -n 20 >&2
+    say "the program could not be proved and built; all that was said is in $top/out/proof.log"
+    exit 1
+  fi
+  cp "$room/crates/hheap/out/hheap" "$room/hheap" && cp "$room/hheap" "$top/out/new" && mv -f "$top/out/new" "$program" || exit 1
+  leave_room
+  rm -f "$top/out/proving"
+}
+
+# Sets `program` to the proved program.
+find_program() {
+  read_crates
+  need hheap
+  program=$top/out/hheap-$(sum_of "$top")
+  if [ ! -x "$program" ]; then
+    prove
+    find "$top/out" -maxdepth 1 -name 'hheap-*' -mmin +1440 ! -path "$program" -delete
+    exec 9>&-
+  fi
+}
