@@ -7,7 +7,7 @@ use Rattle.run_trace.specs.Entry.{Event}
 use Rattle.run_trace.specs.Settings.{Limits, field_limit}
 use Rattle.run_ledger.specs.declared.data.RefusedAt.{RefusedAt}
 use Rattle.run_ledger.specs.Journals.{refused_as_run, machine_of, tasks_of}
-use Rattle.run_ledger.specs.Text.{refused_line}
+use Rattle.run_ledger.specs.Text.{refused_line, end_line}
 use Rattle.trace_input.specs.declared.input.TraceInput.{TraceInput}
 use Rattle.race_report.specs.declared.data.Race.{Race}
 use Rattle.race_report.specs.Accesses.{accesses}
@@ -15,9 +15,10 @@ use Rattle.race_report.specs.Report.{IsReport}
 use Rattle.race_report.specs.Text.{races_text}
 use Rattle.image_check.specs.declared.cause.Fault.{Fault}
 use Rattle.image_check.specs.Cause.{text_of_cause}
-use Rattle.command_core.specs.declared.answer.Status.TheVariants.{Trace}
+use Rattle.image_check.specs.Fault.{image_fault, objects_in}
+use Rattle.command_core.specs.declared.answer.Status.TheVariants.{Done, Trace, Image}
 use Rattle.command_core.specs.declared.answer.Answer.{Answer}
-use Rattle.command_core.specs.Answers.{IsText, races_status, races_limits, AnswersRacesOf, AnswersRacesTrace, image_line}
+use Rattle.command_core.specs.Answers.{IsText, races_status, races_limits, AnswersRacesOf, AnswersRacesTrace, image_line, AnswersImage, AnswersVerify}
 
 told : (p : ProgramText) (s : Limits) (journal : List Event) (races : List Race) (a : Answer)
     → refused_as_run p s journal ≡ None → IsReport (machine_of p s journal).edges (accesses p (field_limit s.version) (tasks_of journal)) races
@@ -47,3 +48,14 @@ races_refused l t s journal r a settings entries e h =
 pub image_is : (f : Fault) (cause : List ℕ) → cause ≡ text_of_cause f.cause
     → codes "end: image refused line " ++ (decimal f.line ++ 32 ∷ (cause ++ 10 ∷ [])) ≡ image_line f
 image_is f cause e = rw e (simp append_assoc)
+
+-- an image that is verified
+pub image_told : (input : List ℕ) (count : ℕ) (bytes : List ℕ) (a : Answer) → image_fault input ≡ None → count ≡ objects_in input
+    → bytes ≡ end_line (codes "verified" ∷ decimal count ∷ []) → IsText Done bytes a → AnswersVerify input a
+image_told input count bytes a none is text h =
+    subst (λ f. AnswersImage f (objects_in input) a) (sym none)
+    (subst (λ n. IsText Done (end_line (codes "verified" ∷ decimal n ∷ [])) a) is (subst (λ x. IsText Done x a) text h))
+
+-- and one that is refused
+pub image_refused : (input : List ℕ) (f : Fault) (bytes : List ℕ) (a : Answer) → image_fault input ≡ Some f → bytes ≡ image_line f → IsText Image bytes a → AnswersVerify input a
+image_refused input f bytes a e text h = subst (λ o. AnswersImage o (objects_in input) a) (sym e) (subst (λ x. IsText Image x a) text h)
