@@ -8,8 +8,12 @@ say() {
   printf 'hheap: %s\n' "$*" >&2
 }
 
-# Makes the folder.
+# Makes the folder, for what needs the kit.
 make_room() {
+  if ! command -v rt >/dev/null; then
+    say "the kit's command rt isn't on the path, so nothing can be proved or built"
+    exit 1
+  fi
   if ! room=$(mktemp -d "${TMPDIR:-/tmp}/hheap-$1-XXXXXX"); then
     say "no folder can be made among the temporary files"
     exit 1

@@ -64,14 +64,16 @@ in_proof() {
 
 # Keeps what the proof says, and tells how far it is.
 tell_progress() {
-  local line count=0 of=${#needed[@]}
+  local line when count=0 of=${#needed[@]}
   say "the program isn't proved as its sources stand: proving its $of crates; first$(in_proof)"
   while IFS= read -r line; do
     printf '%s\n' "$line" >>"$top/out/proof.log"
+    [[ $line != rt:\ *waiting* && $line != rt:\ note:* ]] || say "${line#rt: }"
     [[ $line =~ ^rt:\ ([a-z0-9_]+)\ (proved$|is\ kept:) ]] || continue
     is_proved[${BASH_REMATCH[1]}]=1
     count=$((count + 1))
-    say "$count of $of ${BASH_REMATCH[1]}" "$([ "${BASH_REMATCH[2]}" = proved ] && echo proved || echo "proved earlier"), after $SECONDS s; now$(in_proof)"
+    [ "${BASH_REMATCH[2]}" = proved ] && when="after $SECONDS s" || when=earlier
+    say "$count of $of ${BASH_REMATCH[1]} proved $when; now$(in_proof)"
   done
 }
 

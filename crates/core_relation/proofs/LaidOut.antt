@@ -1,11 +1,11 @@
 -- The layout of chunks whose objects are changed in place, and of the chunks of two heaps together.
-use Rattle.std.proofs.Common.{◌≡◌, ◌⊎◌, ◌&&◌, ◌==◌, ◌+◌, ◌*◌, ◌≤◌, ℕ, zero, suc, Bool, true, false, cond, Option, List, [], ◌∷◌, ◌++◌, length, map, filter, inl, inr, refl, ap, ap₂, sym, subst, ◌∙◌, ne_eqb}
+use Rattle.std.proofs.Common.{◌≡◌, ◌⊎◌, ◌&&◌, ◌==◌, ◌+◌, ◌*◌, ◌≤◌, ℕ, suc, Bool, true, false, cond, Option, List, [], ◌∷◌, ◌++◌, length, map, inl, inr, refl, ap, ap₂, sym, subst, ◌∙◌, ne_eqb}
 use Rattle.std.specs.List.{AllByRecursion, IsDistinct}
 use Rattle.listed.proofs.Members.{in_append_cases}
 use Rattle.object_layout.specs.declared.word.Addr.{Addr}
 use Rattle.run_ledger.specs.Heaps.{units}
 use Rattle.core_relation.specs.Value.{Seen, Chunk, Source, In, objects_in, mapped_chunk, rewritten, rewritten_refs}
-use Rattle.core_relation.specs.Layout.{words, AreApart, HoldsLarge, has_none, reserved_chunks, reserved_units, AreLaidOut}
+use Rattle.core_relation.specs.Layout.{words, AreApart, HoldsLarge, has_none, reserved_chunks, AreLaidOut}
 use Rattle.core_relation.proofs.Members.{in_chunk, in_objects, map_in}
 
 abbrev numbers : List Chunk → List ℕ

@@ -1,16 +1,14 @@
 -- After an entry of its own that isn't of steps what a worker holds fits.
-use Rattle.std.proofs.Common.{◌≡◌, ℕ, Some, None, is_none, slice_get, inl, refl, ap, sym, subst, ◌∙◌}
+use Rattle.std.proofs.Common.{◌≡◌, None, is_none, slice_get, inl, refl, ap, sym, subst, ◌∙◌}
 use Rattle.std.proofs.lemmas.Bool.{and_parts}
-use Rattle.hh_lang.specs.Form.{ProgramText}
 use Rattle.run_trace.specs.Entry.{Event}
-use Rattle.run_trace.specs.Settings.{Limits}
 use Rattle.run_trace.specs.declared.entry.Kind.TheVariants.{End as EndOf}
 use Rattle.hh_model.specs.declared.data.State.{State}
 use Rattle.hh_model.specs.Step.{is_running}
 use Rattle.hh_model.proofs.Steps.{runs_is}
 use Rattle.run_ledger.specs.declared.data.Ledger.{Ledger}
-use Rattle.run_ledger.specs.Entries.{refusal, after, is_out}
-use Rattle.run_ledger.specs.Journals.{ledger_of, is_legal}
+use Rattle.run_ledger.specs.Entries.{after, is_out}
+use Rattle.run_ledger.specs.Journals.{ledger_of}
 use Rattle.run_ledger.proofs.Journals.{none_unless, entry_tells, legal_sound}
 use Rattle.run_ledger.proofs.Steps.{heap_of_task}
 use Rattle.ledger_steps.proofs.Entries.{end_changes}

@@ -11,14 +11,14 @@ use Rattle.run_ledger.specs.Heaps.{heap_of, or_fresh, let_go}
 use Rattle.run_ledger.specs.Steps.{task_steps}
 use Rattle.ledger_steps.specs.Accounts.{Rests, StepsAlone, rested}
 use Rattle.ledger_steps.specs.Kinds.{EndsTask}
-use Rattle.ledger_steps.specs.Last.{WritesOther, LastKind, Private, Reading, Writing, Printing, Forking, Ending, Joining, Finishing, Halting, IsOfKind, GoesOn, Halts, Splits, Runs}
+use Rattle.ledger_steps.specs.Last.{WritesOther, LastKind, Private, Reading, Writing, Printing, Forking, Ending, Joining, Finishing, Halting, IsOfKind, GoesOn, Splits, Runs}
 use Rattle.ledger_steps.proofs.Ahead.{private_alone, steps_alone_all, with_off}
 use Rattle.ledger_steps.proofs.Along.{steps_know}
 use Rattle.ledger_steps.proofs.Rested.{rested_view}
 use Rattle.ledger_steps.proofs.Split.{worker_step}
 use Rattle.core_relation.specs.Value.{Home, Value, Frame}
 use Rattle.core_relation.specs.Fits.{with_home}
-use Rattle.core_relation.specs.Changes.{EndsHome, WritesAt}
+use Rattle.core_relation.specs.Changes.{EndsHome}
 use Rattle.core_relation.specs.Makes.{Stores, Makes}
 use Rattle.core_relation.specs.Whole.{handed}
 use Rattle.core_relation.proofs.HandedBack.{alive_machine, handed_on, handed_halt, handed_done}
@@ -69,10 +69,13 @@ module _ (p : ProgramText) (s : Limits) (v v' : Value) (l l' : Ledger) (t w k : 
 
   -- it has ended
   ended : (n : Ledger) (f : Frame) (fs : List Frame) → EndsTask (rested m t) n t S.task → EndsHome vt v' t f fs → ((u : ℕ) → Rests n u → (heap_of n u).begun ≡ None) → Idle n
-  ended n f fs L C at u r = (at u r, elim (cases_eq u t) [
-    | inl e ↦ ap (λ z. (v'.homes z).begun) e ∙ (C.begun ∙ (ap (λ (z : Home). z.begun) (at_home v t h) ∙ own))
-    | inr ne ↦ ap (λ (z : Home). z.begun) (C.others u ne) ∙ before u (ap (λ (z : Heap). z.worker) (sym (L.alone.heaps u ne)) ∙ r)
-  ])
+  ended n f fs L C at u r = (
+    at u r,
+    elim (cases_eq u t) [
+      | inl e ↦ ap (λ z. (v'.homes z).begun) e ∙ (C.begun ∙ (ap (λ (z : Home). z.begun) (at_home v t h) ∙ own))
+      | inr ne ↦ ap (λ (z : Home). z.begun) (C.others u ne) ∙ before u (ap (λ (z : Heap). z.worker) (sym (L.alone.heaps u ne)) ∙ r)
+    ],
+  )
 
   wrote : (g : Home) (begun : (u : ℕ) → ((with_home v' t g).homes u).begun ≡ (vt.homes u).begun) (u : ℕ) → (u ≡ t → ⊥) → (v'.homes u).begun ≡ (v.homes u).begun
   wrote g begun u ne = ap (λ (z : Home). z.begun) (sym (off_home v' t g u ne)) ∙ (begun u ∙ ap (λ (z : Home). z.begun) (off_home v t h u ne))

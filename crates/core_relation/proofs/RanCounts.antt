@@ -1,5 +1,5 @@
 -- An entry of steps changes the tree and the counts as the accounts.
-use Rattle.std.proofs.Common.{◌≡◌, ℕ, suc, ◌+◌, ◌++◌, ◌∷◌, [], true, Option, Some, None, length, slice_get, slice_set, option_map, arith, inl, inr, refl, ap, ap₂, sym, subst, ◌∙◌, ◌⊎◌}
+use Rattle.std.proofs.Common.{◌≡◌, ℕ, suc, ◌+◌, ◌++◌, ◌∷◌, [], true, Option, Some, None, length, slice_get, slice_set, option_map, arith, inl, inr, refl, ap, ap₂, sym, subst, ◌∙◌}
 use Rattle.std.proofs.lemmas.Bool.{both_ways, cases_eq, false≢true}
 use Rattle.std.proofs.lemmas.Option.{same_Some}
 use Rattle.std.specs.Prelude.{◌↔◌}
@@ -28,10 +28,9 @@ use Rattle.ledger_steps.proofs.Kin.{private_kin, steps_kin}
 use Rattle.ledger_steps.proofs.Private.{private_on}
 use Rattle.ledger_steps.proofs.Rested.{rested_worker}
 use Rattle.ledger_steps.proofs.Split.{worker_step, steps_worker, steps_go}
-use Rattle.ledger_steps.proofs.Use.{same_use}
-use Rattle.core_relation.specs.Whole.{Totals, TotalsStand, Node, State, Ready, Out, Waits, HasEnded, HasJoined, state_by, handed}
+use Rattle.core_relation.specs.Whole.{Totals, TotalsStand, Node, Ready, Out, Waits, HasEnded, HasJoined, state_by, handed}
 use Rattle.core_relation.specs.RanCounts.{node_then, NodesStay, NodeGoes, NodesFork, NodesJoin, HandsStay, LetsGo, RanCounts}
-use Rattle.core_relation.proofs.Counts.{node_of, with_steps}
+use Rattle.core_relation.proofs.Counts.{node_of, same_use, with_steps}
 use Rattle.core_relation.proofs.HandedBack.{alive_machine, handed_on, handed_halt, handed_done}
 use Rattle.core_relation.proofs.RunsOn.{ran_end}
 

@@ -1,6 +1,5 @@
 -- After an entry of steps what its worker holds fits, where it goes on with the task or the run halts.
 use Rattle.std.proofs.Common.{◌≡◌, ℕ, suc, pos, ℤ, true, false, Option, Some, None, is_some, slice_get, slice_set, length, inl, inr, refl, ap, sym, subst, ◌∙◌}
-use Rattle.std.proofs.lemmas.Bool.{cases_eq}
 use Rattle.std.proofs.lemmas.Option.{same_Some}
 use Rattle.listed.proofs.Members.{got_same}
 use Rattle.hh_lang.specs.declared.instr.Instr.{Instr}
@@ -11,15 +10,14 @@ use Rattle.hh_model.specs.declared.data.State.{State}
 use Rattle.hh_model.specs.declared.data.Task.{Task}
 use Rattle.hh_model.specs.Effect.{int_in, object_at, onward, place_in, row_of}
 use Rattle.hh_model.specs.Step.{is_running, is_waiting, is_joined, is_on_path, owner_of, runs}
-use Rattle.run_ledger.specs.declared.data.Heap.{Heap}
 use Rattle.run_ledger.specs.declared.data.Ledger.{Ledger}
 use Rattle.run_ledger.specs.Heaps.{heap_of, or_fresh, let_go}
-use Rattle.run_ledger.specs.Steps.{is_private, task_steps}
+use Rattle.run_ledger.specs.Steps.{task_steps}
 use Rattle.run_ledger.proofs.Machine.{task_step_machine}
-use Rattle.run_ledger.proofs.Sound.{SoundLedger}
+use Rattle.run_ledger.specs.Sound.{SoundLedger}
 use Rattle.ledger_steps.specs.Accounts.{StepsAlone, Knows, aside, rested}
 use Rattle.ledger_steps.specs.Kinds.{StoresOne}
-use Rattle.ledger_steps.specs.Last.{WritesOther, LastKind, Private, Reading, Writing, Printing, Forking, Ending, Joining, Finishing, Halting, IsOfKind, GoesOn, Halts, Runs, Splits, stepped_by}
+use Rattle.ledger_steps.specs.Last.{WritesOther, LastKind, Private, Reading, Writing, Printing, Forking, Ending, Joining, Finishing, Halting, IsOfKind, GoesOn, Runs, Splits, stepped_by}
 use Rattle.ledger_steps.proofs.Ahead.{steps_sound, with_machine, with_off}
 use Rattle.ledger_steps.proofs.Along.{steps_end, steps_know}
 use Rattle.ledger_steps.proofs.Private.{private_on}

@@ -1,24 +1,18 @@
 -- The whole relation past an entry of steps.
-use Rattle.std.proofs.Common.{suc, ◌≡◌, ℕ, true, false, Option, Some, None, is_none, is_some, slice_get, refl, ap, sym, subst, ◌∙◌}
-use Rattle.hh_lang.specs.Form.{ProgramText, IsProgram}
-use Rattle.run_trace.specs.Settings.{Limits}
+use Rattle.std.proofs.Common.{suc, ◌≡◌, ℕ, false, Option, Some, None, is_none, slice_get, refl, ap, subst, ◌∙◌}
 use Rattle.run_trace.specs.Entry.{Event}
 use Rattle.run_trace.specs.declared.entry.Kind.TheVariants.{Ran}
 use Rattle.run_ledger.specs.declared.data.Heap.{Heap}
 use Rattle.run_ledger.specs.declared.data.Ledger.{Ledger}
 use Rattle.run_ledger.specs.Heaps.{heap_of, or_fresh}
 use Rattle.run_ledger.specs.Steps.{task_steps}
-use Rattle.run_ledger.specs.Entries.{refusal, after}
-use Rattle.run_ledger.specs.Journals.{ledger_of, is_legal}
+use Rattle.run_ledger.specs.Entries.{after}
+use Rattle.run_ledger.specs.Journals.{ledger_of}
 use Rattle.run_ledger.proofs.Journals.{entry_tells}
-use Rattle.run_ledger.proofs.Sound.{collecting}
-use Rattle.ledger_steps.specs.Accounts.{Rests}
-use Rattle.ledger_steps.specs.Last.{Runs}
+use Rattle.run_ledger.specs.Sound.{collecting}
 use Rattle.ledger_steps.proofs.Ahead.{steps_sound}
 use Rattle.ledger_steps.proofs.Rested.{rested_view}
-use Rattle.ledger_steps.proofs.Use.{entries_use}
-use Rattle.core_relation.specs.Value.{Begun, Home, Value}
-use Rattle.core_relation.specs.Copies.{PartFits}
+use Rattle.run_ledger.proofs.Use.{entries_use}
 use Rattle.core_relation.specs.Fits.{part_for, with_home}
 use Rattle.core_relation.specs.Makes.{taken_by}
 use Rattle.core_relation.specs.EntryLaws.{RanStandsFor}
@@ -44,7 +38,7 @@ ran_stands_for p s journal program legal v v' c c' w t k h accepted E W0 Q C M N
     let W : StandsFor v c l = subst (StandsFor v c) (handed_on l alive) W0 in
     let F = part_now p s (part_for s t h (taken_by E.splits.kind k)) v l (alive_machine p s l (after p s l e) t w k E) Q in
     let both = ran_keeps p s v v' l (after p s l e) t w k h E alive W.homes (whole_notes v c l W) F.fits C M in
-    let counts = ran_counts p s l (after p s l e) t w k E c c' W.totals alive (entries_use p s journal program legal e accepted) N in
+    let counts = ran_counts p s l (after p s l e) t w k E c c' W.totals alive (entries_use p s journal e program legal accepted) N in
     let still : (j : ℕ) → (heap_of (task_steps p l t j) t).begun ≡ None = λ j. none_collects (slice_get (task_steps p l t j).heaps t) (steps_sound p s t j l (E.knows.sound, E.collects)).1 in
     let n : ℕ = taken_by E.splits.kind k in
     let own : h.begun ≡ None = home_rests (with_home v t h) _ t h.begun F.begun (rested_view (λ z. z.begun) (λ z. refl) (task_steps p l t n) t ∙ still n) in

@@ -1,39 +1,25 @@
 -- What lemmas on parts state, by the accounts as they are.
-use Rattle.ledger_steps.specs.Last.{GoesOn, Runs, EndsDone, Halts, stepped_by}
-use Rattle.core_relation.specs.Makes.{Makes, taken_by}
-use Rattle.core_relation.specs.Marks.{Marks}
-use Rattle.core_relation.specs.Counts.{CountsGo, IsQuiet, IsMarked}
-use Rattle.core_relation.specs.RanCounts.{RanCounts}
-use Rattle.run_trace.specs.Entry.{Event}
-use Rattle.run_trace.specs.declared.entry.Kind.TheVariants.{Took, Ran, Sweep, End}
-use Rattle.run_ledger.specs.Journals.{ledger_of, is_legal}
-use Rattle.run_ledger.specs.Entries.{refusal, after, held_from}
-use Rattle.run_ledger.specs.Steps.{task_steps}
-use Rattle.core_relation.specs.Since.{Since, Keeps, kept, AllNoted, MarksOn, NotesStay, Noting, ForksNotes, JoinsNotes, OthersNotes, StoresNotes}
-use Rattle.core_relation.specs.Whole.{BegunStands, Begins, Totals, TotalsStand, StandsFor, handed}
-use Rattle.core_relation.specs.Copies.{PartFits, CopyFits, EndsAt, before}
+use Rattle.core_relation.specs.Since.{AllNoted}
+use Rattle.core_relation.specs.Copies.{CopyFits, EndsAt}
 use Rattle.run_ledger.specs.declared.data.Heap.{Heap}
-use Rattle.core_relation.specs.Begins.{AreRoots, IsReachedAt}
-use Rattle.std.specs.Prelude.{◌≡◌, ◌⊎◌, ◌+◌, ℕ, suc, ℤ, true, false, Option, Some, None, List, ◌∷◌, slice_get, slice_set, ◌↔◌, [], is_some}
+use Rattle.std.specs.Prelude.{◌≡◌, ℕ, ℤ, false, Option, Some, List, slice_get}
 use Rattle.object_layout.specs.declared.word.Addr.{Addr}
-use Rattle.hh_lang.specs.Form.{ProgramText, IsProgram}
+use Rattle.hh_lang.specs.Form.{ProgramText}
 use Rattle.run_trace.specs.Settings.{Limits}
 use Rattle.hh_model.specs.declared.data.Name.{Name}
 use Rattle.hh_model.specs.declared.data.Object.{Object}
 use Rattle.hh_model.specs.declared.data.Status.TheVariants.{Running}
 use Rattle.hh_model.specs.declared.data.Task.{Task}
-use Rattle.hh_model.specs.Step.{is_waiting, is_running, can_step}
+use Rattle.hh_model.specs.Step.{is_waiting}
 use Rattle.run_ledger.specs.declared.data.Ledger.{Ledger}
-use Rattle.run_ledger.specs.Heaps.{heap_of, within, with_heap, collected}
-use Rattle.run_ledger.proofs.Sound.{SoundLedger}
-use Rattle.core_relation.specs.Value.{Seen, Frame, Begun, Home, Value, In, objects}
-use Rattle.core_relation.specs.Reads.{Reads}
-use Rattle.ledger_steps.specs.Accounts.{Rests, rested, StepsAlone, ChangesHeap, Takes, SameTasks, WritesOne, AlikeFor, Knows, Leaves}
-use Rattle.core_relation.specs.Stands.{Place, Stands}
-use Rattle.core_relation.specs.Fits.{Part, FitsAt, StillFits, with_home, ahead, part_for}
-use Rattle.core_relation.specs.Changes.{KeepsJust, Moves, SameBut, SameObjects, JoinsHomes, ForksHome, StoresAt, register, StepsAtHome, HomeIsRead, Allocates, WritesAt, with_field, HasResult, EndsHome, StoresNumberAt, gone_on}
-use Rattle.ledger_steps.specs.Kinds.{JoinsTasks, CanJoin, ForksTask, StoresOne, EndsTask, StoresNumber, onward_with}
-use Rattle.core_relation.specs.Frames.{AllFitAt, with_homes, all_ahead, Collects, IsSteady, Beside, EndsBeside, IsOut, AreOut}
+use Rattle.run_ledger.specs.Heaps.{heap_of, with_heap, collected}
+use Rattle.run_ledger.specs.Sound.{SoundLedger}
+use Rattle.core_relation.specs.Value.{Frame, Home, Value}
+use Rattle.ledger_steps.specs.Accounts.{Rests, rested, StepsAlone, Takes, SameTasks, Knows, Leaves}
+use Rattle.core_relation.specs.Fits.{Part, FitsAt, with_home, ahead, part_for}
+use Rattle.core_relation.specs.Changes.{SameBut, SameObjects, JoinsHomes, ForksHome, StoresAt, register, StepsAtHome, HomeIsRead, HasResult, EndsHome, StoresNumberAt}
+use Rattle.ledger_steps.specs.Kinds.{JoinsTasks, CanJoin, ForksTask, StoresOne, EndsTask, StoresNumber}
+use Rattle.core_relation.specs.Frames.{IsSteady, IsOut, AreOut}
 
 abbrev pub ForksLeaveFitting : Type 0
 ForksLeaveFitting =

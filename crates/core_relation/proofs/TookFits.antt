@@ -1,27 +1,24 @@
 -- The home of a task that a worker takes fits.
-use Rattle.std.proofs.Common.{◌≡◌, ℕ, Some, None, is_none, slice_get, length, inl, inr, refl, ap, sym, subst, ◌∙◌}
+use Rattle.std.proofs.Common.{◌≡◌, ℕ, Some, None, is_none, slice_get, inl, inr, refl, ap, sym, subst, ◌∙◌}
 use Rattle.std.proofs.lemmas.Bool.{and_parts, cases_eq}
 use Rattle.hh_lang.specs.Form.{ProgramText}
 use Rattle.run_trace.specs.Entry.{Event}
 use Rattle.run_trace.specs.Settings.{Limits}
 use Rattle.run_trace.specs.declared.entry.Kind.TheVariants.{Took}
-use Rattle.hh_model.specs.Effect.{row_of}
 use Rattle.hh_model.specs.Step.{is_running}
 use Rattle.hh_model.specs.declared.data.State.{State}
-use Rattle.run_ledger.specs.declared.data.Heap.{Heap}
 use Rattle.run_ledger.specs.declared.data.Ledger.{Ledger}
 use Rattle.run_ledger.specs.Heaps.{heap_of, or_fresh}
-use Rattle.run_ledger.specs.Entries.{refusal, after, is_ready}
-use Rattle.run_ledger.specs.Journals.{ledger_of, is_legal}
+use Rattle.run_ledger.specs.Entries.{after, is_ready}
+use Rattle.run_ledger.specs.Journals.{ledger_of}
 use Rattle.run_ledger.proofs.Journals.{none_unless, entry_tells, legal_sound}
 use Rattle.run_ledger.proofs.Steps.{heap_of_task}
-use Rattle.ledger_steps.specs.Accounts.{Rests, aside, rested}
+use Rattle.ledger_steps.specs.Accounts.{Rests, rested}
 use Rattle.ledger_steps.proofs.Ahead.{heap_then, with_at}
 use Rattle.ledger_steps.proofs.Entries.{took_takes}
 use Rattle.ledger_steps.proofs.Rested.{rested_view}
 use Rattle.ledger_steps.proofs.Split.{legal_alive}
 use Rattle.core_relation.specs.Value.{Home, Value, objects_in}
-use Rattle.core_relation.specs.Stands.{Stands}
 use Rattle.core_relation.specs.Fits.{Part, FitsAt, part_for, ahead, with_home}
 use Rattle.core_relation.specs.Changes.{SameBut}
 use Rattle.core_relation.specs.Copies.{PartFits}

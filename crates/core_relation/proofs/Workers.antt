@@ -1,37 +1,25 @@
 -- An entry of one worker leaves what every other holds fitting.
-use Rattle.std.proofs.Common.{◌≡◌, ◌⊎◌, ℕ, Bool, true, false, cond, Option, Some, None, is_none, is_some, nat_lt, slice_get, length, inl, inr, refl, ap, ap₂, sym, subst, ◌∙◌, ◌+◌}
-use Rattle.std.proofs.lemmas.Bool.{both_ways, and_parts}
+use Rattle.std.proofs.Common.{◌≡◌, ℕ, true, Option, Some, None, slice_get, inl, inr, ap, ap₂, sym, subst, ◌∙◌, ◌+◌}
 use Rattle.hh_lang.specs.declared.instr.Instr.{Instr}
 use Rattle.hh_lang.specs.declared.instr.Instr.TheVariants.{Set, Mov, Movr, Nil as NilOf, Calc, Same, Jmp, Jz, Newm, Pack, Getr, Geti, Putr, Puti, Cntr, Cnti, Freeze, Cas, Call, Par, Ret, Out}
 use Rattle.hh_lang.specs.Form.{ProgramText}
-use Rattle.run_trace.specs.Entry.{Event}
 use Rattle.run_trace.specs.Settings.{Limits}
-use Rattle.run_trace.specs.declared.entry.Kind.{Kind}
-use Rattle.run_trace.specs.declared.entry.Kind.TheVariants.{Took, Ran, Chunk, Begin, End as EndOf, PutOff, Mark, More, Sweep, Fuel}
-use Rattle.hh_model.specs.declared.data.Object.{Object}
 use Rattle.hh_model.specs.declared.data.State.{State}
-use Rattle.hh_model.specs.declared.data.Task.{Task}
-use Rattle.hh_model.specs.Step.{asked, can_step, goes_on, is_running, is_waiting, runs}
-use Rattle.run_ledger.specs.declared.data.Heap.{Heap}
+use Rattle.hh_model.specs.Step.{can_step, goes_on, is_running, runs}
 use Rattle.run_ledger.specs.declared.data.Ledger.{Ledger}
-use Rattle.run_ledger.specs.declared.data.RunEnd.TheVariants.{Pool}
-use Rattle.run_ledger.specs.Heaps.{heap_of, in_use, or_fresh, with_heap, let_go}
+use Rattle.run_ledger.specs.Heaps.{heap_of, or_fresh}
 use Rattle.run_ledger.specs.Steps.{task_steps}
-use Rattle.run_ledger.specs.Entries.{refusal, after, after_kind, chunk_units, with_chunk, is_ready, is_out}
-use Rattle.run_ledger.specs.Journals.{ledger_of, is_legal}
-use Rattle.run_ledger.proofs.Journals.{none_unless, entry_tells, wait_tells, legal_sound}
-use Rattle.run_ledger.proofs.Sound.{SoundLedger, collecting}
-use Rattle.ledger_steps.specs.Accounts.{Rests, SameTasks, AlikeFor, ArePrivate, Knows, aside}
+use Rattle.run_ledger.specs.Sound.{collecting}
+use Rattle.ledger_steps.specs.Accounts.{AlikeFor, ArePrivate, Knows, aside}
 use Rattle.ledger_steps.specs.Last.{WritesOther, LastKind, Private, Reading, Writing, Printing, Forking, Ending, Joining, Finishing, Halting, IsOfKind, GoesOn, Halts, Runs, Splits}
-use Rattle.ledger_steps.proofs.Ahead.{SameOf, with_off, with_machine, steps_alone_all, rested_same}
+use Rattle.ledger_steps.proofs.Ahead.{SameOf, steps_alone_all}
 use Rattle.ledger_steps.proofs.Along.{alike_steps, steps_know, steps_limit, steps_end, steps_off}
 use Rattle.core_relation.specs.Value.{Home, Value}
-use Rattle.core_relation.specs.Fits.{Part, FitsAt, part_for, ahead, with_home}
+use Rattle.core_relation.specs.Fits.{Part, FitsAt, part_for, ahead}
 use Rattle.core_relation.specs.Frames.{AreOut, IsOut, IsSteady}
 use Rattle.core_relation.specs.Copies.{PartFits}
 use Rattle.core_relation.specs.Makes.{Stores, Makes, taken_by}
-use Rattle.core_relation.specs.Whole.{BegunBy}
-use Rattle.core_relation.specs.Worker.{Fits, IsBy}
+use Rattle.core_relation.specs.Worker.{Fits}
 use Rattle.core_relation.specs.WorkerLaws.{RanAlike, RanLeaves}
 use Rattle.core_relation.proofs.Alike as alike
 use Rattle.core_relation.proofs.Along.{alike_alone}

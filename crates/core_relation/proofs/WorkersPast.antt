@@ -1,6 +1,6 @@
 -- Entries that aren't of steps leave what every other worker holds fitting.
-use Rattle.std.proofs.Common.{◌≡◌, ℕ, Bool, true, false, Option, Some, None, is_none, is_some, slice_get, List, refl, ap, ap₂, sym, subst, ◌∙◌}
-use Rattle.std.proofs.lemmas.Bool.{both_ways, and_parts}
+use Rattle.std.proofs.Common.{◌≡◌, ℕ, true, false, Option, Some, None, is_none, slice_get, List, refl, ap, sym, subst, ◌∙◌}
+use Rattle.std.proofs.lemmas.Bool.{and_parts}
 use Rattle.std.proofs.Common.{length}
 use Rattle.hh_lang.specs.Form.{ProgramText}
 use Rattle.run_trace.specs.Entry.{Event}
@@ -9,14 +9,14 @@ use Rattle.run_trace.specs.declared.entry.Kind.TheVariants.{Took, Sweep, End as 
 use Rattle.hh_model.specs.declared.data.State.{State}
 use Rattle.hh_model.specs.Store.{IsStored}
 use Rattle.hh_model.specs.Step.{is_running, is_waiting}
-use Rattle.hh_model.proofs.Closed.{Closed}
+use Rattle.hh_model.specs.Closed.{Closed}
 use Rattle.hh_model.proofs.Steps.{runs_is}
 use Rattle.run_ledger.specs.declared.data.Ledger.{Ledger}
 use Rattle.run_ledger.specs.Heaps.{heap_of, collected, swept_heap}
 use Rattle.run_ledger.specs.Entries.{refusal, after, is_ready, is_out}
 use Rattle.run_ledger.specs.Journals.{ledger_of, is_legal}
 use Rattle.run_ledger.proofs.Journals.{none_unless, entry_sound, entry_tells, wait_tells, legal_sound}
-use Rattle.run_ledger.proofs.Sound.{SoundLedger}
+use Rattle.run_ledger.specs.Sound.{SoundLedger}
 use Rattle.run_ledger.proofs.Steps.{heap_of_task}
 use Rattle.ledger_steps.specs.Accounts.{Rests, Knows}
 use Rattle.ledger_steps.proofs.Ahead.{with_off}

@@ -1,10 +1,10 @@
--- The laws of leaf collections that have begun, and of copies.
-use Rattle.run_ledger.specs.Entries.{after}
+-- The laws of leaf collections that have begun, of copies and of marks.
 use Rattle.core_relation.specs.Whole.{BegunStands, Begins}
 use Rattle.core_relation.specs.Copies.{PartFits, CopyFits, EndsAt, before}
 use Rattle.run_ledger.specs.declared.data.Heap.{Heap}
 use Rattle.core_relation.specs.Begins.{AreRoots}
-use Rattle.std.specs.Prelude.{◌≡◌, ℕ, true, Some, None, slice_get}
+use Rattle.std.specs.List.{IsDistinct}
+use Rattle.std.specs.Prelude.{◌≡◌, ℕ, true, Some, None, slice_get, ◌↔◌, List}
 use Rattle.object_layout.specs.declared.word.Addr.{Addr}
 use Rattle.hh_lang.specs.Form.{ProgramText}
 use Rattle.run_trace.specs.Settings.{Limits}
@@ -12,9 +12,12 @@ use Rattle.hh_model.specs.declared.data.Status.TheVariants.{Running}
 use Rattle.hh_model.specs.declared.data.Task.{Task}
 use Rattle.hh_model.specs.Step.{is_waiting}
 use Rattle.run_ledger.specs.declared.data.Ledger.{Ledger}
-use Rattle.run_ledger.specs.Heaps.{heap_of, with_heap, collected}
-use Rattle.run_ledger.proofs.Sound.{SoundLedger}
-use Rattle.core_relation.specs.Value.{Begun, Home, Value}
+use Rattle.run_ledger.specs.Heaps.{heap_of, with_heap, collected, held_in, left_in}
+use Rattle.run_ledger.specs.Reachable.{is_name}
+use Rattle.hh_model.specs.declared.data.Name.{Name}
+use Rattle.core_relation.specs.Marking.{MarksStand}
+use Rattle.run_ledger.specs.Sound.{SoundLedger}
+use Rattle.core_relation.specs.Value.{Begun, Home, Value, Seen, In, objects}
 use Rattle.ledger_steps.specs.Accounts.{Rests, rested, AlikeFor}
 use Rattle.core_relation.specs.Stands.{Stands}
 use Rattle.core_relation.specs.Fits.{with_home}
@@ -46,3 +49,10 @@ CopiesEnd =
     (p : ProgramText) (s : Limits) (t : ℕ) (h h' : Home) (f : Addr → Addr) (v v' : Value) (l : Ledger) (x : Task) (hs : Heap) → SoundLedger l → slice_get l.machine.tasks t ≡ Some x → x.status ≡ Running → slice_get l.heaps t ≡ Some hs
     → CopyFits p s t h h' f v l → EndsAt v v' t h' f → h'.begun ≡ None → let l' : Ledger = with_heap l t (collected l.machine) in
     Moves (with_home v t h) (with_home v' t h') (rested l t) (rested l' t) t (heap_of (rested l t) t).survivors f × PartFits p s (before s t h') v' l'
+
+-- MARKS: nothing is left to mark exactly where each object of the snapshot is marked, where that holds each name once, and all of it is
+-- held
+abbrev pub MarksAreAll : Type 0
+MarksAreAll =
+    (v : Value) (l : Ledger) (t : ℕ) (marked : List Addr) → Stands v l → Rests l t → IsDistinct is_name (heap_of l t).snapshot → ((n : Name) → In (heap_of l t).snapshot n → In (held_in (heap_of l t)) n)
+    → MarksStand v l t marked → left_in (heap_of l t) ≡ 0 ↔ ((q : Seen) → In (objects v t) q → In (heap_of l t).snapshot q.name → In marked q.at)

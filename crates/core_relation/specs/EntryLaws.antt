@@ -6,16 +6,17 @@ use Rattle.core_relation.specs.Counts.{CountsGo, IsQuiet, IsMarked}
 use Rattle.core_relation.specs.RanCounts.{RanCounts}
 use Rattle.run_trace.specs.Entry.{Event}
 use Rattle.run_trace.specs.declared.entry.Kind.TheVariants.{Took, Ran, Sweep, End}
-use Rattle.run_ledger.specs.Journals.{ledger_of, is_legal}
+use Rattle.run_ledger.specs.Journals.{ledger_of, is_legal, opening}
 use Rattle.run_ledger.specs.Entries.{refusal, after, held_from}
 use Rattle.run_ledger.specs.Steps.{task_steps}
 use Rattle.core_relation.specs.Since.{AllNoted, MarksOn, NotesStay, OthersNotes}
-use Rattle.core_relation.specs.Whole.{StandsForAll, Totals, TotalsStand, StandsFor}
+use Rattle.core_relation.specs.Whole.{StandsForAll, handed, Totals, TotalsStand, StandsFor}
 use Rattle.core_relation.specs.Copies.{CopyFits, EndsAt}
-use Rattle.std.specs.Prelude.{◌≡◌, ℕ, suc, true, None, List}
+use Rattle.std.specs.Prelude.{◌≡◌, ℕ, suc, true, None, List, Some}
 use Rattle.object_layout.specs.declared.word.Addr.{Addr}
 use Rattle.hh_lang.specs.Form.{ProgramText, IsProgram}
 use Rattle.run_trace.specs.Settings.{Limits}
+use Rattle.hh_model.specs.declared.data.End.TheVariants.{Done}
 use Rattle.run_ledger.specs.declared.data.Ledger.{Ledger}
 use Rattle.run_ledger.specs.Heaps.{heap_of}
 use Rattle.core_relation.specs.Value.{Home, Value}
@@ -23,9 +24,15 @@ use Rattle.ledger_steps.specs.Accounts.{Rests}
 use Rattle.core_relation.specs.Stands.{Stands}
 use Rattle.core_relation.specs.Fits.{part_for}
 use Rattle.core_relation.specs.Changes.{KeepsJust, SameBut, SameObjects}
+use Rattle.core_relation.specs.First.{first, first_totals}
 use Rattle.core_relation.specs.Worker.{Fits}
 
--- THE WHOLE RELATION past each accepted entry
+-- THE WHOLE RELATION before any entry
+
+abbrev pub FirstStandsFor : Type 0
+FirstStandsFor = (p : ProgramText) (s : Limits) → StandsForAll (first p) first_totals (opening p s)
+
+-- and past each accepted one
 
 -- a worker takes a task
 abbrev pub TookStandsFor : Type 0
@@ -61,6 +68,11 @@ EndsStandFor =
     (p : ProgramText) (s : Limits) (journal : List Event) → IsProgram p → is_legal p s journal ≡ true → (v v' : Value) (c c' : Totals) (w t taken given left : ℕ) (h h' : Home) (f : Addr → Addr) → let l : Ledger = ledger_of p s journal in
     let e : Event = record { worker = w; kind = End t taken given left } in
     refusal p s l e ≡ None → StandsForAll v c l → CopyFits p s t h h' f v l → EndsAt v v' t h' f → h'.begun ≡ None → OthersNotes v v' t → CountsGo p s l c c' w (End t taken given left) → StandsForAll v' c' (after p s l e)
+
+-- once the run is done every heap is handed back
+abbrev pub DoneHandsAll : Type 0
+DoneHandsAll =
+    (p : ProgramText) (s : Limits) (l l' : Ledger) (t w k : ℕ) → Runs p s l l' t w k → l'.machine.end ≡ Some Done → (u : ℕ) → Rests (handed l') u
 
 -- ITS PARTS
 

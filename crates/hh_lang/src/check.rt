@@ -17,7 +17,8 @@ fn names_exist(instr: Instr, functions: usize, places: usize) -> bool
     ensures { IsTrue result ↔ NamesExist functions places instr }
 {
     match instr {
-        Instr::Pack(_, references, numbers) => references.count() <= REGISTERS && numbers.count() <= REGISTERS,
+        Instr::Pack(_, references, numbers) => references.count() <= REGISTERS
+            && numbers.count() <= REGISTERS,
         Instr::Jmp(to) | Instr::Jz(_, to) => (to as usize) < places,
         Instr::Call(function) => (function as usize) < functions,
         Instr::Par(left, right) => (left as usize) < functions && (right as usize) < functions,

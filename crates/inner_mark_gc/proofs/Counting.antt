@@ -5,20 +5,12 @@ use Rattle.std.proofs.lemmas.List.{length-append}
 use Rattle.object_layout.specs.declared.word.Addr.{Addr}
 use Rattle.object_layout.specs.Cell.{Born, Cell, Hole, IsObject, Mark, Moved, no_cell, size_of}
 use Rattle.object_layout.specs.Content.{Content}
-use Rattle.object_layout.specs.Chunks.{cell_of}
+use Rattle.object_layout.specs.Chunks.{cell_of, held_size, one_each, sum_in}
 use Rattle.object_layout.specs.Place.{cell_at}
 use Rattle.listed.proofs.Members.{In, in_append_left, in_append_right}
 use Rattle.inner_mark_gc.specs.Marks.{Once}
-use Rattle.inner_mark_gc.specs.Snapshot.{IsHeld, object_count, objects_by, objects_in}
+use Rattle.inner_mark_gc.specs.Snapshot.{IsHeld, object_count}
 use Rattle.inner_mark_gc.proofs.Addresses.{once_within}
-
-pub count_more : (ks : List Content) (i : ℕ) (k : Content) → i < length ks → k ≡ get_or ks i k → object_count (take (i + 1) ks) ≡ object_count (take i ks) + objects_in k.cells
-count_more [] i k l e = absurd (omega arith)
-count_more (x ∷ xs) zero k l e = let s = ap (λ (c : Content). objects_in c.cells) e in omega arith
-count_more (x ∷ xs) (suc i) k l e =
-    let n : suc i + 1 ≡ suc (i + 1) = omega arith in
-    let ih = count_more xs i k (omega arith) e in
-    rw n (omega arith)
 
 -- the addresses of the objects of a chunk, whose cells begin at an offset, and of a heap
 abbrev address_if : Mark → ℕ → ℕ → List Addr
@@ -34,23 +26,23 @@ abbrev pub addresses : List Content → List Addr
 addresses [] = []
 addresses (k ∷ ks) = cells_at k.cells k.number 0 ++ addresses ks
 
-address_count : (m : Mark) (number at : ℕ) → length (address_if m number at) ≡ objects_by m
+address_count : (m : Mark) (number at : ℕ) → length (address_if m number at) ≡ held_size m 1
 address_count (Born b) number at = refl
 address_count (Moved to) number at = refl
 address_count Hole number at = refl
 
-cells_count : (cs : List Cell) (number at : ℕ) → length (cells_at cs number at) ≡ objects_in cs
+cells_count : (cs : List Cell) (number at : ℕ) → length (cells_at cs number at) ≡ sum_in one_each cs
 cells_count [] number at = refl
 cells_count (c ∷ cs) number at =
-    let ih : length (cells_at cs number (at + size_of c)) ≡ objects_in cs = cells_count cs number (at + size_of c) in
-    let one : length (address_if c.mark number at) ≡ objects_by c.mark = address_count c.mark number at in
+    let ih : length (cells_at cs number (at + size_of c)) ≡ sum_in one_each cs = cells_count cs number (at + size_of c) in
+    let one : length (address_if c.mark number at) ≡ held_size c.mark 1 = address_count c.mark number at in
     length-append (address_if c.mark number at) (cells_at cs number (at + size_of c)) ∙ (omega arith)
 
 addresses_count : (ks : List Content) → length (addresses ks) ≡ object_count ks
 addresses_count [] = refl
 addresses_count (k ∷ ks) =
     let ih : length (addresses ks) ≡ object_count ks = addresses_count ks in
-    let one : length (cells_at k.cells k.number 0) ≡ objects_in k.cells = cells_count k.cells k.number 0 in
+    let one : length (cells_at k.cells k.number 0) ≡ sum_in one_each k.cells = cells_count k.cells k.number 0 in
     length-append (cells_at k.cells k.number 0) (addresses ks) ∙ (omega arith)
 
 address_there : (m : Mark) (number at : ℕ) → IsObject m → In (address_if m number at) (record { chunk = number; offset = at })

@@ -1,8 +1,9 @@
 -- A marking between two calls.
-use Rattle.std.proofs.Common.{◌≡◌, ℕ, zero, suc, ◌+◌, ◌<◌, ◌≤◌, List, [], ◌∷◌, ◌++◌, length, drop, subst, arith, inl, inr, Contains, length-append}
+use Rattle.std.proofs.Common.{◌≡◌, ℕ, zero, suc, ◌+◌, ◌<◌, ◌≤◌, List, [], ◌∷◌, ◌++◌, length, drop, subst, arith, ◌⊎◌, inl, inr, Contains, length-append}
 use Rattle.std.proofs.lemmas.List.{take-append-le}
 use Rattle.object_layout.specs.declared.word.Addr.{Addr}
-use Rattle.listed.proofs.Members.{In, in_append_left, in_append_cases, contains_from_in, in_from_contains}
+use Rattle.object_layout.specs.Content.{Content}
+use Rattle.listed.proofs.Members.{In, in_append_left, in_append_right, in_append_cases, contains_from_in, in_from_contains}
 use Rattle.walks.proofs.Reached.{reached_start, reached_more, reached_within}
 use Rattle.inner_mark_gc.specs.Laws.{MarkingGoesOn, MarkingStaysOf, SnapshotIsOfRoots}
 use Rattle.inner_mark_gc.specs.Snapshot.{Fork, IsInSnapshot, Leads, Starts, object_count}
@@ -34,16 +35,22 @@ in_drop_more zero xs ys a i = in_append_left xs ys a i
 in_drop_more (suc n) [] ys a i = absurd i
 in_drop_more (suc n) (x ∷ xs) ys a i = in_drop_more n xs ys a i
 
+abbrev at : List Content → List Addr → Fork
+at h roots = record { heap = h; roots = roots }
+
+in_both : (roots kept : List Addr) (a : Addr) → Contains roots a ⊎ Contains kept a → Contains (roots ++ kept) a
+in_both roots kept a (inl c) = contains_from_in (roots ++ kept) a (in_append_left roots kept a (in_from_contains roots a c))
+in_both roots kept a (inr c) = contains_from_in (roots ++ kept) a (in_append_right roots kept a (in_from_contains kept a c))
+
 pub snapshot_is_of_roots : SnapshotIsOfRoots
-snapshot_is_of_roots f kept all a = (
-  (λ w. reached_within (Starts f kept) (Leads f.heap) (IsInSnapshot f [])
-      (λ x s. elim (in_append_cases f.roots kept x (in_from_contains (f.roots ++ kept) x s.1)) [
-        | inl r ↦ reached_start (Starts f []) (Leads f.heap) x (s.0, contains_from_in (f.roots ++ []) x (in_append_left f.roots [] x r))
-        | inr k ↦ all x (contains_from_in kept x k)
-      ])
-      (λ b x r g. reached_more (Starts f []) (Leads f.heap) b x r g)
+snapshot_is_of_roots h first roots kept all found a = (
+  (λ w. reached_within (Starts (at h roots) kept) (Leads h) (IsInSnapshot (at h first) []) all
+      (λ b x r g. reached_more (Starts (at h first) []) (Leads h) b x r g)
       a w),
-  (λ w. in_snapshot_more f [] kept a w),
+  (λ w. reached_within (Starts (at h first) []) (Leads h) (IsInSnapshot (at h roots) kept)
+      (λ x s. reached_start (Starts (at h roots) kept) (Leads h) x (s.0, in_both roots kept x (found x s)))
+      (λ b x r g. reached_more (Starts (at h roots) kept) (Leads h) b x r g)
+      a w),
 )
 
 pub marking_goes_on : MarkingGoesOn

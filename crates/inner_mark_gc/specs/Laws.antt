@@ -5,16 +5,20 @@ use Rattle.object_layout.specs.Cell.{no_cell}
 use Rattle.object_layout.specs.Content.{Content}
 use Rattle.object_layout.specs.Chunks.{object_of}
 use Rattle.alloc_path.specs.Heap.{AreApart, Heap}
-use Rattle.inner_mark_gc.specs.Snapshot.{Fork, IsHeld, IsInSnapshot, object_count}
+use Rattle.inner_mark_gc.specs.Snapshot.{Fork, IsHeld, IsInSnapshot, Starts, object_count}
 use Rattle.inner_mark_gc.specs.Marks.{has_address, marked_of, IsAllMarked, IsDone, IsMarking, IsOf, Marks}
 use Rattle.inner_mark_gc.specs.Swept.{has_number, has_object, left_of, number_at, swept}
 
--- where what was kept is of the snapshot, the snapshot is what the roots alone lead to
+-- the snapshot that a marking is for, from the roots as they are when it begins and what was kept, is what the roots at the
+-- fork lead to: where each start is of that, and each root at the fork is still a root or was kept
 abbrev pub SnapshotIsOfRoots : Type 0
 SnapshotIsOfRoots =
-    (f : Fork) (kept : List Addr)
-    → ((a : Addr) → Contains kept a → IsInSnapshot f [] a)
-    → (a : Addr) → IsInSnapshot f kept a ↔ IsInSnapshot f [] a
+    (h : List Content) (first roots kept : List Addr)
+    → let f : Fork = record { heap = h; roots = roots } in
+    let g : Fork = record { heap = h; roots = first } in
+    ((a : Addr) → Starts f kept a → IsInSnapshot g [] a)
+    → ((a : Addr) → Starts g [] a → Contains roots a ⊎ Contains kept a)
+    → (a : Addr) → IsInSnapshot f kept a ↔ IsInSnapshot g [] a
 
 -- a marking stays one of the snapshot while more is kept
 abbrev pub MarkingGoesOn : Type 0

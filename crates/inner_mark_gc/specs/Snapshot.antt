@@ -1,9 +1,10 @@
 -- The snapshot of a waiting task's heap: what is reached through the heap as it was at the fork.
-use Rattle.std.specs.Prelude.{ℕ, ◌+◌, ◌<◌, ◌↔◌, ◌⊎◌, List, [], ◌∷◌, ◌++◌, Option, Some, None, All, Contains, length}
+use Rattle.std.specs.Prelude.{◌<◌, ◌↔◌, ◌⊎◌, List, ◌++◌, Option, Some, None, All, Contains, length}
 use Rattle.object_layout.specs.declared.word.Addr.{Addr}
-use Rattle.object_layout.specs.Cell.{Born, Cell, Hole, IsObject, Mark, Moved}
+use Rattle.object_layout.specs.Cell.{IsObject}
 use Rattle.object_layout.specs.Content.{Content}
 use Rattle.object_layout.specs.Chunks.{cell_of, object_of, place_of}
+pub use Rattle.object_layout.specs.Chunks.{object_count}
 use Rattle.walks.specs.Reached.{IsReached}
 
 -- an object lies at this address of the heap
@@ -39,20 +40,6 @@ Starts f kept a = IsHeld f.heap a × Contains (f.roots ++ kept) a
 -- the snapshot: what walks lead to through the heap as it was at the fork
 abbrev pub IsInSnapshot : Fork → List Addr → Addr → Type 0
 IsInSnapshot f kept a = IsReached (Starts f kept) (Leads f.heap) a
-
--- how many objects lie in the heap, holes left out
-abbrev pub objects_by : Mark → ℕ
-objects_by (Born b) = 1
-objects_by (Moved to) = 1
-objects_by Hole = 0
-
-abbrev pub objects_in : List Cell → ℕ
-objects_in [] = 0
-objects_in (c ∷ cs) = objects_by c.mark + objects_in cs
-
-abbrev pub object_count : List Content → ℕ
-object_count [] = 0
-object_count (k ∷ ks) = objects_in k.cells + object_count ks
 
 -- h is the heap since the fork: it has the same objects, of which only fields were written; what was
 -- written leads to objects of the snapshot, and what was overwritten was kept

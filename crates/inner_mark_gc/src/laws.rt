@@ -2,7 +2,7 @@
 
 ghost use Rattle.inner_mark_gc.specs.Laws.{AllMarkedIsDone, EachLeftHolds, MarkingGoesOn, MarkingStaysOf, SnapshotIsOfRoots, SweptAreRead, SweptIsSnapshot};
 
-/// Where what was kept is of the snapshot, the snapshot is what the roots alone lead to.
+/// What a marking starts from leads to just what the roots at the fork lead to, where each start is of that.
 pub fn snapshot_is_of_roots()
     ensures { SnapshotIsOfRoots }
 {}

@@ -2,11 +2,12 @@
 
 ghost use Rattle.std.specs.Prelude.{◌≡◌, ℕ, ◌+◌, ◌-◌, ◌<◌, ◌≤◌, ◌↔◌, [], List, All, Contains, IfOk, IsTrue, Some, length, drop, slice_index_or, take, true, vec_capacity};
 ghost use Rattle.object_layout.specs.declared.word.Addr.{Addr};
-ghost use Rattle.inner_mark_gc.specs.Snapshot.{IsClosed, IsHeld, IsSince, IsSound, Leads, object_count, objects_in, Fork};
+ghost use Rattle.object_layout.specs.Chunks.{object_count};
+ghost use Rattle.inner_mark_gc.specs.Snapshot.{IsClosed, IsHeld, IsSince, IsSound, Leads, Fork};
 ghost use Rattle.inner_mark_gc.specs.Marks.{has_address, marked_of, noted, Finds, HasRoom, IsAllMarked, IsDone, IsMarking, IsOf};
 
 use alloc_path::LeafHeap;
-use object_layout::{Addr, Chunk, is_object_at, next_at};
+use object_layout::{Addr, Chunk};
 use std::alloc::{AllocError, Global};
 use std::collections::HashSet;
 use std::marker::Model;
@@ -52,7 +53,7 @@ impl Marking {
             followed: 0,
             left: Vec::new(alloc),
         };
-        let places = places_for(heap.chunks())?;
+        let places = places_for(heap)?;
         marking.found.reserve(places)?;
         marking.known.reserve(places)?;
         marking.left.reserve(heap.chunks().len())?;
@@ -208,34 +209,14 @@ impl Marking {
     }
 }
 
-// One place more than objects lie in these chunks; more than can be counted are more than can be
+// One place more than objects lie in the heap; more than can be counted are more than can be
 // reserved.
-fn places_for(chunks: &[Chunk]) -> Result<usize, AllocError>
-    ensures { IfOk result (λ n. n ≡ object_count chunks.now + 1) }
+fn places_for(heap: &LeafHeap) -> Result<usize, AllocError>
+    ensures { IfOk result (λ n. n ≡ object_count heap.now.chunks + 1) }
 {
-    let mut count = 1usize;
-    for chunk in chunks {
-        let more = count_in_chunk(chunk) as usize;
-        if more > usize::MAX - count {
-            return Err(AllocError);
-        }
-        count += more;
+    let objects = heap.objects();
+    if objects == u64::MAX {
+        return Err(AllocError);
     }
-    Ok(count)
-}
-
-// How many objects lie in a chunk.
-fn count_in_chunk(chunk: &Chunk) -> u32
-    ensures { result ≡ objects_in chunk.now.cells }
-{
-    let used = chunk.used();
-    let mut at = 0;
-    let mut count = 0;
-    while at < used {
-        if is_object_at(chunk, at) {
-            count += 1;
-        }
-        at = next_at(chunk, at);
-    }
-    count
+    Ok(objects as usize + 1)
 }

@@ -3,7 +3,6 @@ use Rattle.std.proofs.Common.{◌≡◌, ℕ, zero, suc, ◌+◌, ◌<◌, List,
 use Rattle.object_layout.specs.Content.{Content}
 use Rattle.alloc_path.specs.Heap.{units}
 use Rattle.leaf_copy_gc.specs.Exchanged.{counted32, unit_count}
-use Rattle.leaf_copy_gc.specs.Survivors.{born_in, live_count}
 
 pub unit_more : (ks : List Content) (i : ℕ) (k : Content) → i < length ks → k ≡ get_or ks i k → unit_count (take (i + 1) ks) ≡ unit_count (take i ks) + units k.size
 unit_more [] i k l e = absurd (omega arith)
@@ -15,11 +14,3 @@ unit_more (x ∷ xs) (suc i) k l e =
 
 pub counted_more : (a b : ℕ) → counted32 (counted32 a + b) ≡ counted32 (a + b)
 counted_more a b = omega arith
-
-pub live_more : (ks : List Content) (i : ℕ) (k : Content) → i < length ks → k ≡ get_or ks i k → live_count (take (i + 1) ks) ≡ live_count (take i ks) + born_in k.cells
-live_more [] i k l e = absurd (omega arith)
-live_more (x ∷ xs) zero k l e = let s = ap (λ (c : Content). born_in c.cells) e in omega arith
-live_more (x ∷ xs) (suc i) k l e =
-    let n : suc i + 1 ≡ suc (i + 1) = omega arith in
-    let ih = live_more xs i k (omega arith) e in
-    rw n (omega arith)

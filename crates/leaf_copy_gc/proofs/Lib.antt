@@ -21,3 +21,5 @@ mod Tidied
 mod Collecting
 mod Reading
 mod Needs
+pub mod Telling
+pub mod Giving

@@ -37,6 +37,13 @@ addr_other a b n =
       | inr f ↦ f
     ]
 
+pub address_from : (a b : Addr) → same_address a b ≡ true → a ≡ b
+address_from a b t =
+    let both = and_parts (eqb a.chunk b.chunk) (eqb a.offset b.offset) t in
+    let c : a.chunk ≡ b.chunk = eqb-true a.chunk b.chunk both.0 in
+    let o : a.offset ≡ b.offset = eqb-true a.offset b.offset both.1 in
+    λ i. record { chunk = c i; offset = o i }
+
 pub new_none : (y : Laying) (h : List Content) (xs : List Addr) (a : Addr) → (In xs a → ⊥) → new_of (relocations y h xs) a ≡ None
 new_none y h [] a n = refl
 new_none y h (x ∷ xs) a n = rw (addr_other x a (λ e. n (inl e))) (new_none (laid_one y (cell_of h x)) h xs a (λ i. n (inr i)))

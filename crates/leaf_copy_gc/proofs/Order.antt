@@ -83,11 +83,11 @@ in_order (x ∷ xs) r i zero d l m = absurd (omega arith)
 in_order (x ∷ xs) r zero (suc j) d l m = above x xs r j d (omega arith)
 in_order (x ∷ xs) r (suc i) (suc j) d l m = in_order xs (rising_tail x xs r) i j d (omega arith) (omega arith)
 
-firsts : (y : Laying) (h : List Content) (xs : List Addr) → map first_in (relocations y h xs) ≡ xs
+pub firsts : (y : Laying) (h : List Content) (xs : List Addr) → map first_in (relocations y h xs) ≡ xs
 firsts y h [] = refl
 firsts y h (a ∷ xs) = ap (λ (zs : List Addr). a ∷ zs) (firsts (laid_one y (cell_of h a)) h xs)
 
-in_first : (ms : List (Addr × Addr)) (m : Addr × Addr) → In ms m → In (map first_in ms) m.0
+pub in_first : (ms : List (Addr × Addr)) (m : Addr × Addr) → In ms m → In (map first_in ms) m.0
 in_first [] m i = i
 in_first (x ∷ xs) m (inl e) = inl (ap first_in e)
 in_first (x ∷ xs) m (inr i) = inr (in_first xs m i)

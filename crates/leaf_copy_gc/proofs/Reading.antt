@@ -141,10 +141,10 @@ module _ (h : Heap) (from : List (Option Addr)) (ss : List Survivor) (news : Lis
       let u = in_unmap ss a i in
       subst (IsLive h.chunks) u.1.1 (subst IsBorn (sym (read_in (λ (x : Survivor). (cell_of h.chunks x.old).mark ≡ Born x.birth) ss u.0 u.1.0 s.names)) tt)
 
-  small : (a : Addr) → In (smalls h.chunks (olds ss)) a → IsLive h.chunks a × (is_small h.chunks a ≡ true)
+  pub small : (a : Addr) → In (smalls h.chunks (olds ss)) a → IsLive h.chunks a × (is_small h.chunks a ≡ true)
   small a i = let p = moves.in_smalls h.chunks (olds ss) a i in (lives a p.0, p.1)
 
-  room : HaveRoom (before (reverse news)) h.chunks (smalls h.chunks (olds ss))
+  pub room : HaveRoom (before (reverse news)) h.chunks (smalls h.chunks (olds ss))
   room =
       let n = (small_words h.chunks + 1023) / 1024 in
       let most = rooms.sizes_most h.chunks (smalls h.chunks (olds ss)) (moves.once_smalls h.chunks (olds ss) s.once) small in

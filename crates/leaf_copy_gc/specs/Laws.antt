@@ -1,14 +1,16 @@
 -- What is read in a heap once it was collected.
-use Rattle.std.specs.Prelude.{◌≡◌, false, ◌+◌, ◌*◌, ◌/◌, ◌≤◌, List, Option, All, Contains, length, reverse}
+use Rattle.std.specs.Prelude.{◌≡◌, ℕ, false, ◌+◌, ◌++◌, ◌*◌, ◌/◌, ◌≤◌, List, None, Option, All, Contains, length, map, reverse}
+use Rattle.std.specs.List.Sorted.{IsPermutation}
 use Rattle.object_layout.specs.declared.word.Addr.{Addr}
 use Rattle.object_layout.specs.Content.{Content}
-use Rattle.object_layout.specs.Chunks.{cell_of, object_count, small_part, sum_of}
+use Rattle.object_layout.specs.Chunks.{cell_of, has_chunk, object_count, small_part, sum_of}
 use Rattle.alloc_path.specs.Heap.{AreApart, Heap, IsFresh, IsReserved, IsSettled}
 use Rattle.leaf_copy_gc.specs.declared.lists.Survivor.{Survivor}
 use Rattle.leaf_copy_gc.specs.Survivors.{live_count, olds}
 use Rattle.leaf_copy_gc.specs.Laid.{AreNew, is_small, small_words}
-use Rattle.leaf_copy_gc.specs.Redirected.{led}
-use Rattle.leaf_copy_gc.specs.Collected.{AreSurvivors, collected, moves_of, redirection}
+use Rattle.remembered_set.specs.Moved.{new_of, ArePlaces}
+use Rattle.leaf_copy_gc.specs.Redirected.{led, redirected}
+use Rattle.leaf_copy_gc.specs.Collected.{AreSurvivors, back_of, collected, moves_of, redirection}
 
 -- so many chunks are new, numbered apart, and enough for the heap
 pub record CanTake (h : List Content) (news : List Content) : Type 0 where
@@ -38,3 +40,27 @@ abbrev pub NeedsAreCounted : Type 0
 NeedsAreCounted =
     (ks : List Content) → IsSettled ks
     → (small_words ks ≡ sum_of small_part ks) × (live_count ks ≡ object_count ks)
+
+-- what a relocation list, in any order, tells: new addresses are places, it leads as the moves do, and an address outside the
+-- heap's chunks stays
+pub record TellsMoves (h : Heap) (ss : List Survivor) (news : List Content) (moved : List (Addr × Addr)) : Type 0 where
+  pub places : ArePlaces moved
+  pub same : (a : Addr) → new_of moved a ≡ new_of (moves_of h.chunks ss (reverse news)) a
+  pub leads : (r : Option Addr) → redirected moved r ≡ redirection h.chunks ss (reverse news) r
+  pub outside : (a : Addr) → has_chunk h.chunks a.chunk ≡ false → new_of moved a ≡ None
+
+abbrev pub MovesAreTold : Type 0
+MovesAreTold =
+    (h : Heap) (from : List (Option Addr)) (ss : List Survivor) (news : List Content) (moved : List (Addr × Addr))
+    → AreSurvivors h.chunks from ss → CanTake h.chunks news → IsPermutation (moves_of h.chunks ss (reverse news)) moved
+    → TellsMoves h ss news moved
+
+-- the numbers of chunks, each with the words that the chunk has in all
+abbrev pub labels : List Content → List (ℕ × ℕ)
+labels ks = map (λ k. (k.number, k.size)) ks
+
+-- the chunks after a collection and those to give back are together those before it and the new ones
+abbrev pub ChunksAreKept : Type 0
+ChunksAreKept =
+    (h : Heap) (ss : List Survivor) (news : List Content) → IsReserved h.chunks h.reserved
+    → IsPermutation (labels (h.chunks ++ news)) (labels ((collected h ss (reverse news)).chunks ++ back_of h ss (reverse news)))

@@ -12,5 +12,7 @@ mod redirect;
 mod reserving;
 
 pub use collection::copy;
-pub use laws::{large_are_read, moved_are_read, needs_are_counted};
+pub use laws::{
+    chunks_are_kept, large_are_read, moved_are_read, moves_are_told, needs_are_counted,
+};
 pub use lists::{Moved, Survivor, ToChunks};

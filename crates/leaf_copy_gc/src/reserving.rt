@@ -2,12 +2,11 @@
 
 ghost use Rattle.std.specs.Prelude.{◌≡◌, ◌+◌, ◌≤◌, [], length, vec_capacity, IfOk};
 ghost use Rattle.alloc_path.specs.Heap.{with_places};
-ghost use Rattle.leaf_copy_gc.specs.Survivors.{born_in, live_count};
+ghost use Rattle.leaf_copy_gc.specs.Survivors.{live_count};
 ghost use Rattle.leaf_copy_gc.specs.Lists.{AreReserved};
 
 use crate::lists::{Moved, ToChunks};
 use alloc_path::LeafHeap;
-use object_layout::{Chunk, is_born_at, next_at};
 use std::alloc::{AllocError, Global};
 
 impl ToChunks {
@@ -19,7 +18,7 @@ impl ToChunks {
         ensures room { IfOk result (λ to. chunks ≤ vec_capacity to.chunks) }
         ensures reserved { IfOk result (λ to. AreReserved heap.new chunks to) }
     {
-        let objects = count_objects(heap.chunks())?;
+        let objects = count_objects(heap)?;
         let places = chunks as usize + heap.chunks().len();
         heap.make_room(chunks)?;
         Ok(ToChunks {
@@ -47,33 +46,15 @@ fn list_of<T: Drop>(alloc: Global, count: usize) -> Result<Vec<T>, AllocError>
     Ok(list)
 }
 
-// How many objects of these chunks bear their birth names; more than can be counted are more than can be reserved for.
-fn count_objects(chunks: &[Chunk]) -> Result<usize, AllocError>
-    ensures { IfOk result (λ n. n ≡ live_count chunks.now) }
+// How many objects the heap has; more than can be counted are more than can be reserved for.
+#[tactic(auto, using(crate::proofs::Needs::live_is_counted))]
+fn count_objects(heap: &LeafHeap) -> Result<usize, AllocError>
+    ensures { IfOk result (λ n. n ≡ live_count heap.now.chunks) }
 {
-    let mut count = 0usize;
-    for chunk in chunks {
-        let more = count_in_chunk(chunk) as usize;
-        if more > usize::MAX - count {
-            return Err(AllocError);
-        }
-        count += more;
+    let _settled = heap.chunks();
+    let objects = heap.objects();
+    if objects == u64::MAX {
+        return Err(AllocError);
     }
-    Ok(count)
-}
-
-// How many objects of a chunk bear their birth names.
-fn count_in_chunk(chunk: &Chunk) -> u32
-    ensures { result ≡ born_in chunk.now.cells }
-{
-    let used = chunk.used();
-    let mut at = 0;
-    let mut count = 0;
-    while at < used {
-        if is_born_at(chunk, at) {
-            count += 1;
-        }
-        at = next_at(chunk, at);
-    }
-    count
+    Ok(objects as usize)
 }

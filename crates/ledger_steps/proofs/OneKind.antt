@@ -1,6 +1,5 @@
 -- A last step is of one kind alone: the task that it leaves, the end, and the instruction tell which.
-use Rattle.std.proofs.Common.{◌≡◌, ◌⊎◌, ℕ, ℤ, ◌+◌, Bool, true, false, cond, Option, Some, None, slice_get, slice_set, length, inl, inr, refl, ap, ap₂, sym, subst, ◌∙◌}
-use Rattle.std.proofs.lemmas.Bool.{both_ways}
+use Rattle.std.proofs.Common.{◌≡◌, ℕ, ℤ, Bool, true, false, cond, Option, Some, None, slice_get, slice_set, length, inl, inr, refl, ap, ap₂, sym, ◌∙◌}
 use Rattle.listed.proofs.Members.{got_same}
 use Rattle.hh_lang.specs.declared.instr.Instr.{Instr}
 use Rattle.hh_lang.specs.declared.instr.Instr.TheVariants.{Set, Mov, Movr, Nil as NilOf, Calc, Same, Jmp, Jz, Newm, Pack, Getr, Geti, Putr, Puti, Cntr, Cnti, Freeze, Cas, Call, Par, Ret, Out}
@@ -19,8 +18,7 @@ use Rattle.hh_model.specs.Step.{is_joined, is_over}
 use Rattle.run_ledger.specs.declared.data.Ledger.{Ledger}
 use Rattle.run_ledger.specs.Heaps.{let_go}
 use Rattle.run_ledger.specs.Steps.{is_private, touched}
-use Rattle.ledger_steps.specs.Accounts.{rested}
-use Rattle.ledger_steps.specs.Last.{LastKind, Private, Reading, Writing, Printing, Forking, Ending, Joining, Finishing, Halting, IsOfKind, IsApart, IsAt, JustReads, Wrote, ReadsOther, WritesOther}
+use Rattle.ledger_steps.specs.Last.{LastKind, Private, Reading, Writing, Printing, Forking, Ending, Joining, Finishing, Halting, IsOfKind, IsApart, IsAt, JustReads, Wrote}
 use Rattle.ledger_steps.specs.Laws.{KindsExclude}
 use Rattle.ledger_steps.proofs.Ahead.{with_machine}
 

@@ -1,13 +1,12 @@
 -- A chunk is reserved for none but a task whose next step asks for words.
-use Rattle.std.proofs.Common.{◌≡◌, ℕ, zero, suc, ◌<◌, ◌≤◌, ◌||◌, Bool, true, false, cond, arith, Option, Some, None, slice_get, ◌⊎◌, inl, inr, refl, ap, ap₂, sym, ◌∙◌}
+use Rattle.std.proofs.Common.{◌≡◌, ℕ, zero, suc, ◌<◌, ◌≤◌, ◌||◌, cond, arith, Option, Some, None, slice_get, ◌⊎◌, inl, inr, refl, ap₂, sym, ◌∙◌}
 use Rattle.std.proofs.lemmas.Bool.{cases_lt}
 use Rattle.hh_lang.specs.Form.{ProgramText}
 use Rattle.run_trace.specs.Settings.{Limits}
-use Rattle.hh_model.specs.Step.{asked}
 use Rattle.run_ledger.specs.declared.data.Heap.{Heap}
 use Rattle.run_ledger.specs.declared.data.Ledger.{Ledger}
-use Rattle.run_ledger.specs.Heaps.{heap_of, or_fresh}
-use Rattle.run_ledger.specs.Steps.{is_due, is_in_need, is_private, standing, task_step}
+use Rattle.run_ledger.specs.Heaps.{or_fresh}
+use Rattle.run_ledger.specs.Steps.{standing, task_step}
 use Rattle.run_ledger.proofs.Booked.{BookedLedger}
 use Rattle.run_ledger.proofs.Space.{legal_booked}
 use Rattle.ledger_steps.specs.Accounts.{ArePrivate}

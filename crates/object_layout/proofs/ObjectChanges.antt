@@ -1,13 +1,13 @@
 -- What changes of cells make of the objects that are read from them: one appended, a field written, a sweep, references led.
 use Rattle.std.proofs.Common.{◌≡◌, ℕ, zero, suc, ◌+◌, ◌-◌, ◌<◌, ◌≤◌, ◌==◌, ◌&&◌, arith, Bool, true, false, cond, Option, List, [], ◌∷◌, ◌++◌, length, map, filter, nat_le, inl, inr, refl, ap, ap₂, sym, ◌∙◌, eq-eqb, ne_eqb}
-use Rattle.std.proofs.lemmas.Bool.{cases_Bool, cond-true, cond-false, eqb-true, leb-true, leb-false, false≢true}
+use Rattle.std.proofs.lemmas.Bool.{cond-true, cond-false, eqb-true, leb-true, leb-false, false≢true}
 use Rattle.std.proofs.lemmas.List.{length-map}
 use Rattle.listed.proofs.Members.{In}
 use Rattle.object_layout.specs.declared.word.Addr.{Addr}
 use Rattle.object_layout.specs.declared.word.Birth.{Birth}
-use Rattle.object_layout.specs.Cell.{Born, Cell, Hole, Mark, Moved, no_cell, size_of, with_mark}
+use Rattle.object_layout.specs.Cell.{Born, Cell, Hole, Mark, Moved, no_cell, size_of}
 use Rattle.object_layout.specs.Content.{Content}
-use Rattle.object_layout.specs.Chunks.{cell_of, put_object, same_address, with_cell, AreApart}
+use Rattle.object_layout.specs.Chunks.{cell_of, put_object, with_cell}
 use Rattle.object_layout.specs.Place.{cell_at, put_cell, words_in}
 use Rattle.object_layout.specs.Objects.{Located, changed_at, led, led_object, located, located_by, objects_from, objects_of, sifted_cells, swept_cell, with_fields}
 use Rattle.object_layout.specs.ObjectLaws.{AppendedIsLast, LedAreRead, PutChangesOne, SiftedAreKept}

@@ -1,6 +1,5 @@
 -- The objects that are read from cells, and the cells.
-use Rattle.std.proofs.Common.{◌≡◌, ℕ, zero, suc, ◌+◌, ◌-◌, ◌<◌, ◌≤◌, ◌==◌, arith, Bool, true, false, cond, Some, None, List, [], ◌∷◌, length, nat_le, Contains, ◌⊎◌, inl, inr, refl, ap, sym, subst, ◌∙◌, eq-eqb, ne_eqb, le-leb}
-use Rattle.std.specs.Prelude.{◌↔◌}
+use Rattle.std.proofs.Common.{◌≡◌, ℕ, zero, suc, ◌+◌, ◌-◌, ◌≤◌, ◌==◌, arith, Bool, true, false, cond, List, [], ◌∷◌, nat_le, inl, inr, refl, ap, sym, subst, ◌∙◌, eq-eqb, ne_eqb, le-leb}
 use Rattle.std.proofs.lemmas.Bool.{cond-true, cond-false, eqb-true, leb-true, false≢true}
 use Rattle.listed.proofs.Members.{In, any_from_in, contains_from_in, flat_in, got_in, in_flat, in_from_contains}
 use Rattle.object_layout.specs.declared.word.Addr.{Addr}

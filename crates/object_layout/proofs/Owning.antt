@@ -72,7 +72,7 @@ pub apart_together : ApartTogether
 apart_together [] ls A B off = B
 apart_together (k ∷ ks) ls A B off = (
   (fresh_none (ks ++ ls) k.number).1
-  (has_append ks ls k.number ∙ or_false (has_chunk ks k.number) (has_chunk ls k.number) ((fresh_none ks k.number).0 A.0) (off k.number (any_first k ks))),
+      (has_append ks ls k.number ∙ or_false (has_chunk ks k.number) (has_chunk ls k.number) ((fresh_none ks k.number).0 A.0) (off k.number (any_first k ks))),
   apart_together ks ls A.1 B (λ n e. off n (any_rest k ks n e)),
 )
 

@@ -12,9 +12,9 @@ pub use chunk::{
     write_new,
 };
 pub use laws::{
-    apart_together, appended_is_last, chunks_are_found, fresh_has_none, led_are_read, objects_have_chunks,
-    objects_lie_there, push_leaves_others, put_changes_one, put_moves_no_chunk, put_where_pushed,
-    same_address, second_put_stays, sifted_are_kept,
+    apart_together, appended_is_last, chunks_are_found, fresh_has_none, led_are_read,
+    objects_have_chunks, objects_lie_there, push_leaves_others, put_changes_one,
+    put_moves_no_chunk, put_where_pushed, same_address, second_put_stays, sifted_are_kept,
 };
 pub use word::{Addr, Birth, Header};
 pub use words::Words;

@@ -2,3 +2,4 @@ pub mod MovedLemmas
 pub mod SourceLemmas
 pub mod Noting
 pub mod LiftLemmas
+pub mod RewriteLemmas

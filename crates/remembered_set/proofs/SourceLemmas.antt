@@ -6,7 +6,7 @@ use Rattle.object_layout.specs.declared.word.Addr.{Addr}
 use Rattle.remembered_set.specs.declared.remembered.Source.{Source}
 use Rattle.remembered_set.specs.Moved.{into_by, redirected, written, AreFields}
 
-addr_cases : (a b : Addr) → (b ≡ a) ⊎ (b ≢ a)
+pub addr_cases : (a b : Addr) → (b ≡ a) ⊎ (b ≢ a)
 addr_cases a b =
     ⊎_elim
     (λ (e : b.chunk ≡ a.chunk).

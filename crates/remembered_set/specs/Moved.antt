@@ -1,5 +1,5 @@
 -- What the remembered fields hold, and what becomes of them where objects were moved.
-use Rattle.std.specs.Prelude.{ℕ, ◌+◌, ◌*◌, ◌^◌, ◌<◌, Bool, List, [], ◌∷◌, ◌++◌, ◌==◌, ◌&&◌, if◌then◌else◌, Option, Some, None, length, slice_index_or}
+use Rattle.std.specs.Prelude.{ℕ, ◌+◌, ◌*◌, ◌^◌, ◌<◌, Bool, List, [], ◌∷◌, ◌++◌, ◌==◌, ◌&&◌, if◌then◌else◌, Option, Some, None, length, slice_index_or, unwrap_or}
 use Rattle.std.specs.List.{AllByRecursion}
 use Rattle.object_layout.specs.declared.word.Addr.{Addr}
 use Rattle.object_layout.specs.Content.{Content}
@@ -61,3 +61,8 @@ module _ {S : Type 0} (refs_at : S → Addr → List (Option Addr)) where
     -- a source that holds an old address led to the new one; any other stays
     abbrev pub redirected : List (Addr × Addr) → S → Source → S
     redirected ms w s = written w s (new_reference ms (held_by w s))
+
+-- a reference led to where its object is now, if that was moved
+abbrev pub led_by : List (Addr × Addr) → Option Addr → Option Addr
+led_by ms None = None
+led_by ms (Some a) = Some (unwrap_or (new_of ms a) a)

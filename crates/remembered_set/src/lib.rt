@@ -5,5 +5,5 @@ mod laws;
 mod moved;
 mod remembered;
 
-pub use laws::{known_are_there, lifted_are_there, noted_are_there};
+pub use laws::{known_are_there, lifted_are_there, noted_are_there, rewrite_is_read};
 pub use remembered::{Remembered, Source};

@@ -1,0 +1,5 @@
+use Rattle.core_relation.proofs.Journals as proved
+use Rattle.core_relation.proofs.laws.first_stands_for.Goals as goal
+
+pub returns : goal.returns
+returns c = proved.first_stands_for

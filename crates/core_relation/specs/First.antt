@@ -1,0 +1,26 @@
+-- The value before any entry: the root is ready, with one frame, and nothing else is there.
+use Rattle.std.specs.Prelude.{ℕ, zero, suc, pos, false, Option, Some, None, [], ◌∷◌, replicate}
+use Rattle.hh_lang.specs.Form.{ProgramText}
+use Rattle.core_relation.specs.Value.{Home, Value}
+use Rattle.core_relation.specs.Whole.{Node, Totals, Ready}
+
+abbrev pub no_home : Home
+no_home = record { chunks = []; room = 0; since = 0; count = 0; frames = []; result = (pos 0, None); begun = None }
+
+abbrev pub first_home : ProgramText → ℕ → Home
+first_home p zero = record no_home { frames = record { function = p.main; next = 0; ints = replicate 16 (pos 0); refs = replicate 16 None } ∷ [] }
+first_home p (suc t) = no_home
+
+abbrev pub first : ProgramText → Value
+first p = record {
+  homes = first_home p;
+  noted = λ u. record { sources = []; kept = []; keeps = false; marked = None };
+  owner = λ k. None;
+}
+
+abbrev pub first_node : ℕ → Option Node
+first_node zero = Some (record { parent = None; state = Ready })
+first_node (suc t) = None
+
+abbrev pub first_totals : Totals
+first_totals = record { node = first_node; hand = λ w. None; used = 0; steps = 0; outputs = []; end = None }

@@ -1,0 +1,104 @@
+-- The run ends, since the next step can't be done.
+use Rattle.std.proofs.Common.{◌≡◌, ℕ, suc, ◌+◌, Some, None, slice_get, refl, ap, sym, ◌∙◌}
+use Rattle.std.proofs.lemmas.Option.{same_Some}
+use Rattle.listed.specs.Space.{Space}
+use Rattle.run_trace.specs.Entry.{Event}
+use Rattle.hh_model.specs.declared.data.End.{End}
+use Rattle.hh_model.specs.declared.data.End.TheVariants.{Trapped}
+use Rattle.hh_model.specs.declared.data.State.{State}
+use Rattle.hh_model.specs.declared.data.Trap.{Trap}
+use Rattle.hh_model.specs.Step.{ended_by}
+use Rattle.run_ledger.specs.declared.data.Ledger.{Ledger}
+use Rattle.run_ledger.specs.declared.data.RunEnd.TheVariants.{Machine}
+use Rattle.run_ledger.specs.Heaps.{or_fresh}
+use Rattle.run_ledger.specs.Steps.{task_steps}
+use Rattle.task_machine.specs.declared.part.Private.{Private}
+use Rattle.ledger_steps.specs.Last.{Halting, Halts, Runs, Splits}
+use Rattle.core_relation.specs.Value.{Home, Value}
+use Rattle.core_relation.specs.Fits.{part_for}
+use Rattle.core_relation.specs.RanCounts.{RanCounts}
+use Rattle.core_relation.specs.Worker.{Fits as FitsValue}
+use Rattle.core_relation.proofs.RanWhole.{ran_stands_for}
+use Rattle.core_relation.proofs.Workers.{ran_leaves}
+use Rattle.shared_tree.specs.declared.next.Ending.TheVariants.{Traps}
+use Rattle.shared_tree.specs.World.{World, accounts, totals_of, value_of}
+use Rattle.shared_tree.specs.Stands.{IsWorld, NoneBegun}
+use Rattle.shared_tree.specs.Fits.{Fits, OthersFit, home_of_part, part_of}
+use Rattle.shared_tree.specs.Alone.{IsShared, Tells}
+use Rattle.shared_tree.specs.Entered.{refused}
+use Rattle.shared_tree.proofs.Entering.{entered, entered_world, held_apart, part_fits}
+use Rattle.shared_tree.proofs.LastKinds.{halts}
+use Rattle.shared_tree.proofs.LastEntry as last
+use Rattle.shared_tree.proofs.LastEntry.{last_event}
+use Rattle.shared_tree.proofs.Now.{end_now}
+
+module _ (w : World) (k : ℕ) (p : Private) (I : IsWorld w) (F : Fits w k p) (shared : IsShared w p) (free : refused w (last_event k p) ≡ None) (kind : Trap) (number : ℕ) (T : Tells w p (Traps kind) number) where
+  abbrev t : ℕ
+  t = p.task
+
+  abbrev l : Ledger
+  l = accounts w
+
+  abbrev M : Ledger
+  M = task_steps w.program l t p.fresh
+
+  abbrev L : Ledger
+  L = last.L w k p I F shared free
+
+  abbrev v : Value
+  v = value_of w
+
+  abbrev h : Home
+  h = home_of_part p
+
+  abbrev S : Splits w.program w.settings l L t p.fresh
+  S = last.S w k p I F shared free
+
+  abbrev x : End
+  x = Trapped kind t number
+
+  machine_is : L.machine ≡ ended_by M.machine x
+  machine_is =
+      let s = last.said w k p I F shared free (Traps kind) number T in
+      last.machine_then w k p I F shared free ∙ (s.1 ∙ ap (λ n. ended_by M.machine (Trapped kind t n)) s.0)
+
+  H : Halts M L
+  H = halts w.program M L t S.task S.line (last.is_not_private w k p I F shared free) kind number machine_is S.kind S.last S.on
+
+  -- how the entry splits
+  abbrev E : Runs w.program w.settings l L t k p.fresh
+  E = record (last.runs_so w k p I F shared free) { splits = record S { kind = Halting; last = H; apart = last.is_not_private w k p I F shared free; on = λ b. absurd b } }
+
+  abbrev own : FitsValue w.program w.settings (part_for w.settings t h p.fresh) v l
+  own = F.fits
+
+  end_same : x ≡ H.end
+  end_same = sym (same_Some H.end x (ap (λ (m : State). m.end) (sym H.machine ∙ machine_is)))
+
+  calm_then : NoneBegun L
+  calm_then u = ap (λ hs. (or_fresh (slice_get hs u)).begun) H.heaps ∙ last.calm_mid w k p I F shared free u
+
+  module _ (j : Space Event) where
+    abbrev steps : ℕ
+    steps = w.steps + suc p.fresh
+
+    abbrev w' : World
+    w' = entered w (last_event k p) w.tree w.pool w.homes w.sets w.hands w.outputs steps (Some (Machine x)) j.room
+
+    counts : RanCounts w.program (totals_of w) (totals_of w') M L t k p.fresh S.task S.line Halting H
+    counts = record { tree = λ u. refl; hand = λ u. refl; outputs = refl; end = ap (λ y. Some (Machine y)) end_same; used = refl; steps = refl }
+
+    pub trap_world : IsWorld w'
+    trap_world =
+        entered_world w (last_event k p) I free w.tree w.pool w.homes w.sets w.hands w.outputs steps (Some (Machine x)) j.room I.made refl refl calm_then
+        (ran_stands_for w.program w.settings w.journal.items I.form I.legal v v (totals_of w) (totals_of w') k t p.fresh h free E I.stands own refl tt counts)
+        I.heaps
+
+    pub trap_ends : (accounts w').end ≡ Some (Machine x)
+    trap_ends = sym (end_now w' trap_world)
+
+    -- THE PARTS OF OTHERS
+    pub trap_others : OthersFit w w' k
+    trap_others u r ne G =
+        part_fits w (last_event k p) I free w.tree w.pool w.homes w.sets w.hands w.outputs steps (Some (Machine x)) j.room trap_world u r r refl G refl refl refl refl G.form
+        (ran_leaves w.program w.settings v v l L t k p.fresh h E own refl (part_of w.settings r) (held_apart w k u p r F G ne) G.fits)

@@ -1,0 +1,95 @@
+-- Of which kind a last step is, by what it made of the machine.
+use Rattle.std.proofs.Common.{◌≡◌, ◌⊎◌, ℕ, ◌+◌, true, false, Option, Some, None, slice_get, inl, inr, refl, ap, sym, subst, ◌∙◌}
+use Rattle.std.proofs.lemmas.Bool.{both_ways, false≢true}
+use Rattle.std.proofs.lemmas.Option.{same_Some}
+use Rattle.hh_lang.specs.declared.instr.Instr.{Instr}
+use Rattle.hh_lang.specs.declared.instr.Instr.TheVariants.{Out, Par}
+use Rattle.hh_lang.specs.declared.program.Line.{Line}
+use Rattle.hh_lang.specs.Form.{ProgramText}
+use Rattle.hh_model.specs.declared.data.End.{End}
+use Rattle.hh_model.specs.declared.data.End.TheVariants.{Done, Trapped}
+use Rattle.hh_model.specs.declared.data.Name.{Name}
+use Rattle.hh_model.specs.declared.data.State.{State}
+use Rattle.hh_model.specs.declared.data.Status.{Status}
+use Rattle.hh_model.specs.declared.data.Status.TheVariants.{Running, Waiting, Ended, Joined}
+use Rattle.hh_model.specs.declared.data.Task.{Task}
+use Rattle.hh_model.specs.declared.data.Trap.{Trap}
+use Rattle.hh_model.specs.Step.{ended_by, is_joined, is_over, runs}
+use Rattle.run_ledger.specs.declared.data.Ledger.{Ledger}
+use Rattle.run_ledger.specs.Steps.{is_private, touched}
+use Rattle.ledger_steps.specs.Last.{EndsDone, EndsLast, GoesOn, Halts, IsOfKind, LastKind, Prints}
+use Rattle.ledger_steps.specs.Last.{Private, Reading, Writing, Printing, Forking, Ending, Joining, Finishing, Halting}
+
+none_end : {A : Type 0} {e : End} → ◌≡◌ {A = Option End} None (Some e) → A
+none_end e = absurd cc
+
+none_name : {A : Type 0} {n : Name} → ◌≡◌ {A = Option Name} None (Some n) → A
+none_name e = absurd cc
+
+two_ends : {A : Type 0} {kind : Trap} {t n : ℕ} → Some Done ≡ Some (Trapped kind t n) → A
+two_ends e = absurd cc
+
+forks_not : {A : Type 0} {g h a : ℕ} → Par g h ≡ Out a → A
+forks_not e = absurd cc
+
+module _ (p : ProgramText) (m l' : Ledger) (t : ℕ) (x : Task) (line : Line) (shared : is_private p m.machine t ≡ false) where
+  abbrev Last : LastKind → Type 0
+  Last kind = IsOfKind p m l' t x line kind
+
+  -- the task runs after it, and so does the machine: an output
+  module _ (a : ℕ) (il : line.instr ≡ Out a) (y : Task) (is : slice_get l'.machine.tasks t ≡ Some y) (run : runs y.status ≡ true) (goes : l'.machine.end ≡ None) where
+    joined_not : {A : Type 0} → EndsLast m l' t x → A
+    joined_not j = by j.results
+      where
+        live : (s : Status) → runs s ≡ true → is_over s ≡ false
+        live Running h = refl
+        live Waiting h = refl
+        live (Ended k n) h = refl
+        live Joined h = absurd (false≢true h)
+
+        off : {A : Type 0} (u : ℕ) → t ≡ u → is_joined (slice_get l'.machine.tasks u) ≡ true → A
+        off u e h = absurd (both_ways (is_joined (slice_get l'.machine.tasks u)) (ap (λ z. is_joined (slice_get l'.machine.tasks z)) (sym e) ∙ (ap is_joined is ∙ live y.status run)) h)
+
+        by : {A : Type 0} {B C D E : Type 0} → ((t ≡ j.left) × B × C) ⊎ ((t ≡ j.left + 1) × D × E) → A
+        by (inl h) = off j.left h.0 j.joins.left
+        by (inr h) = off (j.left + 1) h.0 j.joins.right
+
+    pub prints : (kind : LastKind) → Last kind → Prints m l' t x line
+    prints Private private = absurd (both_ways (is_private p m.machine t) shared private)
+    prints Reading r = none_name (sym (ap (touched x.top) il) ∙ r.touches)
+    prints Writing r = none_name (sym (ap (touched x.top) il) ∙ r.touches)
+    prints Printing q = q
+    prints Forking f = forks_not (sym f.by ∙ il)
+    prints Ending e =
+        let same = same_Some _ y (sym e.ends.ended ∙ is) in
+        absurd (false≢true (ap (λ (z : Task). runs z.status) same ∙ run))
+    prints Joining j = joined_not j
+    prints Finishing d = none_end (sym goes ∙ d.ended)
+    prints Halting h = none_end (sym goes ∙ ap (λ (z : State). z.end) h.machine)
+
+  -- it can't be done
+  pub halts : (kind : Trap) (n : ℕ) → l'.machine ≡ ended_by m.machine (Trapped kind t n) → (of : LastKind) → Last of → (GoesOn of → l'.machine.end ≡ None) → Halts m l'
+  halts kind n e Private private on = absurd (both_ways (is_private p m.machine t) shared private)
+  halts kind n e Reading r on = none_end (sym (on tt) ∙ ap (λ (z : State). z.end) e)
+  halts kind n e Writing r on = none_end (sym (on tt) ∙ ap (λ (z : State). z.end) e)
+  halts kind n e Printing q on = none_end (sym (on tt) ∙ ap (λ (z : State). z.end) e)
+  halts kind n e Forking f on = none_end (sym (on tt) ∙ ap (λ (z : State). z.end) e)
+  halts kind n e Ending f on = none_end (sym (on tt) ∙ ap (λ (z : State). z.end) e)
+  halts kind n e Joining j on = none_end (sym (on tt) ∙ ap (λ (z : State). z.end) e)
+  halts kind n e Finishing d on = two_ends (sym d.ended ∙ ap (λ (z : State). z.end) e)
+  halts kind n e Halting h on = h
+
+  -- the run is done, and the task has ended
+  module _ (ended : l'.machine.end ≡ Some Done) (y : Task) (is' : slice_get l'.machine.tasks t ≡ Some y) (over : runs y.status ≡ false) (is : slice_get m.machine.tasks t ≡ Some x) (run : runs x.status ≡ true) where
+    pub done : (of : LastKind) → Last of → (GoesOn of → l'.machine.end ≡ None) → EndsDone m l' t x
+    done Private private on = absurd (both_ways (is_private p m.machine t) shared private)
+    done Reading r on = none_end (sym (on tt) ∙ ended)
+    done Writing r on = none_end (sym (on tt) ∙ ended)
+    done Printing q on = none_end (sym (on tt) ∙ ended)
+    done Forking f on = none_end (sym (on tt) ∙ ended)
+    done Ending f on = none_end (sym (on tt) ∙ ended)
+    done Joining j on = none_end (sym (on tt) ∙ ended)
+    done Finishing d on = d
+    done Halting h on =
+        let same : y ≡ x = same_Some y x (sym is' ∙ (ap (λ (z : State). slice_get z.tasks t) h.machine ∙ is)) in
+        absurd (both_ways (runs y.status) over (ap (λ (z : Task). runs z.status) same ∙ run))

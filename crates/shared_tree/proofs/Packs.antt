@@ -1,0 +1,31 @@
+-- In a program a pack takes few registers.
+use Rattle.std.proofs.Common.{◌≡◌, ℕ, ◌≤◌, Option, Some, None, List, length, slice_get, All, refl, subst}
+use Rattle.std.proofs.lemmas.Option.{slice_get_within, get_or_from_slice_get}
+use Rattle.hh_lang.specs.declared.instr.Instr.{Instr}
+use Rattle.hh_lang.specs.declared.instr.Instr.TheVariants.{Pack}
+use Rattle.hh_lang.specs.declared.program.Fun.{Fun}
+use Rattle.hh_lang.specs.declared.program.Line.{Line}
+use Rattle.hh_lang.specs.Form.{IsFunction, IsProgram, NamesExist, ProgramText, code_of, line_at}
+
+abbrev pub IsFew : Instr → Type 0
+IsFew (Pack d r i) = (r ≤ 16) × (i ≤ 16)
+IsFew _ = Unit {0}
+
+abbrev pub PacksFew : ProgramText → Type 0
+PacksFew p = (f place : ℕ) (line : Line) → line_at p f place ≡ Some line → IsFew line.instr
+
+few_of : (functions places : ℕ) (i : Instr) → NamesExist functions places i → IsFew i
+few_of functions places (Pack d r i) h = h
+few_of functions places _ h = tt
+
+all_at : {A : Type 0} (P : A → Type 0) (xs : List A) (k : ℕ) (x : A) → All P xs → slice_get xs k ≡ Some x → P x
+all_at P xs k x all e = subst P (get_or_from_slice_get xs k x x e) (all k x (slice_get_within xs k x e))
+
+pub packs_few : (p : ProgramText) → IsProgram p → PacksFew p
+packs_few p I f place line at = by (slice_get p.functions f) refl at
+  where
+    by : (o : Option Fun) → slice_get p.functions f ≡ o → slice_get (code_of o) place ≡ Some line → IsFew line.instr
+    by None is e = absurd cc
+    by (Some fun) is e =
+        let F : IsFunction (length p.functions) fun = all_at (IsFunction (length p.functions)) p.functions f fun I.each is in
+        few_of (length p.functions) (length fun.code) line.instr (all_at (λ (l : Line). NamesExist (length p.functions) (length fun.code) l.instr) fun.code place line F.names e)

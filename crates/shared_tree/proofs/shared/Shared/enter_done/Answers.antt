@@ -1,0 +1,82 @@
+use Rattle.std.proofs.Common.{◌≡◌, ℕ, ◌+◌, ◌-◌, ◌<◌, arith, Option, Some, None, List, [], length, slice_set, ap, sym, subst, ◌∙◌}
+use Rattle.listed.specs.Space.{Space}
+use Rattle.run_trace.specs.Entry.{Event}
+use Rattle.hh_model.specs.declared.data.End.TheVariants.{Done}
+use Rattle.heap_tree.specs.declared.state.State.TheVariants.{Ended}
+use Rattle.heap_tree.specs.Node.{Node, with_state}
+use Rattle.run_ledger.specs.declared.data.RunEnd.TheVariants.{Machine}
+use Rattle.task_machine.specs.declared.part.Private.{Private}
+use Rattle.shared_tree.specs.declared.next.Ending.TheVariants.{Returns}
+use Rattle.shared_tree.specs.declared.rest.Rest.{Rest}
+use Rattle.shared_tree.specs.Stands.{IsWorld}
+use Rattle.shared_tree.specs.World.{World}
+use Rattle.shared_tree.specs.Fits.{Fits}
+use Rattle.shared_tree.specs.Alone.{IsShared, alone_event}
+use Rattle.shared_tree.specs.Entered.{refused}
+use Rattle.shared_tree.specs.contracts.shared.Shared.{the_view}
+use Rattle.shared_tree.specs.Alone.{EndsAlone, Tells, ended_rest}
+use Rattle.shared_tree.proofs.AloneEntries.{alone_small, finished_ends, finished_world, home_there, node_there}
+use Rattle.shared_tree.proofs.Entered.{four_changed, journal_by}
+use Rattle.shared_tree.proofs.shared.Shared.enter_done.Goals as goal
+
+pub overflow_add-self-2 : goal.overflow_add-self-2
+overflow_add-self-2 c =
+    let w : World = the_view c.self.inside in
+    let p : Private = c.args.part in
+    let k : ℕ = c.args.worker in
+    let F : Fits w k p = subst (λ (z : World). Fits z k p) (sym c.self.view_is) c.requires.fits in
+    let shared : IsShared w p = subst (λ (z : World). IsShared z p) (sym c.self.view_is) c.requires.shared in
+    let free : refused w (alone_event k p) ≡ None = subst (λ (z : World). refused z (alone_event k p) ≡ None) (sym c.self.view_is) c.requires.free in
+    let few = alone_small w k p c.self.invariant F shared free in
+    omega (arith, few.0, few.1)
+
+pub set_state-requires : goal.set_state-requires
+set_state-requires c =
+    let w : World = the_view c.self.inside in
+    let p : Private = c.args.part in
+    let k : ℕ = c.args.worker in
+    let F : Fits w k p = subst (λ (z : World). Fits z k p) (sym c.self.view_is) c.requires.fits in
+    let shared : IsShared w p = subst (λ (z : World). IsShared z p) (sym c.self.view_is) c.requires.shared in
+    let free : refused w (alone_event k p) ≡ None = subst (λ (z : World). refused z (alone_event k p) ≡ None) (sym c.self.view_is) c.requires.free in
+    let T : Tells w p Returns c.args.line = subst (λ (z : World). Tells z p Returns c.args.line) (sym c.self.view_is) c.requires.returns in
+    node_there w k p c.self.invariant F shared free c.args.line T c.requires.root (record { items = []; room = 0 })
+
+pub set-requires-2 : goal.set-requires-2
+set-requires-2 c =
+    let w : World = the_view c.self.inside in
+    let p : Private = c.args.part in
+    let k : ℕ = c.args.worker in
+    let F : Fits w k p = subst (λ (z : World). Fits z k p) (sym c.self.view_is) c.requires.fits in
+    let shared : IsShared w p = subst (λ (z : World). IsShared z p) (sym c.self.view_is) c.requires.shared in
+    let free : refused w (alone_event k p) ≡ None = subst (λ (z : World). refused z (alone_event k p) ≡ None) (sym c.self.view_is) c.requires.free in
+    let T : Tells w p Returns c.args.line = subst (λ (z : World). Tells z p Returns c.args.line) (sym c.self.view_is) c.requires.returns in
+    home_there w k p c.self.invariant F shared free c.args.line T c.requires.root (record { items = []; room = 0 })
+
+pub invariant_of-self : goal.invariant_of-self
+invariant_of-self c =
+    let w : World = the_view c.self.inside in
+    let p : Private = c.args.part in
+    let k : ℕ = c.args.worker in
+    let F : Fits w k p = subst (λ (z : World). Fits z k p) (sym c.self.view_is) c.requires.fits in
+    let shared : IsShared w p = subst (λ (z : World). IsShared z p) (sym c.self.view_is) c.requires.shared in
+    let free : refused w (alone_event k p) ≡ None = subst (λ (z : World). refused z (alone_event k p) ≡ None) (sym c.self.view_is) c.requires.free in
+    let T : Tells w p Returns c.args.line = subst (λ (z : World). Tells z p Returns c.args.line) (sym c.self.view_is) c.requires.returns in
+    let v : World = record w { steps = w.steps + (p.fresh + 1); end = Some (Machine Done) } in
+    subst IsWorld (sym (four_changed v (with_state w.tree p.task Ended) _ (slice_set w.homes p.task (Some (ended_rest p))) _ (slice_set w.hands k None) _ (record { items = _; room = w.journal.room - 1 }) _
+    c.set_state.ensures (c.set-2.ensures ∙ ap (λ (r : Rest). slice_set w.homes p.task (Some r)) c.at_end.ensures) c.set.ensures (journal_by w.journal _ _ (alone_event k p) c.new.ensures c.push_reserved.ensures)))
+    (finished_world w k p c.self.invariant F shared free c.args.line T c.requires.root (record { items = []; room = w.journal.room - 1 }))
+
+pub returns : goal.returns
+returns c =
+    let w : World = the_view c.self.inside in
+    let p : Private = c.args.part in
+    let k : ℕ = c.args.worker in
+    let F : Fits w k p = subst (λ (z : World). Fits z k p) (sym c.self.view_is) c.requires.fits in
+    let shared : IsShared w p = subst (λ (z : World). IsShared z p) (sym c.self.view_is) c.requires.shared in
+    let free : refused w (alone_event k p) ≡ None = subst (λ (z : World). refused z (alone_event k p) ≡ None) (sym c.self.view_is) c.requires.free in
+    let T : Tells w p Returns c.args.line = subst (λ (z : World). Tells z p Returns c.args.line) (sym c.self.view_is) c.requires.returns in
+    let v : World = record w { steps = w.steps + (p.fresh + 1); end = Some (Machine Done) } in
+    subst (λ (z : World). EndsAlone z (record v { tree = c.set_state.new.self; homes = c.set-2.new.self; hands = c.set.new.self; journal = c.push_reserved.new.self }) k p) c.self.view_is
+    (subst (λ (z : World). EndsAlone w z k p) (sym (four_changed v (with_state w.tree p.task Ended) _ (slice_set w.homes p.task (Some (ended_rest p))) _ (slice_set w.hands k None) _ (record { items = _; room = w.journal.room - 1 }) _
+    c.set_state.ensures (c.set-2.ensures ∙ ap (λ (r : Rest). slice_set w.homes p.task (Some r)) c.at_end.ensures) c.set.ensures (journal_by w.journal _ _ (alone_event k p) c.new.ensures c.push_reserved.ensures)))
+    (finished_ends w k p c.self.invariant F shared free c.args.line T c.requires.root (record { items = []; room = w.journal.room - 1 })))

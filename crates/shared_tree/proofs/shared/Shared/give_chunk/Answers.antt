@@ -1,0 +1,145 @@
+use Rattle.std.proofs.Common.{◌≡◌, ℕ, ◌+◌, ◌-◌, ◌<◌, ◌≤◌, arith, None, Some, [], inl, inr, Result, Ok, Err, ap, ap₂, sym, subst, ◌∙◌}
+use Rattle.std.proofs.lemmas.Bool.{cases_lt}
+use Rattle.listed.specs.Space.{Space}
+use Rattle.object_layout.specs.Content.{Content}
+use Rattle.run_trace.specs.Entry.{Event}
+use Rattle.run_trace.specs.declared.entry.Kind.TheVariants.{Chunk}
+use Rattle.run_ledger.specs.declared.data.RunEnd.TheVariants.{Pool as PoolOf}
+use Rattle.run_ledger.specs.Entries.{chunk_units}
+use Rattle.chunk_pool.specs.declared.pool.NotTaken.{NotTaken}
+use Rattle.chunk_pool.specs.declared.pool.NotTaken.TheVariants.{Full}
+use Rattle.chunk_pool.specs.Chunks.{Chunks, units_in_use}
+use Rattle.alloc_path.specs.Heap.{Heap, IsFresh, added, with_places}
+use Rattle.task_machine.specs.declared.part.Private.{Private}
+use Rattle.shared_tree.specs.World.{World}
+use Rattle.shared_tree.specs.Stands.{IsWorld}
+use Rattle.shared_tree.specs.Fits.{Fits, OthersFit}
+use Rattle.shared_tree.specs.Next.{part_asks}
+use Rattle.shared_tree.specs.Entered.{refused}
+use Rattle.shared_tree.specs.contracts.shared.Shared.{the_view}
+use Rattle.shared_tree.proofs.Chunked.{given_fresh, given_others, given_part, given_world, places_fit, pool_others, pool_part, pool_world}
+use Rattle.shared_tree.proofs.Entered.{journal_by}
+use Rattle.shared_tree.proofs.shared.Shared.give_chunk.Goals as goal
+
+room_of_space : Space Event → ℕ → Space Event
+room_of_space j n = record { items = []; room = n }
+
+-- not full
+not_full : {A : Type 0} (x : A) → Ok x ≡ Err Full → ⊥
+not_full x e = cc
+
+within_by : (limit used : ℕ) → (limit < used → ⊥) → used ≤ limit
+within_by limit used f = elim (cases_lt limit used) [ inl lt ↦ absurd (f lt) | inr le ↦ le ]
+
+pub add_spare-requires-clause-fresh : goal.add_spare-requires-clause-fresh
+add_spare-requires-clause-fresh c =
+    let w : World = the_view c.self.inside in
+    let p : Private = c.args.part.now in
+    let k : ℕ = c.args.worker in
+    let F : Fits w k p = subst (λ (z : World). Fits z k p) (sym c.self.view_is) c.requires.fits in
+    let free : refused w (record { worker = k; kind = Chunk p.task }) ≡ None = subst (λ (z : World). refused z (record { worker = k; kind = Chunk p.task }) ≡ None) (sym c.self.view_is) c.requires.free in
+    let sized : c.units_for-units.result ≡ chunk_units (part_asks w.program p) = c.units_for-units.ensures.units ∙ ap chunk_units c.words_asked.ensures.asked in
+    subst (λ (h : Heap). IsFresh h.chunks c.in-Ok.chunk.number) (sym c.make_room.ensures.kept)
+    (given_fresh w k p c.self.invariant F c.requires.fresh free c.take.new.self c.in-Ok.chunk c.in-Ok.chunk.number c.units_for-units.result c.in-Ok.ensures.chunk sized
+    (within_by w.pool.limit (units_in_use w.pool + c.units_for-units.result) (λ lt. not_full c.in-Ok.chunk (c.in-Ok.ensures.full.1 lt))) c.in-Ok.ensures.taken (record { items = []; room = 0 }))
+
+pub invariant_of-self : goal.invariant_of-self
+invariant_of-self c =
+    let w : World = the_view c.self.inside in
+    let p : Private = c.args.part.now in
+    let k : ℕ = c.args.worker in
+    let F : Fits w k p = subst (λ (z : World). Fits z k p) (sym c.self.view_is) c.requires.fits in
+    let e : Event = record { worker = k; kind = Chunk p.task } in
+    let free : refused w e ≡ None = subst (λ (z : World). refused z e ≡ None) (sym c.self.view_is) c.requires.free in
+    let sized : c.units_for-units.result ≡ chunk_units (part_asks w.program p) = c.units_for-units.ensures.units ∙ ap chunk_units c.words_asked.ensures.asked in
+    subst (λ (j : Space Event). IsWorld (record w { pool = c.take.new.self; journal = j })) (sym (journal_by w.journal _ _ e c.new.ensures c.push_reserved.ensures))
+    (given_world w k p c.self.invariant F c.requires.fresh free c.take.new.self c.in-Ok.chunk c.in-Ok.chunk.number c.units_for-units.result c.in-Ok.ensures.chunk sized
+    (within_by w.pool.limit (units_in_use w.pool + c.units_for-units.result) (λ lt. not_full c.in-Ok.chunk (c.in-Ok.ensures.full.1 lt))) c.in-Ok.ensures.taken (record { items = []; room = w.journal.room - 1 }))
+
+pub returns-in-Ok-clause-fits : goal.returns-in-Ok-clause-fits
+returns-in-Ok-clause-fits c =
+    let w : World = the_view c.self.inside in
+    let p : Private = c.args.part.now in
+    let k : ℕ = c.args.worker in
+    let F : Fits w k p = subst (λ (z : World). Fits z k p) (sym c.self.view_is) c.requires.fits in
+    let e : Event = record { worker = k; kind = Chunk p.task } in
+    let free : refused w e ≡ None = subst (λ (z : World). refused z e ≡ None) (sym c.self.view_is) c.requires.free in
+    let sized : c.units_for-units.result ≡ chunk_units (part_asks w.program p) = c.units_for-units.ensures.units ∙ ap chunk_units c.words_asked.ensures.asked in
+    let heap : c.add_spare.new.self ≡ with_places (added (with_places p.heap c.make_room.new.self.slots c.make_room.new.self.spare) c.in-Ok.chunk) c.add_spare.new.self.slots c.add_spare.new.self.spare =
+    c.add_spare.ensures.added ∙ ap (λ (h : Heap). with_places (added h c.in-Ok.chunk) c.add_spare.new.self.slots c.add_spare.new.self.spare) c.make_room.ensures.kept in
+    subst (λ (h : Heap). Fits (record w { pool = c.take.new.self; journal = c.push_reserved.new.self }) k (record p { heap = h })) (sym heap)
+    (subst (λ (j : Space Event). Fits (record w { pool = c.take.new.self; journal = j }) k (record p { heap = with_places (added (with_places p.heap c.make_room.new.self.slots c.make_room.new.self.spare) c.in-Ok.chunk) c.add_spare.new.self.slots c.add_spare.new.self.spare }))
+    (sym (journal_by w.journal _ _ e c.new.ensures c.push_reserved.ensures))
+    (given_part w k p c.self.invariant F c.requires.fresh free c.take.new.self c.in-Ok.chunk c.in-Ok.chunk.number c.units_for-units.result c.in-Ok.ensures.chunk sized
+    (within_by w.pool.limit (units_in_use w.pool + c.units_for-units.result) (λ lt. not_full c.in-Ok.chunk (c.in-Ok.ensures.full.1 lt))) c.in-Ok.ensures.taken (record { items = []; room = w.journal.room - 1 })
+    c.make_room.new.self.slots c.make_room.new.self.spare c.add_spare.new.self.slots c.add_spare.new.self.spare))
+
+pub returns-in-Ok-clause-others : goal.returns-in-Ok-clause-others
+returns-in-Ok-clause-others c =
+    let w : World = the_view c.self.inside in
+    let p : Private = c.args.part.now in
+    let k : ℕ = c.args.worker in
+    let F : Fits w k p = subst (λ (z : World). Fits z k p) (sym c.self.view_is) c.requires.fits in
+    let e : Event = record { worker = k; kind = Chunk p.task } in
+    let free : refused w e ≡ None = subst (λ (z : World). refused z e ≡ None) (sym c.self.view_is) c.requires.free in
+    let sized : c.units_for-units.result ≡ chunk_units (part_asks w.program p) = c.units_for-units.ensures.units ∙ ap chunk_units c.words_asked.ensures.asked in
+    subst (λ (z : World). OthersFit z (record w { pool = c.take.new.self; journal = c.push_reserved.new.self }) k) c.self.view_is
+    (subst (λ (j : Space Event). OthersFit w (record w { pool = c.take.new.self; journal = j }) k) (sym (journal_by w.journal _ _ e c.new.ensures c.push_reserved.ensures))
+    (given_others w k p c.self.invariant F c.requires.fresh free c.take.new.self c.in-Ok.chunk c.in-Ok.chunk.number c.units_for-units.result c.in-Ok.ensures.chunk sized
+    (within_by w.pool.limit (units_in_use w.pool + c.units_for-units.result) (λ lt. not_full c.in-Ok.chunk (c.in-Ok.ensures.full.1 lt))) c.in-Ok.ensures.taken (record { items = []; room = w.journal.room - 1 })))
+
+-- the value where the run ended, by what the code made of it
+pool_same : (w : World) (pool : Chunks) (j j' : Space Event) (n : ℕ) → pool ≡ w.pool → j' ≡ j → n ≡ units_in_use pool → record w { journal = j; end = Some (PoolOf (units_in_use w.pool)) } ≡ record w { pool = pool; journal = j'; end = Some (PoolOf n) }
+pool_same w pool j j' n ep ej en =
+    sym (ap (λ m. record w { pool = pool; journal = j'; end = Some (PoolOf m) }) en
+    ∙ (ap (λ (z : Chunks). record w { pool = z; journal = j'; end = Some (PoolOf (units_in_use z)) }) ep ∙ ap (λ (z : Space Event). record w { journal = z; end = Some (PoolOf (units_in_use w.pool)) }) ej))
+
+pub invariant_of-self-in-Err-Full : goal.invariant_of-self-in-Err-Full
+invariant_of-self-in-Err-Full c =
+    let w : World = the_view c.self.inside in
+    let p : Private = c.args.part.now in
+    let k : ℕ = c.args.worker in
+    let F : Fits w k p = subst (λ (z : World). Fits z k p) (sym c.self.view_is) c.requires.fits in
+    let e : Event = record { worker = k; kind = Chunk p.task } in
+    let free : refused w e ≡ None = subst (λ (z : World). refused z e ≡ None) (sym c.self.view_is) c.requires.free in
+    let sized : c.units_for-units.result ≡ chunk_units (part_asks w.program p) = c.units_for-units.ensures.units ∙ ap chunk_units c.words_asked.ensures.asked in
+    subst IsWorld (pool_same w c.take.new.self (record { items = _; room = w.journal.room - 1 }) c.push_reserved-in-Err-Full.new.self c.in_use.result c.in-Err-Full.ensures.err (journal_by w.journal _ _ e c.new-in-Err-Full.ensures c.push_reserved-in-Err-Full.ensures) c.in_use.ensures.units)
+    (pool_world w k p c.self.invariant F c.requires.fresh free c.units_for-units.result sized (c.in-Err-Full.ensures.full.0 (ap (λ (x : NotTaken). Err x) c.in-Err-Full.field-0-is)) (record { items = []; room = w.journal.room - 1 }))
+
+pub returns-in-Err-Full-clause-fits : goal.returns-in-Err-Full-clause-fits
+returns-in-Err-Full-clause-fits c =
+    let w : World = the_view c.self.inside in
+    let p : Private = c.args.part.now in
+    let k : ℕ = c.args.worker in
+    let F : Fits w k p = subst (λ (z : World). Fits z k p) (sym c.self.view_is) c.requires.fits in
+    let e : Event = record { worker = k; kind = Chunk p.task } in
+    let free : refused w e ≡ None = subst (λ (z : World). refused z e ≡ None) (sym c.self.view_is) c.requires.free in
+    let sized : c.units_for-units.result ≡ chunk_units (part_asks w.program p) = c.units_for-units.ensures.units ∙ ap chunk_units c.words_asked.ensures.asked in
+    subst (λ (h : Heap). Fits (record w { pool = c.take.new.self; journal = c.push_reserved-in-Err-Full.new.self; end = Some (PoolOf c.in_use.result) }) k (record p { heap = h })) (sym c.make_room.ensures.kept)
+    (subst (λ (z : World). Fits z k (record p { heap = with_places p.heap c.make_room.new.self.slots c.make_room.new.self.spare }))
+    (pool_same w c.take.new.self (record { items = _; room = w.journal.room - 1 }) c.push_reserved-in-Err-Full.new.self c.in_use.result c.in-Err-Full.ensures.err (journal_by w.journal _ _ e c.new-in-Err-Full.ensures c.push_reserved-in-Err-Full.ensures) c.in_use.ensures.units)
+    (pool_part w k p c.self.invariant F c.requires.fresh free c.units_for-units.result sized (c.in-Err-Full.ensures.full.0 (ap (λ (x : NotTaken). Err x) c.in-Err-Full.field-0-is)) (record { items = []; room = w.journal.room - 1 })
+    c.make_room.new.self.slots c.make_room.new.self.spare))
+
+pub returns-in-Err-Full-clause-others : goal.returns-in-Err-Full-clause-others
+returns-in-Err-Full-clause-others c =
+    let w : World = the_view c.self.inside in
+    let p : Private = c.args.part.now in
+    let k : ℕ = c.args.worker in
+    let F : Fits w k p = subst (λ (z : World). Fits z k p) (sym c.self.view_is) c.requires.fits in
+    let e : Event = record { worker = k; kind = Chunk p.task } in
+    let free : refused w e ≡ None = subst (λ (z : World). refused z e ≡ None) (sym c.self.view_is) c.requires.free in
+    let sized : c.units_for-units.result ≡ chunk_units (part_asks w.program p) = c.units_for-units.ensures.units ∙ ap chunk_units c.words_asked.ensures.asked in
+    subst (λ (z : World). OthersFit z (record w { pool = c.take.new.self; journal = c.push_reserved-in-Err-Full.new.self; end = Some (PoolOf c.in_use.result) }) k) c.self.view_is
+    (subst (λ (z : World). OthersFit w z k)
+    (pool_same w c.take.new.self (record { items = _; room = w.journal.room - 1 }) c.push_reserved-in-Err-Full.new.self c.in_use.result c.in-Err-Full.ensures.err (journal_by w.journal _ _ e c.new-in-Err-Full.ensures c.push_reserved-in-Err-Full.ensures) c.in_use.ensures.units)
+    (pool_others w k p c.self.invariant F c.requires.fresh free c.units_for-units.result sized (c.in-Err-Full.ensures.full.0 (ap (λ (x : NotTaken). Err x) c.in-Err-Full.field-0-is)) (record { items = []; room = w.journal.room - 1 })))
+
+pub returns-in-Err-NoMemory-clause-fits : goal.returns-in-Err-NoMemory-clause-fits
+returns-in-Err-NoMemory-clause-fits c =
+    let w : World = the_view c.self.inside in
+    let p : Private = c.args.part.now in
+    let k : ℕ = c.args.worker in
+    let F : Fits w k p = subst (λ (z : World). Fits z k p) (sym c.self.view_is) c.requires.fits in
+    subst (λ (z : Chunks). Fits (record w { pool = z }) k (record p { heap = c.make_room.new.self })) (sym c.in-Err-NoMemory.ensures.err)
+    (subst (λ (h : Heap). Fits w k (record p { heap = h })) (sym c.make_room.ensures.kept) (places_fit w k p c.make_room.new.self.slots c.make_room.new.self.spare F))

@@ -1,0 +1,122 @@
+// A part gets a chunk.
+
+ghost use Rattle.std.specs.Prelude.{◌≡◌, ◌<◌, ◌^◌, IfSome, OnErr, OnOk, None};
+ghost use Rattle.run_ledger.specs.Entries.{chunk_units};
+ghost use Rattle.shared_tree.specs.Causes.{chunk_cause};
+ghost use Rattle.shared_tree.specs.Entered.{refused, Answers, Enters, IsSamePart};
+ghost use Rattle.shared_tree.specs.Fits.{Fits, OthersFit};
+ghost use Rattle.shared_tree.specs.Next.{part_asks};
+
+use crate::answer::NotEntered;
+use crate::causes::first_cause;
+use crate::next::words_asked;
+use crate::shared::Shared;
+use chunk_pool::NotTaken;
+use run_ledger::{Refused, RunEnd};
+use run_trace::{Entry, Kind};
+use std::alloc::AllocError;
+use task_machine::Private;
+
+// How many units a chunk has for an object of so many words.
+fn units_for(words: Option<u32>) -> u32
+    requires { IfSome words (λ n. n < 2 ^ 22) }
+    ensures units { result ≡ chunk_units words }
+    ensures few { result < 2 ^ 22 }
+    ensures some { 0 < result }
+{
+    match words {
+        None => 1,
+        Some(words) => {
+            if words <= 1024 {
+                1
+            } else {
+                (words + 1023) / 1024
+            }
+        }
+    }
+}
+
+// Why no chunk is given to a part.
+fn cause_by(part: &Private, words: Option<u32>) -> Option<Refused>
+    ensures { result ≡ chunk_cause part.now words }
+{
+    let Some(words) = words else {
+        return Some(Refused::NotNeeded(part.heap.room()));
+    };
+    if part.leaf_limit <= part.heap.since() {
+        return Some(Refused::Due(part.heap.since()));
+    }
+    if part.heap.has_place(words) {
+        Some(Refused::NotNeeded(part.heap.room()))
+    } else {
+        None
+    }
+}
+
+impl Shared {
+    // Why the entry is refused.
+    fn chunk_refused(&self, worker: u32, part: &Private) -> Option<Refused>
+        requires fits { Fits self.now worker part.now }
+        requires fresh { part.now.fresh ≡ 0 }
+        ensures { result ≡ refused self.now (record { worker = worker; kind = Kind.Chunk part.now.task }) }
+    {
+        let first = first_cause(self.end, self.steps, self.settings, worker, false);
+        if first.is_some() {
+            return first;
+        }
+        cause_by(part, words_asked(part, &self.program))
+    }
+
+    // Makes the entry.
+    fn give_chunk(&mut self, worker: u32, part: &mut Private) -> Result<(), AllocError>
+        requires room { 0 < self.old.journal.room }
+        requires fits { Fits self.old worker part.old }
+        requires fresh { part.old.fresh ≡ 0 }
+        requires free { refused self.old (record { worker = worker; kind = Kind.Chunk part.old.task }) ≡ None }
+        ensures same { OnErr result (self.new ≡ self.old) }
+        ensures back { OnErr result (IsSamePart part.old part.new) }
+        ensures enters { OnOk result (Enters self.old self.new (record { worker = worker; kind = Kind.Chunk part.old.task })) }
+        ensures fits { Fits self.new worker part.new }
+        ensures others { OnOk result (OthersFit self.old self.new worker) }
+    {
+        let task = part.task;
+        let units = units_for(words_asked(part, &self.program));
+        part.heap.make_room(1)?;
+        match self.pool.take(task, units) {
+            Ok(chunk) => {
+                part.heap.add_spare(chunk);
+                self.journal
+                    .push_reserved(Entry::new(worker, Kind::Chunk(task)));
+                Ok(())
+            }
+            Err(NotTaken::Full) => {
+                self.end = Some(RunEnd::Pool(self.pool.in_use()));
+                self.journal
+                    .push_reserved(Entry::new(worker, Kind::Chunk(task)));
+                Ok(())
+            }
+            Err(NotTaken::NoMemory) => Err(AllocError),
+        }
+    }
+
+    /// A part gets the chunk that its next step needs. Where too few units are free the run ends.
+    pub fn chunk(&mut self, worker: u32, part: &mut Private) -> Result<(), NotEntered>
+        requires room { 0 < self.old.journal.room }
+        requires fits { Fits self.old worker part.old }
+        requires fresh { part.old.fresh ≡ 0 }
+        ensures refused { Answers result (refused self.old (record { worker = worker; kind = Kind.Chunk part.old.task })) }
+        ensures same { OnErr result (self.new ≡ self.old) }
+        ensures back { OnErr result (IsSamePart part.old part.new) }
+        ensures enters { OnOk result (Enters self.old self.new (record { worker = worker; kind = Kind.Chunk part.old.task })) }
+        ensures fits { Fits self.new worker part.new }
+        ensures others { OnOk result (OthersFit self.old self.new worker) }
+    {
+        if let Some(cause) = self.chunk_refused(worker, part) {
+            return Err(NotEntered::Refuses(cause));
+        }
+        match self.give_chunk(worker, part) {
+            Ok(()) => Ok(()),
+            Err(_) => Err(NotEntered::NoMemory),
+        }
+    }
+}

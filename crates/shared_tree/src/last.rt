@@ -1,0 +1,164 @@
+// A part's steps are entered with one that isn't private, and in which no other task has part.
+
+ghost use Rattle.std.specs.Prelude.{◌≡◌, ◌<◌, ◌+◌, OnErr, OnOk, IfErr, IfOk, None};
+ghost use Rattle.shared_tree.specs.Alone.{alone_event, ended_rest, Answered, EndsAlone, GoesAlone, IsShared, Tells};
+ghost use Rattle.shared_tree.specs.Entered.{refused, RanAnswers};
+ghost use Rattle.shared_tree.specs.Fits.{Fits};
+
+use crate::answer::NotEntered;
+use crate::causes::first_cause;
+use crate::next::{Ending, last_step};
+use crate::ran::{Alone, NotRan};
+use crate::rest::{Rest, Work};
+use crate::shared::Shared;
+use heap_tree::State;
+use hh_model::{End, Trap};
+use run_ledger::{Refused, RunEnd};
+use run_trace::{Entry, Kind};
+use std::alloc::AllocError;
+use task_machine::Private;
+
+// What goes with a task whose last frame returned.
+fn at_end(part: Private) -> Rest
+    ensures { result ≡ ended_rest part }
+{
+    let result = (part.frames.int(0), part.frames.reference(0));
+    Rest {
+        work: Work::Result(result.0, result.1),
+        heap: part.heap,
+        allocations: part.allocations,
+    }
+}
+
+impl Shared {
+    // Why the entry is refused.
+    fn alone_refused(&self, worker: u32, part: &Private) -> Option<Refused>
+        requires fits { Fits self.now worker part.now }
+        requires shared { IsShared self.now part.now }
+        ensures { result ≡ refused self.now (alone_event worker part.now) }
+    {
+        first_cause(self.end, self.steps, self.settings, worker, false)
+    }
+
+    // What the part's next step does, and the line of the text where it stands.
+    fn next_ending(&self, worker: u32, part: &Private) -> (Ending, u32)
+        requires fits { Fits self.now worker part.now }
+        requires shared { IsShared self.now part.now }
+        requires free { refused self.now (alone_event worker part.now) ≡ None }
+        ensures { Tells self.now part.now result.0 result.1 }
+    {
+        match self.program.line(part.frames.fun(), part.frames.next()) {
+            Some(line) => (last_step(part, line.instr), line.number),
+            None => unreachable!(),
+        }
+    }
+
+    // Enters an output.
+    fn enter_output(
+        &mut self,
+        worker: u32,
+        part: &mut Private,
+        value: i64,
+        line: u32,
+    ) -> Result<(), AllocError>
+        requires room { 0 < self.old.journal.room }
+        requires fits { Fits self.old worker part.old }
+        requires shared { IsShared self.old part.old }
+        requires free { refused self.old (alone_event worker part.old) ≡ None }
+        requires prints { Tells self.old part.old (Ending.Prints value) line }
+        ensures same { OnErr result (self.new ≡ self.old) }
+        ensures back { OnErr result (part.new ≡ part.old) }
+        ensures goes { OnOk result (GoesAlone self.old self.new worker part.old part.new) }
+    {
+        let _ = line;
+        self.outputs.push(value)?;
+        self.steps += part.fresh as u64 + 1;
+        self.journal
+            .push_reserved(Entry::new(worker, Kind::Ran(part.task, part.fresh + 1)));
+        let next = part.frames.next() + 1;
+        part.frames.set_next(next);
+        part.fresh = 0;
+        Ok(())
+    }
+
+    // Enters a step that can't be done.
+    fn enter_trap(&mut self, worker: u32, part: &Private, kind: Trap, line: u32)
+        requires room { 0 < self.old.journal.room }
+        requires fits { Fits self.old worker part.now }
+        requires shared { IsShared self.old part.now }
+        requires free { refused self.old (alone_event worker part.now) ≡ None }
+        requires traps { Tells self.old part.now (Ending.Traps kind) line }
+        ensures { EndsAlone self.old self.new worker part.now }
+    {
+        self.steps += part.fresh as u64 + 1;
+        self.journal
+            .push_reserved(Entry::new(worker, Kind::Ran(part.task, part.fresh + 1)));
+        self.end = Some(RunEnd::Machine(End::Trapped(kind, part.task, line)));
+    }
+
+    // Enters the last return of the root.
+    fn enter_done(&mut self, worker: u32, part: Private, line: u32)
+        requires room { 0 < self.old.journal.room }
+        requires fits { Fits self.old worker part }
+        requires shared { IsShared self.old part }
+        requires free { refused self.old (alone_event worker part) ≡ None }
+        requires returns { Tells self.old part Ending.Returns line }
+        requires root { part.task ≡ 0 }
+        ensures { EndsAlone self.old self.new worker part }
+    {
+        let _ = line;
+        let task = part.task;
+        self.steps += part.fresh as u64 + 1;
+        self.journal
+            .push_reserved(Entry::new(worker, Kind::Ran(task, part.fresh + 1)));
+        self.tree.set_state(task, State::Ended);
+        self.hands.set(worker as usize, None);
+        self.homes.set(task as usize, Some(at_end(part)));
+        self.end = Some(RunEnd::Machine(End::Done));
+    }
+
+    /// The fresh steps of a part, and its next one, which isn't private, are entered where no other task has part in that one.
+    pub fn ran_alone(&mut self, worker: u32, part: Private) -> Result<Alone, NotRan>
+        requires room { 0 < self.old.journal.room }
+        requires fits { Fits self.old worker part }
+        requires shared { IsShared self.old part }
+        ensures refused { RanAnswers result (refused self.old (alone_event worker part)) }
+        ensures same { OnErr result (self.new ≡ self.old) }
+        ensures back { IfErr result (λ e. e.part ≡ part) }
+        ensures answered { IfOk result (Answered self.old self.new worker part) }
+    {
+        if let Some(cause) = self.alone_refused(worker, &part) {
+            return Err(NotRan {
+                cause: NotEntered::Refuses(cause),
+                part,
+            });
+        }
+        self.stands();
+        let (ending, line) = self.next_ending(worker, &part);
+        match ending {
+            Ending::Prints(value) => {
+                let mut part = part;
+                match self.enter_output(worker, &mut part, value, line) {
+                    Ok(()) => Ok(Alone::Goes(part)),
+                    Err(_) => Err(NotRan {
+                        cause: NotEntered::NoMemory,
+                        part,
+                    }),
+                }
+            }
+            Ending::Traps(kind) => {
+                self.enter_trap(worker, &part, kind, line);
+                Ok(Alone::Over)
+            }
+            Ending::Returns => {
+                if part.task == 0 {
+                    self.enter_done(worker, part, line);
+                    Ok(Alone::Over)
+                } else {
+                    Ok(Alone::Beyond(part))
+                }
+            }
+            Ending::Beyond => Ok(Alone::Beyond(part)),
+        }
+    }
+}

@@ -1,0 +1,80 @@
+-- A call is planned for a call alone.
+use Rattle.std.proofs.Common.{ℕ, ◌+◌, Bool, true, false, cond, Option, Some, None, length, slice_get, unwrap_or, is_some}
+use Rattle.std.specs.Prelude.{nat_le, nat_lt, pos}
+use Rattle.object_layout.specs.Cell.{Cell}
+use Rattle.object_layout.specs.Chunks.{object_of}
+use Rattle.alloc_path.specs.Heap.{place_for}
+use Rattle.hh_lang.specs.declared.instr.Instr.{Instr}
+use Rattle.hh_lang.specs.declared.instr.Instr.TheVariants.{Set, Mov, Movr, Nil, Calc, Same, Jmp, Jz, Newm, Pack as PackOf, Getr, Geti, Putr, Puti, Cntr, Cnti, Freeze as FreezeOf, Cas, Call as CallOf, Par, Ret, Out}
+use Rattle.hh_model.specs.Effect.{calculated, counts_in, place_in as field_in}
+use Rattle.task_machine.specs.declared.part.Private.{Private}
+use Rattle.task_machine.specs.declared.part.Paused.TheVariants.{Shared, Due, NeedChunk}
+use Rattle.task_machine.specs.declared.plan.Plan.{Plan}
+use Rattle.task_machine.specs.declared.plan.Plan.TheVariants.{Pause, SetInt, SetReference, Return, New, Pack, WriteReference, WriteInt, Swap, Freeze}
+use Rattle.task_machine.specs.declared.plan.Spot.{Spot}
+use Rattle.task_machine.specs.Plan.{allocating, int_of, or_shared, own_in, planned, ref_of, same_reference, unless_frozen}
+use Rattle.task_machine.specs.Run.{IsCall, IsCallPlan}
+
+abbrev Not : Plan → Type 0
+Not q = IsCallPlan q → ⊥
+
+either : (b : Bool) (q r : Plan) → Not q → Not r → Not (cond b q r)
+either true q r f g = f
+either false q r f g = g
+
+shared : {A : Type 0} (o : Option A) (go : A → Plan) → ((x : A) → Not (go x)) → Not (or_shared o go)
+shared None go f = λ h. h
+shared (Some x) go f = f x
+
+alloc : (part : Private) (w : ℕ) (q : Plan) → Not q → Not (allocating part w q)
+alloc part w q f =
+    either (nat_le part.leaf_limit part.heap.since) (Pause Due) (cond (is_some (place_for part.heap w)) q (Pause NeedChunk)) (λ h. h) (either (is_some (place_for part.heap w)) q (Pause NeedChunk) f (λ h. h))
+
+module _ (part : Private) where
+  abbrev spot : ℕ → Option Spot
+  spot o = own_in part.heap.chunks (ref_of part.frames.top o)
+
+  abbrev cell : Spot → Cell
+  cell s = object_of part.heap.chunks s.object
+
+  abbrev of_refs : Spot → ℕ → Option ℕ
+  of_refs s k = field_in (length (cell s).refs) (int_of part.frames.top k)
+
+  abbrev of_ints : Spot → ℕ → Option ℕ
+  of_ints s k = field_in (length (cell s).ints) (int_of part.frames.top k)
+
+  pub call_planned : (i : Instr) → IsCallPlan (planned part i) → IsCall i
+  call_planned (Set d k) h = h
+  call_planned (Mov d a) h = h
+  call_planned (Movr d a) h = h
+  call_planned (Nil d) h = h
+  call_planned (Calc op d a b) h = shared (calculated op (int_of part.frames.top a) (int_of part.frames.top b)) (λ x. SetInt d x) (λ x h. h) h
+  call_planned (Same d a b) h = h
+  call_planned (Jmp to) h = h
+  call_planned (Jz a to) h = h
+  call_planned (Newm d a b) h =
+      shared (counts_in part.field_limit (int_of part.frames.top a) (int_of part.frames.top b)) (λ n. allocating part (2 + n.0 + n.1) (New d n.0 n.1)) (λ n. alloc part (2 + n.0 + n.1) (New d n.0 n.1) (λ h. h)) h
+  call_planned (PackOf d r i) h = alloc part (2 + r + i) (Pack d r i) (λ h. h) h
+  call_planned (Getr d o k) h =
+      shared (spot o) (λ s. or_shared (of_refs s k) (λ at. SetReference d (unwrap_or (slice_get (cell s).refs at) None))) (λ s. shared (of_refs s k) (λ at. SetReference d (unwrap_or (slice_get (cell s).refs at) None)) (λ at h. h)) h
+  call_planned (Geti d o k) h =
+      shared (spot o) (λ s. or_shared (of_ints s k) (λ at. SetInt d (unwrap_or (slice_get (cell s).ints at) (pos 0)))) (λ s. shared (of_ints s k) (λ at. SetInt d (unwrap_or (slice_get (cell s).ints at) (pos 0))) (λ at h. h)) h
+  call_planned (Putr o k v) h =
+      shared (spot o) (λ s. or_shared (of_refs s k) (λ at. unless_frozen (cell s) (WriteReference s at (ref_of part.frames.top v))))
+      (λ s. shared (of_refs s k) (λ at. unless_frozen (cell s) (WriteReference s at (ref_of part.frames.top v))) (λ at. either (cell s).mutable (WriteReference s at (ref_of part.frames.top v)) (Pause Shared) (λ h. h) (λ h. h))) h
+  call_planned (Puti o k v) h =
+      shared (spot o) (λ s. or_shared (of_ints s k) (λ at. unless_frozen (cell s) (WriteInt s at (int_of part.frames.top v))))
+      (λ s. shared (of_ints s k) (λ at. unless_frozen (cell s) (WriteInt s at (int_of part.frames.top v))) (λ at. either (cell s).mutable (WriteInt s at (int_of part.frames.top v)) (Pause Shared) (λ h. h) (λ h. h))) h
+  call_planned (Cntr d o) h = shared (spot o) (λ s. SetInt d (pos (length (cell s).refs))) (λ s h. h) h
+  call_planned (Cnti d o) h = shared (spot o) (λ s. SetInt d (pos (length (cell s).ints))) (λ s h. h) h
+  call_planned (FreezeOf o) h = shared (spot o) (λ s. Freeze s) (λ s h. h) h
+  call_planned (Cas d o k e v) h =
+      let swap : Spot → ℕ → Plan = λ s at. cond (same_reference (unwrap_or (slice_get (cell s).refs at) None) (ref_of part.frames.top e)) (Swap d s at (ref_of part.frames.top v)) (SetInt d (pos 0)) in
+      shared (spot o) (λ s. or_shared (of_refs s k) (λ at. unless_frozen (cell s) (swap s at)))
+      (λ s. shared (of_refs s k) (λ at. unless_frozen (cell s) (swap s at)) (λ at.
+      either (cell s).mutable (swap s at) (Pause Shared)
+      (either (same_reference (unwrap_or (slice_get (cell s).refs at) None) (ref_of part.frames.top e)) (Swap d s at (ref_of part.frames.top v)) (SetInt d (pos 0)) (λ h. h) (λ h. h)) (λ h. h))) h
+  call_planned (CallOf g) h = tt
+  call_planned (Par g k) h = h
+  call_planned Ret h = either (nat_lt 0 (length part.frames.below)) Return (Pause Shared) (λ h. h) (λ h. h) h
+  call_planned (Out a) h = h

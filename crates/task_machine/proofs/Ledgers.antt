@@ -1,0 +1,55 @@
+-- The steps of a task in the ledger: its machine and its account follow.
+use Rattle.std.proofs.Common.{◌≡◌, ℕ, zero, suc, ◌≤◌, arith, Bool, true, Option, Some, None, length, slice_get, refl, ap, ◌∙◌}
+use Rattle.std.proofs.lemmas.Bool.{false≢true}
+use Rattle.listed.proofs.Members.{got_same}
+use Rattle.hh_lang.specs.Form.{ProgramText}
+use Rattle.hh_model.specs.declared.data.End.{End}
+use Rattle.hh_model.specs.declared.data.State.{State}
+use Rattle.hh_model.specs.Effect.{row_of}
+use Rattle.hh_model.specs.Step.{asked, can_step, goes_on, is_running, step}
+use Rattle.run_ledger.specs.declared.data.Heap.{Heap as Account}
+use Rattle.run_ledger.specs.declared.data.Ledger.{Ledger}
+use Rattle.run_ledger.specs.Heaps.{placed, with_heap_at}
+use Rattle.run_ledger.specs.Steps.{allocated_by, task_step, task_steps}
+use Rattle.run_ledger.proofs.RunOn.{steps_run_on}
+use Rattle.task_machine.specs.Accounts.{AccountsAreSteps, FollowsSteps, account_after, account_by}
+use Rattle.task_machine.specs.Outline.{steps}
+
+-- a task that can take a step runs, and the machine goes on
+goes_parts : (o : Option End) (b : Bool) → goes_on o b ≡ true → (o ≡ None) × (b ≡ true)
+goes_parts None b h = (refl, h)
+goes_parts (Some e) b h = absurd (false≢true h)
+
+-- what an allocation makes of the account
+allocated_account : (l : Ledger) (t : ℕ) (h : Account) (o : Option ℕ) → slice_get l.heaps t ≡ Some h → slice_get (allocated_by l t o).heaps t ≡ Some (account_by l.machine t h o)
+allocated_account l t h None there = there
+allocated_account l t h (Some w) there =
+    let f : Account → Account = λ z. placed z (record { task = t; count = length (row_of (slice_get l.machine.store t)) }) w in
+    ap (λ (q : Option Account). slice_get (with_heap_at l t f q).heaps t) there ∙ got_same l.heaps t h (f h) there
+
+module _ (p : ProgramText) (l : Ledger) (t : ℕ) (h : Account) (there : slice_get l.heaps t ≡ Some h) where
+  steps_last : (i : ℕ) (k : Ledger) → task_steps p k t (suc i) ≡ task_step p (task_steps p k t i) t
+  steps_last zero k = refl
+  steps_last (suc i) k = steps_last i (task_step p k t)
+
+  follows : (k : ℕ) → ((i : ℕ) → i ≤ k → can_step (steps p l.machine t i) t ≡ true) → FollowsSteps p l t h k
+  follows zero can = record { machine = refl; account = there }
+  follows (suc k) can =
+      let F = follows k (λ i le. can i (omega (arith, le))) in
+      let b : Ledger = task_steps p l t k in
+      let old : State = steps p l.machine t k in
+      let now : can_step b.machine t ≡ true = ap (λ m. can_step m t) F.machine ∙ can k (omega arith) in
+      let new = goes_parts (step p old t).end (is_running (slice_get (step p old t).tasks t)) (can (suc k) (omega arith)) in
+      let ends : (step p b.machine t).end ≡ None = ap (λ m. (step p m t).end) F.machine ∙ new.0 in
+      let runs : is_running (slice_get (step p b.machine t).tasks t) ≡ true = ap (λ m. is_running (slice_get (step p m t).tasks t)) F.machine ∙ new.1 in
+      let last = steps_last k l ∙ steps_run_on p b t now ends runs in
+      record {
+        machine = ap (λ (z : Ledger). z.machine) last ∙ ap (λ m. step p m t) F.machine;
+        account =
+            ap (λ (z : Ledger). slice_get z.heaps t) last
+            ∙ (allocated_account b t (account_after p l.machine t h k) (asked p b.machine t) F.account
+            ∙ ap (λ (m : State). Some (account_by m t (account_after p l.machine t h k) (asked p m t))) F.machine);
+      }
+
+pub accounts_are_steps : AccountsAreSteps
+accounts_are_steps p l t k h can there = follows p l t h there k can

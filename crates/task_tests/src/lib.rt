@@ -1,0 +1,9 @@
+// Tests that run a task on its own part; it has no code of its own.
+#![tactic(auto)]
+
+#[cfg(test)]
+mod instructions;
+#[cfg(test)]
+mod parts;
+#[cfg(test)]
+mod pauses;

@@ -1,0 +1,78 @@
+// Why a task's private steps pause: the first reason that fits.
+
+use crate::parts::{AMPLE, Setup, pause_of};
+use std::test::Fail;
+
+// A due collection comes with the second object.
+const TWO_OBJECTS: &str = "fn main\nset i1 14\nnewm r0 i0 i1\nnewm r0 i0 i1\nend";
+
+// The second object has no place either.
+const TWO_CHUNKS: &str = "fn main\nset i1 1000\nnewm r0 i0 i1\nnewm r0 i0 i1\nend";
+
+const TOO_LARGE: &str = "fn main\nset i1 14\nset i2 -1\nnewm r0 i0 i1\nnewm r0 i0 i2\nend";
+
+const LARGE_OBJECT: &str = "fn main\nset i1 2000\nnewm r0 i0 i1\nset i0 5\nend";
+
+// 256 private steps, and then an output.
+const LONG_LOOP: &str =
+    "fn main\nset i1 1\nset i0 85\nlab a\nsub i0 i0 i1\njz i0 b\njmp a\nlab b\nout i0\nend";
+
+const ENDLESS: &str = "fn main\nset i1 1\nlab a\nadd i0 i0 i1\njmp a\nend";
+
+const DUE_SOON: Setup = Setup {
+    leaf: 16,
+    fields: 1022,
+    units: 1,
+};
+
+const DUE_LATER: Setup = Setup {
+    leaf: 17,
+    fields: 1022,
+    units: 1,
+};
+
+const NO_CHUNK: Setup = Setup {
+    leaf: 16,
+    fields: 1022,
+    units: 0,
+};
+
+const LARGE: Setup = Setup {
+    leaf: 4096,
+    fields: 5000,
+    units: 2,
+};
+
+const SMALL_CHUNK: Setup = Setup {
+    leaf: 4096,
+    fields: 5000,
+    units: 1,
+};
+
+// A program, its setup and budget; why it pauses, after how many steps, and its i0.
+const PAUSES: [(&str, Setup, u32, &str); 15] = [
+    (ENDLESS, NO_CHUNK, 5, "spent 5 2"),
+    (ENDLESS, NO_CHUNK, 0, "spent 0 0"),
+    (TWO_OBJECTS, AMPLE, 256, "shared 3 0"),
+    (TWO_OBJECTS, AMPLE, 3, "shared 3 0"),
+    (TWO_OBJECTS, DUE_SOON, 256, "due 2 0"),
+    (TWO_OBJECTS, DUE_SOON, 2, "due 2 0"),
+    (TWO_OBJECTS, DUE_LATER, 256, "shared 3 0"),
+    (TWO_OBJECTS, NO_CHUNK, 256, "need 1 0"),
+    (TWO_OBJECTS, NO_CHUNK, 1, "need 1 0"),
+    (TWO_CHUNKS, DUE_SOON, 256, "due 2 0"),
+    (TWO_CHUNKS, AMPLE, 256, "need 2 0"),
+    (TOO_LARGE, DUE_SOON, 3, "shared 3 0"),
+    (LARGE_OBJECT, LARGE, 256, "shared 3 5"),
+    (LARGE_OBJECT, SMALL_CHUNK, 256, "need 1 0"),
+    (LONG_LOOP, NO_CHUNK, 256, "shared 256 0"),
+];
+
+#[test]
+fn pauses(rt: HostRuntime) -> Result<(), Fail> {
+    for (text, setup, budget, expected) in PAUSES {
+        let told = pause_of(rt.alloc(), text, setup, budget)?;
+        assert_eq!(rt; told.as_str(), expected, "{text}");
+    }
+    Ok(())
+}
