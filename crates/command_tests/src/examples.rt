@@ -29,7 +29,16 @@ const TRAP: &str =
 
 #[test]
 fn examples_are_accepted(rt: HostRuntime) -> Result<(), Fail> {
-    for text in [CALL, DOWN_POINTER, ENTANGLED, FORK, LOOP, LOOP_SUM, SEVEN, TRAP] {
+    for text in [
+        CALL,
+        DOWN_POINTER,
+        ENTANGLED,
+        FORK,
+        LOOP,
+        LOOP_SUM,
+        SEVEN,
+        TRAP,
+    ] {
         let (code, written) = said(&rt, "check", text)?;
         assert_eq!(rt; code, 0);
         assert_eq!(rt; written.as_slice(), b"end: accepted\n".as_slice());

@@ -60,7 +60,14 @@ pub(crate) fn said<R: AllocGlobal + Threads + Wait + Sync>(
         Vec::new(alloc),
     );
     let mut sink = MemSink::new(alloc, 65536, Vec::new(alloc));
-    let ran = command(rt, alloc, words.as_slice(), &mut source, &mut sink, &EmptyGate);
+    let ran = command(
+        rt,
+        alloc,
+        words.as_slice(),
+        &mut source,
+        &mut sink,
+        &EmptyGate,
+    );
     if ran.journal.len() > 0 || ran.shared.is_some() {
         return Err("no run is handed back")?;
     }
@@ -70,9 +77,19 @@ pub(crate) fn said<R: AllocGlobal + Threads + Wait + Sync>(
 #[test]
 fn loops_are_replayed(rt: HostRuntime) -> Result<(), Fail> {
     let cases = [
-        ("model --report", TEN, 0, "90\nreport tasks 19 steps 313 turns 57\nreport leaf 0 putoff 0 freed 0\nreport inner 0 freed 0\nreport chunks 0 peak 0\nreport held 0 words 0\nend: done\n"),
+        (
+            "model --report",
+            TEN,
+            0,
+            "90\nreport tasks 19 steps 313 turns 57\nreport leaf 0 putoff 0 freed 0\nreport inner 0 freed 0\nreport chunks 0 peak 0\nreport held 0 words 0\nend: done\n",
+        ),
         ("model", NO_NUMBER, 0, "0\nend: done\n"),
-        ("check", NO_FUNCTION, 3, "end: source refused line 8 noname\n"),
+        (
+            "check",
+            NO_FUNCTION,
+            3,
+            "end: source refused line 8 noname\n",
+        ),
     ];
     for (line, input, status, bytes) in cases {
         let (code, written) = said(&rt, line, input)?;
@@ -85,8 +102,18 @@ fn loops_are_replayed(rt: HostRuntime) -> Result<(), Fail> {
 #[test]
 fn races_are_told(rt: HostRuntime) -> Result<(), Fail> {
     let cases = [
-        ("races --workers 2 --leaf 16", COLLECTS, 12, "race 0 0 ref 0 tasks 1 2 lines 5 13\nend: races 1\n"),
-        ("races p.hh", ENTANGLES, 12, "race 0 0 ref 0 tasks 1 2 lines 5 10\nend: races 1\n"),
+        (
+            "races --workers 2 --leaf 16",
+            COLLECTS,
+            12,
+            "race 0 0 ref 0 tasks 1 2 lines 5 13\nend: races 1\n",
+        ),
+        (
+            "races p.hh",
+            ENTANGLES,
+            12,
+            "race 0 0 ref 0 tasks 1 2 lines 5 10\nend: races 1\n",
+        ),
         ("races", DISENTANGLED, 0, "end: races 0\n"),
         ("races", SWAPS, 0, "end: races 0\n"),
     ];
@@ -101,11 +128,36 @@ fn races_are_told(rt: HostRuntime) -> Result<(), Fail> {
 #[test]
 fn races_are_refused_as_traces_are(rt: HostRuntime) -> Result<(), Fail> {
     let cases = [
-        ("races", "fn main\nset i0 7\nout i0\nret\nend\ntrace 1\n0 took 0\n0 ran 0 2\n", 11, "end: trace refused short\n"),
-        ("races", "fn main\nset i0 7\nout i0\nret\nend\ntrace 1\n0 took 0\n0 ran 0 3\n", 11, "end: trace refused entry 2 long 2\n"),
-        ("races", "fn main\nset i0 7\nout i0\nret\nend\ntrace 1\n0 took 0\n0 ran 0\n", 11, "end: trace refused line 8\n"),
-        ("races", "fn main\n", 3, "end: source refused line 2 noend\n"),
-        ("races --report", "fn main\nset i0 7\nout i0\nret\nend\n", 2, "end: words refused\n"),
+        (
+            "races",
+            "fn main\nset i0 7\nout i0\nret\nend\ntrace 1\n0 took 0\n0 ran 0 2\n",
+            11,
+            "end: trace refused short\n",
+        ),
+        (
+            "races",
+            "fn main\nset i0 7\nout i0\nret\nend\ntrace 1\n0 took 0\n0 ran 0 3\n",
+            11,
+            "end: trace refused entry 2 long 2\n",
+        ),
+        (
+            "races",
+            "fn main\nset i0 7\nout i0\nret\nend\ntrace 1\n0 took 0\n0 ran 0\n",
+            11,
+            "end: trace refused line 8\n",
+        ),
+        (
+            "races",
+            "fn main\n",
+            3,
+            "end: source refused line 2 noend\n",
+        ),
+        (
+            "races --report",
+            "fn main\nset i0 7\nout i0\nret\nend\n",
+            2,
+            "end: words refused\n",
+        ),
     ];
     for (line, input, status, bytes) in cases {
         let (code, written) = said(&rt, line, input)?;
@@ -118,10 +170,30 @@ fn races_are_refused_as_traces_are(rt: HostRuntime) -> Result<(), Fail> {
 #[test]
 fn images_are_verified(rt: HostRuntime) -> Result<(), Fail> {
     let cases = [
-        ("verify", "image 1\ntask 0 - ended\nchunk 0 0 1024\nobject 1 0 0 mut 1 0 4\nobject 4 0 1 mut 0 1 5\nend: image 2\n", 0, "end: verified 2\n"),
-        ("verify", "image 1\ntask 0 - ended\nchunk 0 0 1024\nobject 1 0 0 mut 1 0 5\nobject 4 0 1 mut 0 1 5\nend: image 2\n", 13, "end: image refused line 4 ref\n"),
-        ("verify", "image 1\ntask 0 - ended\nchunk 0 0 1024\nobject 1 0 0 mut 1 0 0\nobject 3 0 1 mut 0 1 5\nend: image 2\n", 13, "end: image refused line 5 place\n"),
-        ("verify a.image", "image 1\n# nothing\ntask 0 - ended\nend: image 0", 0, "end: verified 0\n"),
+        (
+            "verify",
+            "image 1\ntask 0 - ended\nchunk 0 0 1024\nobject 1 0 0 mut 1 0 4\nobject 4 0 1 mut 0 1 5\nend: image 2\n",
+            0,
+            "end: verified 2\n",
+        ),
+        (
+            "verify",
+            "image 1\ntask 0 - ended\nchunk 0 0 1024\nobject 1 0 0 mut 1 0 5\nobject 4 0 1 mut 0 1 5\nend: image 2\n",
+            13,
+            "end: image refused line 4 ref\n",
+        ),
+        (
+            "verify",
+            "image 1\ntask 0 - ended\nchunk 0 0 1024\nobject 1 0 0 mut 1 0 0\nobject 3 0 1 mut 0 1 5\nend: image 2\n",
+            13,
+            "end: image refused line 5 place\n",
+        ),
+        (
+            "verify a.image",
+            "image 1\n# nothing\ntask 0 - ended\nend: image 0",
+            0,
+            "end: verified 0\n",
+        ),
         ("verify", "", 13, "end: image refused line 1 line\n"),
     ];
     for (line, input, status, bytes) in cases {
@@ -136,25 +208,76 @@ fn images_are_verified(rt: HostRuntime) -> Result<(), Fail> {
 #[test]
 fn each_cause_is_told(rt: HostRuntime) -> Result<(), Fail> {
     let cases = [
-        ("chunk 0 0 1024\nchunk 1 1 2048\nobject 1 0 0 mut 2 0 1025 0 # up\nobject 1025 1 0 imm 1 1 1 -7\nremembered 1 1 0\nend: image 2", "end: verified 2\n"),
-        ("chunk 1 0 1024\nchunk 0 0 1024\nend: image 0", "end: image refused line 6 line\n"),
-        ("chunk 0 0 1025\nend: image 0", "end: image refused line 5 line\n"),
+        (
+            "chunk 0 0 1024\nchunk 1 1 2048\nobject 1 0 0 mut 2 0 1025 0 # up\nobject 1025 1 0 imm 1 1 1 -7\nremembered 1 1 0\nend: image 2",
+            "end: verified 2\n",
+        ),
+        (
+            "chunk 1 0 1024\nchunk 0 0 1024\nend: image 0",
+            "end: image refused line 6 line\n",
+        ),
+        (
+            "chunk 0 0 1025\nend: image 0",
+            "end: image refused line 5 line\n",
+        ),
         ("end: image 0\n\nx", "end: image refused line 7 line\n"),
         ("chunk 0 0 1024", "end: image refused line 5 line\n"),
-        ("task 4 3 ended\nend: image 0", "end: image refused line 5 notask\n"),
-        ("chunk 0 5 1024\nend: image 0", "end: image refused line 5 notask\n"),
-        ("chunk 0 0 1024\nobject 1 0 0 mut 0 0\nobject 3 0 0 mut 0 0\nend: image 2", "end: image refused line 7 twice\n"),
-        ("chunk 0 0 1024\nobject 1025 0 0 mut 0 0\nend: image 1", "end: image refused line 6 nochunk\n"),
-        ("chunk 0 0 1024\nobject 0 0 0 mut 0 0\nend: image 1", "end: image refused line 6 nochunk\n"),
-        ("chunk 0 0 1024\nobject 1023 0 0 mut 0 1 7\nend: image 1", "end: image refused line 6 place\n"),
-        ("chunk 0 2 1024\nobject 1 0 0 mut 0 0\nend: image 1", "end: image refused line 6 running\n"),
-        ("chunk 0 0 1024\nobject 1 0 0 mut 1 0 9\nend: image 1", "end: image refused line 6 ref\n"),
-        ("chunk 0 1 1024\nchunk 1 2 1024\nobject 1 0 0 mut 1 0 1030\nend: image 1", "end: image refused line 7 cross\n"),
-        ("chunk 0 0 1024\nchunk 1 2 1024\nobject 1 0 0 mut 1 0 1030\nend: image 1", "end: image refused line 7 down\n"),
-        ("chunk 0 0 1024\nchunk 1 2 1024\nobject 1 0 0 mut 1 0 1030\nremembered 2 1 0\nend: image 1", "end: verified 1\n"),
-        ("chunk 0 0 1024\nobject 1 0 0 mut 1 0 0\nremembered 2 1 1\nend: image 1", "end: image refused line 7 field\n"),
-        ("chunk 0 0 1024\nobject 1 0 0 mut 1 0 0\nremembered 0 1 0\nend: image 1", "end: image refused line 7 field\n"),
-        ("chunk 0 0 1024\nobject 1 0 0 mut 1 0 0\nend: image 2", "end: image refused line 7 count\n"),
+        (
+            "task 4 3 ended\nend: image 0",
+            "end: image refused line 5 notask\n",
+        ),
+        (
+            "chunk 0 5 1024\nend: image 0",
+            "end: image refused line 5 notask\n",
+        ),
+        (
+            "chunk 0 0 1024\nobject 1 0 0 mut 0 0\nobject 3 0 0 mut 0 0\nend: image 2",
+            "end: image refused line 7 twice\n",
+        ),
+        (
+            "chunk 0 0 1024\nobject 1025 0 0 mut 0 0\nend: image 1",
+            "end: image refused line 6 nochunk\n",
+        ),
+        (
+            "chunk 0 0 1024\nobject 0 0 0 mut 0 0\nend: image 1",
+            "end: image refused line 6 nochunk\n",
+        ),
+        (
+            "chunk 0 0 1024\nobject 1023 0 0 mut 0 1 7\nend: image 1",
+            "end: image refused line 6 place\n",
+        ),
+        (
+            "chunk 0 2 1024\nobject 1 0 0 mut 0 0\nend: image 1",
+            "end: image refused line 6 running\n",
+        ),
+        (
+            "chunk 0 0 1024\nobject 1 0 0 mut 1 0 9\nend: image 1",
+            "end: image refused line 6 ref\n",
+        ),
+        (
+            "chunk 0 1 1024\nchunk 1 2 1024\nobject 1 0 0 mut 1 0 1030\nend: image 1",
+            "end: image refused line 7 cross\n",
+        ),
+        (
+            "chunk 0 0 1024\nchunk 1 2 1024\nobject 1 0 0 mut 1 0 1030\nend: image 1",
+            "end: image refused line 7 down\n",
+        ),
+        (
+            "chunk 0 0 1024\nchunk 1 2 1024\nobject 1 0 0 mut 1 0 1030\nremembered 2 1 0\nend: image 1",
+            "end: verified 1\n",
+        ),
+        (
+            "chunk 0 0 1024\nobject 1 0 0 mut 1 0 0\nremembered 2 1 1\nend: image 1",
+            "end: image refused line 7 field\n",
+        ),
+        (
+            "chunk 0 0 1024\nobject 1 0 0 mut 1 0 0\nremembered 0 1 0\nend: image 1",
+            "end: image refused line 7 field\n",
+        ),
+        (
+            "chunk 0 0 1024\nobject 1 0 0 mut 1 0 0\nend: image 2",
+            "end: image refused line 7 count\n",
+        ),
     ];
     for (lines, bytes) in cases {
         let text = format!(in rt.alloc();
