@@ -1,5 +1,5 @@
 -- Every answer has a status that is written.
-use Rattle.std.proofs.Common.{◌∙◌, ◌≡◌, ℕ, List, Bool, true, false, sym, subst, inl, inr}
+use Rattle.std.proofs.Common.{◌∙◌, ◌≡◌, ℕ, List, [], ◌∷◌, Bool, true, false, sym, subst, inl, inr}
 use Rattle.std.specs.Prelude.{Option, Some, None, Result, Ok, Err, length, nat_le}
 use Rattle.hh_lang.specs.Form.{ProgramText}
 use Rattle.hh_model.specs.declared.data.End.{End}
@@ -18,14 +18,18 @@ use Rattle.trace_input.specs.declared.input.TraceInput.{TraceInput}
 use Rattle.trace_input.specs.Input.{input_fault}
 use Rattle.command_line.specs.declared.line.Options.{Options}
 use Rattle.command_line.specs.declared.line.CommandLine.{CommandLine}
-use Rattle.command_line.specs.declared.line.CommandLine.TheVariants.{Check, Run, Model, Make}
+use Rattle.command_line.specs.declared.line.CommandLine.TheVariants.{Check, Run, Model, Races, Make, Verify}
 use Rattle.command_core.specs.declared.answer.Status.{Status}
 use Rattle.command_core.specs.declared.answer.Status.TheVariants.{ReadFault}
 use Rattle.command_core.specs.declared.answer.Answer.{Answer}
 use Rattle.command_core.specs.declared.answer.Ran.{Ran}
 use Rattle.command_core.specs.Status.{status_of_end}
 use Rattle.command_core.specs.Input.{program_limit, trace_limit}
-use Rattle.command_core.specs.Answers.{IsText, WhereWithin, AnswersReading, AnswersProgram, AnswersProgramRead, AnswersEnded, AnswersJournal, AnswersTraceInput, AnswersLine, limits_for}
+use Rattle.run_trace.specs.Entry.{Event}
+use Rattle.race_report.specs.declared.data.Race.{Race}
+use Rattle.image_check.specs.declared.cause.Fault.{Fault}
+use Rattle.image_check.specs.Fault.{image_fault, objects_in}
+use Rattle.command_core.specs.Answers.{IsText, WhereWithin, AnswersReading, AnswersProgram, AnswersProgramRead, AnswersEnded, AnswersJournal, AnswersTraceInput, AnswersLine, limits_for, races_status, races_limits, AnswersRacesOf, AnswersRacesInput, AnswersImage}
 use Rattle.command_core.specs.Delivery.{IsAnswered, Delivered}
 
 text : (named : Status) (bytes : List ℕ) (a : Answer) → IsAnswered named → IsText named bytes a → IsAnswered a.status
@@ -70,11 +74,30 @@ trace_input o input (Some (Source r)) a h = text _ _ a tt h
 trace_input o input (Some (BadLine n)) a h = text _ _ a tt h
 trace_input o input None a h = let t = h.0 in journal t.program (limits_for o t) o t (refused_as_run t.program (limits_for o t) t.trace.entries) a h.2
 
+races_are : (races : List Race) → IsAnswered (races_status races)
+races_are [] = tt
+races_are (r ∷ rs) = tt
+
+races_of : (p : ProgramText) (s : Limits) (js : List Event) (r : Option RefusedAt) (a : Answer) → AnswersRacesOf p s js r a → IsAnswered a.status
+races_of p s js (Some r) a h = text _ _ a tt h
+races_of p s js None a h = text _ _ a (races_are h.races) h.text
+
+races_input : (s : Limits) (input : List ℕ) (f : Option InputFault) (a : Answer) → AnswersRacesInput s input f a → IsAnswered a.status
+races_input s input (Some (Source r)) a h = text _ _ a tt h
+races_input s input (Some (BadLine n)) a h = text _ _ a tt h
+races_input s input None a h = let t = h.0 in races_of t.program (races_limits s t) t.trace.entries (refused_as_run t.program (races_limits s t) t.trace.entries) a h.2
+
+image : (f : Option Fault) (objects : ℕ) (a : Answer) → AnswersImage f objects a → IsAnswered a.status
+image (Some f) objects a h = text _ _ a tt h
+image None objects a h = text _ _ a tt h
+
 pub answered : (line : CommandLine) (input : List ℕ) (a : Answer) → AnswersLine line input a → IsAnswered a.status
 answered (Check file) input a h = within (nat_le (length input) program_limit) (AnswersReading (reading_of input)) a (reading (reading_of input) a) h
 answered (Run file) input a h = within (nat_le (length input) program_limit) (AnswersProgramRead (reading_of input)) a (program_read (reading_of input) a) h
 answered (Model file o) input a h = within (nat_le (length input) trace_limit) (AnswersTraceInput o input (input_fault input)) a (trace_input o input (input_fault input) a) h
+answered (Races file s) input a h = within (nat_le (length input) trace_limit) (AnswersRacesInput s input (input_fault input)) a (races_input s input (input_fault input) a) h
 answered (Make seed size) input a h = text _ _ a tt h
+answered (Verify file) input a h = image (image_fault input) (objects_in input) a h
 
 -- what was written isn't told as a read fault
 pub never_read_fault : (a : Answer) (r : Ran) (before after : Option (List ℕ)) → IsAnswered a.status → Delivered a r before after → r.status ≡ ReadFault → ⊥

@@ -1,15 +1,15 @@
 -- An answer that was delivered is what the call answers.
-use Rattle.std.proofs.Common.{◌⊎◌, ◌≡◌, ℕ, List, refl, sym, subst, inl, inr}
+use Rattle.std.proofs.Common.{◌⊎◌, ◌≡◌, ◌≤◌, ◌+◌, ℕ, List, [], length, refl, sym, subst, inl, inr, arith}
 use Rattle.std.specs.Prelude.{Option}
 use Rattle.outside_io.specs.Told.{with_more}
 use Rattle.command_line.specs.declared.line.CommandLine.{CommandLine}
 use Rattle.command_core.specs.declared.answer.Status.{Status}
-use Rattle.command_core.specs.declared.answer.Status.TheVariants.{Done, Words, Source, Trap, Entangled, Fuel, Pool, ReadFault, WriteFault, NoMemory, Trace}
+use Rattle.command_core.specs.declared.answer.Status.TheVariants.{Done, Words, Source, Trap, Entangled, Fuel, Pool, ReadFault, WriteFault, NoMemory, Trace, Races, Image}
 use Rattle.command_core.specs.declared.answer.Answer.{Answer}
 use Rattle.command_core.specs.declared.answer.Ran.{Ran}
 use Rattle.command_core.specs.Answers.{AnswersLine}
 use Rattle.command_core.specs.Laws.{NoFaultGivesAll}
-use Rattle.command_core.specs.Delivery.{DeliversBy, Delivers, Delivered, IsAnswered}
+use Rattle.command_core.specs.Delivery.{DeliversNothing, DeliversBy, Delivers, Delivered, HandsNothing, IsAnswered}
 
 abbrev Given : (Answer → Type 0) → Ran → Option (List ℕ) → Option (List ℕ) → Status → Type 0
 Given P r before after s = (a : Answer) × P a × (a.status ≡ s) × (r.journal ≡ a.journal) × (r.shared ≡ a.shared) × (after ≡ with_more before a.bytes)
@@ -23,6 +23,8 @@ whole P r before after Entangled ok g = g
 whole P r before after Fuel ok g = g
 whole P r before after Pool ok g = g
 whole P r before after Trace ok g = g
+whole P r before after Races ok g = g
+whole P r before after Image ok g = g
 whole P r before after ReadFault ok g = absurd ok
 whole P r before after WriteFault ok g = absurd ok
 whole P r before after NoMemory ok g = absurd ok
@@ -52,9 +54,43 @@ by_status line input r before after Entangled e d nr nw = all_given line input r
 by_status line input r before after Fuel e d nr nw = all_given line input r before after Fuel e d
 by_status line input r before after Pool e d nr nw = all_given line input r before after Pool e d
 by_status line input r before after Trace e d nr nw = all_given line input r before after Trace e d
+by_status line input r before after Races e d nr nw = all_given line input r before after Races e d
+by_status line input r before after Image e d nr nw = all_given line input r before after Image e d
 by_status line input r before after ReadFault e d nr nw = absurd (nr e)
 by_status line input r before after WriteFault e d nr nw = absurd (nw e)
 by_status line input r before after NoMemory e d nr nw = inl e
 
 pub no_fault_gives_all : NoFaultGivesAll
 no_fault_gives_all = λ line input r before after d nr nw. by_status line input r before after r.status refl d nr nw
+
+-- NOTHING WAS ANSWERED
+
+abbrev pub IsSilent : Status → Type 0
+IsSilent ReadFault = Unit {0}
+IsSilent NoMemory = Unit {0}
+IsSilent _ = ⊥
+
+silent : (P : Answer → Type 0) (r : Ran) (w : Option (List ℕ)) (s : Status) → IsSilent s → DeliversNothing r w w → DeliversBy s P r w w
+silent P r w ReadFault ok h = h
+silent P r w NoMemory ok h = h
+silent P r w Done ok h = absurd ok
+silent P r w Words ok h = absurd ok
+silent P r w Source ok h = absurd ok
+silent P r w Trap ok h = absurd ok
+silent P r w Entangled ok h = absurd ok
+silent P r w Fuel ok h = absurd ok
+silent P r w Pool ok h = absurd ok
+silent P r w WriteFault ok h = absurd ok
+silent P r w Trace ok h = absurd ok
+silent P r w Races ok h = absurd ok
+silent P r w Image ok h = absurd ok
+
+-- then the empty input serves as well as any
+pub some_silent : (P : List ℕ → Answer → Type 0) (limit : ℕ) (r : Ran) (w : Option (List ℕ)) (s : Status) → IsSilent s → HandsNothing s r
+    → (input : List ℕ) × (length input ≤ limit + 1) × Delivers (P input) r w w
+some_silent P limit r w s ok h = ([], omega arith, subst (λ x. DeliversBy x (P []) r w w) (sym h.status) (silent (P []) r w s ok (h.journal, h.shared, refl)))
+
+-- an input that was read is one
+pub some_given : (P : List ℕ → Answer → Type 0) (limit : ℕ) (input : List ℕ) (r : Ran) (w v : Option (List ℕ)) → length input ≤ limit + 1 → Delivers (P input) r w v
+    → (input : List ℕ) × (length input ≤ limit + 1) × Delivers (P input) r w v
+some_given P limit input r w v le d = (input, le, d)

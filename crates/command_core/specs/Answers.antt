@@ -2,10 +2,11 @@
 use Rattle.std.specs.Prelude.{◌≡◌, ℕ, true, false, Bool, Option, Some, None, List, [], ◌∷◌, ◌++◌, Result, Ok, Err, length, nat_le, codes}
 use Rattle.std.specs.Fmt.{decimal}
 use Rattle.hh_lang.specs.Form.{ProgramText}
-use Rattle.run_trace.specs.Settings.{Limits, usual_limits}
+use Rattle.run_trace.specs.Settings.{Limits, field_limit, usual_limits}
 use Rattle.run_ledger.specs.declared.data.RunEnd.{RunEnd}
 use Rattle.run_ledger.specs.declared.data.RefusedAt.{RefusedAt}
-use Rattle.run_ledger.specs.Journals.{end_of, refused_as_run}
+use Rattle.run_trace.specs.Entry.{Event}
+use Rattle.run_ledger.specs.Journals.{end_of, refused_as_run, machine_of, tasks_of}
 use Rattle.run_ledger.specs.Text.{end_line, end_words, out_text, output_lines, refused_line}
 use Rattle.program_reader.specs.declared.cause.Cause.TheVariants.{TooLong, Word}
 use Rattle.program_reader.specs.declared.cause.Refused.{Refused}
@@ -20,11 +21,18 @@ use Rattle.shared_tree.specs.World.{World, accounts, without_journal}
 use Rattle.shared_tree.specs.Stands.{IsWorld}
 use Rattle.world_core.specs.Ready.{first_unready}
 use Rattle.world_core.specs.Alone.{IsRun}
+use Rattle.race_report.specs.declared.data.Race.{Race}
+use Rattle.race_report.specs.Accesses.{accesses}
+use Rattle.race_report.specs.Report.{IsReport}
+use Rattle.race_report.specs.Text.{races_text}
+use Rattle.image_check.specs.declared.cause.Fault.{Fault}
+use Rattle.image_check.specs.Cause.{text_of_cause as text_of_fault}
+use Rattle.image_check.specs.Fault.{image_fault, objects_in}
 use Rattle.command_line.specs.declared.line.Options.{Options}
 use Rattle.command_line.specs.declared.line.CommandLine.{CommandLine}
-use Rattle.command_line.specs.declared.line.CommandLine.TheVariants.{Check, Run, Model, Make}
+use Rattle.command_line.specs.declared.line.CommandLine.TheVariants.{Check, Run, Model, Races, Make, Verify}
 use Rattle.command_core.specs.declared.answer.Status.{Status}
-use Rattle.command_core.specs.declared.answer.Status.TheVariants.{Done, Words, Source, Trace}
+use Rattle.command_core.specs.declared.answer.Status.TheVariants.{Done, Words, Source, Trace, Races as RacesFound, Image}
 use Rattle.command_core.specs.declared.answer.Answer.{Answer}
 use Rattle.command_core.specs.Status.{status_of_end}
 use Rattle.command_core.specs.Input.{program_limit, trace_limit}
@@ -129,6 +137,49 @@ AnswersTraceInput o input None a = (t : TraceInput) × IsInput input t × Answer
 abbrev pub AnswersModel : Options → List ℕ → Answer → Type 0
 AnswersModel o input = WhereWithin (nat_le (length input) trace_limit) (AnswersTraceInput o input (input_fault input))
 
+-- RACES
+
+abbrev pub races_status : List Race → Status
+races_status [] = Done
+races_status (r ∷ rs) = RacesFound
+
+-- the races of a journal, each first pair, in the order of their fields
+pub record IsRaceAnswer (p : ProgramText) (s : Limits) (journal : List Event) (a : Answer) : Type 0 where
+  pub races : List Race
+  pub report : IsReport (machine_of p s journal).edges (accesses p (field_limit s.version) (tasks_of journal)) races
+  pub text : IsText (races_status races) (races_text races) a
+
+abbrev pub AnswersRacesOf : ProgramText → Limits → List Event → Option RefusedAt → Answer → Type 0
+AnswersRacesOf p s journal (Some r) = IsText Trace (refused_line r)
+AnswersRacesOf p s journal None = IsRaceAnswer p s journal
+
+abbrev pub races_limits : Limits → TraceInput → Limits
+races_limits s t = record s { version = t.trace.version }
+
+abbrev pub AnswersRacesTrace : Limits → TraceInput → Answer → Type 0
+AnswersRacesTrace s t = AnswersRacesOf t.program (races_limits s t) t.trace.entries (refused_as_run t.program (races_limits s t) t.trace.entries)
+
+abbrev pub AnswersRacesInput : Limits → List ℕ → Option InputFault → Answer → Type 0
+AnswersRacesInput s input (Some (SourceFault r)) a = AnswersRefused r a
+AnswersRacesInput s input (Some (BadLine n)) a = IsText Trace (bad_line n) a
+AnswersRacesInput s input None a = (t : TraceInput) × IsInput input t × AnswersRacesTrace s t a
+
+abbrev pub AnswersRaces : Limits → List ℕ → Answer → Type 0
+AnswersRaces s input = WhereWithin (nat_le (length input) trace_limit) (AnswersRacesInput s input (input_fault input))
+
+-- VERIFY
+
+-- a refused image
+abbrev pub image_line : Fault → List ℕ
+image_line f = end_line (codes "image refused line" ∷ decimal f.line ∷ text_of_fault f.cause ∷ [])
+
+abbrev pub AnswersImage : Option Fault → ℕ → Answer → Type 0
+AnswersImage (Some f) objects = IsText Image (image_line f)
+AnswersImage None objects = IsText Done (end_line (codes "verified" ∷ decimal objects ∷ []))
+
+abbrev pub AnswersVerify : List ℕ → Answer → Type 0
+AnswersVerify input = AnswersImage (image_fault input) (objects_in input)
+
 -- MAKE
 
 abbrev pub AnswersMake : ℕ → ℕ → Answer → Type 0
@@ -140,4 +191,6 @@ abbrev pub AnswersLine : CommandLine → List ℕ → Answer → Type 0
 AnswersLine (Check file) input = AnswersCheck input
 AnswersLine (Run file) input = AnswersRun input
 AnswersLine (Model file options) input = AnswersModel options input
+AnswersLine (Races file limits) input = AnswersRaces limits input
 AnswersLine (Make seed size) input = AnswersMake seed size
+AnswersLine (Verify file) input = AnswersVerify input

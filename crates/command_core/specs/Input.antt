@@ -1,8 +1,9 @@
 -- The inputs of commands: whose bytes they are, and how many of them are read.
 use Rattle.std.specs.Prelude.{◌≡◌, ℕ, ◌+◌, Bool, true, false, List, [], ◌++◌, Option, Some, None, length, take}
 use Rattle.outside_io.specs.Told.{Gives, with_more}
+use Rattle.image_check.specs.Fault.{image_limit}
 use Rattle.command_line.specs.declared.line.CommandLine.{CommandLine}
-use Rattle.command_line.specs.declared.line.CommandLine.TheVariants.{Check, Run, Model, Make}
+use Rattle.command_line.specs.declared.line.CommandLine.TheVariants.{Check, Run, Model, Races, Make, Verify}
 
 -- the most bytes of a program's text, and of a program with a trace
 abbrev pub program_limit : ℕ
@@ -15,14 +16,14 @@ abbrev pub limit_of : CommandLine → ℕ
 limit_of (Check file) = program_limit
 limit_of (Run file) = program_limit
 limit_of (Model file options) = trace_limit
+limit_of (Races file limits) = trace_limit
 limit_of (Make seed size) = 0
+limit_of (Verify file) = image_limit
 
 -- whether a command reads an input
 abbrev pub is_reading : CommandLine → Bool
-is_reading (Check file) = true
-is_reading (Run file) = true
-is_reading (Model file options) = true
 is_reading (Make seed size) = false
+is_reading _ = true
 
 abbrev pub reads : Option CommandLine → Bool
 reads None = false
@@ -38,7 +39,9 @@ abbrev pub told_for : Option (List ℕ) → (List ℕ → Option (List ℕ)) →
 told_for left named (Check file) = told left named file
 told_for left named (Run file) = told left named file
 told_for left named (Model file options) = told left named file
+told_for left named (Races file limits) = told left named file
 told_for left named (Make seed size) = Some []
+told_for left named (Verify file) = told left named file
 
 -- the input: all of the bytes, or the first ones as far as one past the limit
 abbrev pub input_of : ℕ → List ℕ → List ℕ

@@ -6,7 +6,7 @@ use Rattle.run_ledger.specs.declared.data.RunEnd.{RunEnd}
 use Rattle.run_ledger.specs.declared.data.RunEnd.TheVariants.{Machine, Fuel as FuelEnd, Pool as PoolEnd}
 use Rattle.run_ledger.specs.Text.{end_status}
 use Rattle.command_core.specs.declared.answer.Status.{Status}
-use Rattle.command_core.specs.declared.answer.Status.TheVariants.{Done, Words, Source, Trap, Entangled, Fuel, Pool, ReadFault, WriteFault, NoMemory, Trace}
+use Rattle.command_core.specs.declared.answer.Status.TheVariants.{Done, Words, Source, Trap, Entangled, Fuel, Pool, ReadFault, WriteFault, NoMemory, Trace, Races, Image}
 
 -- exit statuses
 abbrev pub code_of_status : Status → ℕ
@@ -21,6 +21,8 @@ code_of_status ReadFault = 8
 code_of_status WriteFault = 9
 code_of_status NoMemory = 10
 code_of_status Trace = 11
+code_of_status Races = 12
+code_of_status Image = 13
 
 -- the status of a run by its end
 abbrev pub status_of_machine : End → Status

@@ -34,6 +34,10 @@ pub enum Status {
     NoMemory,
     /// A line of the trace is bad, an entry isn't legal, or the trace stops before an end of its run.
     Trace,
+    /// A run has races.
+    Races,
+    /// An image is refused.
+    Image,
 }
 
 /// What is to be written, with its status and what is handed back.
@@ -72,6 +76,8 @@ impl Status {
             Status::WriteFault => 9,
             Status::NoMemory => 10,
             Status::Trace => 11,
+            Status::Races => 12,
+            Status::Image => 13,
         }
     }
 

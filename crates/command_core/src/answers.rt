@@ -7,7 +7,9 @@ ghost use Rattle.run_ledger.specs.Text.{output_lines, end_line, end_words};
 ghost use Rattle.command_core.specs.Answers.{IsText, IsAnswerOf, IsWholeRun, AnswersProgram, AnswersCheck, AnswersRun, AnswersModel, AnswersMake, AnswersTrace, AnswersLine};
 
 use crate::answer::{Answer, Status};
+use crate::images::answer_verify;
 use crate::input::{PROGRAM_LIMIT, TRACE_LIMIT};
+use crate::races::answer_races;
 use crate::refusals::{bytes_alone, line_refused, source_refused, text_alone, too_long};
 use command_line::{CommandLine, Options};
 use hh_lang::Program;
@@ -181,6 +183,8 @@ pub(crate) fn answer_line<G: Gate>(
         CommandLine::Check { file: _ } => answer_check(alloc, input),
         CommandLine::Run { file: _ } => answer_run(alloc, input, gate),
         CommandLine::Model { file: _, options } => answer_model(alloc, *options, input),
+        CommandLine::Races { file: _, settings } => answer_races(alloc, *settings, input),
         CommandLine::Make { seed, size } => answer_make(alloc, *seed, *size),
+        CommandLine::Verify { file: _ } => answer_verify(alloc, input),
     }
 }

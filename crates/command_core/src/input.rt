@@ -15,6 +15,9 @@ pub(crate) const PROGRAM_LIMIT: usize = 1048576;
 /// The most bytes of a program with a trace.
 pub(crate) const TRACE_LIMIT: usize = 16777216;
 
+/// The most bytes of an image.
+const IMAGE_LIMIT: usize = 16777216;
+
 // How many bytes are asked for at once.
 const PIECE: usize = 4096;
 
@@ -118,6 +121,8 @@ pub(crate) fn read_input<S: Source>(
         CommandLine::Check { file } => read_file(alloc, source, file, PROGRAM_LIMIT),
         CommandLine::Run { file } => read_file(alloc, source, file, PROGRAM_LIMIT),
         CommandLine::Model { file, options: _ } => read_file(alloc, source, file, TRACE_LIMIT),
+        CommandLine::Races { file, settings: _ } => read_file(alloc, source, file, TRACE_LIMIT),
         CommandLine::Make { seed: _, size: _ } => Ok(Vec::new(alloc)),
+        CommandLine::Verify { file } => read_file(alloc, source, file, IMAGE_LIMIT),
     }
 }

@@ -4,8 +4,10 @@
 mod answer;
 mod answers;
 mod deliver;
+mod images;
 mod input;
 mod laws;
+mod races;
 mod refusals;
 mod top_call;
 

@@ -1,6 +1,6 @@
 // The top call.
 
-ghost use Rattle.std.specs.Prelude.{◌≡◌, ◌≢◌, ◌+◌, drop, map, Some, None, List, ℕ, true, false, string_bytes};
+ghost use Rattle.std.specs.Prelude.{◌≡◌, ◌≢◌, ◌≤◌, ◌+◌, drop, length, map, Some, None, List, ℕ, true, false, string_bytes};
 ghost use Rattle.outside_io.specs.Fault.{HasRisen};
 ghost use Rattle.command_line.specs.CommandLine.{command_line, HasSize};
 ghost use Rattle.command_core.specs.Input.{limit_of, is_reading, told_for, input_of, reads};
@@ -65,6 +65,9 @@ pub fn command<R: Threads + Wait + Sync, S: Source, K: Sink, G: Gate>(
 
     // A command answers by its input: the bytes of its file or those that are left, as far as one past its limit.
     ensures input { (line : CommandLine) (whole : List ℕ) → command_line (map string_bytes words.now) ≡ Some line → told_for (S.left source.old) (S.named source.old) line ≡ Some whole → Delivers (AnswersLine line (input_of (limit_of line) whole)) result (K.written sink.old) (K.written sink.new) }
+
+    // Whatever the source tells, a command answers by some input of at most so many bytes.
+    ensures some_input { (line : CommandLine) → command_line (map string_bytes words.now) ≡ Some line → (input : List ℕ) × (length input ≤ limit_of line + 1) × Delivers (AnswersLine line input) result (K.written sink.old) (K.written sink.new) }
 
     // All of its input was taken. Where no input is read, the source isn't touched.
     ensures taken { (line : CommandLine) (whole : List ℕ) → command_line (map string_bytes words.now) ≡ Some line → is_reading line ≡ true → result.status ≢ Status.ReadFault → result.status ≢ Status.NoMemory → told_for (S.left source.old) (S.named source.old) line ≡ Some whole → S.left source.new ≡ Some (drop (limit_of line + 1) whole) }

@@ -18,7 +18,7 @@ use Rattle.command_line.specs.declared.line.CommandLine.{CommandLine}
 use Rattle.command_line.specs.declared.line.CommandLine.TheVariants.{Model}
 use Rattle.run_trace.specs.Settings.{Limits, usual_limits}
 use Rattle.std.specs.Str.Parse.{digits_value, without_leading_plus}
-use Rattle.command_line.proofs.Taken.{check_shape, make_shape, model_shape, run_shape}
+use Rattle.command_line.proofs.Taken.{check_shape, make_shape, model_shape, run_shape, verify_shape}
 
 no_dashes : (word : Text) → IsOperand word → bytes_eq word (45 ∷ 45 ∷ []) ≡ false
 no_dashes word h = go (bytes_eq word (45 ∷ 45 ∷ [])) refl
@@ -86,11 +86,16 @@ line_of_run : (file : Text) → command_line (codes "run" ∷ file ∷ []) ≡ l
 unfolding clap_on_literals
 line_of_run file = refl
 
+line_of_verify : (file : Text) → command_line (codes "verify" ∷ file ∷ []) ≡ line_by (codes "verify") (level_fault verify_shape [] nothing_held (file ∷ []) false []) (rows_after verify_shape.rules [] (file ∷ []))
+unfolding clap_on_literals
+line_of_verify file = refl
+
 pub files_named : OperandsNameFiles
 unfolding defaults_fault
 files_named file h = (
   line_of_check file ∙ ap₂ (line_by (codes "check")) (file_level check_shape file h) (file_rows check_shape file h),
   line_of_run file ∙ ap₂ (line_by (codes "run")) (file_level run_shape file h) (file_rows run_shape file h),
+  line_of_verify file ∙ ap₂ (line_by (codes "verify")) (file_level verify_shape file h) (file_rows verify_shape file h),
 )
 
 -- ---- `make`

@@ -6,9 +6,10 @@ use Rattle.std.specs.Str.Parse.{digits_value, without_leading_plus}
 use Rattle.std.proofs.lemmas.Slice.Eq.{bytes_eq-Decides}
 use Rattle.clap.specs.Words.{Row, Text}
 use Rattle.run_trace.specs.Settings.{AreLimits}
-use Rattle.command_line.specs.CommandLine.{HasSize, asked, file_in, number_in, options_in}
-use Rattle.command_line.specs.Values.{FitsCommand, FitsFound, HasNumber, HasOptions}
-use Rattle.command_line.specs.declared.line.CommandLine.TheVariants.{Check, Run, Model, Make}
+use Rattle.command_line.specs.CommandLine.{HasSize, asked, file_in, number_in, limits_in, options_in}
+use Rattle.command_line.specs.Values.{FitsCommand, FitsFound, HasLimits, HasNumber}
+use Rattle.command_line.specs.declared.line.CommandLine.{CommandLine}
+use Rattle.command_line.specs.declared.line.CommandLine.TheVariants.{Check, Run, Model, Races, Make, Verify}
 
 pub wider : (id : Text) (least most : ℕ) (rows : List Row) → most ≤ 4294967295 → HasNumber id least most rows → HasNumber id 0 4294967295 rows
 wider id least most rows lt h = (h.0, h.1, (h.2.0, h.2.1, omega arith, omega (arith, h.2.3, lt)))
@@ -18,7 +19,7 @@ in_range id least most rows h =
     let is : number_in id rows ≡ digits_value 10 (without_leading_plus h.0) = ap (λ (o : Option Text). option_map_or (λ t. digits_value 10 (without_leading_plus t)) o 0) h.1 in
     rw is (h.2.2, h.2.3)
 
-pub limits : (rows : List Row) → HasOptions rows → AreLimits (options_in rows).settings
+pub limits : (rows : List Row) → HasLimits rows → AreLimits (limits_in rows)
 limits rows h = record {
   workers = in_range (codes "workers") 1 64 rows h.workers;
   fuel = in_range (codes "fuel") 1 1000000000 rows h.fuel;
@@ -28,30 +29,48 @@ limits rows h = record {
 }
 
 -- the size of what is asked for
-pub asked_size : (name : Text) (rows : List Row) → FitsCommand name rows → HasSize (asked name rows)
-asked_size name rows h = by_check (bytes_eq name (codes "check"))
-  where
-    by_make : (b : Bool) → bytes_eq name (codes "make") ≡ b → HasSize (cond b (Some (Make (number_in (codes "SEED") rows) (number_in (codes "SIZE") rows))) None)
-    by_make true e = in_range (codes "SIZE") 1 1000 rows (h.make ((bytes_eq-Decides name (codes "make")).0 e)).size
-    by_make false e = tt
+module _ (name : Text) (rows : List Row) (h : FitsCommand name rows) where
+  abbrev or_verify : Option CommandLine
+  or_verify = cond (bytes_eq name (codes "verify")) (Some (Verify (file_in rows))) None
 
-    by_model : (b : Bool) → HasSize (cond b (Some (Model (file_in rows) (options_in rows)))
-        (cond (bytes_eq name (codes "make")) (Some (Make (number_in (codes "SEED") rows) (number_in (codes "SIZE") rows))) None))
-    by_model true = tt
-    by_model false = by_make (bytes_eq name (codes "make")) refl
+  abbrev or_make : Option CommandLine
+  or_make = cond (bytes_eq name (codes "make")) (Some (Make (number_in (codes "SEED") rows) (number_in (codes "SIZE") rows))) or_verify
 
-    by_run : (b : Bool) → HasSize (cond b (Some (Run (file_in rows)))
-        (cond (bytes_eq name (codes "model")) (Some (Model (file_in rows) (options_in rows)))
-        (cond (bytes_eq name (codes "make")) (Some (Make (number_in (codes "SEED") rows) (number_in (codes "SIZE") rows))) None)))
-    by_run true = tt
-    by_run false = by_model (bytes_eq name (codes "model"))
+  abbrev or_races : Option CommandLine
+  or_races = cond (bytes_eq name (codes "races")) (Some (Races (file_in rows) (limits_in rows))) or_make
 
-    by_check : (b : Bool) → HasSize (cond b (Some (Check (file_in rows)))
-        (cond (bytes_eq name (codes "run")) (Some (Run (file_in rows)))
-        (cond (bytes_eq name (codes "model")) (Some (Model (file_in rows) (options_in rows)))
-        (cond (bytes_eq name (codes "make")) (Some (Make (number_in (codes "SEED") rows) (number_in (codes "SIZE") rows))) None))))
-    by_check true = tt
-    by_check false = by_run (bytes_eq name (codes "run"))
+  abbrev or_model : Option CommandLine
+  or_model = cond (bytes_eq name (codes "model")) (Some (Model (file_in rows) (options_in rows))) or_races
+
+  abbrev or_run : Option CommandLine
+  or_run = cond (bytes_eq name (codes "run")) (Some (Run (file_in rows))) or_model
+
+  by_verify : (b : Bool) → HasSize (cond b (Some (Verify (file_in rows))) None)
+  by_verify true = tt
+  by_verify false = tt
+
+  by_make : (b : Bool) → bytes_eq name (codes "make") ≡ b → HasSize (cond b (Some (Make (number_in (codes "SEED") rows) (number_in (codes "SIZE") rows))) or_verify)
+  by_make true e = in_range (codes "SIZE") 1 1000 rows (h.make ((bytes_eq-Decides name (codes "make")).0 e)).size
+  by_make false e = by_verify (bytes_eq name (codes "verify"))
+
+  by_races : (b : Bool) → HasSize (cond b (Some (Races (file_in rows) (limits_in rows))) or_make)
+  by_races true = tt
+  by_races false = by_make (bytes_eq name (codes "make")) refl
+
+  by_model : (b : Bool) → HasSize (cond b (Some (Model (file_in rows) (options_in rows))) or_races)
+  by_model true = tt
+  by_model false = by_races (bytes_eq name (codes "races"))
+
+  by_run : (b : Bool) → HasSize (cond b (Some (Run (file_in rows))) or_model)
+  by_run true = tt
+  by_run false = by_model (bytes_eq name (codes "model"))
+
+  by_check : (b : Bool) → HasSize (cond b (Some (Check (file_in rows))) or_run)
+  by_check true = tt
+  by_check false = by_run (bytes_eq name (codes "run"))
+
+  pub asked_size : HasSize (asked name rows)
+  asked_size = by_check (bytes_eq name (codes "check"))
 
 pub found_size : (o : Option (Text × List Row)) → FitsFound o → HasSize (option_and_then (λ p. asked p.0 p.1) o)
 found_size None h = tt

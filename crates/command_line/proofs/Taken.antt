@@ -44,8 +44,14 @@ run_shape = nth 1 whole.subs
 abbrev pub model_shape : Shape
 model_shape = nth 2 whole.subs
 
+abbrev pub races_shape : Shape
+races_shape = nth 3 whole.subs
+
 abbrev pub make_shape : Shape
-make_shape = nth 3 whole.subs
+make_shape = nth 4 whole.subs
+
+abbrev pub verify_shape : Shape
+verify_shape = nth 5 whole.subs
 
 abbrev EachPlain : Shape → Type 0
 EachPlain s = each (IsPlain s.rules) s.rules
@@ -79,6 +85,27 @@ plain_model = (
     ),
   ),
 )
+
+plain_races : EachPlain races_shape
+plain_races = (
+  record { own = refl; sets = inl refl; reads = refl; filled = refl },
+  (
+    record { own = refl; sets = inl refl; reads = refl; filled = refl },
+    (
+      record { own = refl; sets = inl refl; reads = refl; filled = refl },
+      (
+        record { own = refl; sets = inl refl; reads = refl; filled = refl },
+        (
+          record { own = refl; sets = inl refl; reads = refl; filled = refl },
+          (record { own = refl; sets = inl refl; reads = refl; filled = refl }, tt),
+        ),
+      ),
+    ),
+  ),
+)
+
+plain_verify : EachPlain verify_shape
+plain_verify = (record { own = refl; sets = inl refl; reads = refl; filled = refl }, tt)
 
 plain_make : EachPlain make_shape
 plain_make = (record { own = refl; sets = inl refl; reads = refl; filled = refl }, (record { own = refl; sets = inl refl; reads = refl; filled = refl }, tt))
@@ -118,6 +145,7 @@ fits_check : FitsAll check_shape
 fits_check words e = record {
   fits = record {
     model = λ n. absurd (other_name (codes "check") (codes "model") refl refl n);
+    races = λ n. absurd (other_name (codes "check") (codes "races") refl refl n);
     make = λ n. absurd (other_name (codes "check") (codes "make") refl refl n);
   };
   is_asked = refl;
@@ -127,6 +155,7 @@ fits_run : FitsAll run_shape
 fits_run words e = record {
   fits = record {
     model = λ n. absurd (other_name (codes "run") (codes "model") refl refl n);
+    races = λ n. absurd (other_name (codes "run") (codes "races") refl refl n);
     make = λ n. absurd (other_name (codes "run") (codes "make") refl refl n);
   };
   is_asked = refl;
@@ -142,18 +171,53 @@ fits_model words e =
     record {
       fits = record {
         model = λ n. record {
+          limits = record {
+            workers = number_has s rows (codes "workers") 1 64 h (λ t p. p _ refl) (default_row (codes "workers") s.rules refl start);
+            fuel = number_has s rows (codes "fuel") 1 1000000000 h (λ t p. p _ refl) (default_row (codes "fuel") s.rules refl start);
+            chunks = number_has s rows (codes "chunks") 2 65536 h (λ t p. p _ refl) (default_row (codes "chunks") s.rules refl start);
+            leaf = number_has s rows (codes "leaf") 16 1000000 h (λ t p. p _ refl) (default_row (codes "leaf") s.rules refl start);
+            inner = number_has s rows (codes "inner") 16 1000000 h (λ t p. p _ refl) (default_row (codes "inner") s.rules refl start);
+          };
+          report = flag_has s rows (codes "report") h (λ t p. p _ refl) (default_row (codes "report") s.rules refl start);
+          trace = flag_has s rows (codes "trace") h (λ t p. p _ refl) (default_row (codes "trace") s.rules refl start);
+        };
+        races = λ n. absurd (other_name (codes "model") (codes "races") refl refl n);
+        make = λ n. absurd (other_name (codes "model") (codes "make") refl refl n);
+      };
+      is_asked = refl;
+    }
+
+fits_races : FitsAll races_shape
+fits_races words e =
+    let s = races_shape in
+    let held = (walk s.rules [] nothing_held words).held in
+    let rows = rows_after s.rules [] words in
+    let h = (level_passed s plain_races [] nothing_held words false [] tt e).0 in
+    let start = (settled s.rules held).rows in
+    record {
+      fits = record {
+        model = λ n. absurd (other_name (codes "races") (codes "model") refl refl n);
+        races = λ n. record {
           workers = number_has s rows (codes "workers") 1 64 h (λ t p. p _ refl) (default_row (codes "workers") s.rules refl start);
           fuel = number_has s rows (codes "fuel") 1 1000000000 h (λ t p. p _ refl) (default_row (codes "fuel") s.rules refl start);
           chunks = number_has s rows (codes "chunks") 2 65536 h (λ t p. p _ refl) (default_row (codes "chunks") s.rules refl start);
           leaf = number_has s rows (codes "leaf") 16 1000000 h (λ t p. p _ refl) (default_row (codes "leaf") s.rules refl start);
           inner = number_has s rows (codes "inner") 16 1000000 h (λ t p. p _ refl) (default_row (codes "inner") s.rules refl start);
-          report = flag_has s rows (codes "report") h (λ t p. p _ refl) (default_row (codes "report") s.rules refl start);
-          trace = flag_has s rows (codes "trace") h (λ t p. p _ refl) (default_row (codes "trace") s.rules refl start);
         };
-        make = λ n. absurd (other_name (codes "model") (codes "make") refl refl n);
+        make = λ n. absurd (other_name (codes "races") (codes "make") refl refl n);
       };
       is_asked = refl;
     }
+
+fits_verify : FitsAll verify_shape
+fits_verify words e = record {
+  fits = record {
+    model = λ n. absurd (other_name (codes "verify") (codes "model") refl refl n);
+    races = λ n. absurd (other_name (codes "verify") (codes "races") refl refl n);
+    make = λ n. absurd (other_name (codes "verify") (codes "make") refl refl n);
+  };
+  is_asked = refl;
+}
 
 -- both are given where neither is missing
 both_given : (a b : Bool) → cond (not a || (not b || false)) (kind.MissingRequiredArgument ∷ []) [] ≡ [] → (a ≡ true) × (b ≡ true)
@@ -170,6 +234,7 @@ fits_make words e =
     record {
       fits = record {
         model = λ n. absurd (other_name (codes "make") (codes "model") refl refl n);
+        races = λ n. absurd (other_name (codes "make") (codes "races") refl refl n);
         make = λ n. record {
           seed = number_has s rows (codes "SEED") 0 4294967295 passed.0 (λ t p. p _ refl) (given_row (codes "SEED") rows given.0);
           size = number_has s rows (codes "SIZE") 1 1000 passed.0 (λ t p. p _ refl) (given_row (codes "SIZE") rows given.1);
@@ -203,7 +268,7 @@ pub taken : (words : List Text) → fault_of app words ≡ [] → IsTaken words
 taken words e =
     let stop = stop_after whole.top.rules (names_of whole) words in
     let level = level_passed whole.top tt (names_of whole) nothing_held words (is_some (entered whole stop)) (entered_fault whole stop) tt e in
-    let all = entered_fits whole (fits_check, (fits_run, (fits_model, (fits_make, tt)))) stop level.1 in
+    let all = entered_fits whole (fits_check, (fits_run, (fits_model, (fits_races, (fits_make, (fits_verify, tt)))))) stop level.1 in
     let some = check_met (is_some (entered whole stop)) level.2 in
     record { fits = all.0; met = some; is_asked = all.1 some }
   where

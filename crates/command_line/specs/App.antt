@@ -25,6 +25,22 @@ option name least most default = record (new_rule name) {
 abbrev pub flag : Text → Rule
 flag name = record (new_rule name) { long = Some name; action = Some SetTrue }
 
+-- the limits of a run
+abbrev pub workers : Rule
+workers = option (codes "workers") 1 64 (codes "1")
+
+abbrev pub fuel : Rule
+fuel = option (codes "fuel") 1 1000000000 (codes "1000000")
+
+abbrev pub chunks : Rule
+chunks = option (codes "chunks") 2 65536 (codes "4096")
+
+abbrev pub leaf : Rule
+leaf = option (codes "leaf") 16 1000000 (codes "4096")
+
+abbrev pub inner : Rule
+inner = option (codes "inner") 16 1000000 (codes "8192")
+
 abbrev pub check : Shape
 check = record (new_shape (codes "check")) { rules = file ∷ [] }
 
@@ -34,13 +50,24 @@ run = record (new_shape (codes "run")) { rules = file ∷ [] }
 abbrev pub model : Shape
 model = record (new_shape (codes "model")) {
   rules = file
-      ∷ option (codes "workers") 1 64 (codes "1")
-      ∷ option (codes "fuel") 1 1000000000 (codes "1000000")
-      ∷ option (codes "chunks") 2 65536 (codes "4096")
-      ∷ option (codes "leaf") 16 1000000 (codes "4096")
-      ∷ option (codes "inner") 16 1000000 (codes "8192")
+      ∷ workers
+      ∷ fuel
+      ∷ chunks
+      ∷ leaf
+      ∷ inner
       ∷ flag (codes "report")
       ∷ flag (codes "trace")
+      ∷ [];
+}
+
+abbrev pub races : Shape
+races = record (new_shape (codes "races")) {
+  rules = file
+      ∷ workers
+      ∷ fuel
+      ∷ chunks
+      ∷ leaf
+      ∷ inner
       ∷ [];
 }
 
@@ -49,7 +76,10 @@ make = record (new_shape (codes "make")) {
   rules = number (codes "SEED") 0 4294967295 ∷ number (codes "SIZE") 1 1000 ∷ [];
 }
 
--- one of the four commands, and no words of help or of the version
+abbrev pub verify : Shape
+verify = record (new_shape (codes "verify")) { rules = file ∷ [] }
+
+-- one of the commands, and no words of help or of the version
 abbrev pub app : App
 app = record {
   top = record (new_shape (codes "hheap")) {
@@ -60,5 +90,9 @@ app = record {
     disable_version_flag = true;
     subcommand_required = true;
   };
-  subs = check ∷ run ∷ model ∷ make ∷ [];
+  subs = check ∷ run ∷ model ∷ races ∷ make ∷ verify ∷ [];
 }
+
+-- before its first subcommand
+abbrev pub bare : App
+bare = record app { top = record app.top { is_leaf = true }; subs = [] }

@@ -8,10 +8,11 @@ use Rattle.std.specs.Str.{bytes_eq}
 use Rattle.std.specs.Str.Parse.{digits_value, without_leading_plus}
 use Rattle.clap.specs.Words.{Row, Text, fault_of, first_of, one_of, subcommand_of}
 use Rattle.clap.specs.Walk.{is_empty}
+use Rattle.run_trace.specs.Settings.{Limits}
 use Rattle.run_trace.specs.declared.settings.Version.TheVariants.{Two}
 use Rattle.command_line.specs.App.{app}
 use Rattle.command_line.specs.declared.line.CommandLine.{CommandLine}
-use Rattle.command_line.specs.declared.line.CommandLine.TheVariants.{Check, Run, Model, Make}
+use Rattle.command_line.specs.declared.line.CommandLine.TheVariants.{Check, Run, Model, Races, Make, Verify}
 use Rattle.command_line.specs.declared.line.Options.{Options}
 
 -- the file that is named, if one is
@@ -26,16 +27,19 @@ number_in id rows = option_map_or (λ t. digits_value 10 (without_leading_plus t
 abbrev pub flag_in : Text → List Row → Bool
 flag_in id rows = option_map_or (λ t. bytes_eq t (codes "true")) (one_of id rows) false
 
+abbrev pub limits_in : List Row → Limits
+limits_in rows = record {
+  version = Two;
+  workers = number_in (codes "workers") rows;
+  fuel = number_in (codes "fuel") rows;
+  chunks = number_in (codes "chunks") rows;
+  leaf = number_in (codes "leaf") rows;
+  inner = number_in (codes "inner") rows;
+}
+
 abbrev pub options_in : List Row → Options
 options_in rows = record {
-  settings = record {
-    version = Two;
-    workers = number_in (codes "workers") rows;
-    fuel = number_in (codes "fuel") rows;
-    chunks = number_in (codes "chunks") rows;
-    leaf = number_in (codes "leaf") rows;
-    inner = number_in (codes "inner") rows;
-  };
+  settings = limits_in rows;
   report = flag_in (codes "report") rows;
   trace = flag_in (codes "trace") rows;
 }
@@ -46,9 +50,11 @@ asked name rows =
     if bytes_eq name (codes "check") then Some (Check (file_in rows))
     else (if bytes_eq name (codes "run") then Some (Run (file_in rows))
     else (if bytes_eq name (codes "model") then Some (Model (file_in rows) (options_in rows))
+    else (if bytes_eq name (codes "races") then Some (Races (file_in rows) (limits_in rows))
     else (if bytes_eq name (codes "make")
     then Some (Make (number_in (codes "SEED") rows) (number_in (codes "SIZE") rows))
-    else None)))
+    else (if bytes_eq name (codes "verify") then Some (Verify (file_in rows))
+    else None)))))
 
 -- what the words after the program's name ask for; None where they are no command line
 abbrev pub command_line : List Text → Option CommandLine

@@ -4,7 +4,7 @@ use Rattle.clap.specs.Words.{Text}
 use Rattle.run_trace.specs.Settings.{usual_limits}
 use Rattle.command_line.specs.CommandLine.{command_line}
 use Rattle.command_line.specs.declared.line.CommandLine.{CommandLine}
-use Rattle.command_line.specs.declared.line.CommandLine.TheVariants.{Check, Run, Model, Make}
+use Rattle.command_line.specs.declared.line.CommandLine.TheVariants.{Check, Run, Model, Races, Make, Verify}
 
 -- the words ask for this
 abbrev pub AskFor : List Text → CommandLine → Type 0
@@ -21,6 +21,8 @@ FilesAreNamed =
     × AskFor (codes "check" ∷ codes "a.hh" ∷ []) (Check (Some (codes "a.hh")))
     × AskFor (codes "run" ∷ [] ∷ []) (Run (Some []))
     × AskFor (codes "run" ∷ codes "--" ∷ codes "-V" ∷ []) (Run (Some (codes "-V")))
+    × AskFor (codes "verify" ∷ []) (Verify None)
+    × AskFor (codes "verify" ∷ codes "a.image" ∷ []) (Verify (Some (codes "a.image")))
 
 abbrev pub OptionsAreRead : Type 0
 OptionsAreRead =
@@ -29,6 +31,8 @@ OptionsAreRead =
     (Model (Some (codes "a.hh")) (record { settings = usual_limits; report = true; trace = false }))
     × AskFor (codes "model" ∷ codes "--workers" ∷ codes "64" ∷ codes "--inner=16" ∷ codes "--trace" ∷ [])
     (Model None (record { settings = record usual_limits { workers = 64; inner = 16 }; report = false; trace = true }))
+    × AskFor (codes "races" ∷ []) (Races None usual_limits)
+    × AskFor (codes "races" ∷ codes "a.hh" ∷ codes "--workers=2" ∷ []) (Races (Some (codes "a.hh")) (record usual_limits { workers = 2 }))
 
 abbrev pub NumbersAreRead : Type 0
 NumbersAreRead =
@@ -49,6 +53,8 @@ OthersAreRefused =
     × AreRefused (codes "check" ∷ codes "-h" ∷ [])
     × AreRefused (codes "run" ∷ codes "--report" ∷ [])
     × AreRefused (codes "--report" ∷ codes "model" ∷ [])
+    × AreRefused (codes "races" ∷ codes "--report" ∷ [])
+    × AreRefused (codes "verify" ∷ codes "--trace" ∷ [])
     × AreRefused (codes "model" ∷ codes "--rep" ∷ [])
     × AreRefused (codes "model" ∷ codes "--report=true" ∷ [])
     × AreRefused (codes "model" ∷ codes "--report" ∷ codes "--report" ∷ [])

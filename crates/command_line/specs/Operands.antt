@@ -6,17 +6,18 @@ use Rattle.clap.specs.ValueTests.{is_unsigned_in}
 use Rattle.clap.specs.Words.{Text}
 use Rattle.run_trace.specs.Settings.{Limits, usual_limits}
 use Rattle.command_line.specs.CommandLine.{command_line}
-use Rattle.command_line.specs.declared.line.CommandLine.TheVariants.{Check, Run, Model, Make}
+use Rattle.command_line.specs.declared.line.CommandLine.TheVariants.{Check, Run, Model, Races, Make, Verify}
 
 -- the word doesn't begin with a hyphen (45)
 abbrev pub IsOperand : Text → Type 0
 IsOperand word = strip_byte 45 word ≡ None
 
--- such a word behind `check` or `run` names the file
+-- such a word behind `check`, `run` or `verify` names the file
 abbrev pub OperandsNameFiles : Type 0
 OperandsNameFiles = (file : Text) → IsOperand file
     → (command_line (codes "check" ∷ file ∷ []) ≡ Some (Check (Some file)))
     × (command_line (codes "run" ∷ file ∷ []) ≡ Some (Run (Some file)))
+    × (command_line (codes "verify" ∷ file ∷ []) ≡ Some (Verify (Some file)))
 
 -- two such words behind `make` ask for a program exactly where both are numbers in their ranges
 abbrev pub OperandsMake : Type 0

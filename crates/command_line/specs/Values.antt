@@ -10,13 +10,17 @@ HasNumber id least most rows = (t : Text) × (one_of id rows ≡ Some t) × IsUn
 abbrev pub HasFlag : Text → List Row → Type 0
 HasFlag id rows = (one_of id rows ≡ Some (codes "true")) ⊎ (one_of id rows ≡ Some (codes "false"))
 
--- the matches of `model` have all numbers in their ranges
-pub record HasOptions (rows : List Row) : Type 0 where
+-- the matches of `races` have all numbers in their ranges
+pub record HasLimits (rows : List Row) : Type 0 where
   pub workers : HasNumber (codes "workers") 1 64 rows
   pub fuel : HasNumber (codes "fuel") 1 1000000000 rows
   pub chunks : HasNumber (codes "chunks") 2 65536 rows
   pub leaf : HasNumber (codes "leaf") 16 1000000 rows
   pub inner : HasNumber (codes "inner") 16 1000000 rows
+
+-- those of `model` have these and both flags
+pub record HasOptions (rows : List Row) : Type 0 where
+  pub limits : HasLimits rows
   pub report : HasFlag (codes "report") rows
   pub trace : HasFlag (codes "trace") rows
 
@@ -28,6 +32,7 @@ pub record HasSeedAndSize (rows : List Row) : Type 0 where
 -- the matches of a command, by its name
 pub record FitsCommand (name : Text) (rows : List Row) : Type 0 where
   pub model : name ≡ codes "model" → HasOptions rows
+  pub races : name ≡ codes "races" → HasLimits rows
   pub make : name ≡ codes "make" → HasSeedAndSize rows
 
 -- the same of the command that was met, if one was

@@ -3,7 +3,7 @@
 ghost use Rattle.std.specs.Prelude.{◌≡◌, IfOk, false};
 ghost use Rattle.clap.specs.Words.{app_of, rule_of};
 ghost use Rattle.command_line.specs.Adds.{IsShaped};
-ghost use Rattle.command_line.specs.App.{app, check, run, model, make, file, number, option, flag};
+ghost use Rattle.command_line.specs.App.{app, check, run, model, races, make, verify, bare, file, number, option, flag, workers, fuel, chunks, leaf, inner};
 
 use clap::builder::ValueParser;
 use clap::{Arg, ArgAction, Command};
@@ -38,6 +38,46 @@ fn option<'w>(alloc: Global, name: &'w str, least: u64, most: u64, default: &'w 
         .default_value(default)
 }
 
+// How many workers there are.
+fn workers<'w>(alloc: Global) -> Arg<'w>
+    ensures rule { rule_of result ≡ workers }
+    ensures own { result.global ≡ false }
+{
+    option(alloc, "workers", 1, 64, "1")
+}
+
+// The most steps.
+fn fuel<'w>(alloc: Global) -> Arg<'w>
+    ensures rule { rule_of result ≡ fuel }
+    ensures own { result.global ≡ false }
+{
+    option(alloc, "fuel", 1, 1_000_000_000, "1000000")
+}
+
+// The most chunks.
+fn chunks<'w>(alloc: Global) -> Arg<'w>
+    ensures rule { rule_of result ≡ chunks }
+    ensures own { result.global ≡ false }
+{
+    option(alloc, "chunks", 2, 65_536, "4096")
+}
+
+// From so many words on a leaf collection is due.
+fn leaf<'w>(alloc: Global) -> Arg<'w>
+    ensures rule { rule_of result ≡ leaf }
+    ensures own { result.global ≡ false }
+{
+    option(alloc, "leaf", 16, 1_000_000, "4096")
+}
+
+// From so many words on an inner collection is due.
+fn inner<'w>(alloc: Global) -> Arg<'w>
+    ensures rule { rule_of result ≡ inner }
+    ensures own { result.global ≡ false }
+{
+    option(alloc, "inner", 16, 1_000_000, "8192")
+}
+
 // A flag.
 fn flag<'w>(alloc: Global, name: &'w str) -> Arg<'w>
     ensures rule { rule_of result ≡ flag name.entry.now }
@@ -63,13 +103,25 @@ fn model<'w>(alloc: Global) -> Result<Command<'w>, AllocError>
 {
     Command::new(alloc, "model")
         .arg(file(alloc))?
-        .arg(option(alloc, "workers", 1, 64, "1"))?
-        .arg(option(alloc, "fuel", 1, 1_000_000_000, "1000000"))?
-        .arg(option(alloc, "chunks", 2, 65_536, "4096"))?
-        .arg(option(alloc, "leaf", 16, 1_000_000, "4096"))?
-        .arg(option(alloc, "inner", 16, 1_000_000, "8192"))?
+        .arg(workers(alloc))?
+        .arg(fuel(alloc))?
+        .arg(chunks(alloc))?
+        .arg(leaf(alloc))?
+        .arg(inner(alloc))?
         .arg(flag(alloc, "report"))?
         .arg(flag(alloc, "trace"))
+}
+
+fn races<'w>(alloc: Global) -> Result<Command<'w>, AllocError>
+    ensures { IfOk result (IsShaped races) }
+{
+    Command::new(alloc, "races")
+        .arg(file(alloc))?
+        .arg(workers(alloc))?
+        .arg(fuel(alloc))?
+        .arg(chunks(alloc))?
+        .arg(leaf(alloc))?
+        .arg(inner(alloc))
 }
 
 fn make<'w>(alloc: Global) -> Result<Command<'w>, AllocError>
@@ -80,9 +132,15 @@ fn make<'w>(alloc: Global) -> Result<Command<'w>, AllocError>
         .arg(number(alloc, "SIZE", 1, 1000))
 }
 
-/// The command with its four subcommands.
-pub(crate) fn command<'w>(alloc: Global) -> Result<Command<'w>, AllocError>
-    ensures { IfOk result (λ c. app_of c ≡ app) }
+fn verify<'w>(alloc: Global) -> Result<Command<'w>, AllocError>
+    ensures { IfOk result (IsShaped verify) }
+{
+    Command::new(alloc, "verify").arg(file(alloc))
+}
+
+// The command without its subcommands.
+fn bare<'w>(alloc: Global) -> Command<'w>
+    ensures { app_of result ≡ bare }
 {
     Command::new(alloc, "hheap")
         .no_binary_name(true)
@@ -90,8 +148,17 @@ pub(crate) fn command<'w>(alloc: Global) -> Result<Command<'w>, AllocError>
         .disable_help_subcommand(true)
         .disable_version_flag(true)
         .subcommand_required(true)
+}
+
+/// The command with its subcommands.
+pub(crate) fn command<'w>(alloc: Global) -> Result<Command<'w>, AllocError>
+    ensures { IfOk result (λ c. app_of c ≡ app) }
+{
+    bare(alloc)
         .subcommand(check(alloc)?)?
         .subcommand(run(alloc)?)?
         .subcommand(model(alloc)?)?
-        .subcommand(make(alloc)?)
+        .subcommand(races(alloc)?)?
+        .subcommand(make(alloc)?)?
+        .subcommand(verify(alloc)?)
 }

@@ -59,9 +59,18 @@ pub enum CommandLine<'w> {
         file: Option<FileName<'w>>,
         options: Options,
     },
+    /// Tells the races of a program with its trace.
+    Races {
+        file: Option<FileName<'w>>,
+        settings: Settings,
+    },
     /// Writes the program of this seed and this size, which is 1 to 1,000.
     Make {
         seed: u32,
         size: u32,
+    },
+    /// Checks an image.
+    Verify {
+        file: Option<FileName<'w>>,
     },
 }

@@ -4,8 +4,8 @@ ghost use Rattle.std.specs.Prelude.{◌≡◌, ◌≢◌, IfOk, None, map, is_so
 ghost use Rattle.clap.specs.Words.{found_of, rows_of, fault_of, subcommand_rows_of};
 ghost use Rattle.clap.specs.Walk.{is_empty};
 ghost use Rattle.command_line.specs.App.{app};
-ghost use Rattle.command_line.specs.CommandLine.{HasSize, asked, command_line, file_in, flag_in, number_in, options_in};
-ghost use Rattle.command_line.specs.Values.{FitsCommand, FitsFound, HasFlag, HasNumber, HasOptions};
+ghost use Rattle.command_line.specs.CommandLine.{HasSize, asked, command_line, file_in, flag_in, number_in, limits_in, options_in};
+ghost use Rattle.command_line.specs.Values.{FitsCommand, FitsFound, HasFlag, HasLimits, HasNumber, HasOptions};
 
 use crate::command::command;
 use crate::line::{CommandLine, FileName, Options};
@@ -39,20 +39,26 @@ fn file<'w>(matches: &ArgMatches<'w>) -> Option<FileName<'w>>
     }
 }
 
-fn options(matches: &ArgMatches) -> Options
-    requires { HasOptions (rows_of (found_of matches.now)) }
-    ensures { result ≡ options_in (rows_of (found_of matches.now)) }
+fn settings(matches: &ArgMatches) -> Settings
+    requires { HasLimits (rows_of (found_of matches.now)) }
+    ensures { result ≡ limits_in (rows_of (found_of matches.now)) }
 {
-    let settings = Settings::new(
+    Settings::new(
         Version::Two,
         number(matches, "workers"),
         u64::from(number(matches, "fuel")),
         number(matches, "chunks"),
         number(matches, "leaf"),
         number(matches, "inner"),
-    );
+    )
+}
+
+fn options(matches: &ArgMatches) -> Options
+    requires { HasOptions (rows_of (found_of matches.now)) }
+    ensures { result ≡ options_in (rows_of (found_of matches.now)) }
+{
     Options {
-        settings,
+        settings: settings(matches),
         report: flag(matches, "report"),
         trace: flag(matches, "trace"),
     }
@@ -74,9 +80,16 @@ fn asked<'w>(name: &str, matches: &ArgMatches<'w>) -> Option<CommandLine<'w>>
             file: file(matches),
             options: options(matches),
         }),
+        "races" => Some(CommandLine::Races {
+            file: file(matches),
+            settings: settings(matches),
+        }),
         "make" => Some(CommandLine::Make {
             seed: number(matches, "SEED"),
             size: number(matches, "SIZE"),
+        }),
+        "verify" => Some(CommandLine::Verify {
+            file: file(matches),
         }),
         _ => None,
     }

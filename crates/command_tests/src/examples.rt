@@ -18,6 +18,9 @@ const FORK: &str =
 const LOOP: &str =
     "# A loop: adds the numbers from 10 down to 1.\nfn main\n  set i0 10        # what is still to be added\n  set i1 0         # the sum\n  set i2 1\nlab next\n  jz i0 done       # goes to `done` where i0 is 0\n  add i1 i1 i0\n  sub i0 i0 i2\n  jmp next\nlab done\n  out i1           # writes 55\nend\n";
 
+const LOOP_SUM: &str =
+    "# A parallel loop: adds what `square` hands back for each number from 1 to 10.\nfn square\n  mul i0 i0 i0     # finds its number in i0, and hands back i0\nend\n\nfn main\n  set i0 1         # the first number\n  set i1 11        # one past the last one\n  pfor square\n  out i0           # writes 385\nend\n";
+
 const SEVEN: &str =
     "# The first program: one number is set and written.\nfn main\nset i0 7\nout i0\nret\nend\n";
 
@@ -26,7 +29,16 @@ const TRAP: &str =
 
 #[test]
 fn examples_are_accepted(rt: HostRuntime) -> Result<(), Fail> {
-    for text in [CALL, DOWN_POINTER, ENTANGLED, FORK, LOOP, SEVEN, TRAP] {
+    for text in [
+        CALL,
+        DOWN_POINTER,
+        ENTANGLED,
+        FORK,
+        LOOP,
+        LOOP_SUM,
+        SEVEN,
+        TRAP,
+    ] {
         let (code, written) = said(&rt, "check", text)?;
         assert_eq!(rt; code, 0);
         assert_eq!(rt; written.as_slice(), b"end: accepted\n".as_slice());

@@ -3,7 +3,7 @@ use std::alloc::{AllocError, Global};
 use std::test::Fail;
 
 // Words, with a bar between them, and what they ask for.
-static TAKEN: [(&str, &str); 24] = [
+static TAKEN: [(&str, &str); 28] = [
     ("check", "check None"),
     ("check|a.hh", "check Some(\"a.hh\")"),
     ("check|help", "check Some(\"help\")"),
@@ -67,10 +67,17 @@ static TAKEN: [(&str, &str); 24] = [
         "model|--workers|1|",
         "model Some(\"\") 1 1000000 4096 4096 8192 false false",
     ),
+    ("races", "races None 1 1000000 4096 4096 8192"),
+    (
+        "races|--workers|2|p|--inner=16",
+        "races Some(\"p\") 2 1000000 4096 4096 16",
+    ),
+    ("verify", "verify None"),
+    ("verify|a.image", "verify Some(\"a.image\")"),
 ];
 
 // Words that are no command line.
-static REFUSED: [&str; 49] = [
+static REFUSED: [&str; 53] = [
     "",
     "walk",
     "replay",
@@ -120,6 +127,10 @@ static REFUSED: [&str; 49] = [
     "model|--report=true",
     "model|--rep",
     "model|-w|1",
+    "races|--report",
+    "races|--workers|65",
+    "verify|a|b",
+    "verify|--trace",
 ];
 
 fn name<'w>(file: &Option<FileName<'w>>) -> Option<&'w str> {
@@ -133,6 +144,16 @@ fn shown(alloc: Global, line: &CommandLine) -> Result<String, AllocError> {
     match line {
         CommandLine::Check { file } => format!(in alloc; "check {:?}", name(file)),
         CommandLine::Run { file } => format!(in alloc; "run {:?}", name(file)),
+        CommandLine::Verify { file } => format!(in alloc; "verify {:?}", name(file)),
+        CommandLine::Races { file, settings } => format!(in alloc;
+            "races {:?} {} {} {} {} {}",
+            name(file),
+            settings.workers(),
+            settings.fuel(),
+            settings.chunks(),
+            settings.leaf(),
+            settings.inner()
+        ),
         CommandLine::Make { seed, size } => format!(in alloc; "make {} {}", *seed, *size),
         CommandLine::Model { file, options } => {
             let settings = options.settings;

@@ -18,3 +18,15 @@ returns-in-Model-clause-input g c = rw c.in-Model.is c.read_file-in-Model.ensure
 
 pub returns-in-Model-clause-taken : goal.returns-in-Model-clause-taken
 returns-in-Model-clause-taken g c = rw c.in-Model.is (search rules)
+
+pub returns-in-Races-clause-input : goal.returns-in-Races-clause-input
+returns-in-Races-clause-input g c = rw c.in-Races.is c.read_file-in-Races.ensures.input
+
+pub returns-in-Races-clause-taken : goal.returns-in-Races-clause-taken
+returns-in-Races-clause-taken g c = rw c.in-Races.is (search rules)
+
+pub returns-in-Verify-clause-input : goal.returns-in-Verify-clause-input
+returns-in-Verify-clause-input g c = rw c.in-Verify.is c.read_file-in-Verify.ensures.input
+
+pub returns-in-Verify-clause-taken : goal.returns-in-Verify-clause-taken
+returns-in-Verify-clause-taken g c = rw c.in-Verify.is (search rules)

@@ -1,0 +1,78 @@
+// The answer of `races`.
+
+ghost use Rattle.std.specs.Prelude.{◌≡◌, IfOk};
+ghost use Rattle.run_ledger.specs.Text.{refused_line};
+ghost use Rattle.race_report.specs.Text.{races_text};
+ghost use Rattle.command_core.specs.Answers.{IsText, races_status, AnswersRaces, AnswersRacesTrace};
+
+use crate::answer::{Answer, Status};
+use crate::input::TRACE_LIMIT;
+use crate::refusals::{bytes_alone, line_refused, source_refused, text_alone, too_long};
+use listed::Listed;
+use race_report::{Race, races_of_run, races_text};
+use run_journal::ReplayError;
+use run_ledger::RefusedAt;
+use run_report::refused_text;
+use run_trace::Settings;
+use std::alloc::{AllocError, Global};
+use trace_input::{InputError, InputFault, TraceInput, read_trace_input};
+
+// The status where these races were found.
+fn status_of(races: &[Race]) -> Status
+    ensures { result ≡ races_status races.now }
+{
+    match races {
+        [] => Status::Done,
+        _ => Status::Races,
+    }
+}
+
+// The answer of these races.
+fn answer_found(alloc: Global, races: &[Race]) -> Result<Answer, AllocError>
+    ensures { IfOk result (IsText (races_status races.now) (races_text races.now)) }
+{
+    let text = races_text(alloc, races)?;
+    let status = status_of(races);
+    Ok(bytes_alone(alloc, status, Listed::from_vec(text)))
+}
+
+// The answer to a trace that is refused.
+fn answer_refused(alloc: Global, refused: RefusedAt) -> Result<Answer, AllocError>
+    ensures { IfOk result (IsText Status.Trace (refused_line refused)) }
+{
+    let text = refused_text(alloc, refused)?;
+    Ok(text_alone(alloc, Status::Trace, text))
+}
+
+// Finds the races of a trace.
+fn answer_trace(alloc: Global, settings: Settings, read: &TraceInput) -> Result<Answer, AllocError>
+    ensures { IfOk result (AnswersRacesTrace settings read.now) }
+{
+    let TraceInput { program, trace } = read;
+    let settings = settings.with_version(trace.version);
+    let journal = trace.entries.as_slice();
+    match races_of_run(alloc, program, settings, journal) {
+        Ok(races) => answer_found(alloc, races.as_slice()),
+        Err(ReplayError::RefusedAt(refused)) => answer_refused(alloc, refused),
+        Err(ReplayError::NoMemory) => Err(AllocError),
+    }
+}
+
+/// Reads a program with a trace, and finds the races.
+pub(crate) fn answer_races(
+    alloc: Global,
+    settings: Settings,
+    input: &[u8],
+) -> Result<Answer, AllocError>
+    ensures { IfOk result (AnswersRaces settings input.now) }
+{
+    if input.len() > TRACE_LIMIT {
+        return too_long(alloc);
+    }
+    match read_trace_input(alloc, input) {
+        Ok(read) => answer_trace(alloc, settings, &read),
+        Err(InputError::Fault(InputFault::Source(refused))) => source_refused(alloc, refused),
+        Err(InputError::Fault(InputFault::BadLine(line))) => line_refused(alloc, line),
+        Err(InputError::NoMemory) => Err(AllocError),
+    }
+}

@@ -1,0 +1,11 @@
+pub mod Numbers
+pub mod Rounds
+pub mod Members
+pub mod Paths
+pub mod Ups
+pub mod Linked
+pub mod References
+pub mod Steps
+pub mod Ordered
+pub mod Sounds
+pub mod Counts

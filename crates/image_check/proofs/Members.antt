@@ -1,0 +1,150 @@
+-- What the whole text has comes from its lines.
+use Rattle.std.proofs.Common.{◌≡◌, ◌++◌, ℕ, suc, Bool, true, false, List, [], ◌∷◌, cond, refl, sym, arith, inl, inr, ◌⊎◌}
+use Rattle.std.specs.Prelude.{◌==◌, ◌&&◌, ◌||◌}
+use Rattle.std.specs.List.{list_any}
+use Rattle.image_check.specs.declared.line.Object.{Object}
+use Rattle.image_check.specs.declared.line.Remembered.{Remembered}
+use Rattle.image_check.specs.declared.line.Said.{Said}
+use Rattle.image_check.specs.declared.line.Said.TheVariants.{Nothing, Wrong, Title, OfTask, OfChunk, OfObject, OfRemembered, OfEnd}
+use Rattle.image_check.specs.declared.whole.Whole.{Whole}
+use Rattle.image_check.specs.Line.{said_by}
+use Rattle.image_check.specs.Sets.{is_among, with_item, same_number, same_field}
+use Rattle.image_check.specs.Read.{with_line, with_lines}
+use Rattle.image_check.specs.Sound.{IsObjectAt, IsRemembered}
+
+-- ITEMS
+
+pub either_true : (a b : Bool) → (a || b) ≡ true → (a ≡ true) ⊎ (b ≡ true)
+either_true true b e = inl refl
+either_true false b e = inr e
+
+pub both_true : (a b : Bool) → (a && b) ≡ true → (a ≡ true) × (b ≡ true)
+both_true true b e = (refl, e)
+both_true false b e = absurd (cc)
+
+pub left_true : (a b : Bool) → a ≡ true → (a || b) ≡ true
+left_true true b e = refl
+left_true false b e = absurd (cc)
+
+pub right_true : (a b : Bool) → b ≡ true → (a || b) ≡ true
+right_true true b e = refl
+right_true false b e = e
+
+or_more : (a b c : Bool) → ((b ≡ true) ⊎ (c ≡ true)) → ((a || b) ≡ true) ⊎ (c ≡ true)
+or_more a b c (inl e) = inl (right_true a b e)
+or_more a b c (inr e) = inr e
+
+module _ {K : Type 0} where
+  any_last : (p : K → Bool) (ks : List K) (k : K) → list_any p (ks ++ k ∷ []) ≡ true → (list_any p ks ≡ true) ⊎ (p k ≡ true)
+  any_last p [] k e = last_of (p k) e
+    where
+      last_of : (b : Bool) → (b || false) ≡ true → (false ≡ true) ⊎ (b ≡ true)
+      last_of true e = inr refl
+      last_of false e = inl e
+  any_last p (x ∷ xs) k e = by (either_true (p x) (list_any p (xs ++ k ∷ [])) e) (λ h. any_last p xs k h)
+    where
+      by : ((p x ≡ true) ⊎ (list_any p (xs ++ k ∷ []) ≡ true)) → (list_any p (xs ++ k ∷ []) ≡ true → (list_any p xs ≡ true) ⊎ (p k ≡ true)) → ((p x || list_any p xs) ≡ true) ⊎ (p k ≡ true)
+      by (inl h) again = inl (left_true (p x) (list_any p xs) h)
+      by (inr h) again = or_more (p x) (list_any p xs) (p k) (again h)
+
+  any_kept : (p : K → Bool) (ks : List K) (k : K) → list_any p ks ≡ true → list_any p (ks ++ k ∷ []) ≡ true
+  any_kept p [] k e = absurd (cc)
+  any_kept p (x ∷ xs) k e = by (either_true (p x) (list_any p xs) e) (λ h. any_kept p xs k h)
+    where
+      by : ((p x ≡ true) ⊎ (list_any p xs ≡ true)) → (list_any p xs ≡ true → list_any p (xs ++ k ∷ []) ≡ true) → (p x || list_any p (xs ++ k ∷ [])) ≡ true
+      by (inl h) again = left_true (p x) (list_any p (xs ++ k ∷ [])) h
+      by (inr h) again = right_true (p x) (list_any p (xs ++ k ∷ [])) (again h)
+
+  any_added : (p : K → Bool) (ks : List K) (k : K) → p k ≡ true → list_any p (ks ++ k ∷ []) ≡ true
+  any_added p [] k e = left_true (p k) false e
+  any_added p (x ∷ xs) k e = right_true (p x) (list_any p (xs ++ k ∷ [])) (any_added p xs k e)
+
+  module _ (same : K → K → Bool) (ks : List K) (k x : K) where
+    from_by : (b : Bool) → is_among same (cond b ks (ks ++ k ∷ [])) x ≡ true → (is_among same ks x ≡ true) ⊎ (same x k ≡ true)
+    from_by true e = inl e
+    from_by false e = any_last (same x) ks k e
+
+    pub item_from : is_among same (with_item same ks k) x ≡ true → (is_among same ks x ≡ true) ⊎ (same x k ≡ true)
+    item_from e = from_by (is_among same ks k) e
+
+    kept_by : (b : Bool) → is_among same ks x ≡ true → is_among same (cond b ks (ks ++ k ∷ [])) x ≡ true
+    kept_by true e = e
+    kept_by false e = any_kept (same x) ks k e
+
+    pub item_kept : is_among same ks x ≡ true → is_among same (with_item same ks k) x ≡ true
+    item_kept e = kept_by (is_among same ks k) e
+
+  added_by : (same : K → K → Bool) (ks : List K) (k : K) → same k k ≡ true → (b : Bool) → is_among same ks k ≡ b → is_among same (cond b ks (ks ++ k ∷ [])) k ≡ true
+  added_by same ks k e true h = h
+  added_by same ks k e false h = any_added (same k) ks k e
+
+  pub item_added : (same : K → K → Bool) (ks : List K) (k : K) → same k k ≡ true → is_among same (with_item same ks k) k ≡ true
+  item_added same ks k e = added_by same ks k e (is_among same ks k) refl
+
+-- REMEMBERED FIELDS
+
+pub equal : (x y : ℕ) → (x == y) ≡ true → x ≡ y
+equal x y e = grind (arith, e)
+
+abbrev field : ℕ → ℕ → ℕ → Remembered
+field u a k = record { task = u; address = a; place = k }
+
+one_field : (u a k : ℕ) (f : Remembered) → same_field (u, a, k) (f.task, f.address, f.place) ≡ true → OfRemembered f ≡ OfRemembered (field u a k)
+one_field u a k f e =
+    let h = both_true (u == f.task) ((a == f.address) && (k == f.place)) e in
+    let g = both_true (a == f.address) (k == f.place) h.1 in
+    rw (equal u f.task h.0, equal a f.address g.0, equal k f.place g.1) refl
+
+field_line : (w : Whole) (s : Said) (u a k : ℕ) → is_among same_field (with_line w s).fields (u, a, k) ≡ true → (is_among same_field w.fields (u, a, k) ≡ true) ⊎ (s ≡ OfRemembered (field u a k))
+field_line w Nothing u a k e = inl e
+field_line w Wrong u a k e = inl e
+field_line w Title u a k e = inl e
+field_line w (OfTask t) u a k e = inl e
+field_line w (OfChunk c) u a k e = inl e
+field_line w (OfObject o) u a k e = inl e
+field_line w (OfEnd n) u a k e = inl e
+field_line w (OfRemembered f) u a k e = by (item_from same_field w.fields (f.task, f.address, f.place) (u, a, k) e)
+  where
+    by : ((is_among same_field w.fields (u, a, k) ≡ true) ⊎ (same_field (u, a, k) (f.task, f.address, f.place) ≡ true)) → (is_among same_field w.fields (u, a, k) ≡ true) ⊎ (OfRemembered f ≡ OfRemembered (field u a k))
+    by (inl h) = inl h
+    by (inr h) = inr (one_field u a k f h)
+
+pub field_from : (w : Whole) (ls : List (List ℕ)) (u a k : ℕ) → is_among same_field (with_lines w ls).fields (u, a, k) ≡ true → (is_among same_field w.fields (u, a, k) ≡ true) ⊎ IsRemembered ls u a k
+field_from w [] u a k e = inl e
+field_from w (l ∷ ls) u a k e = by (field_from (with_line w (said_by l)) ls u a k e)
+  where
+    at : ((is_among same_field w.fields (u, a, k) ≡ true) ⊎ (said_by l ≡ OfRemembered (field u a k))) → (is_among same_field w.fields (u, a, k) ≡ true) ⊎ IsRemembered (l ∷ ls) u a k
+    at (inl h) = inl h
+    at (inr h) = inr (0, h)
+
+    by : ((is_among same_field (with_line w (said_by l)).fields (u, a, k) ≡ true) ⊎ IsRemembered ls u a k) → (is_among same_field w.fields (u, a, k) ≡ true) ⊎ IsRemembered (l ∷ ls) u a k
+    by (inl h) = at (field_line w (said_by l) u a k h)
+    by (inr h) = inr (suc h.0, h.1)
+
+-- ADDRESSES
+
+address_line : (w : Whole) (s : Said) (v : ℕ) → is_among same_number (with_line w s).addresses v ≡ true → (is_among same_number w.addresses v ≡ true) ⊎ ((o : Object) × (s ≡ OfObject o) × (o.address ≡ v))
+address_line w Nothing v e = inl e
+address_line w Wrong v e = inl e
+address_line w Title v e = inl e
+address_line w (OfTask t) v e = inl e
+address_line w (OfChunk c) v e = inl e
+address_line w (OfRemembered f) v e = inl e
+address_line w (OfEnd n) v e = inl e
+address_line w (OfObject o) v e = by (item_from same_number w.addresses o.address v e)
+  where
+    by : ((is_among same_number w.addresses v ≡ true) ⊎ ((v == o.address) ≡ true)) → (is_among same_number w.addresses v ≡ true) ⊎ ((p : Object) × (OfObject o ≡ OfObject p) × (p.address ≡ v))
+    by (inl h) = inl h
+    by (inr h) = inr (o, refl, sym (equal v o.address h))
+
+pub address_from : (w : Whole) (ls : List (List ℕ)) (v : ℕ) → is_among same_number (with_lines w ls).addresses v ≡ true → (is_among same_number w.addresses v ≡ true) ⊎ IsObjectAt ls v
+address_from w [] v e = inl e
+address_from w (l ∷ ls) v e = by (address_from (with_line w (said_by l)) ls v e)
+  where
+    at : ((is_among same_number w.addresses v ≡ true) ⊎ ((o : Object) × (said_by l ≡ OfObject o) × (o.address ≡ v))) → (is_among same_number w.addresses v ≡ true) ⊎ IsObjectAt (l ∷ ls) v
+    at (inl h) = inl h
+    at (inr h) = inr (0, h.0, h.1, h.2)
+
+    by : ((is_among same_number (with_line w (said_by l)).addresses v ≡ true) ⊎ IsObjectAt ls v) → (is_among same_number w.addresses v ≡ true) ⊎ IsObjectAt (l ∷ ls) v
+    by (inl h) = at (address_line w (said_by l) v h)
+    by (inr h) = inr (suc h.0, h.1, h.2, h.3)

@@ -1,0 +1,67 @@
+-- A line more is checked.
+use Rattle.std.proofs.Common.{Bor, ◌≡◌, ◌+◌, ℕ, Bool, true, false, List, [], ◌∷◌, cond, length, refl, ap, sym, ◌∙◌}
+use Rattle.std.specs.Prelude.{Option, Some, None, not, is_some, MatchOption, ◌==◌}
+use Rattle.std.specs.List.{onto_first}
+use Rattle.text_lines.specs.Lines.{lines_of}
+use Rattle.image_check.specs.declared.read.Read.{Read}
+use Rattle.image_check.specs.declared.whole.Whole.{Whole}
+use Rattle.image_check.specs.declared.cause.Cause.{Cause}
+use Rattle.image_check.specs.declared.cause.Fault.{Fault}
+use Rattle.image_check.specs.Line.{said_by}
+use Rattle.image_check.specs.Read.{nothing_read, after_line, whole_of}
+use Rattle.image_check.specs.Fault.{cause_on, is_last, or_later, fault_from, lines_fault, after_lines, objects_in}
+
+-- no text is without a line
+more_by : (x : ℕ) (ps : List (List ℕ)) → is_last (onto_first x ps) ≡ false
+more_by x [] = refl
+more_by x (p ∷ ps) = refl
+
+either_line : (b : Bool) (ps : List (List ℕ)) (x : ℕ) → is_last (cond b ([] ∷ ps) (onto_first x ps)) ≡ false
+either_line true ps x = refl
+either_line false ps x = more_by x ps
+
+pub some_line : (text : List ℕ) → is_last (lines_of text) ≡ false
+some_line [] = refl
+some_line (c ∷ cs) = either_line (c == 10) (lines_of cs) c
+
+-- the lines behind the first, and whether there are any
+pub record Below (rest line : List ℕ) (more : Option (Bor (List ℕ))) : Type 0 where
+  pub lines : List (List ℕ)
+  pub cut : lines_of rest ≡ line ∷ lines
+  pub ends : not (is_some more) ≡ is_last lines
+
+pub below : (rest line : List ℕ) (more : Option (Bor (List ℕ))) → MatchOption more (lines_of rest ≡ line ∷ []) (λ b. lines_of rest ≡ line ∷ lines_of b.now) → Below rest line more
+below rest line None e = record { lines = []; cut = e; ends = refl }
+below rest line (Some b) e = record { lines = lines_of b.now; cut = e; ends = sym (some_line b.now) }
+
+-- how far a text is checked
+pub record IsChecked (text : List ℕ) (w : Whole) (start r : Read) (n : ℕ) (ls : List (List ℕ)) : Type 0 where
+  pub faults : fault_from w r n ls ≡ fault_from w start 1 (lines_of text)
+  pub reads : after_lines r ls ≡ after_lines start (lines_of text)
+
+module _ (text : List ℕ) (w : Whole) (start r : Read) (n : ℕ) (l : List ℕ) (ls : List (List ℕ)) (last : Bool) (is : IsChecked text w start r n (l ∷ ls)) (ends : last ≡ is_last ls) where
+  by_cause : (o : Option Cause) → o ≡ cause_on w r last (said_by l) → or_later o n (fault_from w (after_line r (said_by l)) (n + 1) ls) ≡ fault_from w start 1 (lines_of text)
+  by_cause o e = ap (λ c. or_later c n (fault_from w (after_line r (said_by l)) (n + 1) ls)) (e ∙ ap (λ b. cause_on w r b (said_by l)) ends) ∙ is.faults
+
+  pub fault_here : (c : Cause) → Some c ≡ cause_on w r last (said_by l) → Some (record { line = n; cause = c }) ≡ fault_from w start 1 (lines_of text)
+  fault_here c e = by_cause (Some c) e
+
+  pub checked_more : (s : Read) → None ≡ cause_on w r last (said_by l) → s ≡ after_line r (said_by l) → IsChecked text w start s (n + 1) ls
+  checked_more s none e = record {
+    faults = ap (λ x. fault_from w x (n + 1) ls) e ∙ by_cause None none;
+    reads = ap (λ x. after_lines x ls) e ∙ is.reads;
+  }
+
+twice : (b : Bool) → b ≡ not (not b)
+twice true = refl
+twice false = refl
+
+pub flipped : (a b : Bool) → a ≡ not b → b ≡ not a
+flipped a b e = twice b ∙ ap not (sym e)
+
+-- what the verifier answers
+pub answers_none : (text : List ℕ) (w : Whole) (r : Read) (o : Option Fault) → w ≡ whole_of text → r ≡ nothing_read → o ≡ fault_from w r 1 (lines_of text) → o ≡ None → lines_fault text ≡ None
+answers_none text w r o ew er e h = ap (λ x. fault_from x nothing_read 1 (lines_of text)) (sym ew) ∙ ap (λ x. fault_from w x 1 (lines_of text)) (sym er) ∙ sym e ∙ h
+
+pub answers_count : (text : List ℕ) (r s : Read) (n : ℕ) → r ≡ nothing_read → s ≡ after_lines r (lines_of text) → n ≡ length s.objects → n ≡ objects_in text
+answers_count text r s n er es e = e ∙ ap (λ x. length x.objects) es ∙ ap (λ x. length (after_lines x (lines_of text)).objects) er

@@ -1,0 +1,12 @@
+use Rattle.std.proofs.Common.{◌≡◌, subst, None}
+use Rattle.std.specs.Prelude.{MatchOption}
+use Rattle.image_check.specs.Table.{found}
+use Rattle.image_check.specs.Tasks.{Tasks}
+use Rattle.image_check.specs.Links.{StandsAt}
+use Rattle.image_check.proofs.Linked.{place_answer}
+use Rattle.image_check.proofs.tasks.Tasks.place.Goals as goal
+
+pub returns : goal.returns
+returns c =
+    subst (λ (es : Tasks). MatchOption c.get_index_of.result (found es c.args.number ≡ None) (λ i. StandsAt es i c.args.number)) c.self.view_is
+    (place_answer c.self.inside.table.entries c.args.number c.get_index_of.result c.get_index_of.ensures.index c.get_index_of.ensures.found)

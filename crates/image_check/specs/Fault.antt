@@ -1,0 +1,222 @@
+-- The first fault of an image.
+use Rattle.std.specs.Prelude.{◌≡◌, ◌<◌, ℕ, ◌+◌, ◌==◌, ◌&&◌, ◌||◌, Bool, true, false, not, Option, Some, None, Result, Ok, Err, List, [], ◌∷◌, length, nat_lt, nat_le, if◌then◌else◌}
+use Rattle.std.specs.List.{list_any}
+use Rattle.text_lines.specs.Lines.{lines_of}
+use Rattle.image_check.specs.declared.line.Chunk.{Chunk}
+use Rattle.image_check.specs.declared.line.Object.{Object}
+use Rattle.image_check.specs.declared.line.Remembered.{Remembered}
+use Rattle.image_check.specs.declared.line.Said.{Said}
+use Rattle.image_check.specs.declared.line.Said.TheVariants.{Nothing, Wrong, Title, OfTask, OfChunk, OfObject, OfRemembered, OfEnd}
+use Rattle.image_check.specs.declared.read.Position.{Position}
+use Rattle.image_check.specs.declared.read.Extent.{Extent}
+use Rattle.image_check.specs.declared.read.Read.{Read}
+use Rattle.image_check.specs.declared.whole.Whole.{Whole}
+use Rattle.image_check.specs.declared.cause.Cause.{Cause}
+use Rattle.image_check.specs.declared.cause.Cause.TheVariants.{TooLong, Line, Twice, NoTask, NoChunk, Place, Running, Ref, Cross, Down, Field, Count}
+use Rattle.image_check.specs.declared.cause.Fault.{Fault}
+use Rattle.image_check.specs.declared.check.VerifyError.{VerifyError}
+use Rattle.image_check.specs.declared.check.VerifyError.TheVariants.{Refused, NoMemory}
+use Rattle.image_check.specs.Line.{said_by}
+use Rattle.image_check.specs.Table.{found, has}
+use Rattle.image_check.specs.Sets.{is_among, same_number, same_birth, same_field}
+use Rattle.image_check.specs.Place.{chunk_number, offset}
+use Rattle.image_check.specs.Read.{position_of, comes_next, end_of, last_after, nothing_read, after_line, whole_of}
+use Rattle.image_check.specs.declared.tasks.Relation.{Relation}
+use Rattle.image_check.specs.declared.tasks.Relation.TheVariants.{Above, Below, Apart}
+use Rattle.image_check.specs.Tasks.{Tasks, is_above, relation_of, HasParent, is_running, chunk_at, owner_at}
+
+-- LINE
+
+abbrev pub has_wrong_place : Option Position → Option Position → Bool
+has_wrong_place last None = true
+has_wrong_place last (Some p) = not (comes_next last p)
+
+-- what no line of an image says, or what doesn't come behind the last line
+abbrev pub is_misplaced : Option Position → Said → Bool
+is_misplaced last Nothing = false
+is_misplaced last s = has_wrong_place last (position_of s)
+
+abbrev pub is_end : Option Position → Bool
+is_end None = false
+is_end (Some p) = p.kind == 5
+
+abbrev pub breaks_form : Read → Bool → Said → Bool
+breaks_form r is_last s = is_misplaced r.last s || (is_last && not (is_end (last_after r.last (position_of s))))
+
+-- NOTASK
+
+abbrev pub lacks_parent : Read → Option ℕ → Bool
+lacks_parent r None = false
+lacks_parent r (Some p) = not (has r.tasks p)
+
+-- PLACE
+
+abbrev pub overlaps : Option Extent → Object → Bool
+overlaps None o = false
+overlaps (Some e) o = (e.chunk == chunk_number o.address) && nat_lt (offset o.address) e.past
+
+-- it leaves its chunk, or overlaps the object line before in the same chunk
+abbrev pub is_crowded : Read → Chunk → Object → Bool
+is_crowded r c o = nat_lt c.words (end_of o) || overlaps r.latest o
+
+-- REF, CROSS, DOWN
+
+abbrev pub owner_runs : Read → Option ℕ → Bool
+owner_runs r None = false
+owner_runs r (Some t) = is_running r.tasks t
+
+-- neither nil, nor the address of an object line, nor in a chunk of a running task
+abbrev pub is_astray : Whole → Read → ℕ → Bool
+is_astray w r v = not ((v == 0) || (is_among same_number w.addresses v || owner_runs r (owner_at r.chunks v)))
+
+-- how the owner of what a reference leads to stands to t, where it has one
+abbrev pub relation_to : Tasks → ℕ → Option ℕ → Option Relation
+relation_to tasks t None = None
+relation_to tasks t (Some u) = Some (relation_of tasks t u)
+
+abbrev pub is_apart : Option Relation → Bool
+is_apart (Some Apart) = true
+is_apart _ = false
+
+abbrev pub is_below : Option Relation → Bool
+is_below (Some Below) = true
+is_below _ = false
+
+-- from t to an owner that is on no path with t
+abbrev pub crosses : Read → ℕ → ℕ → Bool
+crosses r t v = is_apart (relation_to r.tasks t (owner_at r.chunks v))
+
+-- the owner's set has the field k of the object at a, by a line anywhere in the text
+abbrev pub is_noted : Whole → ℕ → ℕ → Option ℕ → Bool
+is_noted w a k None = false
+is_noted w a k (Some u) = is_among same_field w.fields (u, a, k)
+
+-- from the field k of the object at a, which t owns, to a descendant without its remembered line
+abbrev pub is_forgotten : Whole → Read → ℕ → ℕ → ℕ → Option ℕ → Bool
+is_forgotten w r t a k u = is_below (relation_to r.tasks t u) && not (is_noted w a k u)
+
+-- of an object of t at a, whose fields from k on are these: one goes to a descendant without its remembered line
+abbrev pub forgets : Whole → Read → ℕ → ℕ → ℕ → List ℕ → Bool
+forgets w r t a k [] = false
+forgets w r t a k (v ∷ vs) = is_forgotten w r t a k (owner_at r.chunks v) || forgets w r t a (k + 1) vs
+
+-- FIELD
+
+abbrev pub owner_is_above : Read → ℕ → Option ℕ → Bool
+owner_is_above r t None = false
+owner_is_above r t (Some u) = is_above r.tasks u t
+
+abbrev pub has_field : Option ℕ → ℕ → Bool
+has_field None k = false
+has_field (Some n) k = nat_lt k n
+
+-- no reference of an object line before, or not of a proper ancestor
+abbrev pub is_no_field : Read → Remembered → Bool
+is_no_field r f = not (has_field (found r.objects f.address) f.place && owner_is_above r f.task (owner_at r.chunks f.address))
+
+-- THE FIRST CAUSE ON A LINE
+
+abbrev pub references_cause : Whole → Read → ℕ → Object → Option Cause
+references_cause w r t o =
+    if list_any (is_astray w r) o.references then Some Ref
+    else if list_any (crosses r t) o.references then Some Cross
+    else if forgets w r t o.address 0 o.references then Some Down
+    else None
+
+abbrev pub object_cause_in : Whole → Read → Object → Option Chunk → Option Cause
+object_cause_in w r o None = Some NoChunk
+object_cause_in w r o (Some c) =
+    if is_crowded r c o then Some Place
+    else if is_running r.tasks c.owner then Some Running
+    else references_cause w r c.owner o
+
+abbrev pub object_cause : Whole → Read → Object → Option Cause
+object_cause w r o =
+    if is_among same_birth r.births (o.birth.task, o.birth.count) then Some Twice
+    else object_cause_in w r o (chunk_at r.chunks o.address)
+
+abbrev pub remembered_cause : Read → Remembered → Option Cause
+remembered_cause r f =
+    if not (has r.tasks f.task) then Some NoTask
+    else if is_no_field r f then Some Field
+    else None
+
+abbrev pub cause_by : Whole → Read → Said → Option Cause
+cause_by w r Nothing = None
+cause_by w r Wrong = None
+cause_by w r Title = None
+cause_by w r (OfTask t) = if lacks_parent r t.parent then Some NoTask else None
+cause_by w r (OfChunk c) = if has r.tasks c.owner then None else Some NoTask
+cause_by w r (OfObject o) = object_cause w r o
+cause_by w r (OfRemembered f) = remembered_cause r f
+cause_by w r (OfEnd n) = if n == length r.objects then None else Some Count
+
+-- the first cause on a line, of which these were read before
+abbrev pub cause_on : Whole → Read → Bool → Said → Option Cause
+cause_on w r is_last s = if breaks_form r is_last s then Some Line else cause_by w r s
+
+-- what a line without a cause has to have: its parent, or an address that isn't 0
+abbrev pub CanFollow : Read → Said → Type 0
+CanFollow r (OfTask t) = HasParent r.tasks t.parent
+CanFollow r (OfObject o) = 0 < o.address
+CanFollow r _ = Unit {0}
+
+-- THE FIRST LINE WITH A FAULT
+
+abbrev pub is_last : List (List ℕ) → Bool
+is_last [] = true
+is_last (l ∷ ls) = false
+
+abbrev pub or_later : Option Cause → ℕ → Option Fault → Option Fault
+or_later (Some cause) number later = Some (record { line = number; cause = cause })
+or_later None number later = later
+
+-- of the lines from this number on
+abbrev pub fault_from : Whole → Read → ℕ → List (List ℕ) → Option Fault
+fault_from w r n [] = None
+fault_from w r n (l ∷ ls) = or_later (cause_on w r (is_last ls) (said_by l)) n (fault_from w (after_line r (said_by l)) (n + 1) ls)
+
+-- the first fault of the lines of a text
+abbrev pub lines_fault : List ℕ → Option Fault
+lines_fault text = fault_from (whole_of text) nothing_read 1 (lines_of text)
+
+-- the most bytes of a text
+abbrev pub image_limit : ℕ
+image_limit = 16777216
+
+-- more bytes than the limit
+abbrev pub too_long : Fault
+too_long = record { line = 0; cause = TooLong }
+
+-- the first fault of a text
+abbrev pub image_fault : List ℕ → Option Fault
+image_fault text = if nat_le (length text) image_limit then lines_fault text else Some too_long
+
+-- OBJECTS
+
+abbrev pub onto_count : Said → ℕ → ℕ
+onto_count (OfObject o) n = n + 1
+onto_count _ n = n
+
+abbrev pub object_count : List (List ℕ) → ℕ
+object_count [] = 0
+object_count (l ∷ ls) = onto_count (said_by l) (object_count ls)
+
+-- all that lines say, behind what was read before
+abbrev pub after_lines : Read → List (List ℕ) → Read
+after_lines r [] = r
+after_lines r (l ∷ ls) = after_lines (after_line r (said_by l)) ls
+
+-- the number of objects
+abbrev pub objects_in : List ℕ → ℕ
+objects_in text = length (after_lines nothing_read (lines_of text)).objects
+
+-- the number of objects, or the first fault
+abbrev pub Answers : Option Fault → ℕ → Result ℕ Fault → Type 0
+Answers fault objects (Ok count) = (fault ≡ None) × (count ≡ objects)
+Answers fault objects (Err f) = fault ≡ Some f
+
+-- the verifier fails at the first fault, or for want of memory
+abbrev pub Fails : Option Fault → VerifyError → Type 0
+Fails fault (Refused f) = fault ≡ Some f
+Fails fault NoMemory = Unit {0}

@@ -1,0 +1,10 @@
+pub mod Cause
+pub mod Sets
+pub mod Table
+pub mod Line
+pub mod Place
+pub mod Read
+pub mod Tasks
+pub mod Links
+pub mod Fault
+pub mod Sound

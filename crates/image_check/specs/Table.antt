@@ -1,0 +1,19 @@
+-- Values under numbers.
+use Rattle.std.specs.Prelude.{ℕ, Bool, List, [], ◌∷◌, ◌++◌, Option, nat_eq, is_some, if◌then◌else◌}
+use Rattle.std.specs.Map.{lookup}
+use Rattle.indexmap.specs.IndexMap.{insert_entry}
+
+-- the value under a number
+abbrev pub found : {V : Type 0} → List (ℕ × V) → ℕ → Option V
+found entries n = lookup (nat_eq n) entries
+
+abbrev pub has : {V : Type 0} → List (ℕ × V) → ℕ → Bool
+has entries n = is_some (found entries n)
+
+-- with a value under a number: behind the others, where none was there
+abbrev pub with_entry : {V : Type 0} → List (ℕ × V) → ℕ → V → List (ℕ × V)
+with_entry entries n v = insert_entry nat_eq entries n v
+
+-- with a value under a number behind the others, unless one is there
+abbrev pub with_new : {V : Type 0} → List (ℕ × V) → ℕ → V → List (ℕ × V)
+with_new entries n v = if has entries n then entries else entries ++ (n, v) ∷ []

@@ -1,0 +1,92 @@
+-- Tasks, and the chunks that they own, in what was read.
+use Rattle.std.specs.Prelude.{◌≡◌, ◌<◌, ◌↔◌, ℕ, zero, suc, ◌==◌, ◌||◌, Bool, true, false, Option, Some, None, List, length, if◌then◌else◌}
+use Rattle.image_check.specs.declared.line.State.{State}
+use Rattle.image_check.specs.declared.line.State.TheVariants.{Running, Waiting, Ended}
+use Rattle.image_check.specs.declared.line.Task.{Task}
+use Rattle.image_check.specs.declared.line.Chunk.{Chunk}
+use Rattle.image_check.specs.declared.tasks.Relation.{Relation}
+use Rattle.image_check.specs.declared.tasks.Relation.TheVariants.{Own, Above, Below, Apart}
+use Rattle.image_check.specs.Table.{found, has}
+use Rattle.image_check.specs.Place.{chunk_number}
+
+abbrev pub Tasks : Type 0
+Tasks = List (ℕ × Task)
+
+abbrev pub Chunks : Type 0
+Chunks = List (ℕ × Chunk)
+
+-- PATHS
+
+abbrev pub parent_in : Option Task → Option ℕ
+parent_in None = None
+parent_in (Some t) = t.parent
+
+-- the parent of a task, where it has one
+abbrev pub parent_of : Tasks → ℕ → Option ℕ
+parent_of tasks t = parent_in (found tasks t)
+
+abbrev pub there_or_on : ℕ → (ℕ → Bool) → Option ℕ → Bool
+there_or_on a walk None = false
+there_or_on a walk (Some p) = (p == a) || walk p
+
+-- a walk of at most so many links along parents meets a
+abbrev pub meets : ℕ → Tasks → ℕ → ℕ → Bool
+meets zero tasks a t = false
+meets (suc n) tasks a t = there_or_on a (meets n tasks a) (parent_of tasks t)
+
+-- a walk from t meets a; it has fewer links than there are tasks
+abbrev pub is_above : Tasks → ℕ → ℕ → Bool
+is_above tasks a t = meets (length tasks) tasks a t
+
+-- how u stands to t
+abbrev pub relation_of : Tasks → ℕ → ℕ → Relation
+relation_of tasks t u =
+    if u == t then Own
+    else if is_above tasks u t then Above
+    else if is_above tasks t u then Below
+    else Apart
+
+-- the parent, where there is one, is among the tasks
+abbrev pub HasParent : Tasks → Option ℕ → Type 0
+HasParent tasks None = Unit {0}
+HasParent tasks (Some p) = has tasks p ≡ true
+
+-- links from a task lead to a: one, and so many more
+abbrev pub LinksLead : ℕ → Tasks → ℕ → ℕ → Type 0
+LinksLead zero tasks t a = parent_of tasks t ≡ Some a
+LinksLead (suc n) tasks t a = (p : ℕ) × (parent_of tasks t ≡ Some p) × LinksLead n tasks p a
+
+-- a is a proper ancestor of t
+abbrev pub IsAncestor : Tasks → ℕ → ℕ → Type 0
+IsAncestor tasks a t = (n : ℕ) × LinksLead n tasks t a
+
+-- u stands to t as it is found to
+pub record IsRelated (tasks : Tasks) (t u : ℕ) : Type 0 where
+  pub own : (relation_of tasks t u ≡ Own) ↔ (u ≡ t)
+  pub above : (relation_of tasks t u ≡ Above) ↔ IsAncestor tasks u t
+  pub below : (relation_of tasks t u ≡ Below) ↔ IsAncestor tasks t u
+
+-- OWNERS
+
+abbrev pub is_running_state : State → Bool
+is_running_state Running = true
+is_running_state _ = false
+
+abbrev pub runs : Option Task → Bool
+runs None = false
+runs (Some t) = is_running_state t.state
+
+abbrev pub is_running : Tasks → ℕ → Bool
+is_running tasks t = runs (found tasks t)
+
+-- the chunk that an address lies in; none has the address 0
+abbrev pub chunk_at : Chunks → ℕ → Option Chunk
+chunk_at chunks a = if a == 0 then None else found chunks (chunk_number a)
+
+abbrev pub owner_in : Option Chunk → Option ℕ
+owner_in None = None
+owner_in (Some c) = Some c.owner
+
+-- the task that owns what lies at an address
+abbrev pub owner_at : Chunks → ℕ → Option ℕ
+owner_at chunks a = owner_in (chunk_at chunks a)

@@ -1,0 +1,112 @@
+// Checks images.
+
+ghost use Rattle.std.specs.Prelude.{◌≡◌, ◌≤◌, length, IfOk, IfErr, IfNone, Some, None};
+ghost use Rattle.text_lines.specs.Lines.{lines_of};
+ghost use Rattle.image_check.specs.Line.{said_by};
+ghost use Rattle.image_check.specs.Read.{after_line};
+ghost use Rattle.image_check.specs.Fault.{cause_on, fault_from, after_lines, lines_fault, image_fault, image_limit, too_long, objects_in, Answers, Fails};
+
+use crate::cause::{Cause, Fault};
+use crate::faults::first_cause;
+use crate::line::read_line;
+use crate::read::Read;
+use crate::whole::{Whole, read_whole};
+use std::alloc::{AllocError, Global};
+use text_lines::next_line;
+
+/// The most bytes of a text.
+const IMAGE_LIMIT: usize = 16777216;
+
+/// A text of more bytes.
+const TOO_LONG: Fault = Fault {
+    line: 0,
+    cause: Cause::TooLong,
+};
+
+/// Why an image isn't verified.
+#[derive(Clone, Copy, PartialEq, Eq, Debug)]
+pub enum VerifyError {
+    /// Its first fault.
+    Refused(Fault),
+    /// Want of memory.
+    NoMemory,
+}
+
+// The first cause on a line, of which these were read before; without one the line is read too.
+fn check_line(
+    alloc: Global,
+    whole: &Whole,
+    read: &mut Read,
+    is_last: bool,
+    line: &[u8],
+) -> Result<Option<Cause>, AllocError>
+    ensures cause { IfOk result (λ cause. cause ≡ cause_on whole.now read.old is_last (said_by line.now)) }
+    ensures read { IfOk result (λ cause. IfNone cause (read.new ≡ after_line read.old (said_by line.now))) }
+{
+    let said = read_line(alloc, line)?;
+    match first_cause(whole, read, is_last, &said) {
+        Some(cause) => Ok(Some(cause)),
+        None => {
+            read.add(&said)?;
+            Ok(None)
+        }
+    }
+}
+
+// The first fault of the lines of a text; without one the lines are read too.
+fn check_lines(
+    alloc: Global,
+    whole: &Whole,
+    read: &mut Read,
+    text: &[u8],
+) -> Result<Option<Fault>, AllocError>
+    requires { length text.now ≤ image_limit }
+    ensures fault { IfOk result (λ fault. fault ≡ fault_from whole.now read.old 1 (lines_of text.now)) }
+    ensures read { IfOk result (λ fault. IfNone fault (read.new ≡ after_lines read.old (lines_of text.now))) }
+{
+    let mut rest = text;
+    let mut number: u32 = 1;
+    loop {
+        let (line, lines) = next_line(rest);
+        match check_line(alloc, whole, read, lines.is_none(), line)? {
+            Some(cause) => return Ok(Some(Fault {
+                line: number,
+                cause,
+            })),
+            None => {}
+        }
+        match lines {
+            None => return Ok(None),
+            Some(more) => rest = more,
+        }
+        number += 1;
+    }
+}
+
+// How many objects a text has, or its first fault.
+fn check_text(alloc: Global, text: &[u8]) -> Result<Result<u64, Fault>, AllocError>
+    requires { length text.now ≤ image_limit }
+    ensures { IfOk result (Answers (lines_fault text.now) (objects_in text.now)) }
+{
+    let whole = read_whole(alloc, text)?;
+    let mut read = Read::new(alloc);
+    match check_lines(alloc, &whole, &mut read, text)? {
+        Some(fault) => Ok(Err(fault)),
+        None => Ok(Ok(read.objects.len() as u64)),
+    }
+}
+
+/// Checks the text of an image. It answers how many objects there are, or the first fault.
+pub fn verify(alloc: Global, text: &[u8]) -> Result<u64, VerifyError>
+    ensures verified { IfOk result (λ count. (image_fault text.now ≡ None) × (count ≡ objects_in text.now)) }
+    ensures fault { IfErr result (Fails (image_fault text.now)) }
+{
+    if text.len() > IMAGE_LIMIT {
+        return Err(VerifyError::Refused(TOO_LONG));
+    }
+    match check_text(alloc, text) {
+        Ok(Ok(count)) => Ok(count),
+        Ok(Err(fault)) => Err(VerifyError::Refused(fault)),
+        Err(AllocError) => Err(VerifyError::NoMemory),
+    }
+}

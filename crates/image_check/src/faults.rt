@@ -1,0 +1,246 @@
+// The first cause on a line.
+
+ghost use Rattle.std.specs.Prelude.{◌≡◌, ◌≤◌, ◌<◌, ◌+◌, ◌&&◌, length, not, Some, IfNone};
+ghost use Rattle.image_check.specs.Read.{IsSized};
+ghost use Rattle.image_check.specs.Tasks.{owner_at};
+ghost use Rattle.image_check.specs.Fault.{is_misplaced, breaks_form, lacks_parent, overlaps, is_crowded, is_astray, relation_to, is_apart, is_below, is_noted, is_no_field, references_cause, object_cause, object_cause_in, remembered_cause, cause_by, cause_on, CanFollow};
+
+use crate::cause::Cause;
+use crate::line::{Chunk, Object, Remembered, Said};
+use crate::owners::{chunk_of_address, owner_of};
+use crate::read::{Extent, Position, Read, extent_in, may_come, position_in};
+use crate::tasks::Relation;
+use crate::whole::Whole;
+
+// Whether a line isn't of the form, or doesn't come behind the last one.
+fn is_out_of_order(last: Option<Position>, said: &Said) -> bool
+    ensures { result ≡ is_misplaced last said.now }
+{
+    match position_in(said) {
+        None => matches!(said, Said::Wrong),
+        Some(position) => !may_come(last, position),
+    }
+}
+
+// Whether the last line of a text isn't at its end, or a line isn't of the form.
+fn is_unformed(read: &Read, is_last: bool, said: &Said) -> bool
+    ensures { result ≡ breaks_form read.now is_last said.now }
+{
+    if is_out_of_order(read.last, said) {
+        return true;
+    }
+    if !is_last {
+        return false;
+    }
+    let place = match position_in(said) {
+        None => read.last,
+        Some(position) => Some(position),
+    };
+    match place {
+        None => true,
+        Some(position) => position.kind != 5,
+    }
+}
+
+fn is_parentless(read: &Read, parent: Option<u64>) -> bool
+    ensures { result ≡ lacks_parent read.now parent }
+{
+    match parent {
+        None => false,
+        Some(parent) => !read.tasks.has(parent),
+    }
+}
+
+// Whether an object that ends here overlaps the one before.
+fn is_overlapping(latest: Option<Extent>, object: &Object) -> bool
+    requires there { 0 < object.now.address }
+    ensures { result ≡ overlaps latest object.now }
+{
+    match latest {
+        None => false,
+        Some(latest) => latest.chunk == (object.address - 1) / 1024
+            && (object.address - 1) % 1024 < latest.past,
+    }
+}
+
+// Whether an object leaves its chunk or overlaps the one before.
+fn is_ill_placed(read: &Read, chunk: Chunk, object: &Object) -> bool
+    requires sized { length object.now.references + object.now.numbers ≤ 1000000 }
+    requires there { 0 < object.now.address }
+    ensures { result ≡ is_crowded read.now chunk object.now }
+{
+    chunk.words < extent_in(object).past || is_overlapping(read.latest, object)
+}
+
+// Whether a reference to what this owner has leads nowhere.
+fn is_stray(whole: &Whole, read: &Read, reference: u64, owner: Option<u64>) -> bool
+    requires { owner ≡ owner_at read.now.chunks reference }
+    ensures { result ≡ is_astray whole.now read.now reference }
+{
+    if reference == 0 || whole.addresses.has(reference) {
+        return false;
+    }
+    match owner {
+        None => true,
+        Some(owner) => !read.tasks.runs(owner),
+    }
+}
+
+// How an owner stands to a task.
+fn relation_to(read: &Read, task: u64, owner: Option<u64>) -> Option<Relation>
+    ensures { result ≡ relation_to read.now.tasks task owner }
+{
+    match owner {
+        None => None,
+        Some(owner) => Some(read.tasks.relation(task, owner)),
+    }
+}
+
+fn is_apart(relation: Option<Relation>) -> bool
+    ensures { result ≡ is_apart relation }
+{
+    matches!(relation, Some(Relation::Apart))
+}
+
+// Whether a field leads to a descendant of its owner that doesn't remember it.
+fn is_unremembered(
+    whole: &Whole,
+    relation: Option<Relation>,
+    owner: Option<u64>,
+    address: u64,
+    place: u64,
+) -> bool
+    ensures { result ≡ (is_below relation && not (is_noted whole.now address place owner)) }
+{
+    match (relation, owner) {
+        (Some(Relation::Below), Some(owner)) => !whole.fields.has(owner, address, place),
+        (Some(Relation::Below), None) => true,
+        _ => false,
+    }
+}
+
+// The first cause of an object's references.
+fn cause_of_references(whole: &Whole, read: &Read, task: u64, object: &Object) -> Option<Cause>
+    ensures { result ≡ references_cause whole.now read.now task object.now }
+{
+    let mut rest = object.references.as_slice();
+    let mut place: u64 = 0;
+    let mut crosses = false;
+    let mut forgets = false;
+    while let [reference, more @ ..] = rest {
+        let owner = owner_of(&read.chunks, *reference);
+        if is_stray(whole, read, *reference, owner) {
+            return Some(Cause::Ref);
+        }
+        let relation = relation_to(read, task, owner);
+        crosses = crosses || is_apart(relation);
+        forgets = forgets || is_unremembered(whole, relation, owner, object.address, place);
+        rest = more;
+        place += 1;
+    }
+    if crosses {
+        Some(Cause::Cross)
+    } else if forgets {
+        Some(Cause::Down)
+    } else {
+        None
+    }
+}
+
+// The first cause of an object that lies in a chunk.
+fn cause_in_chunk(whole: &Whole, read: &Read, object: &Object, chunk: Chunk) -> Option<Cause>
+    requires sized { length object.now.references + object.now.numbers ≤ 1000000 }
+    requires there { 0 < object.now.address }
+    ensures { result ≡ object_cause_in whole.now read.now object.now (Some chunk) }
+{
+    if is_ill_placed(read, chunk, object) {
+        return Some(Cause::Place);
+    }
+    if read.tasks.runs(chunk.owner) {
+        return Some(Cause::Running);
+    }
+    cause_of_references(whole, read, chunk.owner, object)
+}
+
+fn cause_of_object(whole: &Whole, read: &Read, object: &Object) -> Option<Cause>
+    requires sized { length object.now.references + object.now.numbers ≤ 1000000 }
+    ensures { result ≡ object_cause whole.now read.now object.now }
+{
+    if read.births.has(object.birth.task, object.birth.count) {
+        return Some(Cause::Twice);
+    }
+    if object.address == 0 {
+        return Some(Cause::NoChunk);
+    }
+    match chunk_of_address(&read.chunks, object.address) {
+        None => Some(Cause::NoChunk),
+        Some(chunk) => cause_in_chunk(whole, read, object, chunk),
+    }
+}
+
+// Whether an object has so many references and more, and a proper ancestor of a task owns it.
+fn is_field_above(read: &Read, field: Remembered) -> bool
+    ensures { result ≡ not (is_no_field read.now field) }
+{
+    let Some(count) = read.objects.find(field.address) else {
+        return false;
+    };
+    if field.place >= *count {
+        return false;
+    }
+    match owner_of(&read.chunks, field.address) {
+        None => false,
+        Some(owner) => read.tasks.is_ancestor(owner, field.task),
+    }
+}
+
+fn cause_of_field(read: &Read, field: Remembered) -> Option<Cause>
+    ensures { result ≡ remembered_cause read.now field }
+{
+    if !read.tasks.has(field.task) {
+        Some(Cause::NoTask)
+    } else if is_field_above(read, field) {
+        None
+    } else {
+        Some(Cause::Field)
+    }
+}
+
+// The first cause on a line of the form.
+fn cause_of(whole: &Whole, read: &Read, said: &Said) -> Option<Cause>
+    requires sized { IsSized said.now }
+    ensures { result ≡ cause_by whole.now read.now said.now }
+{
+    match said {
+        Said::Nothing | Said::Wrong | Said::Title => None,
+        Said::OfTask(task) => if is_parentless(read, task.parent) {
+            Some(Cause::NoTask)
+        } else {
+            None
+        },
+        Said::OfChunk(chunk) => if read.tasks.has(chunk.owner) {
+            None
+        } else {
+            Some(Cause::NoTask)
+        },
+        Said::OfObject(object) => cause_of_object(whole, read, object),
+        Said::OfRemembered(field) => cause_of_field(read, *field),
+        Said::OfEnd(count) => if *count == read.objects.len() as u64 {
+            None
+        } else {
+            Some(Cause::Count)
+        },
+    }
+}
+
+/// The first cause on a line, of which these were read before.
+pub(crate) fn first_cause(whole: &Whole, read: &Read, is_last: bool, said: &Said) -> Option<Cause>
+    requires sized { IsSized said.now }
+    ensures cause { result ≡ cause_on whole.now read.now is_last said.now }
+    ensures follows { IfNone result (CanFollow read.now said.now) }
+{
+    if is_unformed(read, is_last, said) {
+        return Some(Cause::Line);
+    }
+    cause_of(whole, read, said)
+}

@@ -1,0 +1,21 @@
+// Checks the text of an image: tasks, chunks, objects with their references, and remembered fields.
+#![tactic(auto)]
+
+mod cause;
+mod check;
+mod faults;
+mod laws;
+mod line;
+mod links;
+mod number;
+mod owners;
+mod read;
+mod sets;
+mod table;
+mod tasks;
+mod whole;
+
+pub use cause::{Cause, Fault};
+pub use check::{VerifyError, verify};
+pub use laws::{faultless_is_sound, objects_are_counted, tasks_are_related};
+pub use line::{Birth, Chunk, Object, Remembered, State, Task};

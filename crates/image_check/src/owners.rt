@@ -1,0 +1,31 @@
+// Chunks and their owners.
+
+ghost use Rattle.std.specs.Prelude.{◌≡◌};
+ghost use Rattle.image_check.specs.Tasks.{chunk_at, owner_at};
+
+use crate::line::Chunk;
+use crate::read::chunk_of;
+use crate::table::Table;
+
+/// The chunk that an address lies in.
+pub(crate) fn chunk_of_address(chunks: &Table<Chunk>, address: u64) -> Option<Chunk>
+    ensures { result ≡ chunk_at chunks.now address }
+{
+    if address == 0 {
+        return None;
+    }
+    match chunks.find(chunk_of(address)) {
+        None => None,
+        Some(chunk) => Some(*chunk),
+    }
+}
+
+/// The task that owns what lies at an address.
+pub(crate) fn owner_of(chunks: &Table<Chunk>, address: u64) -> Option<u64>
+    ensures { result ≡ owner_at chunks.now address }
+{
+    match chunk_of_address(chunks, address) {
+        None => None,
+        Some(chunk) => Some(chunk.owner),
+    }
+}

@@ -1,0 +1,158 @@
+// What the lines of an image have said so far.
+
+ghost use Rattle.std.specs.Prelude.{◌≡◌, ◌≤◌, ◌+◌, ◌<◌, OnOk, length};
+ghost use Rattle.image_check.specs.Place.{chunk_number};
+ghost use Rattle.image_check.specs.Read.{position_of, rises, or_next, comes_next, end_of, extent_of, nothing_read, after_line, IsSized};
+
+use crate::line::{Chunk, Object, Said};
+use crate::sets::Births;
+use crate::table::Table;
+use crate::tasks::Tasks;
+use std::alloc::{AllocError, Global};
+
+/// Where a line belongs: kinds in their order, and in a kind by numbers.
+#[derive(Clone, Copy, PartialEq, Eq, Debug)]
+pub(crate) struct Position {
+    pub kind: u64,
+    pub first: u64,
+    pub second: u64,
+    pub third: u64,
+}
+
+/// Where an object ends in its chunk.
+#[derive(Clone, Copy, PartialEq, Eq, Debug)]
+pub(crate) struct Extent {
+    pub chunk: u64,
+    pub past: u64,
+}
+
+/// What was read.
+#[derive(Drop)]
+pub(crate) struct Read {
+    /// Where the last line belongs.
+    pub last: Option<Position>,
+    pub tasks: Tasks,
+    pub chunks: Table<Chunk>,
+    /// How many references each object has, by its address.
+    pub objects: Table<u64>,
+    pub births: Births,
+    /// Where the last object ends.
+    pub latest: Option<Extent>,
+}
+
+/// Where a line belongs.
+pub(crate) fn position_in(said: &Said) -> Option<Position>
+    ensures { result ≡ position_of said.now }
+{
+    let (kind, first, second, third) = match said {
+        Said::Nothing | Said::Wrong => return None,
+        Said::Title => (0, 0, 0, 0),
+        Said::OfTask(task) => (1, task.number, 0, 0),
+        Said::OfChunk(chunk) => (2, chunk.number, 0, 0),
+        Said::OfObject(object) => (3, object.address, 0, 0),
+        Said::OfRemembered(field) => (4, field.task, field.address, field.place),
+        Said::OfEnd(_) => (5, 0, 0, 0),
+    };
+    Some(Position {
+        kind,
+        first,
+        second,
+        third,
+    })
+}
+
+/// Whether a line may come behind the last one; the first is the title.
+pub(crate) fn may_come(last: Option<Position>, next: Position) -> bool
+    ensures { result ≡ comes_next last next }
+{
+    match last {
+        None => next.kind == 0,
+        Some(last) => is_behind(last, next),
+    }
+}
+
+fn is_less_or(x: u64, y: u64, next: bool) -> bool
+    ensures { result ≡ or_next x y next }
+{
+    x < y || (x == y && next)
+}
+
+fn is_behind(last: Position, next: Position) -> bool
+    ensures { result ≡ rises last next }
+{
+    let third = last.third < next.third;
+    let second = is_less_or(last.second, next.second, third);
+    let first = is_less_or(last.first, next.first, second);
+    is_less_or(last.kind, next.kind, first)
+}
+
+/// The chunk of an address that isn't 0.
+pub(crate) fn chunk_of(address: u64) -> u64
+    requires { 0 < address }
+    ensures { result ≡ chunk_number address }
+{
+    (address - 1) / 1024
+}
+
+/// Where an object ends in its chunk, and which that is.
+pub(crate) fn extent_in(object: &Object) -> Extent
+    requires sized { length object.now.references + object.now.numbers ≤ 1000000 }
+    requires there { 0 < object.now.address }
+    ensures { result ≡ extent_of object.now }
+{
+    let offset = (object.address - 1) % 1024;
+    Extent {
+        chunk: chunk_of(object.address),
+        past: offset + 2 + object.references.len() as u64 + object.numbers,
+    }
+}
+
+impl Read {
+    ghost use Rattle.std.specs.Prelude.{◌≡◌, ◌<◌, ◌≤◌, ◌+◌, OnOk, length};
+    ghost use Rattle.image_check.specs.Read.{nothing_read, after_line, IsSized};
+    ghost use Rattle.image_check.specs.Fault.{CanFollow};
+
+    /// Before the first line.
+    pub(crate) fn new(alloc: Global) -> Read
+        ensures { result ≡ nothing_read }
+    {
+        Read {
+            last: None,
+            tasks: Tasks::new(alloc),
+            chunks: Table::new(alloc),
+            objects: Table::new(alloc),
+            births: Births::new(alloc),
+            latest: None,
+        }
+    }
+
+    // With an object's line more.
+    fn add_object(&mut self, object: &Object) -> Result<(), AllocError>
+        requires sized { length object.now.references + object.now.numbers ≤ 1000000 }
+        requires there { 0 < object.now.address }
+        ensures { OnOk result (self.new ≡ record (after_line self.old (Said.OfObject object.now)) { last = self.old.last }) }
+    {
+        self.objects
+            .put(object.address, object.references.len() as u64)?;
+        self.births.put(object.birth.task, object.birth.count)?;
+        self.latest = Some(extent_in(object));
+        Ok(())
+    }
+
+    /// With a line more, on which no cause is.
+    pub(crate) fn add(&mut self, said: &Said) -> Result<(), AllocError>
+        requires sized { IsSized said.now }
+        requires follows { CanFollow self.old said.now }
+        ensures { OnOk result (self.new ≡ after_line self.old said.now) }
+    {
+        match said {
+            Said::Nothing | Said::Wrong => return Ok(()),
+            Said::OfTask(task) => self.tasks.put(*task)?,
+            Said::OfChunk(chunk) => self.chunks.put(chunk.number, *chunk)?,
+            Said::OfObject(object) => self.add_object(object)?,
+            Said::Title | Said::OfRemembered(_) | Said::OfEnd(_) => {}
+        }
+        self.last = position_in(said);
+        Ok(())
+    }
+}

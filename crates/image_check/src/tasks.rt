@@ -1,0 +1,143 @@
+// The tasks that were read.
+
+ghost use Rattle.std.specs.Prelude.{◌≡◌, [], None, OnOk, MatchOption};
+ghost use Rattle.image_check.specs.Table.{has, found, with_new};
+ghost use Rattle.image_check.specs.Tasks.{is_running, is_above, relation_of, HasParent};
+ghost use Rattle.image_check.specs.Links.{StandsAt};
+
+use crate::line::{State, Task};
+use crate::links::{Link, climb, link_at, link_below};
+use indexmap::IndexMap;
+use std::alloc::{AllocError, Global};
+use std::marker::Model;
+
+/// How one task stands to another.
+#[derive(Clone, Copy, PartialEq, Eq, Debug)]
+pub(crate) enum Relation {
+    /// It is the other one.
+    Own,
+    /// It is a proper ancestor.
+    Above,
+    /// It is a proper descendant.
+    Below,
+    /// They are on no path.
+    Apart,
+}
+
+/// Tasks under their numbers, each behind its parent.
+#[derive(Drop)]
+pub(crate) struct Tasks {
+    table: IndexMap<u64, Task>,
+    links: Vec<Link>,
+}
+
+impl Model for Tasks {
+    ghost use Rattle.image_check.specs.Tasks.{Tasks as Listed};
+    ghost use Rattle.image_check.specs.Links.{AreLinked};
+
+    ghost Value = { Listed };
+
+    ghost view = { λ t. t.table.entries };
+
+    ghost invariant = { λ t. AreLinked t.table.entries t.links.items };
+}
+
+impl Tasks {
+    ghost use Rattle.std.specs.Prelude.{◌≡◌, [], None, OnOk, MatchOption};
+    ghost use Rattle.image_check.specs.Table.{has, found, with_new};
+    ghost use Rattle.image_check.specs.Tasks.{is_running, is_above, relation_of, HasParent};
+    ghost use Rattle.image_check.specs.Links.{StandsAt, IsParentAt};
+
+    pub(crate) fn new(alloc: Global) -> Tasks
+        ensures { result ≡ [] }
+    {
+        Tasks {
+            table: IndexMap::new(alloc),
+            links: Vec::new(alloc),
+        }
+    }
+
+    /// Whether there is a task of a number.
+    pub(crate) fn has(&self, number: u64) -> bool
+        ensures { result ≡ has self.now number }
+    {
+        self.table.contains_key(&number)
+    }
+
+    /// Whether a task is there and runs.
+    pub(crate) fn runs(&self, number: u64) -> bool
+        ensures { result ≡ is_running self.now number }
+    {
+        match self.table.get(&number) {
+            None => false,
+            Some(task) => matches!(task.state, State::Running),
+        }
+    }
+
+    // The place of a task.
+    fn place(&self, number: u64) -> Option<usize>
+        ensures { MatchOption result (found self.now number ≡ None) (λ i. StandsAt self.now i number) }
+    {
+        self.table.get_index_of(&number)
+    }
+
+    // The place of a parent, which is there.
+    fn parent_place(&self, parent: Option<u64>) -> Option<usize>
+        requires { HasParent self.now parent }
+        ensures { IsParentAt self.now parent result }
+    {
+        match parent {
+            None => None,
+            Some(number) => self.place(number),
+        }
+    }
+
+    /// With a task more, unless one of its number is there. Its parent is there.
+    pub(crate) fn put(&mut self, task: Task) -> Result<(), AllocError>
+        requires { HasParent self.old task.parent }
+        ensures { OnOk result (self.new ≡ with_new self.old task.number task) }
+    {
+        if self.has(task.number) {
+            return Ok(());
+        }
+        let parent = self.parent_place(task.parent);
+        let link = link_below(&self.links, self.table.len(), parent);
+        self.links.reserve(1)?;
+        self.table.insert(task.number, task)?;
+        self.links.push_reserved(link);
+        Ok(())
+    }
+
+    /// Whether a task is a proper ancestor of another one.
+    pub(crate) fn is_ancestor(&self, above: u64, below: u64) -> bool
+        ensures { result ≡ is_above self.now above below }
+    {
+        let links = self.links.as_slice();
+        let Some(top) = self.place(above) else {
+            return false;
+        };
+        let Some(place) = self.place(below) else {
+            return false;
+        };
+        let depth = link_at(links, top).depth;
+        if link_at(links, place).depth <= depth {
+            return false;
+        }
+        climb(links, place, depth) == top
+    }
+
+    /// How another task stands to a task.
+    pub(crate) fn relation(&self, task: u64, other: u64) -> Relation
+        ensures { result ≡ relation_of self.now task other }
+    {
+        if other == task {
+            Relation::Own
+        } else if self.is_ancestor(other, task) {
+            Relation::Above
+        } else if self.is_ancestor(task, other) {
+            Relation::Below
+        } else {
+            Relation::Apart
+        }
+    }
+}

@@ -1,0 +1,290 @@
+// Whole calls of `races` and `verify`, and replays of parallel loops, over sources and sinks in memory.
+
+use command_core::command;
+use outside_io::{EmptyGate, MemSink, MemSource};
+use std::alloc::Global;
+use std::sync::Wait;
+use std::test::Fail;
+use std::thread::Threads;
+
+// It adds the doubles of 0 to 9, by one worker.
+const TEN: &str =
+    "fn dbl\nadd i0 i0 i0\nret\nend\nfn main\nset i0 0\nset i1 10\npfor dbl\nout i0\nret\nend\ntrace 2\n0 took 0\n0 ran 0 10\n0 took 1\n0 ran 1 12\n0 took 3\n0 ran 3 12\n0 took 5\n0 ran 5 17\n0 took 6\n0 ran 6 17\n0 took 3\n0 ran 3 4\n0 took 4\n0 ran 4 12\n0 took 7\n0 ran 7 17\n0 took 8\n0 ran 8 12\n0 took 9\n0 ran 9 17\n0 took 10\n0 ran 10 17\n0 took 8\n0 ran 8 4\n0 took 4\n0 ran 4 4\n0 took 1\n0 ran 1 4\n0 took 2\n0 ran 2 12\n0 took 11\n0 ran 11 12\n0 took 13\n0 ran 13 17\n0 took 14\n0 ran 14 17\n0 took 11\n0 ran 11 4\n0 took 12\n0 ran 12 12\n0 took 15\n0 ran 15 17\n0 took 16\n0 ran 16 12\n0 took 17\n0 ran 17 17\n0 took 18\n0 ran 18 17\n0 took 16\n0 ran 16 4\n0 took 12\n0 ran 12 4\n0 took 2\n0 ran 2 4\n0 took 0\n0 ran 0 4\n0 ran 0 1\n";
+
+// The same over no number.
+const NO_NUMBER: &str =
+    "fn dbl\nadd i0 i0 i0\nret\nend\nfn main\nset i0 0\nset i1 0\npfor dbl\nout i0\nret\nend\ntrace 2\n0 took 0\n0 ran 0 9\n0 ran 0 1\n";
+
+// Its loop calls a function that isn't there.
+const NO_FUNCTION: &str =
+    "fn dbl\nadd i0 i0 i0\nret\nend\nfn main\nset i0 0\nset i1 10\npfor x\nout i0\nret\nend\n";
+
+// Two tasks write one field of the root's object, and a collection comes between.
+const COLLECTS: &str =
+    "fn left\nset i0 0\nset i1 14\nnewm r1 i0 i1\nputr r0 i0 r1\nnil r1\nnewm r2 i0 i1\nret\nend\nfn right\nset i0 0\nnil r1\nputr r0 i0 r1\nret\nend\nfn main\nset i0 1\nset i1 0\nnewm r0 i0 i1\npar left right\nset i2 0\ngetr r3 r0 i2\nnil r4\nsame i3 r3 r4\nout i3\nret\nend\ntrace 1\n0 took 0\n0 ran 0 2\n0 chunk 0\n0 ran 0 2\n0 took 1\n1 took 2\n0 ran 1 2\n0 chunk 1\n0 ran 1 2\n0 ran 1 1\n0 begin 1\n1 ran 2 3\n0 end 1 1 1 16\n0 ran 1 2\n1 ran 2 1\n1 took 0\n1 ran 0 5\n1 ran 0 1\n";
+
+// A task reads a field that a task beside it has written: the read is stopped.
+const ENTANGLES: &str =
+    "fn left\nset i0 0\nset i1 1\nnewm r1 i0 i1\nputr r0 i0 r1\nret\nend\nfn right\nset i0 0\ngetr r1 r0 i0\nret\nend\nfn main\nset i0 1\nset i1 0\nnewm r0 i0 i1\npar left right\nret\nend\ntrace 2\n0 took 0\n0 ran 0 2\n0 chunk 0\n0 ran 0 2\n0 took 1\n0 ran 1 2\n0 chunk 1\n0 ran 1 2\n0 ran 1 1\n0 took 2\n0 ran 2 2\n";
+
+// A task reads what it wrote itself.
+const DISENTANGLED: &str =
+    "fn left\nset i0 0\nset i1 1\nnewm r1 i0 i1\nset i2 42\nputi r1 i0 i2\nputr r0 i0 r1\ngetr r2 r0 i0\ngeti i0 r2 i0\nret\nend\nfn right\nset i0 0\nret\nend\nfn main\nset i0 1\nset i1 0\nnewm r0 i0 i1\npar left right\nout i0\nret\nend\ntrace 2\n0 took 0\n0 ran 0 2\n0 chunk 0\n0 ran 0 2\n0 took 1\n0 ran 1 2\n0 chunk 1\n0 ran 1 4\n0 ran 1 1\n0 ran 1 2\n0 took 2\n0 ran 2 2\n0 took 0\n0 ran 0 1\n0 ran 0 1\n";
+
+// Two tasks swap into one field.
+const SWAPS: &str =
+    "fn left\nset i0 0\nset i1 1\nnewm r1 i0 i1\nnil r2\ncas i0 r0 i0 r2 r1\nret\nend\nfn right\nset i0 0\nset i1 1\nnewm r1 i0 i1\nnil r2\ncas i0 r0 i0 r2 r1\nret\nend\nfn main\nset i0 1\nset i1 0\nnewm r0 i0 i1\npar left right\nadd i2 i0 i1\nout i2\nout i0\nret\nend\ntrace 2\n0 took 0\n0 ran 0 2\n0 chunk 0\n0 ran 0 2\n0 took 2\n0 ran 2 2\n0 chunk 2\n0 ran 2 3\n0 ran 2 1\n0 took 1\n0 ran 1 2\n0 chunk 1\n0 ran 1 3\n0 ran 1 1\n0 took 0\n0 ran 0 2\n0 ran 0 1\n0 ran 0 1\n";
+
+// The words of a line, with a space between each two.
+fn words_of(alloc: Global, line: &str) -> Result<Vec<String>, Fail> {
+    let mut words = Vec::new(alloc);
+    for word in line.split(' ') {
+        words.push(String::from_str(alloc, word)?)?;
+    }
+    Ok(words)
+}
+
+// The exit status of a command line, and what it writes.
+pub(crate) fn said<R: AllocGlobal + Threads + Wait + Sync>(
+    rt: &R,
+    line: &str,
+    input: &str,
+) -> Result<(u8, Vec<u8>), Fail> {
+    let alloc = rt.alloc();
+    let words = words_of(alloc, line)?;
+    let bytes = input.as_bytes();
+    let mut source = MemSource::new(
+        bytes.to_vec(alloc)?,
+        bytes.to_vec(alloc)?,
+        65536,
+        Vec::new(alloc),
+    );
+    let mut sink = MemSink::new(alloc, 65536, Vec::new(alloc));
+    let ran = command(
+        rt,
+        alloc,
+        words.as_slice(),
+        &mut source,
+        &mut sink,
+        &EmptyGate,
+    );
+    if ran.journal.len() > 0 || ran.shared.is_some() {
+        return Err("no run is handed back")?;
+    }
+    Ok((ran.status.code(), sink.written().to_vec(alloc)?))
+}
+
+#[test]
+fn loops_are_replayed(rt: HostRuntime) -> Result<(), Fail> {
+    let cases = [
+        (
+            "model --report",
+            TEN,
+            0,
+            "90\nreport tasks 19 steps 313 turns 57\nreport leaf 0 putoff 0 freed 0\nreport inner 0 freed 0\nreport chunks 0 peak 0\nreport held 0 words 0\nend: done\n",
+        ),
+        ("model", NO_NUMBER, 0, "0\nend: done\n"),
+        (
+            "check",
+            NO_FUNCTION,
+            3,
+            "end: source refused line 8 noname\n",
+        ),
+    ];
+    for (line, input, status, bytes) in cases {
+        let (code, written) = said(&rt, line, input)?;
+        assert_eq!(rt; code, status);
+        assert_eq!(rt; written.as_slice(), bytes.as_bytes());
+    }
+    Ok(())
+}
+
+#[test]
+fn races_are_told(rt: HostRuntime) -> Result<(), Fail> {
+    let cases = [
+        (
+            "races --workers 2 --leaf 16",
+            COLLECTS,
+            12,
+            "race 0 0 ref 0 tasks 1 2 lines 5 13\nend: races 1\n",
+        ),
+        (
+            "races p.hh",
+            ENTANGLES,
+            12,
+            "race 0 0 ref 0 tasks 1 2 lines 5 10\nend: races 1\n",
+        ),
+        ("races", DISENTANGLED, 0, "end: races 0\n"),
+        ("races", SWAPS, 0, "end: races 0\n"),
+    ];
+    for (line, input, status, bytes) in cases {
+        let (code, written) = said(&rt, line, input)?;
+        assert_eq!(rt; code, status);
+        assert_eq!(rt; written.as_slice(), bytes.as_bytes());
+    }
+    Ok(())
+}
+
+#[test]
+fn races_are_refused_as_traces_are(rt: HostRuntime) -> Result<(), Fail> {
+    let cases = [
+        (
+            "races",
+            "fn main\nset i0 7\nout i0\nret\nend\ntrace 1\n0 took 0\n0 ran 0 2\n",
+            11,
+            "end: trace refused short\n",
+        ),
+        (
+            "races",
+            "fn main\nset i0 7\nout i0\nret\nend\ntrace 1\n0 took 0\n0 ran 0 3\n",
+            11,
+            "end: trace refused entry 2 long 2\n",
+        ),
+        (
+            "races",
+            "fn main\nset i0 7\nout i0\nret\nend\ntrace 1\n0 took 0\n0 ran 0\n",
+            11,
+            "end: trace refused line 8\n",
+        ),
+        (
+            "races",
+            "fn main\n",
+            3,
+            "end: source refused line 2 noend\n",
+        ),
+        (
+            "races --report",
+            "fn main\nset i0 7\nout i0\nret\nend\n",
+            2,
+            "end: words refused\n",
+        ),
+    ];
+    for (line, input, status, bytes) in cases {
+        let (code, written) = said(&rt, line, input)?;
+        assert_eq!(rt; code, status);
+        assert_eq!(rt; written.as_slice(), bytes.as_bytes());
+    }
+    Ok(())
+}
+
+#[test]
+fn images_are_verified(rt: HostRuntime) -> Result<(), Fail> {
+    let cases = [
+        (
+            "verify",
+            "image 1\ntask 0 - ended\nchunk 0 0 1024\nobject 1 0 0 mut 1 0 4\nobject 4 0 1 mut 0 1 5\nend: image 2\n",
+            0,
+            "end: verified 2\n",
+        ),
+        (
+            "verify",
+            "image 1\ntask 0 - ended\nchunk 0 0 1024\nobject 1 0 0 mut 1 0 5\nobject 4 0 1 mut 0 1 5\nend: image 2\n",
+            13,
+            "end: image refused line 4 ref\n",
+        ),
+        (
+            "verify",
+            "image 1\ntask 0 - ended\nchunk 0 0 1024\nobject 1 0 0 mut 1 0 0\nobject 3 0 1 mut 0 1 5\nend: image 2\n",
+            13,
+            "end: image refused line 5 place\n",
+        ),
+        (
+            "verify a.image",
+            "image 1\n# nothing\ntask 0 - ended\nend: image 0",
+            0,
+            "end: verified 0\n",
+        ),
+        ("verify", "", 13, "end: image refused line 1 line\n"),
+    ];
+    for (line, input, status, bytes) in cases {
+        let (code, written) = said(&rt, line, input)?;
+        assert_eq!(rt; code, status);
+        assert_eq!(rt; written.as_slice(), bytes.as_bytes());
+    }
+    Ok(())
+}
+
+// Lines behind `image 1` and three tasks: 0 waits for 1 and 2, of which 2 runs.
+#[test]
+fn each_cause_is_told(rt: HostRuntime) -> Result<(), Fail> {
+    let cases = [
+        (
+            "chunk 0 0 1024\nchunk 1 1 2048\nobject 1 0 0 mut 2 0 1025 0 # up\nobject 1025 1 0 imm 1 1 1 -7\nremembered 1 1 0\nend: image 2",
+            "end: verified 2\n",
+        ),
+        (
+            "chunk 1 0 1024\nchunk 0 0 1024\nend: image 0",
+            "end: image refused line 6 line\n",
+        ),
+        (
+            "chunk 0 0 1025\nend: image 0",
+            "end: image refused line 5 line\n",
+        ),
+        ("end: image 0\n\nx", "end: image refused line 7 line\n"),
+        ("chunk 0 0 1024", "end: image refused line 5 line\n"),
+        (
+            "task 4 3 ended\nend: image 0",
+            "end: image refused line 5 notask\n",
+        ),
+        (
+            "chunk 0 5 1024\nend: image 0",
+            "end: image refused line 5 notask\n",
+        ),
+        (
+            "chunk 0 0 1024\nobject 1 0 0 mut 0 0\nobject 3 0 0 mut 0 0\nend: image 2",
+            "end: image refused line 7 twice\n",
+        ),
+        (
+            "chunk 0 0 1024\nobject 1025 0 0 mut 0 0\nend: image 1",
+            "end: image refused line 6 nochunk\n",
+        ),
+        (
+            "chunk 0 0 1024\nobject 0 0 0 mut 0 0\nend: image 1",
+            "end: image refused line 6 nochunk\n",
+        ),
+        (
+            "chunk 0 0 1024\nobject 1023 0 0 mut 0 1 7\nend: image 1",
+            "end: image refused line 6 place\n",
+        ),
+        (
+            "chunk 0 2 1024\nobject 1 0 0 mut 0 0\nend: image 1",
+            "end: image refused line 6 running\n",
+        ),
+        (
+            "chunk 0 0 1024\nobject 1 0 0 mut 1 0 9\nend: image 1",
+            "end: image refused line 6 ref\n",
+        ),
+        (
+            "chunk 0 1 1024\nchunk 1 2 1024\nobject 1 0 0 mut 1 0 1030\nend: image 1",
+            "end: image refused line 7 cross\n",
+        ),
+        (
+            "chunk 0 0 1024\nchunk 1 2 1024\nobject 1 0 0 mut 1 0 1030\nend: image 1",
+            "end: image refused line 7 down\n",
+        ),
+        (
+            "chunk 0 0 1024\nchunk 1 2 1024\nobject 1 0 0 mut 1 0 1030\nremembered 2 1 0\nend: image 1",
+            "end: verified 1\n",
+        ),
+        (
+            "chunk 0 0 1024\nobject 1 0 0 mut 1 0 0\nremembered 2 1 1\nend: image 1",
+            "end: image refused line 7 field\n",
+        ),
+        (
+            "chunk 0 0 1024\nobject 1 0 0 mut 1 0 0\nremembered 0 1 0\nend: image 1",
+            "end: image refused line 7 field\n",
+        ),
+        (
+            "chunk 0 0 1024\nobject 1 0 0 mut 1 0 0\nend: image 2",
+            "end: image refused line 7 count\n",
+        ),
+    ];
+    for (lines, bytes) in cases {
+        let text = format!(in rt.alloc();
+            "image 1\ntask 0 - waiting\ntask 1 0 ended\ntask 2 0 running\n{lines}"
+        )?;
+        let (_, written) = said(&rt, "verify", text.as_str())?;
+        assert_eq!(rt; written.as_slice(), bytes.as_bytes());
+    }
+    Ok(())
+}

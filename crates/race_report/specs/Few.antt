@@ -1,0 +1,9 @@
+-- How many fields the objects have that are accessed.
+use Rattle.std.specs.Prelude.{◌≡◌, ◌<◌, ◌^◌, ℕ, Some, List, length}
+use Rattle.hh_model.specs.declared.data.Name.{Name}
+use Rattle.hh_model.specs.declared.data.Object.{Object}
+use Rattle.hh_model.specs.Effect.{object_at}
+
+-- so few that an index has 32 bits
+abbrev pub AreFew : List (List Object) → Type 0
+AreFew store = (n : Name) (o : Object) → object_at store n ≡ Some o → (length o.refs < 2 ^ 32) × (length o.ints < 2 ^ 32)

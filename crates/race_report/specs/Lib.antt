@@ -1,0 +1,12 @@
+pub mod Accesses
+pub mod Few
+pub mod Races
+pub mod Labels
+pub mod LabelLaw
+pub mod StopLaw
+pub mod Join
+pub mod Ways
+pub mod Watch
+pub mod Scan
+pub mod Report
+pub mod Text

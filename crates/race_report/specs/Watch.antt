@@ -1,0 +1,137 @@
+-- What is kept of each field while accesses come: of the earlier ones the first of each strand and kind until two race, and then
+-- the race.
+use Rattle.std.specs.Prelude.{ℕ, ◌&&◌, ◌||◌, not, Bool, true, false, Option, Some, None, List, [], ◌∷◌, ◌++◌, if◌then◌else◌}
+use Rattle.std.specs.declared.cmp.Ordering.{Ordering}
+use Rattle.std.specs.Ordering.{is_eq, nat_cmp, ordering_then}
+use Rattle.hh_lang.specs.Form.{ProgramText}
+use Rattle.hh_model.specs.declared.data.State.{State}
+use Rattle.hh_model.specs.declared.data.Strand.{Strand}
+use Rattle.hh_model.specs.Step.{start, step}
+use Rattle.race_report.specs.declared.data.Field.{Field}
+use Rattle.race_report.specs.declared.data.Access.{Access}
+use Rattle.race_report.specs.declared.data.Race.{Race}
+use Rattle.race_report.specs.declared.data.Seen.{Seen}
+use Rattle.race_report.specs.declared.data.Bound.{Bound}
+use Rattle.race_report.specs.declared.data.Open.{Open}
+use Rattle.race_report.specs.declared.data.Watch.{Watch}
+use Rattle.race_report.specs.declared.data.Watch.TheVariants.{Open as Waits, Found}
+use Rattle.race_report.specs.Accesses.{access_of, with_some}
+use Rattle.race_report.specs.Ways.{has_alike}
+use Rattle.race_report.specs.Labels.{allows, bound, joined_bound, label_of, label_precedes}
+
+-- ACCESSES WITH LABELS
+
+abbrev pub labelled : List Strand → Option Access → Option Seen
+labelled label None = None
+labelled label (Some a) = Some (record { access = a; label = label })
+
+abbrev pub seen_of : ProgramText → State → ℕ → Option Seen
+seen_of p m t = labelled (label_of m.tasks t) (access_of p m t)
+
+abbrev pub seen_from : ProgramText → State → List ℕ → List Seen
+seen_from p m [] = []
+seen_from p m (t ∷ ts) = with_some (seen_of p m t) (seen_from p (step p m t) ts)
+
+abbrev pub seen : ProgramText → ℕ → List ℕ → List Seen
+seen p limit ts = seen_from p (start p limit) ts
+
+-- ONE FIELD
+
+-- two accesses of which one is a write, and not both by a compare and swap
+abbrev pub clash : Access → Access → Bool
+clash u v = (u.writes || v.writes) && not (u.swaps && v.swaps)
+
+-- two accesses of one field race, as their labels tell
+abbrev pub clashes : Seen → Seen → Bool
+clashes u v = clash u.access v.access && not (label_precedes u.label v.label)
+
+-- the first of these accesses that races with v
+abbrev pub first_clash : List Seen → Seen → Option Seen
+first_clash [] v = None
+first_clash (u ∷ us) v = if clashes u v then Some u else first_clash us v
+
+-- the bound with one access more, where it is of those that are bound
+abbrev pub bound_with : Bool → Bound → List Strand → Bound
+bound_with true b label = joined_bound b.label b.strict label
+bound_with false b label = b
+
+abbrev pub with_first : Open → Seen → Open
+with_first o v = record {
+  earlier = o.earlier ++ v ∷ [];
+  all = bound_with true o.all v.label;
+  writes = bound_with v.access.writes o.writes v.label;
+  plain = bound_with (not v.access.swaps) o.plain v.label;
+  plain_writes = bound_with (v.access.writes && not v.access.swaps) o.plain_writes v.label;
+}
+
+-- with an access more; of each strand and kind the first is enough
+abbrev pub with_access : Open → Seen → Open
+with_access o v = if has_alike o.earlier v.access then o else with_first o v
+
+-- the bound of all that an access may race with
+abbrev pub bound_for : Open → Access → Bound
+bound_for o v = if v.writes then (if v.swaps then o.plain else o.all) else (if v.swaps then o.plain_writes else o.writes)
+
+abbrev pub race_of : Access → Access → Race
+race_of u v = record {
+  task = v.field.name.task;
+  count = v.field.name.count;
+  is_ref = not v.field.is_number;
+  index = v.field.index;
+  first = (u.strand.task, u.line);
+  second = (v.strand.task, v.line);
+}
+
+abbrev pub found_by : Option Seen → Open → Seen → Watch
+found_by None o v = Waits (with_access o v)
+found_by (Some u) o v = Found (race_of u.access v.access)
+
+-- one access more of the field
+abbrev pub watch_with : Watch → Seen → Watch
+watch_with (Found r) v = Found r
+watch_with (Waits o) v = if allows (bound_for o v.access) v.label then Waits (with_access o v) else found_by (first_clash o.earlier v) o v
+
+abbrev pub nothing_yet : Watch
+nothing_yet = Waits (record { earlier = []; all = bound [] false; writes = bound [] false; plain = bound [] false; plain_writes = bound [] false })
+
+abbrev pub or_nothing : Option Watch → Watch
+or_nothing None = nothing_yet
+or_nothing (Some w) = w
+
+-- ALL FIELDS
+
+-- the key of a field: names in their order, then references before numbers, then the index
+abbrev pub Key : Type 0
+Key = (ℕ × ℕ) × (ℕ × ℕ)
+
+abbrev pub kind_key : Bool → ℕ
+kind_key false = 0
+kind_key true = 1
+
+abbrev pub key_of : Field → Key
+key_of f = ((f.name.task, f.name.count), (kind_key f.is_number, f.index))
+
+abbrev pub key_cmp : Key → Key → Ordering
+key_cmp a b = ordering_then (ordering_then (nat_cmp a.0.0 b.0.0) (nat_cmp a.0.1 b.0.1)) (ordering_then (nat_cmp a.1.0 b.1.0) (nat_cmp a.1.1 b.1.1))
+
+abbrev pub same_key : Key → Key → Bool
+same_key a b = is_eq (key_cmp a b)
+
+-- what is kept at a key, with one access more
+abbrev pub kept_with : Key → Option Watch → Seen → Option Watch
+kept_with q w v = if same_key (key_of v.access.field) q then Some (watch_with (or_nothing w) v) else w
+
+-- and with these accesses more
+abbrev pub kept_from : Key → Option Watch → List Seen → Option Watch
+kept_from q w [] = w
+kept_from q w (v ∷ vs) = kept_from q (kept_with q w v) vs
+
+-- THE RACES THAT WERE FOUND
+
+abbrev pub with_race : Watch → List Race → List Race
+with_race (Found r) races = r ∷ races
+with_race (Waits o) races = races
+
+abbrev pub races_in : List Watch → List Race
+races_in [] = []
+races_in (w ∷ ws) = with_race w (races_in ws)

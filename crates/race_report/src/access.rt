@@ -1,0 +1,215 @@
+// The access that the next step of a task makes.
+
+ghost use Rattle.std.specs.Prelude.{◌≡◌, ◌<◌, ◌^◌, ℕ, pos, Option, Some, None, true, false, IfSome, slice_get};
+ghost use Rattle.hh_model.specs.Effect.{Setting, effect, place_in, same_name};
+ghost use Rattle.hh_model.specs.Step.{setting, strand_of};
+ghost use Rattle.race_report.specs.Accesses.{access_of, access_by, unless_trap};
+ghost use Rattle.race_report.specs.Few.{AreFew};
+
+use crate::data::{Access, Field};
+use hh_lang::{Instr, IntReg, Program, RefReg};
+use hh_model::{Frame, Name, State, Strand};
+
+// A number as the index of one of so many fields.
+fn field_index(count: usize, index: i64) -> Option<u32>
+    requires { count < 2 ^ 32 }
+    ensures place { result ≡ place_in count index }
+    ensures value { IfSome result (λ at. index ≡ pos at) }
+{
+    if index < 0 {
+        return None;
+    }
+    let at = index as usize;
+    if at < count { Some(at as u32) } else { None }
+}
+
+// Whether both are nil, or the same object.
+fn is_same(left: Option<Name>, right: Option<Name>) -> bool
+    ensures { result ≡ same_name left right }
+{
+    match (left, right) {
+        (None, None) => true,
+        (Some(left), Some(right)) => left.task == right.task && left.count == right.count,
+        _ => false,
+    }
+}
+
+// Where an instruction stands: the strand that takes it, and its line.
+#[derive(Clone, Copy)]
+pub(crate) struct Place {
+    pub(crate) strand: Strand,
+    pub(crate) line: u32,
+}
+
+impl Place {
+    fn access(self, field: Field, writes: bool, swaps: bool) -> Access
+        ensures { result ≡ record { strand = self.strand; line = self.line; field = field; writes = writes; swaps = swaps } }
+    {
+        Access {
+            strand: self.strand,
+            line: self.line,
+            field,
+            writes,
+            swaps,
+        }
+    }
+}
+
+fn getr_access(
+    state: &State,
+    top: &Frame,
+    at: Place,
+    object: RefReg,
+    index: IntReg,
+) -> Option<Access>
+    requires { AreFew state.now.store }
+    ensures { (s : Setting) (d : ℕ) → result ≡ unless_trap (effect s top.now state.now.store (Instr.Getr d object index)) (access_by at.strand at.line top.now state.now.store (Instr.Getr d object index)) }
+{
+    let name = top.reference(object)?;
+    let object = state.object(name)?;
+    let index = field_index(object.refs.len(), top.int(index))?;
+    if let Some(read) = *object.refs.at(index as usize) {
+        if state.object(read).is_none() {
+            return None;
+        }
+    }
+    let field = Field {
+        name,
+        is_number: false,
+        index,
+    };
+    Some(at.access(field, false, false))
+}
+
+fn geti_access(
+    state: &State,
+    top: &Frame,
+    at: Place,
+    object: RefReg,
+    index: IntReg,
+) -> Option<Access>
+    requires { AreFew state.now.store }
+    ensures { (s : Setting) (d : ℕ) → result ≡ unless_trap (effect s top.now state.now.store (Instr.Geti d object index)) (access_by at.strand at.line top.now state.now.store (Instr.Geti d object index)) }
+{
+    let name = top.reference(object)?;
+    let object = state.object(name)?;
+    let index = field_index(object.ints.len(), top.int(index))?;
+    let field = Field {
+        name,
+        is_number: true,
+        index,
+    };
+    Some(at.access(field, false, false))
+}
+
+fn putr_access(
+    state: &State,
+    top: &Frame,
+    at: Place,
+    object: RefReg,
+    index: IntReg,
+) -> Option<Access>
+    requires { AreFew state.now.store }
+    ensures { (s : Setting) (v : ℕ) → result ≡ unless_trap (effect s top.now state.now.store (Instr.Putr object index v)) (access_by at.strand at.line top.now state.now.store (Instr.Putr object index v)) }
+{
+    let name = top.reference(object)?;
+    let object = state.object(name)?;
+    let index = field_index(object.refs.len(), top.int(index))?;
+    if !object.mutable {
+        return None;
+    }
+    let field = Field {
+        name,
+        is_number: false,
+        index,
+    };
+    Some(at.access(field, true, false))
+}
+
+fn puti_access(
+    state: &State,
+    top: &Frame,
+    at: Place,
+    object: RefReg,
+    index: IntReg,
+) -> Option<Access>
+    requires { AreFew state.now.store }
+    ensures { (s : Setting) (v : ℕ) → result ≡ unless_trap (effect s top.now state.now.store (Instr.Puti object index v)) (access_by at.strand at.line top.now state.now.store (Instr.Puti object index v)) }
+{
+    let name = top.reference(object)?;
+    let object = state.object(name)?;
+    let index = field_index(object.ints.len(), top.int(index))?;
+    if !object.mutable {
+        return None;
+    }
+    let field = Field {
+        name,
+        is_number: true,
+        index,
+    };
+    Some(at.access(field, true, false))
+}
+
+fn cas_access(
+    state: &State,
+    top: &Frame,
+    at: Place,
+    object: RefReg,
+    index: IntReg,
+    expected: RefReg,
+) -> Option<Access>
+    requires { AreFew state.now.store }
+    ensures { (s : Setting) (d v : ℕ) → result ≡ unless_trap (effect s top.now state.now.store (Instr.Cas d object index expected v)) (access_by at.strand at.line top.now state.now.store (Instr.Cas d object index expected v)) }
+{
+    let name = top.reference(object)?;
+    let object = state.object(name)?;
+    let index = field_index(object.refs.len(), top.int(index))?;
+    if !object.mutable {
+        return None;
+    }
+    let writes = is_same(*object.refs.at(index as usize), top.reference(expected));
+    let field = Field {
+        name,
+        is_number: false,
+        index,
+    };
+    Some(at.access(field, writes, true))
+}
+
+// The access that an instruction makes, unless it traps.
+fn instr_access(state: &State, top: &Frame, at: Place, instr: Instr) -> Option<Access>
+    requires { AreFew state.now.store }
+    ensures { (s : Setting) → result ≡ unless_trap (effect s top.now state.now.store instr) (access_by at.strand at.line top.now state.now.store instr) }
+{
+    match instr {
+        Instr::Getr(_, object, index) => getr_access(state, top, at, object, index),
+        Instr::Geti(_, object, index) => geti_access(state, top, at, object, index),
+        Instr::Putr(object, index, _) => putr_access(state, top, at, object, index),
+        Instr::Puti(object, index, _) => puti_access(state, top, at, object, index),
+        Instr::Cas(_, object, index, expected, _) => cas_access(
+            state, top, at, object, index, expected,
+        ),
+        _ => None,
+    }
+}
+
+/// The access that the next step of a task makes, where it can take one and makes one.
+pub(crate) fn access_of(program: &Program, state: &State, t: u32) -> Option<Access>
+    requires { AreFew state.now.store }
+    ensures { result ≡ access_of program.now state.now t }
+{
+    if !state.can_step(t) {
+        return None;
+    }
+    let task = state.tasks.get(t as usize)?;
+    let line = program.line(task.top.function, task.top.next)?;
+    let strand = Strand {
+        task: t,
+        joins: task.joins,
+    };
+    let at = Place {
+        strand,
+        line: line.number,
+    };
+    instr_access(state, &task.top, at, line.instr)
+}

@@ -1,0 +1,18 @@
+// The races of a journal: accesses to one field that no fork and no join puts in order.
+#![tactic(auto)]
+
+mod access;
+mod bounds;
+mod data;
+mod firsts;
+mod label;
+mod laws;
+mod report;
+mod scan;
+mod text;
+mod watch;
+
+pub use data::{Access, Field, Race};
+pub use laws::{labels_tell_precedence, stopped_reads_race};
+pub use report::{races, races_of_run};
+pub use text::races_text;

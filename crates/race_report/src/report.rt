@@ -1,0 +1,69 @@
+// The races of a journal.
+
+ghost use Rattle.std.specs.Prelude.{◌≡◌, ◌<◌, ◌^◌, None, length, OnOk, IfOk, IfErr};
+ghost use Rattle.run_trace.specs.Settings.{field_limit};
+ghost use Rattle.run_ledger.specs.Journals.{first_refused, refused_as_run, machine_of, tasks_of};
+ghost use Rattle.run_journal.specs.Replay.{ReplayFails};
+ghost use Rattle.race_report.specs.Accesses.{accesses};
+ghost use Rattle.race_report.specs.Report.{IsReport};
+
+use crate::data::Race;
+use crate::scan::scan;
+use crate::watch::races_in;
+use hh_lang::Program;
+use run_journal::{ReplayError, model_replay, replayed};
+use run_trace::{Entry, Settings};
+use std::alloc::{AllocError, Global};
+
+// The races of a journal without refused entries.
+fn races_of(
+    alloc: Global,
+    program: &Program,
+    settings: Settings,
+    journal: &[Entry],
+) -> Result<Vec<Race>, AllocError>
+    requires { first_refused program.now settings journal.now ≡ None }
+    ensures { IfOk result (λ races. IsReport (machine_of program.now settings journal.now).edges (accesses program.now (field_limit settings.version) (tasks_of journal.now)) races.items) }
+{
+    let _workers = settings.workers();
+    let kept = scan(alloc, program, settings.version().field_limit(), journal)?;
+    let races = races_in(alloc, kept)?;
+    Ok(races)
+}
+
+/// The races of a legal journal, with or without an end: for each field that has one its pair, in the order of the fields. Of all
+/// races for a field the pair is the one whose later access is the earliest, and for that the earliest other one.
+pub fn races(
+    alloc: Global,
+    program: &Program,
+    settings: Settings,
+    journal: &[Entry],
+) -> Result<Vec<Race>, ReplayError>
+    ensures legal { OnOk result (first_refused program.now settings journal.now ≡ None) }
+    ensures report { IfOk result (λ races. IsReport (machine_of program.now settings journal.now).edges (accesses program.now (field_limit settings.version) (tasks_of journal.now)) races.items) }
+    ensures fails { IfErr result (ReplayFails (first_refused program.now settings journal.now)) }
+{
+    let _book = replayed(alloc, program, settings, journal)?;
+    match races_of(alloc, program, settings, journal) {
+        Ok(races) => Ok(races),
+        Err(AllocError) => Err(ReplayError::NoMemory),
+    }
+}
+
+/// The races of the journal of a whole run: a journal without an end is refused too, as short.
+pub fn races_of_run(
+    alloc: Global,
+    program: &Program,
+    settings: Settings,
+    journal: &[Entry],
+) -> Result<Vec<Race>, ReplayError>
+    ensures whole { OnOk result (refused_as_run program.now settings journal.now ≡ None) }
+    ensures report { IfOk result (λ races. IsReport (machine_of program.now settings journal.now).edges (accesses program.now (field_limit settings.version) (tasks_of journal.now)) races.items) }
+    ensures fails { IfErr result (ReplayFails (refused_as_run program.now settings journal.now)) }
+{
+    let _end = model_replay(alloc, program, settings, journal)?;
+    match races_of(alloc, program, settings, journal) {
+        Ok(races) => Ok(races),
+        Err(AllocError) => Err(ReplayError::NoMemory),
+    }
+}

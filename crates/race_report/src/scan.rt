@@ -1,0 +1,125 @@
+// The steps of a journal, with what is kept of each field.
+
+ghost use Rattle.std.specs.Prelude.{◌≡◌, ℕ, ◌+◌, ◌<◌, ◌≤◌, ◌^◌, [], ◌∷◌, None, length, replicate, OnOk, IfOk};
+ghost use Rattle.std.specs.BTreeMap as tree;
+ghost use Rattle.run_ledger.specs.Journals.{tasks_in, tasks_of};
+ghost use Rattle.hh_model.specs.Step.{step};
+ghost use Rattle.race_report.specs.Accesses.{with_some};
+ghost use Rattle.race_report.specs.Watch.{Key, key_cmp, kept_from, seen, seen_of};
+ghost use Rattle.race_report.specs.Scan.{Follows};
+
+use crate::access::access_of;
+use crate::data::{Seen, Watch};
+use crate::label::label_of;
+use crate::watch::keep;
+use hh_lang::Program;
+use hh_model::{Machine, State, StepError, sizes_are_bounded};
+use run_trace::{Entry, Kind};
+use std::alloc::{AllocError, Global};
+use std::collections::BTreeMap;
+
+// The most fields that an object may have.
+fn field_limit(state: &State) -> u32
+    ensures value { result ≡ state.now.field_limit }
+    ensures below { result < 2 ^ 32 }
+{
+    state.field_limit
+}
+
+/// The access of the next step of a task is kept, if it makes one.
+fn look(
+    alloc: Global,
+    program: &Program,
+    machine: &Machine,
+    kept: &mut BTreeMap<((u32, u32), (u32, u32)), Watch>,
+    t: u32,
+) -> Result<(), AllocError>
+    requires { machine.now.steps < 2 ^ 30 }
+    ensures { OnOk result ((q : Key) → tree.get key_cmp kept.new q ≡ kept_from q (tree.get key_cmp kept.old q) (with_some (seen_of program.now machine.now.state t) [])) }
+{
+    sizes_are_bounded();
+    machine.reached();
+    let state = machine.state();
+    field_limit(state);
+    match access_of(program, state, t) {
+        Some(access) => {
+            let label = label_of(alloc, state, t)?;
+            keep(alloc, kept, Seen { access, label })
+        }
+        None => Ok(()),
+    }
+}
+
+/// One step of a task, if it can take one.
+fn take(machine: &mut Machine, t: u32) -> Result<(), AllocError>
+    requires { machine.old.steps < 2 ^ 30 }
+    ensures program { machine.new.program ≡ machine.old.program }
+    ensures few { machine.new.steps ≤ machine.old.steps + 1 }
+    ensures state { OnOk result (machine.new.state ≡ step machine.old.program machine.old.state t) }
+{
+    match machine.step(t) {
+        Ok(()) => Ok(()),
+        Err(StepError::Idle) => Ok(()),
+        Err(StepError::NoMemory) => Err(AllocError),
+    }
+}
+
+/// So many steps of a task.
+fn take_steps(
+    alloc: Global,
+    program: &Program,
+    machine: &mut Machine,
+    kept: &mut BTreeMap<((u32, u32), (u32, u32)), Watch>,
+    t: u32,
+    k: u32,
+) -> Result<(), AllocError>
+    requires program { machine.old.program ≡ program.now }
+    requires few { machine.old.steps + k < 2 ^ 30 }
+    ensures program { machine.new.program ≡ machine.old.program }
+    ensures few { machine.new.steps ≤ machine.old.steps + k }
+    ensures follows { OnOk result (Follows program.now machine.old.state (tree.get key_cmp kept.old) machine.new.state (tree.get key_cmp kept.new) (replicate k t)) }
+{
+    for i in 0..k {
+        look(alloc, program, machine, kept, t)?;
+        take(machine, t)?;
+    }
+    Ok(())
+}
+
+// Steps of one task.
+#[derive(Clone, Copy)]
+struct Steps {
+    task: u32,
+    count: u32,
+}
+
+// The steps of an entry.
+fn steps_in(kind: Kind) -> Steps
+    ensures { replicate result.count result.task ≡ tasks_in kind }
+{
+    match kind {
+        Kind::Ran(task, count) => Steps { task, count },
+        _ => Steps { task: 0, count: 0 },
+    }
+}
+
+/// What is kept of each field after the steps of a journal.
+pub(crate) fn scan(
+    alloc: Global,
+    program: &Program,
+    field_limit: u32,
+    journal: &[Entry],
+) -> Result<BTreeMap<((u32, u32), (u32, u32)), Watch>, AllocError>
+    requires { length (tasks_of journal.now) < 2 ^ 30 }
+    ensures kept { IfOk result (λ kept. (q : Key) → tree.get key_cmp kept q ≡ kept_from q None (seen program.now field_limit (tasks_of journal.now))) }
+    ensures ordered { IfOk result (λ kept. tree.IsOrdered key_cmp kept) }
+{
+    let mut machine = Machine::start(alloc, program, field_limit)?;
+    let mut kept = BTreeMap::new(alloc);
+    for entry in journal {
+        let ran = steps_in(entry.kind());
+        take_steps(alloc, program, &mut machine, &mut kept, ran.task, ran.count)?;
+    }
+    let _count = kept.len();
+    Ok(kept)
+}

@@ -1,0 +1,11 @@
+# A parallel loop: adds what `square` hands back for each number from 1 to 10.
+fn square
+  mul i0 i0 i0     # finds its number in i0, and hands back i0
+end
+
+fn main
+  set i0 1         # the first number
+  set i1 11        # one past the last one
+  pfor square
+  out i0           # writes 385
+end
