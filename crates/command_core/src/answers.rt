@@ -21,8 +21,8 @@ use run_journal::ReplayError;
 use run_ledger::RunEnd;
 use run_report::{end_text, outputs_text, refused_text, whole_run};
 use run_trace::Settings;
-use std::alloc::{AllocError, Global};
 use shared_tree::Shared;
+use std::alloc::{AllocError, Global};
 use trace_input::{InputError, InputFault, TraceInput, read_trace_input};
 use world_core::{Finish, Outcome, first_unready, run_alone};
 
@@ -72,11 +72,7 @@ fn answer_shared(alloc: Global, shared: Shared, end: RunEnd) -> Result<Answer, A
 }
 
 // Runs a program each of whose instructions runs.
-fn answer_ready<G: Gate>(
-    alloc: Global,
-    program: &Program,
-    gate: &G,
-) -> Result<Answer, AllocError>
+fn answer_ready<G: Gate>(alloc: Global, program: &Program, gate: &G) -> Result<Answer, AllocError>
     requires { IsReady program.now }
     ensures { IfOk result (IsWholeRun program.now) }
 {
@@ -91,11 +87,7 @@ fn answer_ready<G: Gate>(
 }
 
 // Runs a program, unless an instruction doesn't run yet.
-fn answer_program<G: Gate>(
-    alloc: Global,
-    program: &Program,
-    gate: &G,
-) -> Result<Answer, AllocError>
+fn answer_program<G: Gate>(alloc: Global, program: &Program, gate: &G) -> Result<Answer, AllocError>
     ensures { IfOk result (AnswersProgram program.now (first_unready program.now)) }
 {
     match first_unready(program) {

@@ -123,11 +123,7 @@ fn runs_end(rt: HostRuntime) -> Result<(), Fail> {
             4,
             "end: trap depth task 0 line 2\n",
         ),
-        (
-            "fn main\nlab a\njmp a\nend",
-            6,
-            "end: fuel 1000192\n",
-        ),
+        ("fn main\nlab a\njmp a\nend", 6, "end: fuel 1000192\n"),
     ];
     for (text, status, bytes) in cases {
         let (code, written) = said(&rt, "run", text)?;
