@@ -189,7 +189,7 @@ fn words_and_units(rt: HostRuntime) -> Result<(), Fail> {
         (7607, 17)
     );
     assert_eq!(rt; take_of(&machine, &heap), 3);
-    assert_eq!(rt; words_sum(&machine, &[name(0, 3), name(0, 2)]), 524);
+    assert_eq!(rt; words_sum(&machine, heap.large.as_slice()), 6073);
     assert_eq!(rt;
         (
             words_at(&machine, name(0, 4)),
