@@ -71,10 +71,18 @@ fn forks_and_joins(rt: HostRuntime) -> Result<(), Fail> {
     for (reader, owner, is) in [(4, 0, true), (4, 2, false), (4, 3, false), (0, 4, false)] {
         assert_eq!(rt; on_path(&tree, reader, owner), Some(is));
     }
-    assert_eq!(rt; path_counted::<Brand>(&tree, 4, 1, Blank::new(1)), Some(1));
     assert!(rt; tree.made() > 4);
     tree.set_state(4, State::Joined);
     assert_eq!(rt; (tree.state(4), tree.state(5)), (Some(State::Joined), None));
+    Ok(())
+}
+
+#[test]
+fn links_are_counted(rt: HostRuntime) -> Result<(), Fail> {
+    let mut tree = Tree::new(rt.alloc())?;
+    forked(&mut tree, 0)?;
+    forked(&mut tree, 2)?;
+    assert_eq!(rt; path_counted::<Brand>(&tree, 4, 1, Blank::new(1)), Some(2));
     Ok(())
 }
 
