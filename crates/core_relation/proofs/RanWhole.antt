@@ -31,11 +31,11 @@ none_collects None h = refl
 none_collects (Some h) e = none_of h.begun e
 
 pub ran_stands_for : RanStandsFor
-ran_stands_for p s journal program legal v v' c c' w t k h accepted E W0 Q C M N =
+ran_stands_for p s journal program legal v v' c c' w t k h accepted E handed Q C M N =
     let l : Ledger = ledger_of p s journal in
     let e : Event = record { worker = w; kind = Ran t (suc k) } in
     let alive : l.end ≡ None = none_of l.end (entry_tells p s l e (ap is_none accepted)).0 in
-    let W : StandsFor v c l = subst (StandsFor v c) (handed_on l alive) W0 in
+    let W : StandsFor v c l = subst (StandsFor v c) (handed_on l alive) handed in
     let F = part_now p s (part_for s t h (taken_by E.splits.kind k)) v l (alive_machine p s l (after p s l e) t w k E) Q in
     let both = ran_keeps p s v v' l (after p s l e) t w k h E alive W.homes (whole_notes v c l W) F.fits C M in
     let counts = ran_counts p s l (after p s l e) t w k E c c' W.totals alive (entries_use p s journal e program legal accepted) N in

@@ -65,12 +65,12 @@ module _ (p : ProgramText) (s : Limits) (q : Part) (v v' : Value) (l : Ledger) (
   }
 
 pub took_fits_then : TookFits
-took_fits_then p s journal legal v v' c w t accepted W0 C =
+took_fits_then p s journal legal v v' c w t accepted handed C =
     let e : Event = record { worker = w; kind = Took t } in
     let l : Ledger = ledger_of p s journal in
     let l' : Ledger = after p s l e in
     let q : Part = part_for s t (v.homes t) 0 in
-    let W : StandsFor v c l = subst (StandsFor v c) (handed_on l (none_of l.end (entry_tells p s l e (ap is_none accepted)).0)) W0 in
+    let W : StandsFor v c l = subst (StandsFor v c) (handed_on l (none_of l.end (entry_tells p s l e (ap is_none accepted)).0)) handed in
     let ready = (none_unless (is_ready l t) _ _ (entry_tells p s l e (ap is_none accepted)).2).0 in
     let both = and_parts (is_running (slice_get l.machine.tasks t)) _ ready in
     let g = heap_of_task l t (legal_sound p s journal legal) both.0 in
