@@ -51,7 +51,7 @@ module _ (w : World) (k : ℕ) (p : Private) (I : IsWorld w) (F : Fits w k p) (s
       let a = ran_tells w.program w.settings (accounts w) k p.task (suc p.fresh) (ap is_none last_free) in
       let b : w.steps ≡ (accounts w).steps = steps_now w I in
       let c = I.limits.fuel.1 in
-      (omega (arith, a.2, b, c), F.fits.part.fits.few)
+      (omega (arith, a.2, b, c), shared.few)
 
   -- the part fits a machine
   pub fits_some : FitsSome w.program p

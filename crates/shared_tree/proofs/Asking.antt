@@ -55,7 +55,7 @@ asked_same p part m above G =
     ∙ ap₂ (λ n o. line_asks n part.frames.top o) (sym G.limit) (sym (same_line p part m above G))))
 
 -- an object has at least two words
-counts_two : (o : Option (ℕ × ℕ)) (w : ℕ) → words_for o ≡ Some w → 2 ≤ w
+pub counts_two : (o : Option (ℕ × ℕ)) (w : ℕ) → words_for o ≡ Some w → 2 ≤ w
 counts_two None w e = absurd cc
 counts_two (Some c) w e = let q : 2 + c.0 + c.1 ≡ w = same_Some (2 + c.0 + c.1) w e in omega (arith, q)
 

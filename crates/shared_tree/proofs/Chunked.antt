@@ -13,7 +13,7 @@ use Rattle.hh_model.specs.Step.{asked, is_waiting, waits}
 use Rattle.run_ledger.specs.declared.data.Heap.{Heap as Account}
 use Rattle.run_ledger.specs.declared.data.Ledger.{Ledger}
 use Rattle.run_ledger.specs.declared.data.Refused.{Refused}
-use Rattle.run_ledger.specs.declared.data.Refused.TheVariants.{Due, NotNeeded}
+use Rattle.run_ledger.specs.declared.data.Refused.TheVariants.{Collecting, Due, NotNeeded}
 use Rattle.run_ledger.specs.declared.data.RunEnd.{RunEnd}
 use Rattle.run_ledger.specs.declared.data.RunEnd.TheVariants.{Pool as PoolOf}
 use Rattle.run_ledger.specs.Heaps.{chunk_words, heap_of, in_use, is_small, lacks_room, let_go, or_fresh, units, with_heap}
@@ -22,7 +22,7 @@ use Rattle.run_ledger.specs.Steps.{is_due, is_in_need, on_asked}
 use Rattle.run_ledger.proofs.Journals.{entry_tells}
 use Rattle.run_ledger.proofs.Space.{legal_booked}
 use Rattle.chunk_pool.specs.declared.pool.Held.{Held}
-use Rattle.chunk_pool.specs.Chunks.{Chunks, Takes as PoolTakes, owner_of, units_in_use}
+use Rattle.chunk_pool.specs.Chunks.{Chunks, Takes as PoolTakes, units_in_use}
 use Rattle.alloc_path.specs.Heap.{Heap, IsFresh, added, with_places}
 use Rattle.task_machine.specs.declared.part.Private.{Private}
 use Rattle.task_machine.specs.Accounts.{AreReserved, IsCounted}
@@ -34,21 +34,23 @@ use Rattle.core_relation.specs.Stands.{HasNames, HomeStands, large_chunks}
 use Rattle.core_relation.specs.Changes.{SameObjects}
 use Rattle.core_relation.specs.Counts.{AsksUnits, CountsGo}
 use Rattle.core_relation.specs.Since.{NotesStay}
-use Rattle.core_relation.specs.Whole.{StandsFor}
+use Rattle.core_relation.specs.Whole.{BegunBy, StandsFor}
 use Rattle.core_relation.specs.Fits.{with_home}
 use Rattle.core_relation.proofs.Alone.{home_kept}
 use Rattle.core_relation.proofs.Members.{in_map}
 use Rattle.core_relation.proofs.With.{at_home, off_home}
 use Rattle.ledger_steps.specs.Accounts.{Rests, rested}
 use Rattle.ledger_steps.proofs.Ahead.{heap_then, with_at, with_machine, with_off}
+use Rattle.ledger_steps.proofs.Rested.{rested_view}
 use Rattle.shared_tree.specs.Objects.{chunk_of, chunks_of}
-use Rattle.shared_tree.specs.World.{World, accounts, totals_of, value_of}
-use Rattle.shared_tree.specs.Stands.{HeapForm, IsWorld, NoneBegun}
-use Rattle.shared_tree.specs.Fits.{Fits, OthersFit, home_of_part, part_of}
+use Rattle.shared_tree.specs.World.{World, accounts, begun_of, totals_of, value_of}
+use Rattle.shared_tree.specs.Stands.{HeapForm, IsWorld}
+use Rattle.shared_tree.specs.Fits.{Fits, OthersFit, home_of_part}
 use Rattle.shared_tree.specs.Next.{part_asks}
-use Rattle.shared_tree.specs.Causes.{chunk_cause}
+use Rattle.shared_tree.specs.Causes.{need_cause}
 use Rattle.shared_tree.specs.Entered.{refused}
 use Rattle.shared_tree.proofs.Asking.{account_is, asks_is, counted_is}
+use Rattle.shared_tree.proofs.Begun.{account_idle, none_begun}
 use Rattle.shared_tree.proofs.Counts.{small_names}
 use Rattle.shared_tree.proofs.Entering.{entered, entry_on, held_apart}
 use Rattle.shared_tree.proofs.FuelEnds.{quiet_others, quiet_own, quiet_world, same_value}
@@ -58,7 +60,6 @@ use Rattle.shared_tree.proofs.Linked as link
 use Rattle.shared_tree.proofs.Needs.{at_work, chunk_is}
 use Rattle.shared_tree.proofs.Now.{stands_now, used_now}
 use Rattle.shared_tree.proofs.Running.{fits_now, home_is, status}
-use Rattle.shared_tree.proofs.Taking.{calm_with}
 
 needed : (due need : Bool) (x y : Refused) → is_none (refused_if due x (refused_unless need y None)) ≡ true → need ≡ true
 needed true need x y h = absurd (false≢true h)
@@ -92,7 +93,7 @@ units_more number words z none = by (is_small words) refl
         ∙ (big_spare (units words) two ∙ (sym (some_units (units words) (omega (arith, two))) ∙ ap reserved_units (sym (cond-false (is_small words) 1 (units words) s))))
 
 -- places for other numbers of chunks tell nothing
-places_form : (h : Heap) (a b : ℕ) → HeapForm h → HeapForm (with_places h a b)
+pub places_form : (h : Heap) (a b : ℕ) → HeapForm h → HeapForm (with_places h a b)
 places_form h a b F = record {
   shaped = record { apart = F.shaped.apart; current = F.shaped.current; reserved = F.shaped.reserved };
   near = F.near;
@@ -165,8 +166,12 @@ module _ (w : World) (k : ℕ) (p : Private) (I : IsWorld w) (F : Fits w k (reco
   same_machine : L.machine ≡ l.machine
   same_machine = with_machine l t more
 
-  calm_then : NoneBegun L
-  calm_then = calm_with l t more (λ h. chunk_begun words h) I.calm
+  -- the part is amid no leaf collection
+  abbrev by_need : Option Refused
+  by_need = refused_if (is_due w.settings w.program l t) (Due (heap_of l t).since) (refused_unless (is_in_need w.program l t) (NotNeeded (heap_of l t).room) None)
+
+  pub idle_part : p.begun ≡ None
+  idle_part = none_begun w k P F on by_need (entry_tells w.program w.settings l e (ap is_none free)).2
 
   idle : is_waiting (slice_get l.machine.tasks t) ≡ false
   idle = ap is_waiting F.fits.is ∙ ap waits (status w k P I F on)
@@ -175,7 +180,7 @@ module _ (w : World) (k : ℕ) (p : Private) (I : IsWorld w) (F : Fits w k (reco
   need : is_in_need w.program l t ≡ true
   need =
       needed (is_due w.settings w.program l t) (is_in_need w.program l t) (Due (heap_of l t).since) (NotNeeded (heap_of l t).room)
-      (ap is_none (sym (at_work w k p I F on (refused_if (is_due w.settings w.program l t) (Due (heap_of l t).since) (refused_unless (is_in_need w.program l t) (NotNeeded (heap_of l t).room) None)))) ∙ (entry_tells w.program w.settings l e (ap is_none free)).2)
+      (ap is_none (sym (at_work w k p I F on idle_part by_need)) ∙ (entry_tells w.program w.settings l e (ap is_none free)).2)
 
   lacks : lacks_room (heap_of l t) words ≡ true
   lacks = ap (λ o. on_asked o (lacks_room (heap_of l t))) (sym asked_is) ∙ need
@@ -272,11 +277,8 @@ module _ (w : World) (k : ℕ) (p : Private) (I : IsWorld w) (F : Fits w k (reco
     same : SameObjects v v' l (after w.program w.settings l e)
     same = subst (SameObjects v v' l) (sym then) objects_same
 
-    calm : NoneBegun (after w.program w.settings l e)
-    calm = subst NoneBegun (sym then) calm_then
-
     pub chunk_world : IsWorld w'
-    chunk_world = quiet_world w e I free tt (λ u m. m) pool w.end j.room same notes counts calm T.rest.limit
+    chunk_world = quiet_world w e I free tt (λ u m. m) pool w.end j.room same notes counts T.rest.limit
 
     -- ---- THE PART
     abbrev before : Value
@@ -438,14 +440,18 @@ module _ (w : World) (k : ℕ) (p : Private) (I : IsWorld w) (F : Fits w k (reco
               ((fits_now w k P I F on).stands.homes u rests)
         ]
 
+    none_then : (heap_of (rested L t) t).begun ≡ None
+    none_then = ap (λ (z : Account). z.begun) account_then ∙ (chunk_begun words there.0 ∙ (ap (λ o. (or_fresh o).begun) (sym there.1) ∙ account_idle w k P F on idle_part))
+
     pub chunk_part : Fits w' k Q
     chunk_part =
-        quiet_own w e I free tt (λ u m. m) pool w.end j.room same notes counts calm T.rest.limit k p g F form_then
+        quiet_own w e I free tt (λ u m. m) pool w.end j.room same notes counts T.rest.limit k p g p.begun F form_then
         (subst (λ (z : Ledger). SameObjects before after_ (rested l t) (rested z t)) (sym then) part_same)
+        (subst (λ (z : Ledger). BegunBy after_ (rested z t) t (begun_of p.begun)) (sym then) (subst (λ o. BegunBy after_ (rested L t) t (begun_of o)) (sym idle_part) none_then))
 
     -- ---- THE PARTS OF OTHERS
     pub chunk_others : OthersFit w w' k
-    chunk_others o q ne G = quiet_others w e I free tt (λ u m. m) pool w.end j.room same notes counts calm T.rest.limit o q (held_apart w k o P q F G ne) G
+    chunk_others o q ne G = quiet_others w e I free tt (λ u m. m) pool w.end j.room same notes counts T.rest.limit o q (held_apart w k o P q F G ne) G
 
 -- ---- WHERE TOO FEW ARE FREE
 module _ (w : World) (k : ℕ) (p : Private) (I : IsWorld w) (F : Fits w k (record p { fresh = 0 })) (on : (accounts w).end ≡ None) (free : refused w (record { worker = k; kind = ChunkOf p.task }) ≡ None)
@@ -481,14 +487,11 @@ module _ (w : World) (k : ℕ) (p : Private) (I : IsWorld w) (F : Fits w k (reco
   full_counts : CountsGo w.program w.settings (accounts w) (totals_of w) (totals_of ended) k (ChunkOf p.task)
   full_counts = (record { node = λ u. refl; hand = λ u. refl; steps = refl; outputs = refl }, full_units)
 
-  full_calm : NoneBegun (after w.program w.settings (accounts w) full_event)
-  full_calm = subst NoneBegun (sym ends_so) I.calm
-
   pub full_world : IsWorld ended
-  full_world = quiet_world w full_event I free tt (λ u m. m) w.pool full_end j.room full_same full_notes full_counts full_calm refl
+  full_world = quiet_world w full_event I free tt (λ u m. m) w.pool full_end j.room full_same full_notes full_counts refl
 
   pub full_others : OthersFit w ended k
-  full_others o q ne G = quiet_others w full_event I free tt (λ u m. m) w.pool full_end j.room full_same full_notes full_counts full_calm refl o q (held_apart w k o (record p { fresh = 0 }) q F G ne) G
+  full_others o q ne G = quiet_others w full_event I free tt (λ u m. m) w.pool full_end j.room full_same full_notes full_counts refl o q (held_apart w k o (record p { fresh = 0 }) q F G ne) G
 
   abbrev full_home : Value
   full_home = with_home (value_of w) p.task (home_of_part (record p { fresh = 0 }))
@@ -501,18 +504,32 @@ module _ (w : World) (k : ℕ) (p : Private) (I : IsWorld w) (F : Fits w k (reco
     | inr ne ↦ ap or_fresh (with_off full_ledger p.task u let_go ne ∙ sym (with_off (accounts w) p.task u let_go ne))
   ]
 
+  full_idle : p.begun ≡ None
+  full_idle = idle_part w k p I F on free words asks
+
+  none_full : (heap_of (rested full_ledger p.task) p.task).begun ≡ None
+  none_full =
+      ap (λ (z : Account). z.begun) (heaps_rested p.task)
+      ∙ (rested_view (λ (z : Account). z.begun) (λ z. refl) (accounts w) p.task ∙ account_idle w k (record p { fresh = 0 }) F on full_idle)
+
   -- the part, whose heap may have places for other numbers of chunks
   pub full_part : (a b : ℕ) → Fits ended k (record p { fresh = 0; heap = with_places p.heap a b })
   full_part a b =
-      quiet_own w full_event I free tt (λ u m. m) w.pool full_end j.room full_same full_notes full_counts full_calm refl k p (with_places p.heap a b) F (places_form p.heap a b F.form)
+      quiet_own w full_event I free tt (λ u m. m) w.pool full_end j.room full_same full_notes full_counts refl k p (with_places p.heap a b) p.begun F (places_form p.heap a b F.form)
       (subst (λ (z : Ledger). SameObjects full_home full_home (rested (accounts w) p.task) (rested z p.task)) (sym ends_so)
       (same_value full_home (rested (accounts w) p.task) (rested full_ledger p.task) (with_machine full_ledger p.task let_go ∙ sym (with_machine (accounts w) p.task let_go)) heaps_rested (fits_now w k (record p { fresh = 0 }) I F on).stands.homes))
+      (subst (λ (z : Ledger). BegunBy full_home (rested z p.task) p.task (begun_of p.begun)) (sym ends_so) (subst (λ o. BegunBy full_home (rested full_ledger p.task) p.task (begun_of o)) (sym full_idle) none_full))
 
 -- ---- AS THE CALL HAS IT
 
-words_by : (p : Private) (o : Option ℕ) → is_none (chunk_cause p o) ≡ true → (words : ℕ) × (o ≡ Some words)
+words_by : (p : Private) (o : Option ℕ) → is_none (need_cause p o) ≡ true → (words : ℕ) × (o ≡ Some words)
 words_by p None h = absurd (false≢true h)
 words_by p (Some words) h = (words, refl)
+
+-- where no chunk is refused to a part that is amid no collection, it needs one
+cause_none : (o : Bool) (c : Refused) (rest : Option Refused) → is_none (refused_if o c rest) ≡ true → is_none rest ≡ true
+cause_none true c rest h = absurd (false≢true h)
+cause_none false c rest h = h
 
 -- places for other numbers of chunks don't matter
 places_added : (h : Heap) (K : Content) (a b c d : ℕ) → with_places (added (with_places h a b) K) c d ≡ with_places (added h K) c d
@@ -525,7 +542,7 @@ places_added h K a b c d = by (K.size == 1024)
     by false = refl
 
 pub places_fit : (w : World) (k : ℕ) (p : Private) (a b : ℕ) → Fits w k p → Fits w k (record p { heap = with_places p.heap a b })
-places_fit w k p a b F = record { held = F.held; fits = F.fits; form = places_form p.heap a b F.form; leaf_limit = F.leaf_limit; field_limit = F.field_limit; idle = F.idle }
+places_fit w k p a b F = record { held = F.held; fits = F.fits; form = places_form p.heap a b F.form; leaf_limit = F.leaf_limit; field_limit = F.field_limit }
 
 module _ (w : World) (k : ℕ) (p : Private) (I : IsWorld w) (F : Fits w k p) (none : p.fresh ≡ 0) (free : refused w (record { worker = k; kind = ChunkOf p.task }) ≡ None) where
   part_is : p ≡ record p { fresh = 0 }
@@ -541,7 +558,7 @@ module _ (w : World) (k : ℕ) (p : Private) (I : IsWorld w) (F : Fits w k p) (n
   not_refused = (entry_tells w.program w.settings (accounts w) (record { worker = k; kind = ChunkOf p.task }) (ap is_none free)).2
 
   pub needs : (words : ℕ) × (part_asks w.program p ≡ Some words)
-  needs = words_by p (part_asks w.program p) (ap is_none (sym (chunk_is w k p I F0 runs_on)) ∙ not_refused)
+  needs = words_by p (part_asks w.program p) (cause_none (is_some p.begun) Collecting (need_cause p (part_asks w.program p)) (ap is_none (sym (chunk_is w k p I F0 runs_on)) ∙ not_refused))
 
   -- too few are free
   module _ (units : ℕ) (sized : units ≡ chunk_units (part_asks w.program p)) (full : w.pool.limit < units_in_use w.pool + units) (j : Space Event) where

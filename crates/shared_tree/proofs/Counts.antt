@@ -51,7 +51,7 @@ large_are (k ∷ ks) = by (k.size == 1024) (large_are ks)
 
 -- ---- THE RESERVED CHUNK
 
-abbrev is_spare : Chunk → Bool
+abbrev pub is_spare : Chunk → Bool
 is_spare k = k.large && has_none k.objects
 
 -- a chunk that is reserved stands among those that are
@@ -82,7 +82,7 @@ in_units zero u i = absurd i
 in_units (suc n) u (inl e) = sym e
 in_units (suc n) u (inr i) = absurd i
 
-spare_tells : (k : Content) → is_spare (chunk_of k) ≡ true → ((k.size ≡ 1024 → ⊥) × ((chunk_of k).objects ≡ []))
+pub spare_tells : (k : Content) → is_spare (chunk_of k) ≡ true → ((k.size ≡ 1024 → ⊥) × ((chunk_of k).objects ≡ []))
 spare_tells k h = by (k.size == 1024) refl (chunk_of k).objects refl h
   where
     by : (b : Bool) → (k.size == 1024) ≡ b → (os : List Seen) → (chunk_of k).objects ≡ os → (not b && has_none os) ≡ true → ((k.size ≡ 1024 → ⊥) × ((chunk_of k).objects ≡ []))
@@ -90,7 +90,7 @@ spare_tells k h = by (k.size == 1024) refl (chunk_of k).objects refl h
     by false q [] e g = ((λ s. false≢true (sym q ∙ ap (λ n. n == 1024) s)), e)
     by false q (o ∷ os) e g = absurd (false≢true g)
 
-chunk_there : (ks : List Content) (i : ℕ) → i < length ks → In ks (chunk_at ks i)
+pub chunk_there : (ks : List Content) (i : ℕ) → i < length ks → In ks (chunk_at ks i)
 chunk_there [] i lt = absurd (omega (arith, lt))
 chunk_there (k ∷ ks) zero lt = inl refl
 chunk_there (k ∷ ks) (suc i) lt = inr (chunk_there ks i (omega (arith, lt)))

@@ -21,7 +21,7 @@ use Rattle.core_relation.specs.Whole.{StandsForAll, by_end}
 use Rattle.core_relation.specs.Worker.{Fits as FitsValue}
 use Rattle.shared_tree.specs.declared.rest.Rest.{Rest}
 use Rattle.shared_tree.specs.World.{World, accounts, flat, rest_at, totals_of, value_of}
-use Rattle.shared_tree.specs.Stands.{HeapForm, IsWorld, NoneBegun}
+use Rattle.shared_tree.specs.Stands.{HeapForm, IsWorld}
 use Rattle.shared_tree.specs.Fits.{Fits, part_of}
 use Rattle.shared_tree.specs.Entered.{refused}
 use Rattle.shared_tree.proofs.Entered.{accounts_then, legal_then}
@@ -71,16 +71,16 @@ module _ (w : World) (e : Event) (I : IsWorld w) (free : refused w e ≡ None) (
   pub accounts_are : accounts w' ≡ after w.program w.settings (accounts w) e
   accounts_are = accounts_then w.program w.settings w.journal.items e
 
-  pub entered_world : length homes ≡ length tree → length hands ≡ length w.hands → pool.limit ≡ w.pool.limit → NoneBegun (after w.program w.settings (accounts w) e)
+  pub entered_world : length homes ≡ length tree → length sets ≡ length tree → length hands ≡ length w.hands → pool.limit ≡ w.pool.limit
       → StandsForAll (value_of w') (totals_of w') (after w.program w.settings (accounts w) e) → ((t : ℕ) (r : Rest) → rest_at homes t ≡ Some r → HeapForm r.heap) → IsWorld w'
-  entered_world made workers limit calm stands heaps = record {
+  entered_world made noted workers limit stands heaps = record {
     limits = I.limits;
     form = I.form;
     legal = legal_then w.program w.settings w.journal.items e I.legal free;
     made = made;
+    noted = noted;
     workers = workers ∙ I.workers;
     limit = limit ∙ I.limit;
-    calm = λ t. ap (λ (z : Ledger). (heap_of z t).begun) accounts_are ∙ calm t;
     stands = subst (λ (z : Ledger). StandsForAll (value_of w') (totals_of w') z) (sym accounts_are) stands;
     heaps = heaps;
   }
@@ -94,13 +94,12 @@ module _ (w : World) (e : Event) (I : IsWorld w) (free : refused w e ≡ None) (
     held_on u t same held = held_by_hand u t (same ∙ ((stands_now w I (entry_on w e free)).totals.hand u t).1 held)
 
     -- a part of a worker that goes on fits where its home does
-    pub part_fits : (u : ℕ) (p q : Private) → flat (slice_get hands u) ≡ flat (slice_get w.hands u) → Fits w u p → q.task ≡ p.task → q.leaf_limit ≡ p.leaf_limit → q.field_limit ≡ p.field_limit → q.begun ≡ p.begun → HeapForm q.heap
+    pub part_fits : (u : ℕ) (p q : Private) → flat (slice_get hands u) ≡ flat (slice_get w.hands u) → Fits w u p → q.task ≡ p.task → q.leaf_limit ≡ p.leaf_limit → q.field_limit ≡ p.field_limit → HeapForm q.heap
         → FitsValue w.program w.settings (part_of w.settings q) (value_of w') (after w.program w.settings (accounts w) e) → Fits w' u q
-    part_fits u p q same F et el ef eb form fits = record {
+    part_fits u p q same F et el ef form fits = record {
       held = ap (λ z. (heap_of (accounts w') z).worker) et ∙ held_on u p.task same F.held;
       fits = subst (FitsValue w.program w.settings (part_of w.settings q) (value_of w')) (sym accounts_are) fits;
       form = form;
       leaf_limit = el ∙ F.leaf_limit;
       field_limit = ef ∙ F.field_limit;
-      idle = eb ∙ F.idle;
     }

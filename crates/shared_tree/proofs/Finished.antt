@@ -17,7 +17,7 @@ use Rattle.heap_tree.specs.declared.state.State.TheVariants.{Ended}
 use Rattle.heap_tree.specs.Node.{Node, with_state}
 use Rattle.run_ledger.specs.declared.data.Ledger.{Ledger}
 use Rattle.run_ledger.specs.declared.data.RunEnd.TheVariants.{Machine}
-use Rattle.run_ledger.specs.Heaps.{heap_of, or_fresh}
+use Rattle.run_ledger.specs.Heaps.{heap_of}
 use Rattle.run_ledger.specs.Steps.{task_steps}
 use Rattle.task_machine.specs.declared.part.Private.{Private}
 use Rattle.ledger_steps.specs.Last.{EndsDone, Finishing, Runs, Splits}
@@ -33,8 +33,8 @@ use Rattle.core_relation.proofs.With.{at_home, off_home}
 use Rattle.core_relation.proofs.Workers.{ran_leaves}
 use Rattle.shared_tree.specs.declared.next.Ending.TheVariants.{Returns}
 use Rattle.shared_tree.specs.declared.rest.Rest.{Rest}
-use Rattle.shared_tree.specs.World.{World, accounts, flat, frame_of, home_in, home_of, node_of, rest_at, totals_of, value_of}
-use Rattle.shared_tree.specs.Stands.{HeapForm, IsWorld, NoneBegun}
+use Rattle.shared_tree.specs.World.{World, accounts, begun_of, flat, frame_of, home_in, home_of, node_of, rest_at, totals_of, value_of}
+use Rattle.shared_tree.specs.Stands.{HeapForm, IsWorld}
 use Rattle.shared_tree.specs.Fits.{Fits, OthersFit, home_of_part, part_of}
 use Rattle.shared_tree.specs.Alone.{IsShared, Tells, ended_rest}
 use Rattle.shared_tree.specs.Entered.{refused}
@@ -49,7 +49,7 @@ no_parent : (par : ℕ → Option ℕ) → ((t p : ℕ) → par t ≡ Some p →
 no_parent par low t z None e = refl
 no_parent par low t z (Some q) e = let lt : q < t = low t q e in absurd (omega (arith, z, lt))
 
-some_of : {A B : Type 0} (f : A → B) (o : Option A) (y : B) → option_map f o ≡ Some y → (x : A) × (o ≡ Some x) × (f x ≡ y)
+pub some_of : {A B : Type 0} (f : A → B) (o : Option A) (y : B) → option_map f o ≡ Some y → (x : A) × (o ≡ Some x) × (f x ≡ y)
 some_of f None y e = absurd cc
 some_of f (Some x) y e = (x, refl, same_Some (f x) y e)
 
@@ -108,9 +108,6 @@ module _ (w : World) (k : ℕ) (p : Private) (I : IsWorld w) (F : Fits w k p) (s
   abbrev own : FitsValue w.program w.settings (part_for w.settings t h p.fresh) v l
   own = F.fits
 
-  calm_then : NoneBegun L
-  calm_then u = ap (λ hs. (or_fresh (slice_get hs u)).begun) D.heaps ∙ last.calm_mid w k p I F shared free u
-
   S0 : StandsFor v (totals_of w) l
   S0 = stands_now w I (last.on w k p I F shared free)
 
@@ -165,7 +162,7 @@ module _ (w : World) (k : ℕ) (p : Private) (I : IsWorld w) (F : Fits w k p) (s
     ends_home = record {
       frames = ap (λ (z : Home). z.frames) here;
       result = ap (λ (z : Home). z.result) home_now;
-      begun = ap (λ (z : Home). z.begun) home_now ∙ ap (λ (z : Home). z.begun) (sym here);
+      begun = ap (λ (z : Home). z.begun) home_now ∙ (sym (ap begun_of (last.none w k p I F shared free)) ∙ ap (λ (z : Home). z.begun) (sym here));
       chunks = ap (λ (z : Home). z.chunks) home_now ∙ ap (λ (z : Home). z.chunks) (sym here);
       room = ap (λ (z : Home). z.room) home_now ∙ ap (λ (z : Home). z.room) (sym here);
       since = ap (λ (z : Home). z.since) home_now ∙ ap (λ (z : Home). z.since) (sym here);
@@ -196,7 +193,7 @@ module _ (w : World) (k : ℕ) (p : Private) (I : IsWorld w) (F : Fits w k p) (s
 
     pub done_world : IsWorld w'
     done_world =
-        entered_world w (last_event k p) I free tree w.pool homes w.sets hands w.outputs steps (Some (Machine Done)) j.room (length-set w.homes t (Some rest) ∙ (I.made ∙ sym (made_by w.tree t Ended (slice_get w.tree t)))) (length-set w.hands k None) refl calm_then
+        entered_world w (last_event k p) I free tree w.pool homes w.sets hands w.outputs steps (Some (Machine Done)) j.room (length-set w.homes t (Some rest) ∙ (I.made ∙ sym (made_by w.tree t Ended (slice_get w.tree t)))) (I.noted ∙ sym (made_by w.tree t Ended (slice_get w.tree t))) (length-set w.hands k None) refl
         (ran_stands_for w.program w.settings w.journal.items I.form I.legal v v' (totals_of w) (totals_of w') k t p.fresh h free E I.stands own (frame_of p.frames.top, map frame_of p.frames.below, ends_home) notes counts)
         heaps_then
 
@@ -206,5 +203,5 @@ module _ (w : World) (k : ℕ) (p : Private) (I : IsWorld w) (F : Fits w k p) (s
     -- THE PARTS OF OTHERS
     pub done_others : OthersFit w w' k
     done_others u r ne G =
-        part_fits w (last_event k p) I free tree w.pool homes w.sets hands w.outputs steps (Some (Machine Done)) j.room done_world u r r (ap flat (got_other w.hands k u None ne)) G refl refl refl refl G.form
+        part_fits w (last_event k p) I free tree w.pool homes w.sets hands w.outputs steps (Some (Machine Done)) j.room done_world u r r (ap flat (got_other w.hands k u None ne)) G refl refl refl G.form
         (ran_leaves w.program w.settings v v' l L t k p.fresh h E own (frame_of p.frames.top, map frame_of p.frames.below, ends_home) (part_of w.settings r) (held_apart w k u p r F G ne) G.fits)

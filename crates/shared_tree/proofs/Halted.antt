@@ -1,5 +1,5 @@
 -- The run ends, since the next step can't be done.
-use Rattle.std.proofs.Common.{◌≡◌, ℕ, suc, ◌+◌, Some, None, slice_get, refl, ap, sym, ◌∙◌}
+use Rattle.std.proofs.Common.{◌≡◌, ℕ, suc, ◌+◌, Some, None, refl, ap, sym, ◌∙◌}
 use Rattle.std.proofs.lemmas.Option.{same_Some}
 use Rattle.listed.specs.Space.{Space}
 use Rattle.run_trace.specs.Entry.{Event}
@@ -10,7 +10,6 @@ use Rattle.hh_model.specs.declared.data.Trap.{Trap}
 use Rattle.hh_model.specs.Step.{ended_by}
 use Rattle.run_ledger.specs.declared.data.Ledger.{Ledger}
 use Rattle.run_ledger.specs.declared.data.RunEnd.TheVariants.{Machine}
-use Rattle.run_ledger.specs.Heaps.{or_fresh}
 use Rattle.run_ledger.specs.Steps.{task_steps}
 use Rattle.task_machine.specs.declared.part.Private.{Private}
 use Rattle.ledger_steps.specs.Last.{Halting, Halts, Runs, Splits}
@@ -22,7 +21,7 @@ use Rattle.core_relation.proofs.RanWhole.{ran_stands_for}
 use Rattle.core_relation.proofs.Workers.{ran_leaves}
 use Rattle.shared_tree.specs.declared.next.Ending.TheVariants.{Traps}
 use Rattle.shared_tree.specs.World.{World, accounts, totals_of, value_of}
-use Rattle.shared_tree.specs.Stands.{IsWorld, NoneBegun}
+use Rattle.shared_tree.specs.Stands.{IsWorld}
 use Rattle.shared_tree.specs.Fits.{Fits, OthersFit, home_of_part, part_of}
 use Rattle.shared_tree.specs.Alone.{IsShared, Tells}
 use Rattle.shared_tree.specs.Entered.{refused}
@@ -75,9 +74,6 @@ module _ (w : World) (k : ℕ) (p : Private) (I : IsWorld w) (F : Fits w k p) (s
   end_same : x ≡ H.end
   end_same = sym (same_Some H.end x (ap (λ (m : State). m.end) (sym H.machine ∙ machine_is)))
 
-  calm_then : NoneBegun L
-  calm_then u = ap (λ hs. (or_fresh (slice_get hs u)).begun) H.heaps ∙ last.calm_mid w k p I F shared free u
-
   module _ (j : Space Event) where
     abbrev steps : ℕ
     steps = w.steps + suc p.fresh
@@ -90,7 +86,7 @@ module _ (w : World) (k : ℕ) (p : Private) (I : IsWorld w) (F : Fits w k p) (s
 
     pub trap_world : IsWorld w'
     trap_world =
-        entered_world w (last_event k p) I free w.tree w.pool w.homes w.sets w.hands w.outputs steps (Some (Machine x)) j.room I.made refl refl calm_then
+        entered_world w (last_event k p) I free w.tree w.pool w.homes w.sets w.hands w.outputs steps (Some (Machine x)) j.room I.made I.noted refl refl
         (ran_stands_for w.program w.settings w.journal.items I.form I.legal v v (totals_of w) (totals_of w') k t p.fresh h free E I.stands own refl tt counts)
         I.heaps
 
@@ -100,5 +96,5 @@ module _ (w : World) (k : ℕ) (p : Private) (I : IsWorld w) (F : Fits w k p) (s
     -- THE PARTS OF OTHERS
     pub trap_others : OthersFit w w' k
     trap_others u r ne G =
-        part_fits w (last_event k p) I free w.tree w.pool w.homes w.sets w.hands w.outputs steps (Some (Machine x)) j.room trap_world u r r refl G refl refl refl refl G.form
+        part_fits w (last_event k p) I free w.tree w.pool w.homes w.sets w.hands w.outputs steps (Some (Machine x)) j.room trap_world u r r refl G refl refl refl G.form
         (ran_leaves w.program w.settings v v l L t k p.fresh h E own refl (part_of w.settings r) (held_apart w k u p r F G ne) G.fits)

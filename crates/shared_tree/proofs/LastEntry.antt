@@ -1,21 +1,18 @@
 -- An entry of a part's fresh steps and its next one: what is known of the accounts before and after it.
-use Rattle.std.proofs.Common.{◌≡◌, ℕ, suc, ◌+◌, Bool, true, false, Option, Some, None, List, slice_get, option_map, is_none, is_some, inl, inr, refl, ap, ap₂, sym, subst, ◌∙◌}
-use Rattle.std.proofs.lemmas.Bool.{cases_eq, false≢true}
+use Rattle.std.proofs.Common.{◌≡◌, ℕ, suc, true, false, Option, Some, None, slice_get, is_none, is_some, min, inr, refl, ap, ap₂, sym, subst, ◌∙◌}
+use Rattle.std.proofs.lemmas.Bool.{false≢true}
 use Rattle.std.proofs.lemmas.Option.{same_Some}
 use Rattle.hh_lang.specs.declared.program.Line.{Line}
 use Rattle.run_trace.specs.declared.entry.Kind.TheVariants.{Ran}
 use Rattle.run_trace.specs.Entry.{Event}
-use Rattle.hh_model.specs.declared.data.Name.{Name}
-use Rattle.hh_model.specs.declared.data.State.{State}
 use Rattle.hh_model.specs.declared.data.Task.{Task}
 use Rattle.hh_model.specs.Effect.{effect}
 use Rattle.hh_model.specs.Step.{can_step, fetched, follow, goes_on, is_running, is_waiting, runs, setting, step, waits}
 use Rattle.hh_model.proofs.Taken.{step_taken}
-use Rattle.run_ledger.specs.declared.data.Heap.{Heap}
 use Rattle.run_ledger.specs.declared.data.Ledger.{Ledger}
-use Rattle.run_ledger.specs.Heaps.{heap_of, in_use, or_fresh}
-use Rattle.run_ledger.specs.Steps.{is_private, task_steps}
-use Rattle.run_ledger.specs.Entries.{after}
+use Rattle.run_ledger.specs.Heaps.{heap_of}
+use Rattle.run_ledger.specs.Steps.{is_private, most_steps, standing, task_steps}
+use Rattle.run_ledger.specs.Entries.{after, long_at}
 use Rattle.run_ledger.proofs.Journals.{entry_tells}
 use Rattle.run_ledger.proofs.Machine.{task_step_machine}
 use Rattle.ledger_steps.specs.Accounts.{Knows}
@@ -31,6 +28,7 @@ use Rattle.shared_tree.specs.Fits.{Fits, part_of}
 use Rattle.shared_tree.specs.Alone.{IsShared, SaysOf, Tells}
 use Rattle.shared_tree.specs.declared.next.Ending.{Ending}
 use Rattle.shared_tree.specs.Entered.{refused}
+use Rattle.shared_tree.proofs.Begun.{none_begun}
 use Rattle.shared_tree.proofs.LastSteps.{shared_now}
 use Rattle.shared_tree.proofs.Linked as link
 use Rattle.shared_tree.proofs.Running.{goes, status}
@@ -122,8 +120,6 @@ module _ (w : World) (k : ℕ) (p : Private) (I : IsWorld w) (F : Fits w k p) (s
   pub heap_off : (u : ℕ) → (u ≡ t → ⊥) → slice_get M.heaps u ≡ slice_get l.heaps u
   heap_off u ne = A.heaps u ne
 
-  pub calm_mid : (u : ℕ) → (heap_of M u).begun ≡ None
-  calm_mid u = elim (cases_eq u t) [
-    | inl q ↦ ap (λ z. (heap_of M z).begun) q ∙ (ap (λ (x : Option ℕ × Option ℕ × List Name × Bool). x.1) holds_mid ∙ I.calm t)
-    | inr ne ↦ ap (λ o. (or_fresh o).begun) (heap_off u ne) ∙ I.calm u
-  ]
+  -- the part is amid no leaf collection
+  pub none : p.begun ≡ None
+  none = none_begun w k p F on (long_at (suc p.fresh) (min most_steps (standing w.settings w.program l t (suc p.fresh)))) (entry_tells w.program w.settings l (last_event k p) (ap is_none free)).2

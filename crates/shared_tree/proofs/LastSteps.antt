@@ -1,19 +1,19 @@
 -- A part whose next step isn't private, before the run's end: what that step does, and how an entry with it splits.
-use Rattle.std.proofs.Common.{◌≡◌, ℕ, zero, suc, ◌+◌, ◌≤◌, ◌||◌, arith, Bool, true, false, cond, min, nat_le, Option, Some, None, slice_get, is_some, refl, ap, ap₂, sym, subst, ◌∙◌, le-leb, eq-eqb}
-use Rattle.std.proofs.lemmas.Bool.{cond-false, cond-true, and_from, false≢true}
+use Rattle.std.proofs.Common.{◌≡◌, ℕ, zero, suc, ◌+◌, ◌≤◌, ◌||◌, arith, Bool, true, false, cond, min, nat_le, Option, Some, None, is_some, refl, ap, ap₂, sym, subst, ◌∙◌, le-leb}
+use Rattle.std.proofs.lemmas.Bool.{cond-false, cond-true, false≢true}
 use Rattle.hh_lang.specs.declared.program.Line.{Line}
 use Rattle.hh_lang.specs.Form.{ProgramText}
 use Rattle.run_trace.specs.declared.entry.Kind.TheVariants.{Ran}
 use Rattle.run_trace.specs.Entry.{Event}
 use Rattle.run_trace.specs.Settings.{Limits}
 use Rattle.hh_model.specs.declared.data.State.{State}
-use Rattle.hh_model.specs.Step.{asked, fetched, is_running}
+use Rattle.hh_model.specs.Step.{asked, fetched}
 use Rattle.run_ledger.specs.declared.data.Ledger.{Ledger}
 use Rattle.run_ledger.specs.declared.data.Refused.{Refused}
-use Rattle.run_ledger.specs.declared.data.Refused.TheVariants.{Long}
+use Rattle.run_ledger.specs.declared.data.Refused.TheVariants.{Collecting, Long}
 use Rattle.run_ledger.specs.Heaps.{heap_of, lacks_room}
 use Rattle.run_ledger.specs.Steps.{is_due, is_in_need, is_private, most_steps, on_asked, standing, task_step, task_steps}
-use Rattle.run_ledger.specs.Entries.{is_out, is_held_by, kind_refusal, refused_if, refused_unless}
+use Rattle.run_ledger.specs.Entries.{kind_refusal, refused_if, refused_unless}
 use Rattle.ledger_steps.specs.Accounts.{ArePrivate}
 use Rattle.task_machine.specs.declared.part.Private.{Private}
 use Rattle.task_machine.specs.Fits.{FitsNow as FitsMachine}
@@ -32,7 +32,7 @@ use Rattle.shared_tree.proofs.Asking.{asks_is}
 use Rattle.shared_tree.proofs.Endings.{asks_none, ending_tells}
 use Rattle.shared_tree.proofs.Going.{same_going}
 use Rattle.shared_tree.proofs.Linked as link
-use Rattle.shared_tree.proofs.Needs.{running_by}
+use Rattle.shared_tree.proofs.Begun.{at_part}
 use Rattle.shared_tree.proofs.Now.{end_now}
 use Rattle.shared_tree.proofs.Refusals.{refused_is}
 use Rattle.shared_tree.proofs.Running.{fits_now, goes}
@@ -71,7 +71,7 @@ module _ (w : World) (k : ℕ) (p : Private) (I : IsWorld w) (F : Fits w k p) (s
   machine_same = ap (λ (z : Ledger). (ahead w.program (part_of w.settings p) z).machine) (same_going l (goes w k p I F on)) ∙ link.machine_is w k p I F on
 
   pub shared_now : is_private w.program M.machine t ≡ false
-  shared_now = ap (λ (m : State). is_private w.program m t) (sym machine_same) ∙ shared
+  shared_now = ap (λ (m : State). is_private w.program m t) (sym machine_same) ∙ shared.last
 
   -- the line that comes next
   pub some_line : (line : Line) × (next_line w.program p ≡ Some line)
@@ -88,25 +88,22 @@ module _ (w : World) (k : ℕ) (p : Private) (I : IsWorld w) (F : Fits w k p) (s
       asks_is w k p I F on
       ∙ (ap (line_asks p.field_limit p.frames.top) some_line.1 ∙ asks_none w.program p M.machine above fits_machine some_line.0 (at some_line.0 some_line.1) shared_now)
 
-  not_due : is_due w.settings w.program M t ≡ false
+  pub not_due : is_due w.settings w.program M t ≡ false
   not_due = ap (λ o. on_asked o (λ n. nat_le w.settings.leaf (heap_of M t).since)) asks
 
-  not_in_need : is_in_need w.program M t ≡ false
+  pub not_in_need : is_in_need w.program M t ≡ false
   not_in_need = ap (λ o. on_asked o (lacks_room (heap_of M t))) asks
 
   -- one step more than the fresh ones can stand in the entry
   stands_so : standing w.settings w.program l t (suc p.fresh) ≡ suc p.fresh
   stands_so = standing_last w.program w.settings t p.fresh l V.private not_due not_in_need shared_now
 
-  pub last_kind : kind_refusal w.program w.settings l k (Ran t (suc p.fresh)) ≡ None
+  pub last_kind : kind_refusal w.program w.settings l k (Ran t (suc p.fresh)) ≡ refused_if (is_some p.begun) Collecting None
   last_kind =
-      let few : p.fresh ≤ 256 = V.few in
+      let few : p.fresh ≤ 256 = shared.few in
       let m : ℕ = min most_steps (standing w.settings w.program l t (suc p.fresh)) in
       let fits : nat_le (suc p.fresh) m ≡ true = le-leb (suc p.fresh) m (omega (arith, stands_so, few)) in
-      running_by (is_out l k t) (is_some (heap_of l t).begun) (refused_unless (nat_le (suc p.fresh) m) (Long m) None)
-      (and_from (is_running (slice_get l.machine.tasks t)) (is_held_by (heap_of l t).worker k) (ap is_running F.fits.is ∙ F.fits.runs) (ap (λ o. is_held_by o k) F.held ∙ eq-eqb k k refl))
-      (ap is_some (I.calm t))
-      ∙ ap (λ b. refused_unless b (Long m) None) fits
+      at_part w k p F on (refused_unless (nat_le (suc p.fresh) m) (Long m) None) ∙ ap (λ b. refused_if (is_some p.begun) Collecting (refused_unless b (Long m) None)) fits
 
 -- WHY IT IS REFUSED
 
@@ -117,17 +114,26 @@ end_by : (a b c : Bool) (x y z : Refused) → refused_if a x (refused_if b y (re
 end_by true b c x y z h = absurd cc
 end_by false b c x y z h = refl
 
-else_same : (o rest : Option Refused) → (o ≡ None → rest ≡ None) → or_else o rest ≡ o
-else_same None rest h = h refl
-else_same (Some c) rest h = refl
+else_same : (o rest other : Option Refused) → (o ≡ None → rest ≡ other) → or_else o rest ≡ or_else o other
+else_same None rest other h = h refl
+else_same (Some c) rest other h = refl
 
 nothing_some : {A : Type 0} (o : Option A) → is_some o ≡ false → o ≡ None
 nothing_some None h = refl
 nothing_some (Some x) h = absurd (false≢true (sym h))
 
-pub alone_answer : (w : World) (k : ℕ) (p : Private) → IsWorld w → Fits w k p → IsShared w p → refused w (alone_event k p) ≡ first_cause w.end w.steps w.settings k false
+-- the first of two causes
+pub found_first : (o rest : Option Refused) → is_some o ≡ true → o ≡ or_else o rest
+found_first None rest h = absurd (false≢true h)
+found_first (Some c) rest h = refl
+
+pub nothing_first : (o rest : Option Refused) → is_some o ≡ false → rest ≡ or_else o rest
+nothing_first None rest h = refl
+nothing_first (Some c) rest h = absurd (false≢true (sym h))
+
+pub alone_answer : (w : World) (k : ℕ) (p : Private) → IsWorld w → Fits w k p → IsShared w p → refused w (alone_event k p) ≡ or_else (first_cause w.end w.steps w.settings k false) (refused_if (is_some p.begun) Collecting None)
 alone_answer w k p I F shared =
     ap (refused w) (event_is k p)
     ∙ (refused_is w I (record { worker = k; kind = Ran p.task (suc p.fresh) })
-    ∙ else_same (first_cause w.end w.steps w.settings k false) (kind_refusal w.program w.settings (accounts w) k (Ran p.task (suc p.fresh)))
+    ∙ else_same (first_cause w.end w.steps w.settings k false) (kind_refusal w.program w.settings (accounts w) k (Ran p.task (suc p.fresh))) (refused_if (is_some p.begun) Collecting None)
     (λ h. last_kind w k p I F shared (sym (end_now w I) ∙ nothing_some w.end (end_by (is_some w.end) _ _ _ _ _ h))))

@@ -1,16 +1,15 @@
 -- Why no chunk is given to a part.
-use Rattle.std.proofs.Common.{◌≡◌, ℕ, ◌≤◌, true, false, ◌&&◌, not, Bool, Option, Some, None, slice_get, is_none, is_some, nat_le, refl, ap, ap₂, sym, subst, ◌∙◌, arith, eq-eqb}
-use Rattle.std.proofs.lemmas.Bool.{and_from}
+use Rattle.std.proofs.Common.{◌≡◌, ℕ, true, false, Option, Some, None, is_none, is_some, nat_le, refl, ap, ap₂, sym, ◌∙◌}
 use Rattle.run_trace.specs.declared.entry.Kind.TheVariants.{Chunk}
 use Rattle.run_trace.specs.Entry.{Event}
-use Rattle.hh_model.specs.Step.{asked, is_running}
+use Rattle.hh_model.specs.Step.{asked}
 use Rattle.run_ledger.specs.declared.data.Heap.{Heap}
 use Rattle.run_ledger.specs.declared.data.Ledger.{Ledger}
 use Rattle.run_ledger.specs.declared.data.Refused.{Refused}
-use Rattle.run_ledger.specs.declared.data.Refused.TheVariants.{Collecting, Due, NotNeeded, NotOut}
-use Rattle.run_ledger.specs.Heaps.{heap_of, lacks_room, or_fresh}
+use Rattle.run_ledger.specs.declared.data.Refused.TheVariants.{Collecting, Due, NotNeeded}
+use Rattle.run_ledger.specs.Heaps.{heap_of, lacks_room}
 use Rattle.run_ledger.specs.Steps.{is_due, is_in_need, on_asked}
-use Rattle.run_ledger.specs.Entries.{is_fuel, is_out, is_held_by, kind_refusal, on_running, refused_if, refused_unless}
+use Rattle.run_ledger.specs.Entries.{is_fuel, kind_refusal, on_running, refused_if, refused_unless}
 use Rattle.alloc_path.specs.Heap.{place_for, room_of}
 use Rattle.task_machine.specs.declared.part.Private.{Private}
 use Rattle.task_machine.proofs.Counted.{lacks_same}
@@ -18,15 +17,11 @@ use Rattle.shared_tree.specs.World.{World, accounts}
 use Rattle.shared_tree.specs.Stands.{IsWorld}
 use Rattle.shared_tree.specs.Fits.{Fits}
 use Rattle.shared_tree.specs.Next.{next_line, part_asks}
-use Rattle.shared_tree.specs.Causes.{chunk_cause, first_cause, or_else}
+use Rattle.shared_tree.specs.Causes.{chunk_cause, first_cause, need_cause, or_else}
 use Rattle.shared_tree.specs.Entered.{refused}
 use Rattle.shared_tree.proofs.Asking.{asks_is, asks_two, counted_is, room_is, since_is}
+use Rattle.shared_tree.proofs.Begun.{at_part}
 use Rattle.shared_tree.proofs.Refusals.{on_is, refused_is}
-
-pub running_by : (out begun : Bool) (rest : Option Refused) → out ≡ true → begun ≡ false → refused_unless out NotOut (refused_if begun Collecting rest) ≡ rest
-running_by true false rest a b = refl
-running_by false begun rest a b = absurd cc
-running_by true true rest a b = absurd cc
 
 unless_none : {A : Type 0} (o : Option A) (c : Refused) → refused_unless (is_none o) c None ≡ refused_if (is_some o) c None
 unless_none None c = refl
@@ -45,12 +40,9 @@ module _ (w : World) (k : ℕ) (p : Private) (I : IsWorld w) (F : Fits w k (reco
   abbrev h : Heap
   h = heap_of l t
 
-  -- the worker is at the task, which isn't amid a leaf collection
-  pub at_work : (rest : Option Refused) → on_running l k t rest ≡ rest
-  at_work rest =
-      running_by (is_out l k t) (is_some h.begun) rest
-      (and_from (is_running (slice_get l.machine.tasks t)) (is_held_by h.worker k) (ap is_running F.fits.is ∙ F.fits.runs) (ap (λ o. is_held_by o k) F.held ∙ eq-eqb k k refl))
-      (ap is_some (I.calm t))
+  -- the worker is at the task, and where that isn't amid a leaf collection
+  pub at_work : p.begun ≡ None → (rest : Option Refused) → on_running l k t rest ≡ rest
+  at_work none rest = at_part w k P F on rest ∙ ap (λ o. refused_if (is_some o) Collecting rest) none
 
   asks : asked w.program l.machine t ≡ part_asks w.program p
   asks = asks_is w k P I F on
@@ -58,7 +50,7 @@ module _ (w : World) (k : ℕ) (p : Private) (I : IsWorld w) (F : Fits w k (reco
   due_same : nat_le w.settings.leaf h.since ≡ nat_le p.leaf_limit p.heap.since
   due_same = ap₂ (λ a b. nat_le a b) (sym F.leaf_limit) (sym (since_is w k P I F on))
 
-  by_asks : (o : Option ℕ) → asked w.program l.machine t ≡ o → refused_if (is_due w.settings w.program l t) (Due h.since) (refused_unless (is_in_need w.program l t) (NotNeeded h.room) None) ≡ chunk_cause p o
+  by_asks : (o : Option ℕ) → asked w.program l.machine t ≡ o → refused_if (is_due w.settings w.program l t) (Due h.since) (refused_unless (is_in_need w.program l t) (NotNeeded h.room) None) ≡ need_cause p o
   by_asks None e =
       ap₂ (λ a b. refused_if a (Due h.since) (refused_unless b (NotNeeded h.room) None)) (ap (λ o. on_asked o (λ n. nat_le w.settings.leaf h.since)) e) (ap (λ o. on_asked o (lacks_room h)) e)
       ∙ ap (λ n. Some (NotNeeded n)) (sym (room_is w k P I F on))
@@ -71,8 +63,8 @@ module _ (w : World) (k : ℕ) (p : Private) (I : IsWorld w) (F : Fits w k (reco
 
   pub chunk_is : kind_refusal w.program w.settings l k (Chunk t) ≡ chunk_cause p (part_asks w.program p)
   chunk_is =
-      at_work (refused_if (is_due w.settings w.program l t) (Due h.since) (refused_unless (is_in_need w.program l t) (NotNeeded h.room) None))
-      ∙ (by_asks (asked w.program l.machine t) refl ∙ ap (chunk_cause p) asks)
+      at_part w k P F on (refused_if (is_due w.settings w.program l t) (Due h.since) (refused_unless (is_in_need w.program l t) (NotNeeded h.room) None))
+      ∙ ap (refused_if (is_some p.begun) Collecting) (by_asks (asked w.program l.machine t) refl ∙ ap (need_cause p) asks)
 
 -- where nothing comes before it
 nothing : (o : Option Refused) → is_some o ≡ false → o ≡ None

@@ -1,19 +1,15 @@
 -- What the shared value keeps, of the accounts themselves; and before the run's end, of the parts that fit.
-use Rattle.std.proofs.Common.{◌≡◌, ℕ, ℤ, true, false, Option, Some, None, List, is_some, slice_get, refl, ap, ap₂, sym, subst, ◌∙◌}
-use Rattle.hh_lang.specs.Form.{ProgramText}
-use Rattle.hh_model.specs.declared.data.End.{End}
+use Rattle.std.proofs.Common.{◌≡◌, ℕ, Option, Some, None, slice_get, refl, ap, subst, ◌∙◌}
 use Rattle.hh_model.specs.declared.data.End.TheVariants.{Done, Trapped, Entangled}
 use Rattle.hh_model.specs.declared.data.State.{State}
 use Rattle.hh_model.specs.declared.data.Status.TheVariants.{Running}
-use Rattle.hh_model.specs.Step.{can_step}
 use Rattle.hh_model.proofs.Steps.{runs_is}
 use Rattle.run_ledger.specs.declared.data.Heap.{Heap}
 use Rattle.run_ledger.specs.declared.data.Ledger.{Ledger}
 use Rattle.run_ledger.specs.declared.data.RunEnd.{RunEnd}
 use Rattle.run_ledger.specs.declared.data.RunEnd.TheVariants.{Fuel, Machine, Pool}
-use Rattle.run_ledger.specs.Heaps.{heap_at, heap_of, in_use, let_go, or_fresh, units_in, with_heap_at}
+use Rattle.run_ledger.specs.Heaps.{heap_at, in_use, let_go, units_in, with_heap_at}
 use Rattle.run_ledger.specs.Entries.{held_from}
-use Rattle.run_ledger.proofs.Sound.{collecting}
 use Rattle.chunk_pool.specs.Chunks.{units_in_use}
 use Rattle.task_machine.specs.declared.part.Private.{Private}
 use Rattle.core_relation.specs.Copies.{PartFits}
@@ -75,14 +71,6 @@ module _ (w : World) (I : IsWorld w) where
 
   pub hand_now : (accounts w).end ≡ None → (k : ℕ) → flat (slice_get w.hands k) ≡ held_from k 0 (accounts w).heaps
   hand_now on k = hands_are_held (totals_of w) (accounts w) (stands_now on).totals k
-
-  -- and no collection has begun
-  pub calm_now : (t : ℕ) → collecting (slice_get (accounts w).heaps t) ≡ false
-  calm_now t = by (slice_get (accounts w).heaps t) (I.calm t)
-    where
-      by : (o : Option Heap) → (or_fresh o).begun ≡ None → collecting o ≡ false
-      by None e = refl
-      by (Some h) e = ap is_some e
 
 -- A PART THAT FITS, before the run's end
 module _ (w : World) (k : ℕ) (p : Private) (F : Fits w k p) (on : (accounts w).end ≡ None) where

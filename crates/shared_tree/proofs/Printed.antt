@@ -10,7 +10,6 @@ use Rattle.hh_model.specs.declared.data.Task.{Task}
 use Rattle.hh_model.specs.Effect.{effect, int_in, onward}
 use Rattle.hh_model.specs.Step.{follow, runs, setting}
 use Rattle.run_ledger.specs.declared.data.Ledger.{Ledger}
-use Rattle.run_ledger.specs.Heaps.{or_fresh}
 use Rattle.run_ledger.specs.Steps.{task_steps}
 use Rattle.task_frames.specs.Stack.{with_next}
 use Rattle.task_machine.specs.declared.part.Private.{Private}
@@ -26,7 +25,7 @@ use Rattle.core_relation.proofs.Sets.{numbers_go}
 use Rattle.core_relation.proofs.Workers.{ran_leaves}
 use Rattle.shared_tree.specs.declared.next.Ending.TheVariants.{Prints as PrintsOf}
 use Rattle.shared_tree.specs.World.{World, accounts, frame_of, totals_of, value_of}
-use Rattle.shared_tree.specs.Stands.{IsWorld, NoneBegun}
+use Rattle.shared_tree.specs.Stands.{IsWorld}
 use Rattle.shared_tree.specs.Fits.{Fits, OthersFit, home_of_part, part_of}
 use Rattle.shared_tree.specs.Alone.{IsShared, Tells}
 use Rattle.shared_tree.specs.Entered.{refused}
@@ -99,9 +98,6 @@ module _ (w : World) (k : ℕ) (p : Private) (I : IsWorld w) (F : Fits w k p) (s
   abbrev own : FitsValue w.program w.settings (part_for w.settings t h p.fresh) v l
   own = F.fits
 
-  calm_then : NoneBegun L
-  calm_then u = ap (λ (y : Ledger). (or_fresh (slice_get y.heaps u)).begun) Q.goes ∙ last.calm_mid w k p I F shared free u
-
   -- it prints what the part has in its register
   value_is : value ≡ int_in S.task.top Q.register
   value_is = says.2 ∙ ap (int_in S.task.top) (ap register_of (sym says.1 ∙ Q.by))
@@ -121,7 +117,7 @@ module _ (w : World) (k : ℕ) (p : Private) (I : IsWorld w) (F : Fits w k p) (s
 
     pub output_world : IsWorld w'
     output_world =
-        entered_world w (last_event k p) I free w.tree w.pool w.homes w.sets w.hands outputs steps w.end j.room I.made refl refl calm_then
+        entered_world w (last_event k p) I free w.tree w.pool w.homes w.sets w.hands outputs steps w.end j.room I.made I.noted refl refl
         (ran_stands_for w.program w.settings w.journal.items I.form I.legal v v (totals_of w) (totals_of w') k t p.fresh h free E I.stands own refl tt counts)
         I.heaps
 
@@ -138,11 +134,11 @@ module _ (w : World) (k : ℕ) (p : Private) (I : IsWorld w) (F : Fits w k p) (s
 
     pub output_part : Fits w' k q
     output_part =
-        part_fits w (last_event k p) I free w.tree w.pool w.homes w.sets w.hands outputs steps w.end j.room output_world k p q refl F refl refl refl refl F.form
+        part_fits w (last_event k p) I free w.tree w.pool w.homes w.sets w.hands outputs steps w.end j.room output_world k p q refl F refl refl refl F.form
         (ran_fits_then w.program w.settings v v l L t k p.fresh h (home_of_part q) E own refl goes_home)
 
     -- THE PARTS OF OTHERS
     pub output_others : OthersFit w w' k
     output_others u r ne G =
-        part_fits w (last_event k p) I free w.tree w.pool w.homes w.sets w.hands outputs steps w.end j.room output_world u r r refl G refl refl refl refl G.form
+        part_fits w (last_event k p) I free w.tree w.pool w.homes w.sets w.hands outputs steps w.end j.room output_world u r r refl G refl refl refl G.form
         (ran_leaves w.program w.settings v v l L t k p.fresh h E own refl (part_of w.settings r) (held_apart w k u p r F G ne) G.fits)

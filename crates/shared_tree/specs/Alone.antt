@@ -1,5 +1,5 @@
 -- An entry of a part's fresh steps and its next one, which isn't private.
-use Rattle.std.specs.Prelude.{◌≡◌, ℕ, ℤ, ◌+◌, ◌||◌, not, true, false, Option, Some, None, [], slice_get, is_some}
+use Rattle.std.specs.Prelude.{◌≤◌, ◌≡◌, ℕ, ℤ, ◌+◌, ◌||◌, not, true, false, Option, Some, None, [], slice_get, is_some}
 use Rattle.hh_lang.specs.declared.instr.Instr.TheVariants.{Out, Ret}
 use Rattle.hh_lang.specs.declared.program.Line.{Line}
 use Rattle.hh_lang.specs.Form.{ProgramText}
@@ -32,9 +32,10 @@ alone_event worker p = record { worker = worker; kind = Ran p.task (p.fresh + 1)
 abbrev pub machine_after : World → Private → State
 machine_after w p = (beyond w.program (accounts w) p).machine
 
--- the part's next step isn't private
-abbrev pub IsShared : World → Private → Type 0
-IsShared w p = is_private w.program (machine_after w p) p.task ≡ false
+-- the part's next step isn't private, and stands in one entry with its fresh ones
+pub record IsShared (w : World) (p : Private) : Type 0 where
+  pub last : is_private w.program (machine_after w p) p.task ≡ false
+  pub few : p.fresh ≤ 256
 
 -- the steps are entered, and the part goes on
 pub record GoesAlone (w after : World) (k : ℕ) (p q : Private) : Type 0 where

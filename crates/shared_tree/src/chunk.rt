@@ -40,6 +40,9 @@ fn units_for(words: Option<u32>) -> u32
 fn cause_by(part: &Private, words: Option<u32>) -> Option<Refused>
     ensures { result ≡ chunk_cause part.now words }
 {
+    if part.begun.is_some() {
+        return Some(Refused::Collecting);
+    }
     let Some(words) = words else {
         return Some(Refused::NotNeeded(part.heap.room()));
     };
@@ -75,6 +78,7 @@ impl Shared {
         requires free { refused self.old (record { worker = worker; kind = Kind.Chunk part.old.task }) ≡ None }
         ensures same { OnErr result (self.new ≡ self.old) }
         ensures back { OnErr result (IsSamePart part.old part.new) }
+        ensures rest { part.new ≡ record part.old { heap = part.new.heap } }
         ensures enters { OnOk result (Enters self.old self.new (record { worker = worker; kind = Kind.Chunk part.old.task })) }
         ensures fits { Fits self.new worker part.new }
         ensures others { OnOk result (OthersFit self.old self.new worker) }
@@ -107,6 +111,7 @@ impl Shared {
         ensures refused { Answers result (refused self.old (record { worker = worker; kind = Kind.Chunk part.old.task })) }
         ensures same { OnErr result (self.new ≡ self.old) }
         ensures back { OnErr result (IsSamePart part.old part.new) }
+        ensures rest { part.new ≡ record part.old { heap = part.new.heap } }
         ensures enters { OnOk result (Enters self.old self.new (record { worker = worker; kind = Kind.Chunk part.old.task })) }
         ensures fits { Fits self.new worker part.new }
         ensures others { OnOk result (OthersFit self.old self.new worker) }

@@ -32,12 +32,20 @@ fn at_end(part: Private) -> Rest
 
 impl Shared {
     // Why the entry is refused.
-    fn alone_refused(&self, worker: u32, part: &Private) -> Option<Refused>
+    pub(crate) fn alone_refused(&self, worker: u32, part: &Private) -> Option<Refused>
         requires fits { Fits self.now worker part.now }
         requires shared { IsShared self.now part.now }
         ensures { result ≡ refused self.now (alone_event worker part.now) }
     {
-        first_cause(self.end, self.steps, self.settings, worker, false)
+        let first = first_cause(self.end, self.steps, self.settings, worker, false);
+        if first.is_some() {
+            return first;
+        }
+        if part.begun.is_some() {
+            Some(Refused::Collecting)
+        } else {
+            None
+        }
     }
 
     // What the part's next step does, and the line of the text where it stands.

@@ -1,0 +1,64 @@
+-- Of which kind a last return is, by what it leaves of its task.
+use Rattle.std.proofs.Common.{◌≡◌, ◌⊎◌, ℕ, ◌+◌, true, false, Option, Some, None, slice_get, inl, inr, ap, sym, subst, ◌∙◌}
+use Rattle.std.proofs.lemmas.Bool.{both_ways, false≢true}
+use Rattle.std.proofs.lemmas.Option.{same_Some}
+use Rattle.hh_lang.specs.declared.instr.Instr.TheVariants.{Out, Par, Ret}
+use Rattle.hh_lang.specs.declared.program.Line.{Line}
+use Rattle.hh_lang.specs.Form.{ProgramText}
+use Rattle.hh_model.specs.declared.data.End.{End}
+use Rattle.hh_model.specs.declared.data.State.{State}
+use Rattle.hh_model.specs.declared.data.Task.{Task}
+use Rattle.hh_model.specs.Step.{is_joined, is_over}
+use Rattle.run_ledger.specs.declared.data.Ledger.{Ledger}
+use Rattle.run_ledger.specs.Steps.{is_private}
+use Rattle.ledger_steps.specs.Last.{EndsFirst, EndsLast, IsOfKind, JustReads, LastKind, Wrote}
+use Rattle.ledger_steps.specs.Last.{Private, Reading, Writing, Printing, Forking, Ending, Joining, Finishing, Halting}
+
+none_end : {A : Type 0} {e : End} → ◌≡◌ {A = Option End} None (Some e) → A
+none_end e = absurd cc
+
+prints_not : {A : Type 0} {a : ℕ} → Ret ≡ Out a → A
+prints_not e = absurd cc
+
+forks_not : {A : Type 0} {g h : ℕ} → Ret ≡ Par g h → A
+forks_not e = absurd cc
+
+module _ (p : ProgramText) (m l' : Ledger) (t : ℕ) (x : Task) (line : Line) (shared : is_private p m.machine t ≡ false) (by : line.instr ≡ Ret) (y : Task) (is : slice_get l'.machine.tasks t ≡ Some y) (goes : l'.machine.end ≡ None) where
+  abbrev Last : LastKind → Type 0
+  Last kind = IsOfKind p m l' t x line kind
+
+  -- it has ended, and hasn't joined
+  module _ (open_ : is_over y.status ≡ false) where
+    joined_not : {A : Type 0} → EndsLast m l' t x → A
+    joined_not j = side j.results
+      where
+        off : {A : Type 0} (u : ℕ) → t ≡ u → is_joined (slice_get l'.machine.tasks u) ≡ true → A
+        off u e h = absurd (both_ways (is_joined (slice_get l'.machine.tasks u)) (ap (λ z. is_joined (slice_get l'.machine.tasks z)) (sym e) ∙ (ap is_joined is ∙ open_)) h)
+
+        side : {A : Type 0} {B C D E : Type 0} → ((t ≡ j.left) × B × C) ⊎ ((t ≡ j.left + 1) × D × E) → A
+        side (inl h) = off j.left h.0 j.joins.left
+        side (inr h) = off (j.left + 1) h.0 j.joins.right
+
+    pub ends : (kind : LastKind) → Last kind → EndsFirst m l' t x
+    ends Private private = absurd (both_ways (is_private p m.machine t) shared private)
+    ends Reading r = absurd (subst (λ i. JustReads x i r.object r.frame) by r.reads)
+    ends Writing r = absurd (subst (λ i. Wrote x i r.object r.written r.frame) by r.wrote)
+    ends Printing q = prints_not (sym by ∙ q.by)
+    ends Forking f = forks_not (sym by ∙ f.by)
+    ends Ending e = e
+    ends Joining j = joined_not j
+    ends Finishing d = none_end (sym goes ∙ d.ended)
+    ends Halting h = none_end (sym goes ∙ ap (λ (z : State). z.end) h.machine)
+
+  -- or it has joined
+  module _ (over : is_over y.status ≡ true) where
+    pub joins : (kind : LastKind) → Last kind → EndsLast m l' t x
+    joins Private private = absurd (both_ways (is_private p m.machine t) shared private)
+    joins Reading r = absurd (subst (λ i. JustReads x i r.object r.frame) by r.reads)
+    joins Writing r = absurd (subst (λ i. Wrote x i r.object r.written r.frame) by r.wrote)
+    joins Printing q = prints_not (sym by ∙ q.by)
+    joins Forking f = forks_not (sym by ∙ f.by)
+    joins Ending e = let same = same_Some _ y (sym e.ends.ended ∙ is) in absurd (false≢true (ap (λ (z : Task). is_over z.status) same ∙ over))
+    joins Joining j = j
+    joins Finishing d = none_end (sym goes ∙ d.ended)
+    joins Halting h = none_end (sym goes ∙ ap (λ (z : State). z.end) h.machine)

@@ -1,0 +1,107 @@
+-- Of which kind a last step is that works on an object of another task, by what it made of the machine.
+use Rattle.std.proofs.Common.{◌≡◌, ◌⊎◌, ℕ, ◌+◌, true, false, Option, Some, None, length, slice_get, inl, inr, refl, ap, sym, subst, ◌∙◌}
+use Rattle.std.proofs.lemmas.Bool.{both_ways, false≢true}
+use Rattle.std.proofs.lemmas.Option.{same_Some}
+use Rattle.hh_lang.specs.declared.instr.Instr.{Instr}
+use Rattle.hh_lang.specs.declared.instr.Instr.TheVariants.{Putr, Puti, Cas}
+use Rattle.hh_lang.specs.declared.program.Line.{Line}
+use Rattle.hh_lang.specs.Form.{ProgramText}
+use Rattle.hh_model.specs.declared.data.End.{End}
+use Rattle.hh_model.specs.declared.data.End.TheVariants.{Done}
+use Rattle.hh_model.specs.declared.data.Frame.{Frame as ModelFrame}
+use Rattle.hh_model.specs.declared.data.Name.{Name}
+use Rattle.hh_model.specs.declared.data.Object.{Object}
+use Rattle.hh_model.specs.declared.data.State.{State}
+use Rattle.hh_model.specs.declared.data.Status.{Status}
+use Rattle.hh_model.specs.declared.data.Status.TheVariants.{Running, Waiting, Ended, Joined}
+use Rattle.hh_model.specs.declared.data.Task.{Task}
+use Rattle.hh_model.specs.Effect.{flat, int_in, object_at, place_in, ref_in, same_name}
+use Rattle.hh_model.specs.Step.{ended_by, is_joined, is_over, runs}
+use Rattle.run_ledger.specs.declared.data.Ledger.{Ledger}
+use Rattle.run_ledger.specs.Heaps.{let_go}
+use Rattle.run_ledger.specs.Steps.{is_private, touched}
+use Rattle.ledger_steps.specs.Last.{EndsLast, GoesOn, Halts, IsOfKind, JustReads, LastKind, ReadsOther, WritesOther, Wrote}
+use Rattle.ledger_steps.specs.Last.{Private, Reading, Writing, Printing, Forking, Ending, Joining, Finishing, Halting}
+use Rattle.ledger_steps.proofs.Ahead.{with_machine}
+
+none_end : {A : Type 0} {e : End} → ◌≡◌ {A = Option End} None (Some e) → A
+none_end e = absurd cc
+
+none_name : {A : Type 0} {n : Name} → ◌≡◌ {A = Option Name} None (Some n) → A
+none_name e = absurd cc
+
+-- what an instruction reads and writes nothing of, it doesn't write
+reads_or_writes : {A : Type 0} (x : Task) (i : Instr) (y y' y'' : Object) (f f' : ModelFrame) → JustReads x i y f → Wrote x i y' y'' f' → y ≡ y' → A
+reads_or_writes x (Putr o k v) y y' y'' f f' r w e = absurd r
+reads_or_writes x (Puti o k v) y y' y'' f f' r w e = absurd r
+reads_or_writes x (Cas d o k v b) y y' y'' f f' r w e =
+    let i : r.0 ≡ w.0 = same_Some r.0 w.0 (sym r.1 ∙ (ap (λ (z : Object). place_of z) e ∙ w.1)) in
+    absurd (both_ways (same_name (flat (slice_get y.refs r.0)) (ref_in x.top v)) r.3 (ap (λ (z : Object). same_name (flat (slice_get z.refs r.0)) (ref_in x.top v)) e ∙ (ap (λ n. same_name (flat (slice_get y'.refs n)) (ref_in x.top v)) i ∙ w.5)))
+  where
+    place_of : Object → Option ℕ
+    place_of z = place_in (length z.refs) (int_in x.top k)
+reads_or_writes x _ y y' y'' f f' r w e = absurd w
+
+module _ (p : ProgramText) (m l' : Ledger) (t : ℕ) (x : Task) (line : Line) (shared : is_private p m.machine t ≡ false) where
+  abbrev Last : LastKind → Type 0
+  Last kind = IsOfKind p m l' t x line kind
+
+  -- the task and the machine go on after it
+  module _ (n : Name) (touches : touched x.top line.instr ≡ Some n) (z : Task) (is : slice_get l'.machine.tasks t ≡ Some z) (run : runs z.status ≡ true) (goes : l'.machine.end ≡ None) where
+    joined_not : {A : Type 0} → EndsLast m l' t x → A
+    joined_not j = by j.results
+      where
+        live : (s : Status) → runs s ≡ true → is_over s ≡ false
+        live Running h = refl
+        live Waiting h = refl
+        live (Ended k r) h = refl
+        live Joined h = absurd (false≢true h)
+
+        off : {A : Type 0} (u : ℕ) → t ≡ u → is_joined (slice_get l'.machine.tasks u) ≡ true → A
+        off u e h = absurd (both_ways (is_joined (slice_get l'.machine.tasks u)) (ap (λ j. is_joined (slice_get l'.machine.tasks j)) (sym e) ∙ (ap is_joined is ∙ live z.status run)) h)
+
+        by : {A : Type 0} {B C D E : Type 0} → ((t ≡ j.left) × B × C) ⊎ ((t ≡ j.left + 1) × D × E) → A
+        by (inl h) = off j.left h.0 j.joins.left
+        by (inr h) = off (j.left + 1) h.0 j.joins.right
+
+    works : (of : LastKind) → Last of → ReadsOther m l' t x line ⊎ WritesOther m l' t x line
+    works Private private = absurd (both_ways (is_private p m.machine t) shared private)
+    works Reading r = inl r
+    works Writing r = inr r
+    works Printing q = none_name (ap (touched x.top) (sym q.by) ∙ touches)
+    works Forking f = none_name (ap (touched x.top) (sym f.by) ∙ touches)
+    works Ending e = absurd (false≢true (ap (λ (y : Task). runs y.status) (same_Some _ z (sym e.ends.ended ∙ is)) ∙ run))
+    works Joining j = joined_not j
+    works Finishing d = none_end (sym goes ∙ d.ended)
+    works Halting h = none_end (sym goes ∙ ap (λ (s : State). s.end) h.machine)
+
+    module _ (y : Object) (at : object_at m.machine.store n ≡ Some y) where
+      pub same_object : (W : WritesOther m l' t x line) → y ≡ W.object
+      same_object W =
+          same_Some y W.object (sym at ∙ (ap (object_at m.machine.store) (same_Some n W.name (sym touches ∙ W.touches)) ∙ (ap (λ (s : State). object_at s.store W.name) (sym (with_machine m t let_go)) ∙ W.writes.was)))
+
+      -- it reads the object
+      pub reading : (f : ModelFrame) → JustReads x line.instr y f → (of : LastKind) → Last of → ReadsOther m l' t x line
+      reading f just of last = elim (works of last) [
+        | inl R ↦ R
+        | inr W ↦ reads_or_writes x line.instr y W.object W.written f W.frame just W.wrote (same_object W)
+      ]
+
+      -- it writes the object
+      pub writing : ((f : ModelFrame) → JustReads x line.instr y f → ⊥) → (of : LastKind) → Last of → WritesOther m l' t x line
+      writing not of last = elim (works of last) [
+        | inl R ↦ absurd (not R.frame (subst (λ o. JustReads x line.instr o R.frame) (same_Some R.object y (sym R.is ∙ (ap (object_at m.machine.store) (same_Some R.name n (sym R.touches ∙ touches)) ∙ at))) R.reads))
+        | inr W ↦ W
+      ]
+
+  -- the run has ended otherwise than as done
+  pub halts_by : (e : End) → (e ≡ Done → ⊥) → l'.machine ≡ ended_by m.machine e → (of : LastKind) → Last of → (GoesOn of → l'.machine.end ≡ None) → Halts m l'
+  halts_by e other is Private private on = absurd (both_ways (is_private p m.machine t) shared private)
+  halts_by e other is Reading r on = none_end (sym (on tt) ∙ ap (λ (z : State). z.end) is)
+  halts_by e other is Writing r on = none_end (sym (on tt) ∙ ap (λ (z : State). z.end) is)
+  halts_by e other is Printing q on = none_end (sym (on tt) ∙ ap (λ (z : State). z.end) is)
+  halts_by e other is Forking f on = none_end (sym (on tt) ∙ ap (λ (z : State). z.end) is)
+  halts_by e other is Ending f on = none_end (sym (on tt) ∙ ap (λ (z : State). z.end) is)
+  halts_by e other is Joining j on = none_end (sym (on tt) ∙ ap (λ (z : State). z.end) is)
+  halts_by e other is Finishing d on = absurd (other (same_Some e Done (sym (ap (λ (z : State). z.end) is) ∙ d.ended)))
+  halts_by e other is Halting h on = h

@@ -1,0 +1,55 @@
+-- What a store makes of the value and of what is noted, by its instruction; and that it is no read.
+use Rattle.std.proofs.Common.{◌≡◌, ℕ, ℤ, pos, negsuc, zero, suc, ◌<◌, arith, true, false, Bool, cond, Some, None, List, [], ◌∷◌, length, slice_get, nat_lt, refl, ap, sym, subst, ◌∙◌}
+use Rattle.std.specs.Prelude.{slice_index_or}
+use Rattle.std.proofs.lemmas.Bool.{both_ways, ltb-true}
+use Rattle.std.proofs.lemmas.Option.{same_Some}
+use Rattle.hh_lang.specs.declared.instr.Instr.{Instr}
+use Rattle.hh_lang.specs.declared.instr.Instr.TheVariants.{Putr, Puti, Cas}
+use Rattle.hh_model.specs.declared.data.Frame.{Frame as ModelFrame}
+use Rattle.hh_model.specs.declared.data.Object.{Object}
+use Rattle.hh_model.specs.declared.data.Task.{Task}
+use Rattle.hh_model.specs.Effect.{flat, int_in, place_in, ref_in, same_name}
+use Rattle.run_ledger.specs.declared.data.Ledger.{Ledger}
+use Rattle.ledger_steps.specs.Last.{JustReads}
+use Rattle.core_relation.specs.Value.{Home, Value}
+use Rattle.core_relation.specs.Fits.{with_home}
+use Rattle.core_relation.specs.Makes.{Stores, StoresHome, StoresInto}
+use Rattle.core_relation.specs.Marks.{StoreMarks}
+use Rattle.core_relation.specs.Since.{StoresNotes}
+
+-- a field that is found is there
+pub found_less : (n : ℕ) (z : ℤ) (i : ℕ) → place_in n z ≡ Some i → i < n
+found_less n (pos k) i e = by (nat_lt k n) refl e
+  where
+    by : (b : Bool) → nat_lt k n ≡ b → cond b (Some k) None ≡ Some i → i < n
+    by true q h = let s : k ≡ i = same_Some k i h in let lt : k < n = ltb-true k n q in omega (arith, s, lt)
+    by false q h = absurd cc
+found_less n (negsuc k) i e = absurd cc
+
+-- what stands at a place that is there
+pub stands_at : {A : Type 0} (xs : List A) (i : ℕ) (d : A) → i < length xs → slice_get xs i ≡ Some (slice_index_or xs i d)
+stands_at [] i d lt = absurd (omega (arith, lt))
+stands_at (x ∷ xs) zero d lt = refl
+stands_at (x ∷ xs) (suc i) d lt = stands_at xs i d (omega (arith, lt))
+
+-- a write by its instruction: what it makes of the value, and of what is noted
+abbrev pub Made : (v v' : Value) (m : Ledger) (t : ℕ) (h : Home) (x : Task) (y : Object) (i : Instr) → Home → Type 0
+Made v v' m t h x y i g = (C : Stores v v' m t h x y i) × StoreMarks v v' m t h x y i C × StoresHome v v' m t h x y i C g
+
+pub by_putr : (v v' : Value) (m : Ledger) (t : ℕ) (h : Home) (x : Task) (y : Object) (i : Instr) (o k b : ℕ) → i ≡ Putr o k b → (C : StoresInto v v' m t h x y o k b None) → StoresNotes (with_home v t h) (with_home v' t C.0) t C.4 C.1 → Made v v' m t h x y i C.0
+by_putr v v' m t h x y i o k b e C N = subst (λ j. Made v v' m t h x y j C.0) (sym e) (C, N, refl)
+
+pub by_cas : (v v' : Value) (m : Ledger) (t : ℕ) (h : Home) (x : Task) (y : Object) (i : Instr) (d o k e b : ℕ) → i ≡ Cas d o k e b → (C : StoresInto v v' m t h x y o k b (Some (d, pos 1))) → StoresNotes (with_home v t h) (with_home v' t C.0) t C.4 C.1 → Made v v' m t h x y i C.0
+by_cas v v' m t h x y i d o k w b e C N = subst (λ j. Made v v' m t h x y j C.0) (sym e) (C, N, refl)
+
+pub reads_putr : (x : Task) (i : Instr) (y : Object) (f : ModelFrame) (o k b : ℕ) → i ≡ Putr o k b → JustReads x i y f → ⊥
+reads_putr x i y f o k b e r = subst (λ j. JustReads x j y f) e r
+
+pub reads_puti : (x : Task) (i : Instr) (y : Object) (f : ModelFrame) (o k b : ℕ) → i ≡ Puti o k b → JustReads x i y f → ⊥
+reads_puti x i y f o k b e r = subst (λ j. JustReads x j y f) e r
+
+pub reads_cas : (x : Task) (i : Instr) (y : Object) (f : ModelFrame) (d o k w b at : ℕ) → i ≡ Cas d o k w b → place_in (length y.refs) (int_in x.top k) ≡ Some at → same_name (flat (slice_get y.refs at)) (ref_in x.top w) ≡ true → JustReads x i y f → ⊥
+reads_cas x i y f d o k w b at e place same r =
+    let s = subst (λ j. JustReads x j y f) e r in
+    let q : s.0 ≡ at = same_Some s.0 at (sym s.1 ∙ place) in
+    both_ways (same_name (flat (slice_get y.refs at)) (ref_in x.top w)) (ap (λ n. same_name (flat (slice_get y.refs n)) (ref_in x.top w)) (sym q) ∙ s.3) same

@@ -1,0 +1,84 @@
+use Rattle.std.proofs.Common.{◌≡◌, ℕ, ◌+◌, ◌-◌, arith, None, Some, [], slice_set, ap, sym, subst, ◌∙◌}
+use Rattle.heap_tree.specs.declared.state.State.TheVariants.{Ended}
+use Rattle.heap_tree.specs.Node.{state_of, with_state}
+use Rattle.heap_tree.specs.Pairs.{sibling}
+use Rattle.task_machine.specs.declared.part.Private.{Private}
+use Rattle.shared_tree.specs.declared.rest.Rest.{Rest}
+use Rattle.shared_tree.specs.Stands.{IsWorld}
+use Rattle.shared_tree.specs.World.{World}
+use Rattle.shared_tree.specs.Fits.{Fits}
+use Rattle.shared_tree.specs.Alone.{alone_event, ended_rest}
+use Rattle.shared_tree.specs.ChildEnds.{EndsChild, IsAtEnd}
+use Rattle.shared_tree.specs.Entered.{refused}
+use Rattle.shared_tree.specs.contracts.shared.Shared.{the_view}
+use Rattle.shared_tree.proofs.AloneEntries.{alone_small}
+use Rattle.shared_tree.proofs.ChildEnded.{alone_ends, alone_world, has_home, has_node}
+use Rattle.shared_tree.proofs.ChildSteps.{end_shared}
+use Rattle.shared_tree.proofs.Entered.{four_changed, journal_by}
+use Rattle.shared_tree.proofs.shared.Shared.enter_end.Goals as goal
+
+pub overflow_add-self-2 : goal.overflow_add-self-2
+overflow_add-self-2 c =
+    let w : World = the_view c.self.inside in
+    let p : Private = c.args.part in
+    let k : ℕ = c.args.worker in
+    let F : Fits w k p = subst (λ (z : World). Fits z k p) (sym c.self.view_is) c.requires.fits in
+    let at : IsAtEnd w p = subst (λ (z : World). IsAtEnd z p) (sym c.self.view_is) c.requires.ends in
+    let free : refused w (alone_event k p) ≡ None = subst (λ (z : World). refused z (alone_event k p) ≡ None) (sym c.self.view_is) c.requires.free in
+    let few = alone_small w k p c.self.invariant F (end_shared w p at) free in
+    omega (arith, few.0, few.1)
+
+pub set_state-requires : goal.set_state-requires
+set_state-requires c =
+    let w : World = the_view c.self.inside in
+    let p : Private = c.args.part in
+    let k : ℕ = c.args.worker in
+    let F : Fits w k p = subst (λ (z : World). Fits z k p) (sym c.self.view_is) c.requires.fits in
+    let at : IsAtEnd w p = subst (λ (z : World). IsAtEnd z p) (sym c.self.view_is) c.requires.ends in
+    let free : refused w (alone_event k p) ≡ None = subst (λ (z : World). refused z (alone_event k p) ≡ None) (sym c.self.view_is) c.requires.free in
+    let I : IsWorld w = c.self.invariant in
+    let no : state_of w.tree (sibling p.task) ≡ Some Ended → ⊥ = λ e. c.requires.alone (subst (λ (z : World). state_of z.tree (sibling p.task) ≡ Some Ended) c.self.view_is e) in
+    has_node w k p I F at free no
+
+pub set-requires-2 : goal.set-requires-2
+set-requires-2 c =
+    let w : World = the_view c.self.inside in
+    let p : Private = c.args.part in
+    let k : ℕ = c.args.worker in
+    let F : Fits w k p = subst (λ (z : World). Fits z k p) (sym c.self.view_is) c.requires.fits in
+    let at : IsAtEnd w p = subst (λ (z : World). IsAtEnd z p) (sym c.self.view_is) c.requires.ends in
+    let free : refused w (alone_event k p) ≡ None = subst (λ (z : World). refused z (alone_event k p) ≡ None) (sym c.self.view_is) c.requires.free in
+    let I : IsWorld w = c.self.invariant in
+    let no : state_of w.tree (sibling p.task) ≡ Some Ended → ⊥ = λ e. c.requires.alone (subst (λ (z : World). state_of z.tree (sibling p.task) ≡ Some Ended) c.self.view_is e) in
+    has_home w k p I F at free no
+
+pub invariant_of-self : goal.invariant_of-self
+invariant_of-self c =
+    let w : World = the_view c.self.inside in
+    let p : Private = c.args.part in
+    let k : ℕ = c.args.worker in
+    let F : Fits w k p = subst (λ (z : World). Fits z k p) (sym c.self.view_is) c.requires.fits in
+    let at : IsAtEnd w p = subst (λ (z : World). IsAtEnd z p) (sym c.self.view_is) c.requires.ends in
+    let free : refused w (alone_event k p) ≡ None = subst (λ (z : World). refused z (alone_event k p) ≡ None) (sym c.self.view_is) c.requires.free in
+    let I : IsWorld w = c.self.invariant in
+    let no : state_of w.tree (sibling p.task) ≡ Some Ended → ⊥ = λ e. c.requires.alone (subst (λ (z : World). state_of z.tree (sibling p.task) ≡ Some Ended) c.self.view_is e) in
+    let v : World = record w { steps = w.steps + (p.fresh + 1) } in
+    subst IsWorld (sym (four_changed v (with_state w.tree p.task Ended) _ (slice_set w.homes p.task (Some (ended_rest p))) _ (slice_set w.hands k None) _ (record { items = _; room = w.journal.room - 1 }) _
+    c.set_state.ensures (c.set-2.ensures ∙ ap (λ (r : Rest). slice_set w.homes p.task (Some r)) c.ended.ensures) c.set.ensures (journal_by w.journal _ _ (alone_event k p) c.new.ensures c.push_reserved.ensures)))
+    (alone_world w k p I F at free no (record { items = []; room = w.journal.room - 1 }))
+
+pub returns : goal.returns
+returns c =
+    let w : World = the_view c.self.inside in
+    let p : Private = c.args.part in
+    let k : ℕ = c.args.worker in
+    let F : Fits w k p = subst (λ (z : World). Fits z k p) (sym c.self.view_is) c.requires.fits in
+    let at : IsAtEnd w p = subst (λ (z : World). IsAtEnd z p) (sym c.self.view_is) c.requires.ends in
+    let free : refused w (alone_event k p) ≡ None = subst (λ (z : World). refused z (alone_event k p) ≡ None) (sym c.self.view_is) c.requires.free in
+    let I : IsWorld w = c.self.invariant in
+    let no : state_of w.tree (sibling p.task) ≡ Some Ended → ⊥ = λ e. c.requires.alone (subst (λ (z : World). state_of z.tree (sibling p.task) ≡ Some Ended) c.self.view_is e) in
+    let v : World = record w { steps = w.steps + (p.fresh + 1) } in
+    subst (λ (z : World). EndsChild z (record v { tree = c.set_state.new.self; homes = c.set-2.new.self; hands = c.set.new.self; journal = c.push_reserved.new.self }) k p None) c.self.view_is
+    (subst (λ (z : World). EndsChild w z k p None) (sym (four_changed v (with_state w.tree p.task Ended) _ (slice_set w.homes p.task (Some (ended_rest p))) _ (slice_set w.hands k None) _ (record { items = _; room = w.journal.room - 1 }) _
+    c.set_state.ensures (c.set-2.ensures ∙ ap (λ (r : Rest). slice_set w.homes p.task (Some r)) c.ended.ensures) c.set.ensures (journal_by w.journal _ _ (alone_event k p) c.new.ensures c.push_reserved.ensures)))
+    (alone_ends w k p I F at free no (record { items = []; room = w.journal.room - 1 })))

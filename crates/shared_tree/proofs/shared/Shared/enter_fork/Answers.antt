@@ -1,0 +1,134 @@
+use Rattle.std.proofs.Common.{◌≡◌, ℕ, ◌+◌, ◌-◌, ◌<◌, arith, None, List, [], ◌∷◌, length, length-append, slice_set, refl, ap, sym, subst, ◌∙◌}
+use Rattle.listed.specs.Space.{Space}
+use Rattle.run_trace.specs.Entry.{Event}
+use Rattle.heap_tree.specs.Node.{depth_of, forked}
+use Rattle.fork_join.specs.declared.forks.Child.{Child}
+use Rattle.fork_join.specs.Forked.{new_child}
+use Rattle.write_barrier.specs.declared.sets.SetOf.{SetOf}
+use Rattle.task_machine.specs.declared.part.Private.{Private}
+use Rattle.shared_tree.specs.Stands.{IsWorld}
+use Rattle.shared_tree.specs.World.{World}
+use Rattle.shared_tree.specs.Fits.{Fits}
+use Rattle.shared_tree.specs.Alone.{alone_event}
+use Rattle.shared_tree.specs.Forks.{ForksOn, ForksTo, HomesFork, IsAtFork, SetsFork}
+use Rattle.shared_tree.specs.Entered.{refused}
+use Rattle.shared_tree.specs.contracts.shared.Shared.{the_view}
+use Rattle.shared_tree.proofs.AloneEntries.{alone_small, next_small}
+use Rattle.shared_tree.proofs.Entered.{four_changed, journal_by}
+use Rattle.shared_tree.proofs.ForkEntries.{alone_forks, alone_world, homes_fork_by, own_home, own_set}
+use Rattle.shared_tree.proofs.ForkSteps.{few_tasks, fork_shared, on, tree_out}
+use Rattle.shared_tree.proofs.shared.Shared.enter_fork.Goals as goal
+
+pub grow-grown-requires-clause-out : goal.grow-grown-requires-clause-out
+grow-grown-requires-clause-out c =
+    let w : World = the_view c.self.inside in
+    let p : Private = c.args.part in
+    let k : ℕ = c.args.worker in
+    let F : Fits w k p = subst (λ (z : World). Fits z k p) (sym c.self.view_is) c.requires.fits in
+    let at : IsAtFork w p = subst (λ (z : World). IsAtFork z p) (sym c.self.view_is) c.requires.forks in
+    let free : refused w (alone_event k p) ≡ None = subst (λ (z : World). refused z (alone_event k p) ≡ None) (sym c.self.view_is) c.requires.free in
+    tree_out w c.self.invariant (on w k p c.self.invariant F at free) k p F
+
+pub grow-grown-requires-clause-few : goal.grow-grown-requires-clause-few
+grow-grown-requires-clause-few c =
+    let w : World = the_view c.self.inside in
+    let p : Private = c.args.part in
+    let k : ℕ = c.args.worker in
+    let F : Fits w k p = subst (λ (z : World). Fits z k p) (sym c.self.view_is) c.requires.fits in
+    let at : IsAtFork w p = subst (λ (z : World). IsAtFork z p) (sym c.self.view_is) c.requires.forks in
+    let free : refused w (alone_event k p) ≡ None = subst (λ (z : World). refused z (alone_event k p) ≡ None) (sym c.self.view_is) c.requires.free in
+    few_tasks w k p c.self.invariant F at free
+
+pub overflow_add-self-2 : goal.overflow_add-self-2
+overflow_add-self-2 c =
+    let w : World = the_view c.self.inside in
+    let p : Private = c.args.part in
+    let k : ℕ = c.args.worker in
+    let F : Fits w k p = subst (λ (z : World). Fits z k p) (sym c.self.view_is) c.requires.fits in
+    let at : IsAtFork w p = subst (λ (z : World). IsAtFork z p) (sym c.self.view_is) c.requires.forks in
+    let free : refused w (alone_event k p) ≡ None = subst (λ (z : World). refused z (alone_event k p) ≡ None) (sym c.self.view_is) c.requires.free in
+    let few = alone_small w k p c.self.invariant F (fork_shared w p at) free in
+    omega (arith, few.0, few.1)
+
+pub fork_sets-requires-clause-made : goal.fork_sets-requires-clause-made
+fork_sets-requires-clause-made c =
+    let w : World = the_view c.self.inside in
+    let p : Private = c.args.part in
+    let k : ℕ = c.args.worker in
+    let F : Fits w k p = subst (λ (z : World). Fits z k p) (sym c.self.view_is) c.requires.fits in
+    let at : IsAtFork w p = subst (λ (z : World). IsAtFork z p) (sym c.self.view_is) c.requires.forks in
+    let free : refused w (alone_event k p) ≡ None = subst (λ (z : World). refused z (alone_event k p) ≡ None) (sym c.self.view_is) c.requires.free in
+    let B : ForksTo w p c.args.left c.args.right c.args.line = subst (λ (z : World). ForksTo z p c.args.left c.args.right c.args.line) (sym c.self.view_is) c.requires.by in
+    let low : depth_of w.tree p.task < 1000 = subst (λ (z : World). depth_of z.tree p.task < 1000) (sym c.self.view_is) c.requires.shallow in
+    let I : IsWorld w = c.self.invariant in
+    subst (λ (xs : List SetOf). p.task < length xs) (sym c.in-Ok.ensures.sets) (own_set w k p I F at free c.args.left c.args.right c.args.line B low)
+
+pub put_homes-requires-clause-made : goal.put_homes-requires-clause-made
+put_homes-requires-clause-made c =
+    let w : World = the_view c.self.inside in
+    let p : Private = c.args.part in
+    let k : ℕ = c.args.worker in
+    let F : Fits w k p = subst (λ (z : World). Fits z k p) (sym c.self.view_is) c.requires.fits in
+    let at : IsAtFork w p = subst (λ (z : World). IsAtFork z p) (sym c.self.view_is) c.requires.forks in
+    let free : refused w (alone_event k p) ≡ None = subst (λ (z : World). refused z (alone_event k p) ≡ None) (sym c.self.view_is) c.requires.free in
+    let B : ForksTo w p c.args.left c.args.right c.args.line = subst (λ (z : World). ForksTo z p c.args.left c.args.right c.args.line) (sym c.self.view_is) c.requires.by in
+    let low : depth_of w.tree p.task < 1000 = subst (λ (z : World). depth_of z.tree p.task < 1000) (sym c.self.view_is) c.requires.shallow in
+    let I : IsWorld w = c.self.invariant in
+    let made : p.task < length w.homes = own_home w k p I F at free c.args.left c.args.right c.args.line B low in
+    subst (λ xs. p.task < length xs) (sym c.in-Ok.ensures.homes) (let e = length-append w.homes (None ∷ (None ∷ [])) in omega (arith, made, e))
+
+pub put_homes-requires-clause-next : goal.put_homes-requires-clause-next
+put_homes-requires-clause-next c =
+    let w : World = the_view c.self.inside in
+    let p : Private = c.args.part in
+    let k : ℕ = c.args.worker in
+    let F : Fits w k p = subst (λ (z : World). Fits z k p) (sym c.self.view_is) c.requires.fits in
+    let at : IsAtFork w p = subst (λ (z : World). IsAtFork z p) (sym c.self.view_is) c.requires.forks in
+    let free : refused w (alone_event k p) ≡ None = subst (λ (z : World). refused z (alone_event k p) ≡ None) (sym c.self.view_is) c.requires.free in
+    next_small w k p c.self.invariant F (fork_shared w p at) free
+
+pub invariant_of-self-2 : goal.invariant_of-self-2
+invariant_of-self-2 c =
+    let w : World = the_view c.self.inside in
+    let p : Private = c.args.part in
+    let k : ℕ = c.args.worker in
+    let F : Fits w k p = subst (λ (z : World). Fits z k p) (sym c.self.view_is) c.requires.fits in
+    let at : IsAtFork w p = subst (λ (z : World). IsAtFork z p) (sym c.self.view_is) c.requires.forks in
+    let free : refused w (alone_event k p) ≡ None = subst (λ (z : World). refused z (alone_event k p) ≡ None) (sym c.self.view_is) c.requires.free in
+    let B : ForksTo w p c.args.left c.args.right c.args.line = subst (λ (z : World). ForksTo z p c.args.left c.args.right c.args.line) (sym c.self.view_is) c.requires.by in
+    let low : depth_of w.tree p.task < 1000 = subst (λ (z : World). depth_of z.tree p.task < 1000) (sym c.self.view_is) c.requires.shallow in
+    let I : IsWorld w = c.self.invariant in
+    let made : p.task < length w.homes = own_home w k p I F at free c.args.left c.args.right c.args.line B low in
+    let first : c.in-Ok.first ≡ new_child (length w.homes) p.frames c.args.left c.in-Ok.first.heap.slots c.in-Ok.first.heap.spare = c.in-Ok.ensures.left_child ∙ ap (λ n. new_child n p.frames c.args.left c.in-Ok.first.heap.slots c.in-Ok.first.heap.spare) (sym I.made) in
+    let second : c.in-Ok.second ≡ new_child (length w.homes + 1) p.frames c.args.right c.in-Ok.second.heap.slots c.in-Ok.second.heap.spare = c.in-Ok.ensures.right_child ∙ ap (λ n. new_child (n + 1) p.frames c.args.right c.in-Ok.second.heap.slots c.in-Ok.second.heap.spare) (sym I.made) in
+    let H : HomesFork w.homes c.put_homes.new.homes p c.args.left c.args.right = homes_fork_by w.homes c.grow-grown.new.homes c.put_homes.new.homes p c.args.left c.args.right c.in-Ok.first c.in-Ok.second made c.in-Ok.ensures.homes first second c.put_homes.ensures in
+    let N : SetsFork w.sets c.fork_sets.new.sets.items p.task = subst (λ (xs : List SetOf). SetsFork xs c.fork_sets.new.sets.items p.task) c.in-Ok.ensures.sets c.fork_sets.ensures in
+    let j : Space Event = record { items = []; room = w.journal.room - 1 } in
+    let v : World = record w { steps = w.steps + (p.fresh + 1); sets = c.fork_sets.new.sets.items } in
+    subst IsWorld (sym (four_changed v (forked w.tree p.task) _ c.put_homes.new.homes c.put_homes.new.homes (slice_set w.hands k None) _ (record { items = _; room = w.journal.room - 1 }) _
+    c.in-Ok.ensures.tree refl c.set.ensures (journal_by w.journal _ _ (alone_event k p) c.new.ensures c.push_reserved.ensures)))
+    (alone_world w k p I F at free c.args.left c.args.right c.args.line B low c.put_homes.new.homes c.fork_sets.new.sets.items H N j)
+
+pub returns-clause-answered : goal.returns-clause-answered
+returns-clause-answered c =
+    let w : World = the_view c.self.inside in
+    let p : Private = c.args.part in
+    let k : ℕ = c.args.worker in
+    let F : Fits w k p = subst (λ (z : World). Fits z k p) (sym c.self.view_is) c.requires.fits in
+    let at : IsAtFork w p = subst (λ (z : World). IsAtFork z p) (sym c.self.view_is) c.requires.forks in
+    let free : refused w (alone_event k p) ≡ None = subst (λ (z : World). refused z (alone_event k p) ≡ None) (sym c.self.view_is) c.requires.free in
+    let B : ForksTo w p c.args.left c.args.right c.args.line = subst (λ (z : World). ForksTo z p c.args.left c.args.right c.args.line) (sym c.self.view_is) c.requires.by in
+    let low : depth_of w.tree p.task < 1000 = subst (λ (z : World). depth_of z.tree p.task < 1000) (sym c.self.view_is) c.requires.shallow in
+    let I : IsWorld w = c.self.invariant in
+    let made : p.task < length w.homes = own_home w k p I F at free c.args.left c.args.right c.args.line B low in
+    let first : c.in-Ok.first ≡ new_child (length w.homes) p.frames c.args.left c.in-Ok.first.heap.slots c.in-Ok.first.heap.spare = c.in-Ok.ensures.left_child ∙ ap (λ n. new_child n p.frames c.args.left c.in-Ok.first.heap.slots c.in-Ok.first.heap.spare) (sym I.made) in
+    let second : c.in-Ok.second ≡ new_child (length w.homes + 1) p.frames c.args.right c.in-Ok.second.heap.slots c.in-Ok.second.heap.spare = c.in-Ok.ensures.right_child ∙ ap (λ n. new_child (n + 1) p.frames c.args.right c.in-Ok.second.heap.slots c.in-Ok.second.heap.spare) (sym I.made) in
+    let H : HomesFork w.homes c.put_homes.new.homes p c.args.left c.args.right = homes_fork_by w.homes c.grow-grown.new.homes c.put_homes.new.homes p c.args.left c.args.right c.in-Ok.first c.in-Ok.second made c.in-Ok.ensures.homes first second c.put_homes.ensures in
+    let N : SetsFork w.sets c.fork_sets.new.sets.items p.task = subst (λ (xs : List SetOf). SetsFork xs c.fork_sets.new.sets.items p.task) c.in-Ok.ensures.sets c.fork_sets.ensures in
+    let j : Space Event = record { items = []; room = w.journal.room - 1 } in
+    let v : World = record w { steps = w.steps + (p.fresh + 1); sets = c.fork_sets.new.sets.items } in
+    subst (λ (z : World). ForksOn z (record v { tree = c.grow-grown.new.tree; homes = c.put_homes.new.homes; hands = c.set.new.self; journal = c.push_reserved.new.self }) k p c.in-Ok.first.task c.in-Ok.second.task) c.self.view_is
+    (subst (λ (z : World). ForksOn w z k p c.in-Ok.first.task c.in-Ok.second.task) (sym (four_changed v (forked w.tree p.task) _ c.put_homes.new.homes c.put_homes.new.homes (slice_set w.hands k None) _ (record { items = _; room = w.journal.room - 1 }) _
+    c.in-Ok.ensures.tree refl c.set.ensures (journal_by w.journal _ _ (alone_event k p) c.new.ensures c.push_reserved.ensures)))
+    (alone_forks w k p I F at free c.args.left c.args.right c.args.line B low c.put_homes.new.homes c.fork_sets.new.sets.items H N j c.in-Ok.first.task c.in-Ok.second.task
+    (ap (λ (z : Child). z.task) c.in-Ok.ensures.left_child) (ap (λ (z : Child). z.task) c.in-Ok.ensures.right_child)))

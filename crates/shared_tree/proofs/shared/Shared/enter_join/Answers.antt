@@ -1,0 +1,460 @@
+use Rattle.std.proofs.Common.{◌≡◌, ℕ, ◌+◌, ◌-◌, arith, Option, Some, None, List, [], length, length-set, slice_set, refl, ap, sym, subst, ◌∙◌}
+use Rattle.listed.specs.Space.{Space}
+use Rattle.run_trace.specs.Entry.{Event}
+use Rattle.chunk_pool.specs.Chunks.{Chunks}
+use Rattle.heap_tree.specs.declared.state.State.TheVariants.{Ended}
+use Rattle.heap_tree.specs.Node.{Node, parent_of, state_of, with_state}
+use Rattle.heap_tree.specs.Pairs.{sibling}
+use Rattle.remembered_set.specs.Sources.{Notes}
+use Rattle.fork_join.specs.declared.sides.EndedChild.{EndedChild}
+use Rattle.fork_join.specs.Joined.{joined_nodes}
+use Rattle.write_barrier.specs.declared.sets.SetOf.{SetOf}
+use Rattle.task_machine.specs.declared.part.Private.{Private}
+use Rattle.shared_tree.specs.declared.rest.Rest.{Rest}
+use Rattle.shared_tree.specs.World.{World}
+use Rattle.shared_tree.specs.Stands.{IsWorld}
+use Rattle.shared_tree.specs.Fits.{Fits}
+use Rattle.shared_tree.specs.Alone.{alone_event}
+use Rattle.shared_tree.specs.ChildEnds.{EndsChild, IsAtEnd}
+use Rattle.shared_tree.specs.Entered.{refused}
+use Rattle.shared_tree.specs.Joins.{CanJoin, HasPlaces, parent_side}
+use Rattle.shared_tree.specs.contracts.shared.Shared.{the_view}
+use Rattle.shared_tree.proofs.AloneEntries.{alone_small}
+use Rattle.shared_tree.proofs.ChildSteps.{end_shared, few_tasks, own_made, parent_low}
+use Rattle.shared_tree.proofs.Entered.{four_changed, journal_by}
+use Rattle.shared_tree.proofs.JoinEntries.{other_made, other_set, own_set, parent_is, parent_made, parent_set}
+use Rattle.shared_tree.proofs.JoinFacts.{Put, Taken, both_made, can_join}
+use Rattle.shared_tree.proofs.shared.Shared.enter_join.Goals as goal
+
+pub sibling_of-other-requires-clause-child : goal.sibling_of-other-requires-clause-child
+sibling_of-other-requires-clause-child c =
+    let w : World = the_view c.self.inside in
+    let p : Private = c.args.part in
+    let k : ℕ = c.args.worker in
+    let I : IsWorld w = c.self.invariant in
+    let F : Fits w k p = subst (λ (z : World). Fits z k p) (sym c.self.view_is) c.requires.fits in
+    let at : IsAtEnd w p = subst (λ (z : World). IsAtEnd z p) (sym c.self.view_is) c.requires.ends in
+    let free : refused w (alone_event k p) ≡ None = subst (λ (z : World). refused z (alone_event k p) ≡ None) (sym c.self.view_is) c.requires.free in
+    let ended : state_of w.tree (sibling p.task) ≡ Some Ended = subst (λ (z : World). state_of z.tree (sibling p.task) ≡ Some Ended) (sym c.self.view_is) c.requires.ended in
+    let par : parent_of w.tree p.task ≡ Some c.args.parent = subst (λ (z : World). parent_of z.tree p.task ≡ Some c.args.parent) (sym c.self.view_is) c.requires.parent in
+    let low = parent_low w k p I F at free in
+    omega (arith, low)
+
+pub sibling_of-other-requires-clause-few : goal.sibling_of-other-requires-clause-few
+sibling_of-other-requires-clause-few c =
+    let w : World = the_view c.self.inside in
+    let p : Private = c.args.part in
+    let k : ℕ = c.args.worker in
+    let I : IsWorld w = c.self.invariant in
+    let F : Fits w k p = subst (λ (z : World). Fits z k p) (sym c.self.view_is) c.requires.fits in
+    let at : IsAtEnd w p = subst (λ (z : World). IsAtEnd z p) (sym c.self.view_is) c.requires.ends in
+    let free : refused w (alone_event k p) ≡ None = subst (λ (z : World). refused z (alone_event k p) ≡ None) (sym c.self.view_is) c.requires.free in
+    let ended : state_of w.tree (sibling p.task) ≡ Some Ended = subst (λ (z : World). state_of z.tree (sibling p.task) ≡ Some Ended) (sym c.self.view_is) c.requires.ended in
+    let par : parent_of w.tree p.task ≡ Some c.args.parent = subst (λ (z : World). parent_of z.tree p.task ≡ Some c.args.parent) (sym c.self.view_is) c.requires.parent in
+    let few = few_tasks w k p I F at free in
+    let made = own_made w k p I F at free in
+    omega (arith, few, made)
+
+pub overflow_add-self-2 : goal.overflow_add-self-2
+overflow_add-self-2 c =
+    let w : World = the_view c.self.inside in
+    let p : Private = c.args.part in
+    let k : ℕ = c.args.worker in
+    let I : IsWorld w = c.self.invariant in
+    let F : Fits w k p = subst (λ (z : World). Fits z k p) (sym c.self.view_is) c.requires.fits in
+    let at : IsAtEnd w p = subst (λ (z : World). IsAtEnd z p) (sym c.self.view_is) c.requires.ends in
+    let free : refused w (alone_event k p) ≡ None = subst (λ (z : World). refused z (alone_event k p) ≡ None) (sym c.self.view_is) c.requires.free in
+    let ended : state_of w.tree (sibling p.task) ≡ Some Ended = subst (λ (z : World). state_of z.tree (sibling p.task) ≡ Some Ended) (sym c.self.view_is) c.requires.ended in
+    let par : parent_of w.tree p.task ≡ Some c.args.parent = subst (λ (z : World). parent_of z.tree p.task ≡ Some c.args.parent) (sym c.self.view_is) c.requires.parent in
+    let few = alone_small w k p I F (end_shared w p at) free in
+    omega (arith, few.0, few.1)
+
+pub set_state-requires : goal.set_state-requires
+set_state-requires c =
+    let w : World = the_view c.self.inside in
+    let p : Private = c.args.part in
+    let k : ℕ = c.args.worker in
+    let I : IsWorld w = c.self.invariant in
+    let F : Fits w k p = subst (λ (z : World). Fits z k p) (sym c.self.view_is) c.requires.fits in
+    let at : IsAtEnd w p = subst (λ (z : World). IsAtEnd z p) (sym c.self.view_is) c.requires.ends in
+    let free : refused w (alone_event k p) ≡ None = subst (λ (z : World). refused z (alone_event k p) ≡ None) (sym c.self.view_is) c.requires.free in
+    let ended : state_of w.tree (sibling p.task) ≡ Some Ended = subst (λ (z : World). state_of z.tree (sibling p.task) ≡ Some Ended) (sym c.self.view_is) c.requires.ended in
+    let par : parent_of w.tree p.task ≡ Some c.args.parent = subst (λ (z : World). parent_of z.tree p.task ≡ Some c.args.parent) (sym c.self.view_is) c.requires.parent in
+    own_made w k p I F at free
+
+pub take_remembered-own_noted-requires : goal.take_remembered-own_noted-requires
+take_remembered-own_noted-requires c =
+    let w : World = the_view c.self.inside in
+    let p : Private = c.args.part in
+    let k : ℕ = c.args.worker in
+    let I : IsWorld w = c.self.invariant in
+    let F : Fits w k p = subst (λ (z : World). Fits z k p) (sym c.self.view_is) c.requires.fits in
+    let at : IsAtEnd w p = subst (λ (z : World). IsAtEnd z p) (sym c.self.view_is) c.requires.ends in
+    let free : refused w (alone_event k p) ≡ None = subst (λ (z : World). refused z (alone_event k p) ≡ None) (sym c.self.view_is) c.requires.free in
+    let ended : state_of w.tree (sibling p.task) ≡ Some Ended = subst (λ (z : World). state_of z.tree (sibling p.task) ≡ Some Ended) (sym c.self.view_is) c.requires.ended in
+    let par : parent_of w.tree p.task ≡ Some c.args.parent = subst (λ (z : World). parent_of z.tree p.task ≡ Some c.args.parent) (sym c.self.view_is) c.requires.parent in
+    record { made = own_set w k p I F at free ended }
+
+pub take_remembered-other_noted-requires : goal.take_remembered-other_noted-requires
+take_remembered-other_noted-requires c =
+    let w : World = the_view c.self.inside in
+    let p : Private = c.args.part in
+    let k : ℕ = c.args.worker in
+    let I : IsWorld w = c.self.invariant in
+    let F : Fits w k p = subst (λ (z : World). Fits z k p) (sym c.self.view_is) c.requires.fits in
+    let at : IsAtEnd w p = subst (λ (z : World). IsAtEnd z p) (sym c.self.view_is) c.requires.ends in
+    let free : refused w (alone_event k p) ≡ None = subst (λ (z : World). refused z (alone_event k p) ≡ None) (sym c.self.view_is) c.requires.free in
+    let ended : state_of w.tree (sibling p.task) ≡ Some Ended = subst (λ (z : World). state_of z.tree (sibling p.task) ≡ Some Ended) (sym c.self.view_is) c.requires.ended in
+    let par : parent_of w.tree p.task ≡ Some c.args.parent = subst (λ (z : World). parent_of z.tree p.task ≡ Some c.args.parent) (sym c.self.view_is) c.requires.parent in
+    let made = other_set w k p I F at free ended in
+    let o = c.sibling_of-other.ensures in
+    let n = c.take_remembered-own_noted.ensures.many in
+    record { made = omega (arith, made, o, n) }
+
+pub take_remembered-noted-requires : goal.take_remembered-noted-requires
+take_remembered-noted-requires c =
+    let w : World = the_view c.self.inside in
+    let p : Private = c.args.part in
+    let k : ℕ = c.args.worker in
+    let I : IsWorld w = c.self.invariant in
+    let F : Fits w k p = subst (λ (z : World). Fits z k p) (sym c.self.view_is) c.requires.fits in
+    let at : IsAtEnd w p = subst (λ (z : World). IsAtEnd z p) (sym c.self.view_is) c.requires.ends in
+    let free : refused w (alone_event k p) ≡ None = subst (λ (z : World). refused z (alone_event k p) ≡ None) (sym c.self.view_is) c.requires.free in
+    let ended : state_of w.tree (sibling p.task) ≡ Some Ended = subst (λ (z : World). state_of z.tree (sibling p.task) ≡ Some Ended) (sym c.self.view_is) c.requires.ended in
+    let par : parent_of w.tree p.task ≡ Some c.args.parent = subst (λ (z : World). parent_of z.tree p.task ≡ Some c.args.parent) (sym c.self.view_is) c.requires.parent in
+    let e = parent_is w k p I F at free ended c.args.parent par in
+    let made = parent_set w k p I F at free ended in
+    let n = c.take_remembered-own_noted.ensures.many in
+    let m = c.take_remembered-other_noted.ensures.many in
+    record { made = omega (arith, made, e, n, m) }
+
+pub leave_own-own-requires : goal.leave_own-own-requires
+leave_own-own-requires c =
+    let w : World = the_view c.self.inside in
+    let p : Private = c.args.part in
+    let k : ℕ = c.args.worker in
+    let I : IsWorld w = c.self.invariant in
+    let F : Fits w k p = subst (λ (z : World). Fits z k p) (sym c.self.view_is) c.requires.fits in
+    let at : IsAtEnd w p = subst (λ (z : World). IsAtEnd z p) (sym c.self.view_is) c.requires.ends in
+    let free : refused w (alone_event k p) ≡ None = subst (λ (z : World). refused z (alone_event k p) ≡ None) (sym c.self.view_is) c.requires.free in
+    let ended : state_of w.tree (sibling p.task) ≡ Some Ended = subst (λ (z : World). state_of z.tree (sibling p.task) ≡ Some Ended) (sym c.self.view_is) c.requires.ended in
+    let par : parent_of w.tree p.task ≡ Some c.args.parent = subst (λ (z : World). parent_of z.tree p.task ≡ Some c.args.parent) (sym c.self.view_is) c.requires.parent in
+    let made = own_made w k p I F at free in
+    let n = I.made in
+    record { made = omega (arith, made, n) }
+
+pub leave_other-beside-requires : goal.leave_other-beside-requires
+leave_other-beside-requires c =
+    let w : World = the_view c.self.inside in
+    let p : Private = c.args.part in
+    let k : ℕ = c.args.worker in
+    let I : IsWorld w = c.self.invariant in
+    let F : Fits w k p = subst (λ (z : World). Fits z k p) (sym c.self.view_is) c.requires.fits in
+    let at : IsAtEnd w p = subst (λ (z : World). IsAtEnd z p) (sym c.self.view_is) c.requires.ends in
+    let free : refused w (alone_event k p) ≡ None = subst (λ (z : World). refused z (alone_event k p) ≡ None) (sym c.self.view_is) c.requires.free in
+    let ended : state_of w.tree (sibling p.task) ≡ Some Ended = subst (λ (z : World). state_of z.tree (sibling p.task) ≡ Some Ended) (sym c.self.view_is) c.requires.ended in
+    let par : parent_of w.tree p.task ≡ Some c.args.parent = subst (λ (z : World). parent_of z.tree p.task ≡ Some c.args.parent) (sym c.self.view_is) c.requires.parent in
+    let made = other_made w k p I F at free ended in
+    let o = c.sibling_of-other.ensures in
+    let n = I.made in
+    let m = c.leave_own-own.ensures.many in
+    record { made = omega (arith, made, o, n, m) }
+
+pub take_rest-above-requires : goal.take_rest-above-requires
+take_rest-above-requires c =
+    let w : World = the_view c.self.inside in
+    let p : Private = c.args.part in
+    let k : ℕ = c.args.worker in
+    let I : IsWorld w = c.self.invariant in
+    let F : Fits w k p = subst (λ (z : World). Fits z k p) (sym c.self.view_is) c.requires.fits in
+    let at : IsAtEnd w p = subst (λ (z : World). IsAtEnd z p) (sym c.self.view_is) c.requires.ends in
+    let free : refused w (alone_event k p) ≡ None = subst (λ (z : World). refused z (alone_event k p) ≡ None) (sym c.self.view_is) c.requires.free in
+    let ended : state_of w.tree (sibling p.task) ≡ Some Ended = subst (λ (z : World). state_of z.tree (sibling p.task) ≡ Some Ended) (sym c.self.view_is) c.requires.ended in
+    let par : parent_of w.tree p.task ≡ Some c.args.parent = subst (λ (z : World). parent_of z.tree p.task ≡ Some c.args.parent) (sym c.self.view_is) c.requires.parent in
+    let e = parent_is w k p I F at free ended c.args.parent par in
+    let made = parent_made w k p I F at free ended in
+    let n = I.made in
+    let m = c.leave_own-own.ensures.many in
+    let i = c.leave_other-beside.ensures.many in
+    record { made = omega (arith, made, e, n, m, i) }
+
+pub join_children-rest-requires-clause-work : goal.join_children-rest-requires-clause-work
+join_children-rest-requires-clause-work c =
+    let w : World = the_view c.self.inside in
+    let p : Private = c.args.part in
+    let k : ℕ = c.args.worker in
+    let I : IsWorld w = c.self.invariant in
+    let F : Fits w k p = subst (λ (z : World). Fits z k p) (sym c.self.view_is) c.requires.fits in
+    let at : IsAtEnd w p = subst (λ (z : World). IsAtEnd z p) (sym c.self.view_is) c.requires.ends in
+    let free : refused w (alone_event k p) ≡ None = subst (λ (z : World). refused z (alone_event k p) ≡ None) (sym c.self.view_is) c.requires.free in
+    let ended : state_of w.tree (sibling p.task) ≡ Some Ended = subst (λ (z : World). state_of z.tree (sibling p.task) ≡ Some Ended) (sym c.self.view_is) c.requires.ended in
+    let par : parent_of w.tree p.task ≡ Some c.args.parent = subst (λ (z : World). parent_of z.tree p.task ≡ Some c.args.parent) (sym c.self.view_is) c.requires.parent in
+    let e = parent_is w k p I F at free ended c.args.parent par in
+    let places : HasPlaces w p c.args.parent = subst (λ (z : World). HasPlaces z p c.args.parent) (sym c.self.view_is) c.requires.places in
+    let o : c.sibling_of-other.result ≡ sibling p.task = c.sibling_of-other.ensures in
+    let x1 : List SetOf = c.take_remembered-own_noted.new.sets.items in
+    let x2 : List SetOf = c.take_remembered-other_noted.new.sets.items in
+    let x3 : List SetOf = c.take_remembered-noted.new.sets.items in
+    let h1 : List (Option Rest) = c.leave_own-own.new.homes in
+    let h2 : List (Option Rest) = c.leave_other-beside.new.homes in
+    let n1 : Notes = c.take_remembered-own_noted.result in
+    let n2 : Notes = c.take_remembered-other_noted.result in
+    let n3 : Notes = c.take_remembered-noted.result in
+    let above : Rest = c.take_rest-above.result in
+    let left : EndedChild = c.in_order-children.result.0 in
+    let right : EndedChild = c.in_order-children.result.1 in
+    let T : Taken w p c.args.parent c.sibling_of-other.result n1 n2 n3 x1 x2 x3 h1 h2 above c.leave_own-own.result c.leave_other-beside.result left right = record {
+      other_is = o;
+      n1 = c.take_remembered-own_noted.ensures.many;
+      n2 = c.take_remembered-other_noted.ensures.many;
+      n3 = c.take_remembered-noted.ensures.many;
+      own_set = c.take_remembered-own_noted.ensures.whole;
+      other_set = c.take_remembered-other_noted.ensures.whole;
+      parent_set = c.take_remembered-noted.ensures.whole;
+      e1 = c.take_remembered-own_noted.ensures.empty;
+      e2 = c.take_remembered-other_noted.ensures.empty;
+      o1 = c.take_remembered-own_noted.ensures.others;
+      o2 = c.take_remembered-other_noted.ensures.others;
+      o3 = c.take_remembered-noted.ensures.others;
+      own_is = c.leave_own-own.ensures.child;
+      m1 = c.leave_own-own.ensures.many;
+      own_home = c.leave_own-own.ensures.own;
+      i1 = c.leave_own-own.ensures.others;
+      m2 = c.leave_other-beside.ensures.many;
+      other_home = c.leave_other-beside.ensures.child;
+      i2 = c.leave_other-beside.ensures.others;
+      above_is = c.take_rest-above.ensures.rest;
+      left_is = c.in_order-children.ensures.left;
+      right_is = c.in_order-children.ensures.right;
+    } in
+    (can_join w k p I F at free ended c.args.parent c.sibling_of-other.result par o n1 n2 n3 x1 x2 x3 h1 h2 above c.leave_own-own.result c.leave_other-beside.result left right T places).0
+
+pub join_children-rest-requires-clause-can : goal.join_children-rest-requires-clause-can
+join_children-rest-requires-clause-can c =
+    let w : World = the_view c.self.inside in
+    let p : Private = c.args.part in
+    let k : ℕ = c.args.worker in
+    let I : IsWorld w = c.self.invariant in
+    let F : Fits w k p = subst (λ (z : World). Fits z k p) (sym c.self.view_is) c.requires.fits in
+    let at : IsAtEnd w p = subst (λ (z : World). IsAtEnd z p) (sym c.self.view_is) c.requires.ends in
+    let free : refused w (alone_event k p) ≡ None = subst (λ (z : World). refused z (alone_event k p) ≡ None) (sym c.self.view_is) c.requires.free in
+    let ended : state_of w.tree (sibling p.task) ≡ Some Ended = subst (λ (z : World). state_of z.tree (sibling p.task) ≡ Some Ended) (sym c.self.view_is) c.requires.ended in
+    let par : parent_of w.tree p.task ≡ Some c.args.parent = subst (λ (z : World). parent_of z.tree p.task ≡ Some c.args.parent) (sym c.self.view_is) c.requires.parent in
+    let e = parent_is w k p I F at free ended c.args.parent par in
+    let places : HasPlaces w p c.args.parent = subst (λ (z : World). HasPlaces z p c.args.parent) (sym c.self.view_is) c.requires.places in
+    let o : c.sibling_of-other.result ≡ sibling p.task = c.sibling_of-other.ensures in
+    let x1 : List SetOf = c.take_remembered-own_noted.new.sets.items in
+    let x2 : List SetOf = c.take_remembered-other_noted.new.sets.items in
+    let x3 : List SetOf = c.take_remembered-noted.new.sets.items in
+    let h1 : List (Option Rest) = c.leave_own-own.new.homes in
+    let h2 : List (Option Rest) = c.leave_other-beside.new.homes in
+    let n1 : Notes = c.take_remembered-own_noted.result in
+    let n2 : Notes = c.take_remembered-other_noted.result in
+    let n3 : Notes = c.take_remembered-noted.result in
+    let above : Rest = c.take_rest-above.result in
+    let left : EndedChild = c.in_order-children.result.0 in
+    let right : EndedChild = c.in_order-children.result.1 in
+    let T : Taken w p c.args.parent c.sibling_of-other.result n1 n2 n3 x1 x2 x3 h1 h2 above c.leave_own-own.result c.leave_other-beside.result left right = record {
+      other_is = o;
+      n1 = c.take_remembered-own_noted.ensures.many;
+      n2 = c.take_remembered-other_noted.ensures.many;
+      n3 = c.take_remembered-noted.ensures.many;
+      own_set = c.take_remembered-own_noted.ensures.whole;
+      other_set = c.take_remembered-other_noted.ensures.whole;
+      parent_set = c.take_remembered-noted.ensures.whole;
+      e1 = c.take_remembered-own_noted.ensures.empty;
+      e2 = c.take_remembered-other_noted.ensures.empty;
+      o1 = c.take_remembered-own_noted.ensures.others;
+      o2 = c.take_remembered-other_noted.ensures.others;
+      o3 = c.take_remembered-noted.ensures.others;
+      own_is = c.leave_own-own.ensures.child;
+      m1 = c.leave_own-own.ensures.many;
+      own_home = c.leave_own-own.ensures.own;
+      i1 = c.leave_own-own.ensures.others;
+      m2 = c.leave_other-beside.ensures.many;
+      other_home = c.leave_other-beside.ensures.child;
+      i2 = c.leave_other-beside.ensures.others;
+      above_is = c.take_rest-above.ensures.rest;
+      left_is = c.in_order-children.ensures.left;
+      right_is = c.in_order-children.ensures.right;
+    } in
+    subst (λ (ns : List Node). CanJoin ns w.pool (parent_side c.args.parent above n3) left right) (sym c.set_state.ensures)
+    (can_join w k p I F at free ended c.args.parent c.sibling_of-other.result par o n1 n2 n3 x1 x2 x3 h1 h2 above c.leave_own-own.result c.leave_other-beside.result left right T places).1
+
+pub set-requires-2 : goal.set-requires-2
+set-requires-2 c =
+    let w : World = the_view c.self.inside in
+    let p : Private = c.args.part in
+    let k : ℕ = c.args.worker in
+    let I : IsWorld w = c.self.invariant in
+    let F : Fits w k p = subst (λ (z : World). Fits z k p) (sym c.self.view_is) c.requires.fits in
+    let at : IsAtEnd w p = subst (λ (z : World). IsAtEnd z p) (sym c.self.view_is) c.requires.ends in
+    let free : refused w (alone_event k p) ≡ None = subst (λ (z : World). refused z (alone_event k p) ≡ None) (sym c.self.view_is) c.requires.free in
+    let ended : state_of w.tree (sibling p.task) ≡ Some Ended = subst (λ (z : World). state_of z.tree (sibling p.task) ≡ Some Ended) (sym c.self.view_is) c.requires.ended in
+    let par : parent_of w.tree p.task ≡ Some c.args.parent = subst (λ (z : World). parent_of z.tree p.task ≡ Some c.args.parent) (sym c.self.view_is) c.requires.parent in
+    let e = parent_is w k p I F at free ended c.args.parent par in
+    let made = parent_made w k p I F at free ended in
+    let n = I.made in
+    let m = c.leave_own-own.ensures.many in
+    let i = c.leave_other-beside.ensures.many in
+    let l : length c.take_rest-above.new.homes ≡ length c.leave_other-beside.new.homes = ap (λ (hs : List (Option Rest)). length hs) c.take_rest-above.ensures.homes ∙ length-set c.leave_other-beside.new.homes c.args.parent None in
+    omega (arith, made, e, n, m, i, l)
+
+pub put_remembered-requires-clause-made : goal.put_remembered-requires-clause-made
+put_remembered-requires-clause-made c =
+    let w : World = the_view c.self.inside in
+    let p : Private = c.args.part in
+    let k : ℕ = c.args.worker in
+    let I : IsWorld w = c.self.invariant in
+    let F : Fits w k p = subst (λ (z : World). Fits z k p) (sym c.self.view_is) c.requires.fits in
+    let at : IsAtEnd w p = subst (λ (z : World). IsAtEnd z p) (sym c.self.view_is) c.requires.ends in
+    let free : refused w (alone_event k p) ≡ None = subst (λ (z : World). refused z (alone_event k p) ≡ None) (sym c.self.view_is) c.requires.free in
+    let ended : state_of w.tree (sibling p.task) ≡ Some Ended = subst (λ (z : World). state_of z.tree (sibling p.task) ≡ Some Ended) (sym c.self.view_is) c.requires.ended in
+    let par : parent_of w.tree p.task ≡ Some c.args.parent = subst (λ (z : World). parent_of z.tree p.task ≡ Some c.args.parent) (sym c.self.view_is) c.requires.parent in
+    let e = parent_is w k p I F at free ended c.args.parent par in
+    let made = parent_set w k p I F at free ended in
+    let n = c.take_remembered-own_noted.ensures.many in
+    let m = c.take_remembered-other_noted.ensures.many in
+    let i = c.take_remembered-noted.ensures.many in
+    omega (arith, made, e, n, m, i)
+
+pub invariant_of-self : goal.invariant_of-self
+invariant_of-self c =
+    let w : World = the_view c.self.inside in
+    let p : Private = c.args.part in
+    let k : ℕ = c.args.worker in
+    let I : IsWorld w = c.self.invariant in
+    let F : Fits w k p = subst (λ (z : World). Fits z k p) (sym c.self.view_is) c.requires.fits in
+    let at : IsAtEnd w p = subst (λ (z : World). IsAtEnd z p) (sym c.self.view_is) c.requires.ends in
+    let free : refused w (alone_event k p) ≡ None = subst (λ (z : World). refused z (alone_event k p) ≡ None) (sym c.self.view_is) c.requires.free in
+    let ended : state_of w.tree (sibling p.task) ≡ Some Ended = subst (λ (z : World). state_of z.tree (sibling p.task) ≡ Some Ended) (sym c.self.view_is) c.requires.ended in
+    let par : parent_of w.tree p.task ≡ Some c.args.parent = subst (λ (z : World). parent_of z.tree p.task ≡ Some c.args.parent) (sym c.self.view_is) c.requires.parent in
+    let e = parent_is w k p I F at free ended c.args.parent par in
+    let places : HasPlaces w p c.args.parent = subst (λ (z : World). HasPlaces z p c.args.parent) (sym c.self.view_is) c.requires.places in
+    let o : c.sibling_of-other.result ≡ sibling p.task = c.sibling_of-other.ensures in
+    let x1 : List SetOf = c.take_remembered-own_noted.new.sets.items in
+    let x2 : List SetOf = c.take_remembered-other_noted.new.sets.items in
+    let x3 : List SetOf = c.take_remembered-noted.new.sets.items in
+    let h1 : List (Option Rest) = c.leave_own-own.new.homes in
+    let h2 : List (Option Rest) = c.leave_other-beside.new.homes in
+    let n1 : Notes = c.take_remembered-own_noted.result in
+    let n2 : Notes = c.take_remembered-other_noted.result in
+    let n3 : Notes = c.take_remembered-noted.result in
+    let above : Rest = c.take_rest-above.result in
+    let left : EndedChild = c.in_order-children.result.0 in
+    let right : EndedChild = c.in_order-children.result.1 in
+    let T : Taken w p c.args.parent c.sibling_of-other.result n1 n2 n3 x1 x2 x3 h1 h2 above c.leave_own-own.result c.leave_other-beside.result left right = record {
+      other_is = o;
+      n1 = c.take_remembered-own_noted.ensures.many;
+      n2 = c.take_remembered-other_noted.ensures.many;
+      n3 = c.take_remembered-noted.ensures.many;
+      own_set = c.take_remembered-own_noted.ensures.whole;
+      other_set = c.take_remembered-other_noted.ensures.whole;
+      parent_set = c.take_remembered-noted.ensures.whole;
+      e1 = c.take_remembered-own_noted.ensures.empty;
+      e2 = c.take_remembered-other_noted.ensures.empty;
+      o1 = c.take_remembered-own_noted.ensures.others;
+      o2 = c.take_remembered-other_noted.ensures.others;
+      o3 = c.take_remembered-noted.ensures.others;
+      own_is = c.leave_own-own.ensures.child;
+      m1 = c.leave_own-own.ensures.many;
+      own_home = c.leave_own-own.ensures.own;
+      i1 = c.leave_own-own.ensures.others;
+      m2 = c.leave_other-beside.ensures.many;
+      other_home = c.leave_other-beside.ensures.child;
+      i2 = c.leave_other-beside.ensures.others;
+      above_is = c.take_rest-above.ensures.rest;
+      left_is = c.in_order-children.ensures.left;
+      right_is = c.in_order-children.ensures.right;
+    } in
+    let rest : Rest = c.join_children-rest.result.0 in
+    let noted : Notes = c.join_children-rest.result.1 in
+    let pool : Chunks = c.join_children-rest.new.pool in
+    let sets : List SetOf = c.put_remembered.new.sets.items in
+    let homes : List (Option Rest) = c.set-2.new.self in
+    let P : Put w p c.args.parent x3 h2 n3 above left right pool rest noted sets homes = record {
+      pool_is = c.join_children-rest.ensures.pool;
+      side = c.join_children-rest.ensures.side;
+      rest_is = c.join_children-rest.ensures.rest;
+      homes_are = c.set-2.ensures ∙ ap (λ hs. slice_set hs c.args.parent (Some rest)) c.take_rest-above.ensures.homes;
+      many = c.put_remembered.ensures.many;
+      at = c.put_remembered.ensures.at;
+      others = c.put_remembered.ensures.others;
+    } in
+    let j : Space Event = record { items = []; room = w.journal.room - 1 } in
+    let both = both_made w k p I F at free ended c.args.parent c.sibling_of-other.result par o n1 n2 n3 x1 x2 x3 h1 h2 above c.leave_own-own.result c.leave_other-beside.result left right pool rest noted sets homes j T P in
+    let v : World = record w { pool = pool; sets = sets; steps = w.steps + (p.fresh + 1) } in
+    let tree : c.join_children-rest.new.tree ≡ joined_nodes (with_state w.tree p.task Ended) c.args.parent left.side.task right.side.task = c.join_children-rest.ensures.tree ∙ ap (λ ns. joined_nodes ns c.args.parent left.side.task right.side.task) c.set_state.ensures in
+    let same = four_changed v (joined_nodes (with_state w.tree p.task Ended) c.args.parent left.side.task right.side.task) c.join_children-rest.new.tree homes homes (slice_set w.hands k None) c.set.new.self (record { items = _; room = w.journal.room - 1 }) c.push_reserved.new.self tree refl c.set.ensures (journal_by w.journal _ _ (alone_event k p) c.new.ensures c.push_reserved.ensures) in
+    subst IsWorld (sym same) both.0
+
+pub returns : goal.returns
+returns c =
+    let w : World = the_view c.self.inside in
+    let p : Private = c.args.part in
+    let k : ℕ = c.args.worker in
+    let I : IsWorld w = c.self.invariant in
+    let F : Fits w k p = subst (λ (z : World). Fits z k p) (sym c.self.view_is) c.requires.fits in
+    let at : IsAtEnd w p = subst (λ (z : World). IsAtEnd z p) (sym c.self.view_is) c.requires.ends in
+    let free : refused w (alone_event k p) ≡ None = subst (λ (z : World). refused z (alone_event k p) ≡ None) (sym c.self.view_is) c.requires.free in
+    let ended : state_of w.tree (sibling p.task) ≡ Some Ended = subst (λ (z : World). state_of z.tree (sibling p.task) ≡ Some Ended) (sym c.self.view_is) c.requires.ended in
+    let par : parent_of w.tree p.task ≡ Some c.args.parent = subst (λ (z : World). parent_of z.tree p.task ≡ Some c.args.parent) (sym c.self.view_is) c.requires.parent in
+    let e = parent_is w k p I F at free ended c.args.parent par in
+    let places : HasPlaces w p c.args.parent = subst (λ (z : World). HasPlaces z p c.args.parent) (sym c.self.view_is) c.requires.places in
+    let o : c.sibling_of-other.result ≡ sibling p.task = c.sibling_of-other.ensures in
+    let x1 : List SetOf = c.take_remembered-own_noted.new.sets.items in
+    let x2 : List SetOf = c.take_remembered-other_noted.new.sets.items in
+    let x3 : List SetOf = c.take_remembered-noted.new.sets.items in
+    let h1 : List (Option Rest) = c.leave_own-own.new.homes in
+    let h2 : List (Option Rest) = c.leave_other-beside.new.homes in
+    let n1 : Notes = c.take_remembered-own_noted.result in
+    let n2 : Notes = c.take_remembered-other_noted.result in
+    let n3 : Notes = c.take_remembered-noted.result in
+    let above : Rest = c.take_rest-above.result in
+    let left : EndedChild = c.in_order-children.result.0 in
+    let right : EndedChild = c.in_order-children.result.1 in
+    let T : Taken w p c.args.parent c.sibling_of-other.result n1 n2 n3 x1 x2 x3 h1 h2 above c.leave_own-own.result c.leave_other-beside.result left right = record {
+      other_is = o;
+      n1 = c.take_remembered-own_noted.ensures.many;
+      n2 = c.take_remembered-other_noted.ensures.many;
+      n3 = c.take_remembered-noted.ensures.many;
+      own_set = c.take_remembered-own_noted.ensures.whole;
+      other_set = c.take_remembered-other_noted.ensures.whole;
+      parent_set = c.take_remembered-noted.ensures.whole;
+      e1 = c.take_remembered-own_noted.ensures.empty;
+      e2 = c.take_remembered-other_noted.ensures.empty;
+      o1 = c.take_remembered-own_noted.ensures.others;
+      o2 = c.take_remembered-other_noted.ensures.others;
+      o3 = c.take_remembered-noted.ensures.others;
+      own_is = c.leave_own-own.ensures.child;
+      m1 = c.leave_own-own.ensures.many;
+      own_home = c.leave_own-own.ensures.own;
+      i1 = c.leave_own-own.ensures.others;
+      m2 = c.leave_other-beside.ensures.many;
+      other_home = c.leave_other-beside.ensures.child;
+      i2 = c.leave_other-beside.ensures.others;
+      above_is = c.take_rest-above.ensures.rest;
+      left_is = c.in_order-children.ensures.left;
+      right_is = c.in_order-children.ensures.right;
+    } in
+    let rest : Rest = c.join_children-rest.result.0 in
+    let noted : Notes = c.join_children-rest.result.1 in
+    let pool : Chunks = c.join_children-rest.new.pool in
+    let sets : List SetOf = c.put_remembered.new.sets.items in
+    let homes : List (Option Rest) = c.set-2.new.self in
+    let P : Put w p c.args.parent x3 h2 n3 above left right pool rest noted sets homes = record {
+      pool_is = c.join_children-rest.ensures.pool;
+      side = c.join_children-rest.ensures.side;
+      rest_is = c.join_children-rest.ensures.rest;
+      homes_are = c.set-2.ensures ∙ ap (λ hs. slice_set hs c.args.parent (Some rest)) c.take_rest-above.ensures.homes;
+      many = c.put_remembered.ensures.many;
+      at = c.put_remembered.ensures.at;
+      others = c.put_remembered.ensures.others;
+    } in
+    let j : Space Event = record { items = []; room = w.journal.room - 1 } in
+    let both = both_made w k p I F at free ended c.args.parent c.sibling_of-other.result par o n1 n2 n3 x1 x2 x3 h1 h2 above c.leave_own-own.result c.leave_other-beside.result left right pool rest noted sets homes j T P in
+    let v : World = record w { pool = pool; sets = sets; steps = w.steps + (p.fresh + 1) } in
+    let tree : c.join_children-rest.new.tree ≡ joined_nodes (with_state w.tree p.task Ended) c.args.parent left.side.task right.side.task = c.join_children-rest.ensures.tree ∙ ap (λ ns. joined_nodes ns c.args.parent left.side.task right.side.task) c.set_state.ensures in
+    let same = four_changed v (joined_nodes (with_state w.tree p.task Ended) c.args.parent left.side.task right.side.task) c.join_children-rest.new.tree homes homes (slice_set w.hands k None) c.set.new.self (record { items = _; room = w.journal.room - 1 }) c.push_reserved.new.self tree refl c.set.ensures (journal_by w.journal _ _ (alone_event k p) c.new.ensures c.push_reserved.ensures) in
+    subst (λ (z : World). EndsChild z (record v { tree = c.join_children-rest.new.tree; homes = homes; hands = c.set.new.self; journal = c.push_reserved.new.self }) k p (Some c.args.parent)) c.self.view_is
+    (subst (λ (z : World). EndsChild w z k p (Some c.args.parent)) (sym same) both.1)

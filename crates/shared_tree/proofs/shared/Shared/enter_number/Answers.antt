@@ -1,0 +1,70 @@
+use Rattle.std.proofs.Common.{◌≡◌, ℕ, ◌+◌, ◌-◌, arith, None, [], ap, ap₂, sym, subst, ◌∙◌}
+use Rattle.std.proofs.Common.{w64}
+use Rattle.std.proofs.lemmas.Int.{to_z-of_z}
+use Rattle.listed.specs.Space.{Space}
+use Rattle.run_trace.specs.Entry.{Event}
+use Rattle.task_frames.specs.Stack.{Stack, with_int, with_next}
+use Rattle.task_machine.specs.declared.part.Private.{Private}
+use Rattle.shared_tree.specs.declared.other.OtherStep.TheVariants.{SetsNumber}
+use Rattle.shared_tree.specs.Stands.{IsWorld}
+use Rattle.shared_tree.specs.World.{World}
+use Rattle.shared_tree.specs.Fits.{Fits}
+use Rattle.shared_tree.specs.Alone.{GoesAlone, IsShared, alone_event}
+use Rattle.shared_tree.specs.Entered.{refused}
+use Rattle.shared_tree.specs.Other.{TellsOther}
+use Rattle.shared_tree.specs.contracts.shared.Shared.{the_view}
+use Rattle.shared_tree.proofs.AloneEntries.{alone_small, next_small}
+use Rattle.shared_tree.proofs.Entered.{journal_by}
+use Rattle.shared_tree.proofs.OtherEntries.{number_goes, number_world}
+use Rattle.shared_tree.proofs.shared.Shared.enter_number.Goals as goal
+
+pub overflow_add-self-2 : goal.overflow_add-self-2
+overflow_add-self-2 c =
+    let w : World = the_view c.self.inside in
+    let p : Private = c.args.part.now in
+    let k : ℕ = c.args.worker in
+    let F : Fits w k p = subst (λ (z : World). Fits z k p) (sym c.self.view_is) c.requires.fits in
+    let shared : IsShared w p = subst (λ (z : World). IsShared z p) (sym c.self.view_is) c.requires.shared in
+    let free : refused w (alone_event k p) ≡ None = subst (λ (z : World). refused z (alone_event k p) ≡ None) (sym c.self.view_is) c.requires.free in
+    let few = alone_small w k p c.self.invariant F shared free in
+    omega (arith, few.0, few.1)
+
+pub overflow_add-next : goal.overflow_add-next
+overflow_add-next c =
+    let w : World = the_view c.self.inside in
+    let p : Private = c.args.part.now in
+    let k : ℕ = c.args.worker in
+    let F : Fits w k p = subst (λ (z : World). Fits z k p) (sym c.self.view_is) c.requires.fits in
+    let shared : IsShared w p = subst (λ (z : World). IsShared z p) (sym c.self.view_is) c.requires.shared in
+    let free : refused w (alone_event k p) ≡ None = subst (λ (z : World). refused z (alone_event k p) ≡ None) (sym c.self.view_is) c.requires.free in
+    let small = next_small w k p c.self.invariant F shared free in
+    let e = c.next-next.ensures in
+    omega (arith, small, e)
+
+pub invariant_of-self : goal.invariant_of-self
+invariant_of-self c =
+    let w : World = the_view c.self.inside in
+    let p : Private = c.args.part.now in
+    let k : ℕ = c.args.worker in
+    let F : Fits w k p = subst (λ (z : World). Fits z k p) (sym c.self.view_is) c.requires.fits in
+    let shared : IsShared w p = subst (λ (z : World). IsShared z p) (sym c.self.view_is) c.requires.shared in
+    let free : refused w (alone_event k p) ≡ None = subst (λ (z : World). refused z (alone_event k p) ≡ None) (sym c.self.view_is) c.requires.free in
+    let T : TellsOther w p (SetsNumber c.args.register c.args.value) c.args.line = subst (λ (z : World). TellsOther z p (SetsNumber c.args.register c.args.value) c.args.line) (sym c.self.view_is) c.requires.reads in
+    subst (λ (j : Space Event). IsWorld (record w { steps = w.steps + (p.fresh + 1); journal = j })) (sym (journal_by w.journal _ _ (alone_event k p) c.new.ensures c.push_reserved.ensures))
+    (number_world w k p c.self.invariant F shared free c.args.register c.args.value c.args.line T (record { items = []; room = w.journal.room - 1 }))
+
+pub returns : goal.returns
+returns c =
+    let w : World = the_view c.self.inside in
+    let p : Private = c.args.part.now in
+    let k : ℕ = c.args.worker in
+    let F : Fits w k p = subst (λ (z : World). Fits z k p) (sym c.self.view_is) c.requires.fits in
+    let shared : IsShared w p = subst (λ (z : World). IsShared z p) (sym c.self.view_is) c.requires.shared in
+    let free : refused w (alone_event k p) ≡ None = subst (λ (z : World). refused z (alone_event k p) ≡ None) (sym c.self.view_is) c.requires.free in
+    let T : TellsOther w p (SetsNumber c.args.register c.args.value) c.args.line = subst (λ (z : World). TellsOther z p (SetsNumber c.args.register c.args.value) c.args.line) (sym c.self.view_is) c.requires.reads in
+    let frames : c.set_next.new.self ≡ with_next (with_int p.frames c.args.register c.args.value) (p.frames.top.next + 1) =
+    c.set_next.ensures ∙ ap₂ (λ (s : Stack) n. with_next s (n + 1)) (c.set_int.ensures ∙ (ap (with_int p.frames c.index.result) (to_z-of_z w64 c.args.value c.ranges.value) ∙ ap (λ i. with_int p.frames i c.args.value) c.index.ensures.value)) c.next-next.ensures in
+    subst (λ (z : World). GoesAlone z (record w { steps = w.steps + (p.fresh + 1); journal = c.push_reserved.new.self }) k p (record p { frames = c.set_next.new.self; fresh = 0 })) c.self.view_is
+    (subst (λ (s : Stack). GoesAlone w (record w { steps = w.steps + (p.fresh + 1); journal = c.push_reserved.new.self }) k p (record p { frames = s; fresh = 0 })) (sym frames)
+    (subst (λ (j : Space Event). GoesAlone w (record w { steps = w.steps + (p.fresh + 1); journal = j }) k p (record p { frames = with_next (with_int p.frames c.args.register c.args.value) (p.frames.top.next + 1); fresh = 0 })) (sym (journal_by w.journal _ _ (alone_event k p) c.new.ensures c.push_reserved.ensures))
+    (number_goes w k p c.self.invariant F shared free c.args.register c.args.value c.args.line T (record { items = []; room = w.journal.room - 1 }))))

@@ -1,0 +1,125 @@
+use Rattle.std.proofs.Common.{◌≡◌, ℕ, ℤ, ◌+◌, ◌-◌, arith, Option, Some, None, List, [], slice_set, ap, sym, subst, ◌∙◌, w64}
+use Rattle.std.proofs.lemmas.Int.{to_z-of_z}
+use Rattle.listed.specs.Space.{Space}
+use Rattle.object_layout.specs.Cell.{with_int}
+use Rattle.object_layout.specs.Chunks.{cell_of}
+use Rattle.run_trace.specs.Entry.{Event}
+use Rattle.task_frames.specs.Stack.{Stack}
+use Rattle.task_machine.specs.declared.part.Private.{Private}
+use Rattle.shared_tree.specs.declared.other.OtherStep.TheVariants.{StoresNumber}
+use Rattle.shared_tree.specs.declared.rest.Rest.{Rest}
+use Rattle.shared_tree.specs.Stands.{IsWorld}
+use Rattle.shared_tree.specs.World.{World}
+use Rattle.shared_tree.specs.Fits.{Fits}
+use Rattle.shared_tree.specs.Alone.{GoesAlone, IsShared, alone_event}
+use Rattle.shared_tree.specs.Entered.{refused}
+use Rattle.shared_tree.specs.Other.{TellsOther, put_rest, store_frames}
+use Rattle.shared_tree.specs.contracts.shared.Shared.{the_view}
+use Rattle.shared_tree.proofs.AloneEntries.{alone_small, next_small}
+use Rattle.shared_tree.proofs.Entered.{journal_by}
+use Rattle.shared_tree.proofs.StoreEntries as entries
+use Rattle.shared_tree.proofs.shared.Shared.enter_store_number.Goals as goal
+
+-- the value by what the code made of it
+stored_by : (w : World) (n : ℕ) (hs hs' : List (Option Rest)) (j j' : Space Event) → hs' ≡ hs → j' ≡ j → record w { homes = hs; steps = n; journal = j } ≡ record w { homes = hs'; steps = n; journal = j' }
+stored_by w n hs hs' j j' eh ej = ap (λ z. record w { homes = z; steps = n; journal = j }) (sym eh) ∙ ap (λ z. record w { homes = hs'; steps = n; journal = z }) (sym ej)
+
+pub write_number-requires-clause-used : goal.write_number-requires-clause-used
+write_number-requires-clause-used c =
+    let w : World = the_view c.self.inside in
+    let p : Private = c.args.part.now in
+    let k : ℕ = c.args.worker in
+    let F : Fits w k p = subst (λ (z : World). Fits z k p) (sym c.self.view_is) c.requires.fits in
+    let shared : IsShared w p = subst (λ (z : World). IsShared z p) (sym c.self.view_is) c.requires.shared in
+    let free : refused w (alone_event k p) ≡ None = subst (λ (z : World). refused z (alone_event k p) ≡ None) (sym c.self.view_is) c.requires.free in
+    let T : TellsOther w p (StoresNumber c.args.object c.args.field c.args.value) c.args.line = subst (λ (z : World). TellsOther z p (StoresNumber c.args.object c.args.field c.args.value) c.args.line) (sym c.self.view_is) c.requires.stores in
+    entries.used_number w k p c.self.invariant F shared free c.args.object c.args.field c.args.value c.args.line T
+
+pub write_number-requires-clause-home : goal.write_number-requires-clause-home
+write_number-requires-clause-home c =
+    let w : World = the_view c.self.inside in
+    let p : Private = c.args.part.now in
+    let k : ℕ = c.args.worker in
+    let F : Fits w k p = subst (λ (z : World). Fits z k p) (sym c.self.view_is) c.requires.fits in
+    let shared : IsShared w p = subst (λ (z : World). IsShared z p) (sym c.self.view_is) c.requires.shared in
+    let free : refused w (alone_event k p) ≡ None = subst (λ (z : World). refused z (alone_event k p) ≡ None) (sym c.self.view_is) c.requires.free in
+    let T : TellsOther w p (StoresNumber c.args.object c.args.field c.args.value) c.args.line = subst (λ (z : World). TellsOther z p (StoresNumber c.args.object c.args.field c.args.value) c.args.line) (sym c.self.view_is) c.requires.stores in
+    entries.home_number w k p c.self.invariant F shared free c.args.object c.args.field c.args.value c.args.line T
+
+pub write_number-requires-clause-there : goal.write_number-requires-clause-there
+write_number-requires-clause-there c =
+    let w : World = the_view c.self.inside in
+    let p : Private = c.args.part.now in
+    let k : ℕ = c.args.worker in
+    let F : Fits w k p = subst (λ (z : World). Fits z k p) (sym c.self.view_is) c.requires.fits in
+    let shared : IsShared w p = subst (λ (z : World). IsShared z p) (sym c.self.view_is) c.requires.shared in
+    let free : refused w (alone_event k p) ≡ None = subst (λ (z : World). refused z (alone_event k p) ≡ None) (sym c.self.view_is) c.requires.free in
+    let T : TellsOther w p (StoresNumber c.args.object c.args.field c.args.value) c.args.line = subst (λ (z : World). TellsOther z p (StoresNumber c.args.object c.args.field c.args.value) c.args.line) (sym c.self.view_is) c.requires.stores in
+    entries.there_number w k p c.self.invariant F shared free c.args.object c.args.field c.args.value c.args.line T
+
+pub write_number-requires-clause-field : goal.write_number-requires-clause-field
+write_number-requires-clause-field c =
+    let w : World = the_view c.self.inside in
+    let p : Private = c.args.part.now in
+    let k : ℕ = c.args.worker in
+    let F : Fits w k p = subst (λ (z : World). Fits z k p) (sym c.self.view_is) c.requires.fits in
+    let shared : IsShared w p = subst (λ (z : World). IsShared z p) (sym c.self.view_is) c.requires.shared in
+    let free : refused w (alone_event k p) ≡ None = subst (λ (z : World). refused z (alone_event k p) ≡ None) (sym c.self.view_is) c.requires.free in
+    let T : TellsOther w p (StoresNumber c.args.object c.args.field c.args.value) c.args.line = subst (λ (z : World). TellsOther z p (StoresNumber c.args.object c.args.field c.args.value) c.args.line) (sym c.self.view_is) c.requires.stores in
+    entries.field_number w k p c.self.invariant F shared free c.args.object c.args.field c.args.value c.args.line T
+
+pub overflow_add-self-2 : goal.overflow_add-self-2
+overflow_add-self-2 c =
+    let w : World = the_view c.self.inside in
+    let p : Private = c.args.part.now in
+    let k : ℕ = c.args.worker in
+    let F : Fits w k p = subst (λ (z : World). Fits z k p) (sym c.self.view_is) c.requires.fits in
+    let shared : IsShared w p = subst (λ (z : World). IsShared z p) (sym c.self.view_is) c.requires.shared in
+    let free : refused w (alone_event k p) ≡ None = subst (λ (z : World). refused z (alone_event k p) ≡ None) (sym c.self.view_is) c.requires.free in
+    let few = alone_small w k p c.self.invariant F shared free in
+    omega (arith, few.0, few.1)
+
+pub go_on-requires : goal.go_on-requires
+go_on-requires c =
+    let w : World = the_view c.self.inside in
+    let p : Private = c.args.part.now in
+    let k : ℕ = c.args.worker in
+    let F : Fits w k p = subst (λ (z : World). Fits z k p) (sym c.self.view_is) c.requires.fits in
+    let shared : IsShared w p = subst (λ (z : World). IsShared z p) (sym c.self.view_is) c.requires.shared in
+    let free : refused w (alone_event k p) ≡ None = subst (λ (z : World). refused z (alone_event k p) ≡ None) (sym c.self.view_is) c.requires.free in
+    let small = next_small w k p c.self.invariant F shared free in
+    omega (arith, small)
+
+pub invariant_of-self : goal.invariant_of-self
+invariant_of-self c =
+    let w : World = the_view c.self.inside in
+    let p : Private = c.args.part.now in
+    let k : ℕ = c.args.worker in
+    let F : Fits w k p = subst (λ (z : World). Fits z k p) (sym c.self.view_is) c.requires.fits in
+    let shared : IsShared w p = subst (λ (z : World). IsShared z p) (sym c.self.view_is) c.requires.shared in
+    let free : refused w (alone_event k p) ≡ None = subst (λ (z : World). refused z (alone_event k p) ≡ None) (sym c.self.view_is) c.requires.free in
+    let T : TellsOther w p (StoresNumber c.args.object c.args.field c.args.value) c.args.line = subst (λ (z : World). TellsOther z p (StoresNumber c.args.object c.args.field c.args.value) c.args.line) (sym c.self.view_is) c.requires.stores in
+    let homes : c.write_number.new.homes ≡ slice_set w.homes (entries.owner_number w k p c.self.invariant F shared free c.args.object c.args.field c.args.value c.args.line T) (Some (put_rest (entries.foreign_number w k p c.self.invariant F shared free c.args.object c.args.field c.args.value c.args.line T).rest c.args.object (with_int (cell_of (entries.foreign_number w k p c.self.invariant F shared free c.args.object c.args.field c.args.value c.args.line T).rest.heap.chunks c.args.object) c.args.field c.args.value))) =
+    c.write_number.ensures (entries.owner_number w k p c.self.invariant F shared free c.args.object c.args.field c.args.value c.args.line T) (entries.foreign_number w k p c.self.invariant F shared free c.args.object c.args.field c.args.value c.args.line T).rest (entries.foreign_number w k p c.self.invariant F shared free c.args.object c.args.field c.args.value c.args.line T).place.chunk (entries.foreign_number w k p c.self.invariant F shared free c.args.object c.args.field c.args.value c.args.line T).there
+    ∙ ap (λ (z : ℤ). slice_set w.homes (entries.owner_number w k p c.self.invariant F shared free c.args.object c.args.field c.args.value c.args.line T) (Some (put_rest (entries.foreign_number w k p c.self.invariant F shared free c.args.object c.args.field c.args.value c.args.line T).rest c.args.object (with_int (cell_of (entries.foreign_number w k p c.self.invariant F shared free c.args.object c.args.field c.args.value c.args.line T).rest.heap.chunks c.args.object) c.args.field z)))) (to_z-of_z w64 c.args.value c.ranges.value) in
+    let journal = journal_by w.journal _ _ (alone_event k p) c.new.ensures c.push_reserved.ensures in
+    let space : Space Event = record { items = []; room = w.journal.room - 1 } in
+    subst IsWorld (stored_by w (w.steps + (p.fresh + 1)) _ c.write_number.new.homes _ c.push_reserved.new.self homes journal) (entries.number_world w k p c.self.invariant F shared free c.args.object c.args.field c.args.value c.args.line T space)
+
+pub returns : goal.returns
+returns c =
+    let w : World = the_view c.self.inside in
+    let p : Private = c.args.part.now in
+    let k : ℕ = c.args.worker in
+    let F : Fits w k p = subst (λ (z : World). Fits z k p) (sym c.self.view_is) c.requires.fits in
+    let shared : IsShared w p = subst (λ (z : World). IsShared z p) (sym c.self.view_is) c.requires.shared in
+    let free : refused w (alone_event k p) ≡ None = subst (λ (z : World). refused z (alone_event k p) ≡ None) (sym c.self.view_is) c.requires.free in
+    let T : TellsOther w p (StoresNumber c.args.object c.args.field c.args.value) c.args.line = subst (λ (z : World). TellsOther z p (StoresNumber c.args.object c.args.field c.args.value) c.args.line) (sym c.self.view_is) c.requires.stores in
+    let homes : c.write_number.new.homes ≡ slice_set w.homes (entries.owner_number w k p c.self.invariant F shared free c.args.object c.args.field c.args.value c.args.line T) (Some (put_rest (entries.foreign_number w k p c.self.invariant F shared free c.args.object c.args.field c.args.value c.args.line T).rest c.args.object (with_int (cell_of (entries.foreign_number w k p c.self.invariant F shared free c.args.object c.args.field c.args.value c.args.line T).rest.heap.chunks c.args.object) c.args.field c.args.value))) =
+    c.write_number.ensures (entries.owner_number w k p c.self.invariant F shared free c.args.object c.args.field c.args.value c.args.line T) (entries.foreign_number w k p c.self.invariant F shared free c.args.object c.args.field c.args.value c.args.line T).rest (entries.foreign_number w k p c.self.invariant F shared free c.args.object c.args.field c.args.value c.args.line T).place.chunk (entries.foreign_number w k p c.self.invariant F shared free c.args.object c.args.field c.args.value c.args.line T).there
+    ∙ ap (λ (z : ℤ). slice_set w.homes (entries.owner_number w k p c.self.invariant F shared free c.args.object c.args.field c.args.value c.args.line T) (Some (put_rest (entries.foreign_number w k p c.self.invariant F shared free c.args.object c.args.field c.args.value c.args.line T).rest c.args.object (with_int (cell_of (entries.foreign_number w k p c.self.invariant F shared free c.args.object c.args.field c.args.value c.args.line T).rest.heap.chunks c.args.object) c.args.field z)))) (to_z-of_z w64 c.args.value c.ranges.value) in
+    let journal = journal_by w.journal _ _ (alone_event k p) c.new.ensures c.push_reserved.ensures in
+    let space : Space Event = record { items = []; room = w.journal.room - 1 } in
+    subst (λ (z : World). GoesAlone z (record w { homes = c.write_number.new.homes; steps = w.steps + (p.fresh + 1); journal = c.push_reserved.new.self }) k p (record p { frames = c.go_on.new.frames; fresh = 0 })) c.self.view_is
+    (subst (λ (s : Stack). GoesAlone w (record w { homes = c.write_number.new.homes; steps = w.steps + (p.fresh + 1); journal = c.push_reserved.new.self }) k p (record p { frames = s; fresh = 0 })) (sym c.go_on.ensures)
+    (subst (λ (z : World). GoesAlone w z k p (record p { frames = store_frames None p.frames; fresh = 0 })) (stored_by w (w.steps + (p.fresh + 1)) _ c.write_number.new.homes _ c.push_reserved.new.self homes journal) (entries.number_goes w k p c.self.invariant F shared free c.args.object c.args.field c.args.value c.args.line T space)))

@@ -1,0 +1,113 @@
+use Rattle.std.proofs.Common.{◌≡◌, ℕ, Option, Some, None, ap, ap₂, sym, subst, ◌∙◌}
+use Rattle.std.proofs.lemmas.Option.{same_Some}
+use Rattle.hh_lang.specs.Form.{line_at}
+use Rattle.task_machine.specs.declared.part.Private.{Private}
+use Rattle.shared_tree.specs.declared.other.OtherStep.{OtherStep}
+use Rattle.shared_tree.specs.World.{World, accounts}
+use Rattle.shared_tree.specs.Fits.{Fits}
+use Rattle.shared_tree.specs.Alone.{IsShared, alone_event}
+use Rattle.shared_tree.specs.Entered.{refused}
+use Rattle.shared_tree.specs.Next.{next_line}
+use Rattle.shared_tree.specs.Other.{IsOther, TellsOther}
+use Rattle.shared_tree.specs.contracts.shared.Shared.{the_view}
+use Rattle.shared_tree.proofs.AloneEntries.{runs_on}
+use Rattle.shared_tree.proofs.LastSteps.{some_line}
+use Rattle.shared_tree.proofs.OtherLines as lines
+use Rattle.shared_tree.proofs.shared.Shared.next_other.Goals as goal
+
+none_some : {A : Type 0} {x : A} → ◌≡◌ {A = Option A} None (Some x) → ⊥
+none_some e = cc
+
+pub unreachable-requires : goal.unreachable-requires
+unreachable-requires c =
+    let w : World = the_view c.self.inside in
+    let p : Private = c.args.part.now in
+    let k : ℕ = c.args.worker in
+    let F : Fits w k p = subst (λ (z : World). Fits z k p) (sym c.self.view_is) c.requires.fits in
+    let shared : IsShared w p = subst (λ (z : World). IsShared z p) (sym c.self.view_is) c.requires.shared in
+    let free : refused w (alone_event k p) ≡ None = subst (λ (z : World). refused z (alone_event k p) ≡ None) (sym c.self.view_is) c.requires.free in
+    let on : (accounts w).end ≡ None = runs_on w k p c.self.invariant F shared free in
+    let other : IsOther w p = subst (λ (z : World). IsOther z p) (sym c.self.view_is) c.requires.other in
+    let it = some_line w k p c.self.invariant F shared on in
+    none_some (sym c.in_default.is ∙ (c.line.ensures ∙ (ap₂ (line_at w.program) c.fun.ensures c.next.ensures ∙ it.1)))
+
+pub unreachable-requires-in_default-named : goal.unreachable-requires-in_default-named
+unreachable-requires-in_default-named c =
+    let w : World = the_view c.self.inside in
+    let p : Private = c.args.part.now in
+    let k : ℕ = c.args.worker in
+    let F : Fits w k p = subst (λ (z : World). Fits z k p) (sym c.self.view_is) c.requires.fits in
+    let shared : IsShared w p = subst (λ (z : World). IsShared z p) (sym c.self.view_is) c.requires.shared in
+    let free : refused w (alone_event k p) ≡ None = subst (λ (z : World). refused z (alone_event k p) ≡ None) (sym c.self.view_is) c.requires.free in
+    let on : (accounts w).end ≡ None = runs_on w k p c.self.invariant F shared free in
+    let other : IsOther w p = subst (λ (z : World). IsOther z p) (sym c.self.view_is) c.requires.other in
+    let next : next_line w.program p ≡ Some c.in-Some.line = ap₂ (line_at w.program) (sym c.fun.ensures) (sym c.next.ensures) ∙ (sym c.line.ensures ∙ c.in-Some.is) in
+    none_some (sym c.in_default-named.is ∙ (c.named.ensures ∙ lines.named w k p c.self.invariant F shared other on c.in-Some.line next))
+
+pub owner-owner-requires : goal.owner-owner-requires
+owner-owner-requires c =
+    let w : World = the_view c.self.inside in
+    let p : Private = c.args.part.now in
+    let k : ℕ = c.args.worker in
+    let F : Fits w k p = subst (λ (z : World). Fits z k p) (sym c.self.view_is) c.requires.fits in
+    let shared : IsShared w p = subst (λ (z : World). IsShared z p) (sym c.self.view_is) c.requires.shared in
+    let free : refused w (alone_event k p) ≡ None = subst (λ (z : World). refused z (alone_event k p) ≡ None) (sym c.self.view_is) c.requires.free in
+    let on : (accounts w).end ≡ None = runs_on w k p c.self.invariant F shared free in
+    let other : IsOther w p = subst (λ (z : World). IsOther z p) (sym c.self.view_is) c.requires.other in
+    let next : next_line w.program p ≡ Some c.in-Some.line = ap₂ (line_at w.program) (sym c.fun.ensures) (sym c.next.ensures) ∙ (sym c.line.ensures ∙ c.in-Some.is) in
+    lines.used_there w k p c.self.invariant F shared other on c.in-Some.line next c.in-Some-named.object (sym c.named.ensures ∙ c.in-Some-named.is)
+
+pub at-requires : goal.at-requires
+at-requires c =
+    let w : World = the_view c.self.inside in
+    let p : Private = c.args.part.now in
+    let k : ℕ = c.args.worker in
+    let F : Fits w k p = subst (λ (z : World). Fits z k p) (sym c.self.view_is) c.requires.fits in
+    let shared : IsShared w p = subst (λ (z : World). IsShared z p) (sym c.self.view_is) c.requires.shared in
+    let free : refused w (alone_event k p) ≡ None = subst (λ (z : World). refused z (alone_event k p) ≡ None) (sym c.self.view_is) c.requires.free in
+    let on : (accounts w).end ≡ None = runs_on w k p c.self.invariant F shared free in
+    let other : IsOther w p = subst (λ (z : World). IsOther z p) (sym c.self.view_is) c.requires.other in
+    let next : next_line w.program p ≡ Some c.in-Some.line = ap₂ (line_at w.program) (sym c.fun.ensures) (sym c.next.ensures) ∙ (sym c.line.ensures ∙ c.in-Some.is) in
+    lines.home_there w k p c.self.invariant F shared other on c.in-Some.line next c.in-Some-named.object (sym c.named.ensures ∙ c.in-Some-named.is) c.owner-owner.result c.owner-owner.ensures
+
+pub unreachable-requires-in_default-at : goal.unreachable-requires-in_default-at
+unreachable-requires-in_default-at c =
+    let w : World = the_view c.self.inside in
+    let p : Private = c.args.part.now in
+    let k : ℕ = c.args.worker in
+    let F : Fits w k p = subst (λ (z : World). Fits z k p) (sym c.self.view_is) c.requires.fits in
+    let shared : IsShared w p = subst (λ (z : World). IsShared z p) (sym c.self.view_is) c.requires.shared in
+    let free : refused w (alone_event k p) ≡ None = subst (λ (z : World). refused z (alone_event k p) ≡ None) (sym c.self.view_is) c.requires.free in
+    let on : (accounts w).end ≡ None = runs_on w k p c.self.invariant F shared free in
+    let other : IsOther w p = subst (λ (z : World). IsOther z p) (sym c.self.view_is) c.requires.other in
+    let next : next_line w.program p ≡ Some c.in-Some.line = ap₂ (line_at w.program) (sym c.fun.ensures) (sym c.next.ensures) ∙ (sym c.line.ensures ∙ c.in-Some.is) in
+    let there = lines.rest_is w k p c.self.invariant F shared other on c.in-Some.line next c.in-Some-named.object (sym c.named.ensures ∙ c.in-Some-named.is) c.owner-owner.result c.owner-owner.ensures in
+    none_some (sym c.in_default-at.is ∙ same_Some _ _ (sym c.at.ensures ∙ there))
+
+pub step_on-does-requires : goal.step_on-does-requires
+step_on-does-requires c =
+    let w : World = the_view c.self.inside in
+    let p : Private = c.args.part.now in
+    let k : ℕ = c.args.worker in
+    let F : Fits w k p = subst (λ (z : World). Fits z k p) (sym c.self.view_is) c.requires.fits in
+    let shared : IsShared w p = subst (λ (z : World). IsShared z p) (sym c.self.view_is) c.requires.shared in
+    let free : refused w (alone_event k p) ≡ None = subst (λ (z : World). refused z (alone_event k p) ≡ None) (sym c.self.view_is) c.requires.free in
+    let on : (accounts w).end ≡ None = runs_on w k p c.self.invariant F shared free in
+    let other : IsOther w p = subst (λ (z : World). IsOther z p) (sym c.self.view_is) c.requires.other in
+    let next : next_line w.program p ≡ Some c.in-Some.line = ap₂ (line_at w.program) (sym c.fun.ensures) (sym c.next.ensures) ∙ (sym c.line.ensures ∙ c.in-Some.is) in
+    lines.can_read w k p c.self.invariant F shared other on c.in-Some.line next c.in-Some-named.object (sym c.named.ensures ∙ c.in-Some-named.is) c.owner-owner.result c.owner-owner.ensures c.in-Some-at.rest (c.at.ensures ∙ ap Some c.in-Some-at.is)
+
+pub returns : goal.returns
+returns c =
+    let w : World = the_view c.self.inside in
+    let p : Private = c.args.part.now in
+    let k : ℕ = c.args.worker in
+    let F : Fits w k p = subst (λ (z : World). Fits z k p) (sym c.self.view_is) c.requires.fits in
+    let shared : IsShared w p = subst (λ (z : World). IsShared z p) (sym c.self.view_is) c.requires.shared in
+    let free : refused w (alone_event k p) ≡ None = subst (λ (z : World). refused z (alone_event k p) ≡ None) (sym c.self.view_is) c.requires.free in
+    let on : (accounts w).end ≡ None = runs_on w k p c.self.invariant F shared free in
+    let other : IsOther w p = subst (λ (z : World). IsOther z p) (sym c.self.view_is) c.requires.other in
+    let next : next_line w.program p ≡ Some c.in-Some.line = ap₂ (line_at w.program) (sym c.fun.ensures) (sym c.next.ensures) ∙ (sym c.line.ensures ∙ c.in-Some.is) in
+    subst (λ (z : World). TellsOther z p c.step_on-does.result c.in-Some.line.number) c.self.view_is
+    (subst (λ (e : OtherStep). TellsOther w p e c.in-Some.line.number) (sym c.step_on-does.ensures)
+    (lines.does_so w k p c.self.invariant F shared other on c.in-Some.line next c.in-Some-named.object (sym c.named.ensures ∙ c.in-Some-named.is) c.owner-owner.result c.owner-owner.ensures c.in-Some-at.rest (c.at.ensures ∙ ap Some c.in-Some-at.is)))

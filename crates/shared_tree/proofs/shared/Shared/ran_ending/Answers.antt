@@ -1,0 +1,61 @@
+use Rattle.std.proofs.Common.{◌≡◌, ℕ, Option, Some, None, ap, sym, ◌∙◌}
+use Rattle.heap_tree.specs.Node.{parent_of}
+use Rattle.task_machine.specs.declared.part.Private.{Private}
+use Rattle.shared_tree.specs.World.{World}
+use Rattle.shared_tree.specs.Alone.{alone_event}
+use Rattle.shared_tree.specs.ChildEnds.{IsAtEnd}
+use Rattle.shared_tree.specs.Entered.{refused}
+use Rattle.shared_tree.proofs.ChildSteps.{tree_parent}
+use Rattle.shared_tree.proofs.JoinPlaces.{places_ends, places_fit, places_same}
+use Rattle.shared_tree.proofs.shared.Shared.ran_ending.Goals as goal
+
+none_some : {q : ℕ} → ◌≡◌ {A = Option ℕ} None (Some q) → ⊥
+none_some e = cc
+
+pub unreachable-requires : goal.unreachable-requires
+unreachable-requires c =
+    let w : World = c.args.self.now in
+    let p : Private = c.args.part in
+    let k : ℕ = c.args.worker in
+    let free : refused w (alone_event k p) ≡ None = sym c.end_refused.ensures ∙ c.in_default.is in
+    none_some (sym c.in_default-parent.is ∙ (c.parent.ensures ∙ (ap (λ (z : World). parent_of z.tree p.task) c.self.view_is ∙ tree_parent w k p c.stands.ensures c.requires.fits c.requires.ends free)))
+
+pub enter_join-requires-clause-fits : goal.enter_join-requires-clause-fits
+enter_join-requires-clause-fits c =
+    let w : World = c.args.self.now in
+    let p : Private = c.args.part in
+    let k : ℕ = c.args.worker in
+    let free : refused w (alone_event k p) ≡ None = sym c.end_refused.ensures ∙ c.in_default.is in
+    places_fit w c.make_join_places.new.self c.make_join_places.ensures.same k p c.requires.fits
+
+pub enter_join-requires-clause-ends : goal.enter_join-requires-clause-ends
+enter_join-requires-clause-ends c =
+    let w : World = c.args.self.now in
+    let p : Private = c.args.part in
+    let k : ℕ = c.args.worker in
+    let free : refused w (alone_event k p) ≡ None = sym c.end_refused.ensures ∙ c.in_default.is in
+    places_same w c.make_join_places.new.self c.make_join_places.ensures.same (λ z. IsAtEnd z p) (λ hs ss g. record { ends = g.ends; few = g.few }) c.requires.ends
+
+pub enter_join-requires-clause-free : goal.enter_join-requires-clause-free
+enter_join-requires-clause-free c =
+    let w : World = c.args.self.now in
+    let p : Private = c.args.part in
+    let k : ℕ = c.args.worker in
+    let free : refused w (alone_event k p) ≡ None = sym c.end_refused.ensures ∙ c.in_default.is in
+    places_same w c.make_join_places.new.self c.make_join_places.ensures.same (λ z. refused z (alone_event k p) ≡ None) (λ hs ss g. g) free
+
+pub returns-in-Ok-clause-answered : goal.returns-in-Ok-clause-answered
+returns-in-Ok-clause-answered c =
+    let w : World = c.args.self.now in
+    let p : Private = c.args.part in
+    let k : ℕ = c.args.worker in
+    let free : refused w (alone_event k p) ≡ None = sym c.end_refused.ensures ∙ c.in_default.is in
+    places_ends w c.make_join_places.new.self c.make_join_places.ensures.same c.enter_join.new.self k p _ c.enter_join.ensures
+
+pub returns-in-Err-clause-still : goal.returns-in-Err-clause-still
+returns-in-Err-clause-still c =
+    let w : World = c.args.self.now in
+    let p : Private = c.args.part in
+    let k : ℕ = c.args.worker in
+    let free : refused w (alone_event k p) ≡ None = sym c.end_refused.ensures ∙ c.in_default.is in
+    λ u r G. places_fit w c.make_join_places.new.self c.make_join_places.ensures.same u r G

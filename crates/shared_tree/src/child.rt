@@ -1,0 +1,185 @@
+// A part's steps are entered with the last return of a task that another one forked.
+
+ghost use Rattle.std.specs.Prelude.{◌≡◌, ◌<◌, ◌+◌, ◌^◌, ◌↔◌, IsTrue, OnErr, OnOk, IfErr, IfOk, None, Some};
+ghost use Rattle.heap_tree.specs.Node.{parent_of, state_of};
+ghost use Rattle.heap_tree.specs.Pairs.{sibling};
+ghost use Rattle.shared_tree.specs.Alone.{alone_event, ended_rest};
+ghost use Rattle.shared_tree.specs.ChildEnds.{EndsChild, IsAtEnd};
+ghost use Rattle.shared_tree.specs.Entered.{refused, RanAnswers};
+ghost use Rattle.shared_tree.specs.Fits.{Fits};
+ghost use Rattle.shared_tree.specs.Joins.{AllFit, HasPlaces, IsUnchanged, SameButPlaces};
+
+use crate::answer::NotEntered;
+use crate::join::{
+    chunks_at, in_order, join_children, leave_other, leave_own, make_home_places, make_set_places,
+    places, put_remembered, sources_of, take_remembered, take_rest,
+};
+use crate::ran::NotRan;
+use crate::rest::{Rest, Work};
+use crate::shared::Shared;
+use heap_tree::State;
+use run_ledger::Refused;
+use run_trace::{Entry, Kind};
+use std::alloc::AllocError;
+use task_machine::Private;
+
+// What goes with a task whose last frame returned.
+fn ended(part: Private) -> Rest
+    ensures { result ≡ ended_rest part }
+{
+    let result = (part.frames.int(0), part.frames.reference(0));
+    Rest {
+        work: Work::Result(result.0, result.1),
+        heap: part.heap,
+        allocations: part.allocations,
+    }
+}
+
+// The other child of the same fork.
+fn sibling_of(t: u32) -> u32
+    requires child { 0 < t }
+    requires few { t < 2 ^ 31 }
+    ensures { result ≡ sibling t }
+{
+    if t % 2 == 1 { t + 1 } else { t - 1 }
+}
+
+impl Shared {
+    // Why the entry is refused.
+    fn end_refused(&self, worker: u32, part: &Private) -> Option<Refused>
+        requires fits { Fits self.now worker part.now }
+        requires ends { IsAtEnd self.now part.now }
+        ensures { result ≡ refused self.now (alone_event worker part.now) }
+    {
+        self.alone_refused(worker, part)
+    }
+
+    // Whether the other child of the same fork has ended.
+    fn has_sibling_ended(&self, worker: u32, part: &Private) -> bool
+        requires fits { Fits self.now worker part.now }
+        requires ends { IsAtEnd self.now part.now }
+        requires free { refused self.now (alone_event worker part.now) ≡ None }
+        ensures yes { IsTrue result ↔ (state_of self.now.tree (sibling part.now.task) ≡ Some State.Ended) }
+    {
+        match self.tree.state(sibling_of(part.task)) {
+            Some(State::Ended) => true,
+            _ => false,
+        }
+    }
+
+    // Enters the end of a child whose sibling goes on.
+    fn enter_end(&mut self, worker: u32, part: Private)
+        requires room { 0 < self.old.journal.room }
+        requires fits { Fits self.old worker part }
+        requires ends { IsAtEnd self.old part }
+        requires free { refused self.old (alone_event worker part) ≡ None }
+        requires alone { state_of self.old.tree (sibling part.task) ≡ Some State.Ended → ⊥ }
+        ensures { EndsChild self.old self.new worker part None }
+    {
+        let task = part.task;
+        self.steps += part.fresh as u64 + 1;
+        self.journal
+            .push_reserved(Entry::new(worker, Kind::Ran(task, part.fresh + 1)));
+        self.tree.set_state(task, State::Ended);
+        self.hands.set(worker as usize, None);
+        self.homes.set(task as usize, Some(ended(part)));
+    }
+
+    // Makes places in the parent's heap and set for what both children bring; nothing else changes.
+    fn make_join_places(
+        &mut self,
+        worker: u32,
+        part: &Private,
+        parent: u32,
+    ) -> Result<(), AllocError>
+        requires fits { Fits self.old worker part.now }
+        requires ends { IsAtEnd self.old part.now }
+        requires free { refused self.old (alone_event worker part.now) ≡ None }
+        requires ended { state_of self.old.tree (sibling part.now.task) ≡ Some State.Ended }
+        requires parent { parent_of self.old.tree part.now.task ≡ Some parent }
+        ensures same { SameButPlaces self.old self.new }
+        ensures places { OnOk result (HasPlaces self.new part.now parent) }
+    {
+        self.stands();
+        let _ = worker;
+        let other = sibling_of(part.task);
+        let chunks = places(part.heap.chunks().len(), chunks_at(&self.homes, other))?;
+        let sources = places(
+            sources_of(&self.sets, part.task),
+            sources_of(&self.sets, other),
+        )?;
+        make_home_places(&mut self.homes, parent, chunks)?;
+        make_set_places(&mut self.sets, parent, sources)?;
+        Ok(())
+    }
+
+    // Enters the end of a child whose sibling has ended: both join their parent, which has places for what they bring.
+    fn enter_join(&mut self, worker: u32, part: Private, parent: u32)
+        requires room { 0 < self.old.journal.room }
+        requires fits { Fits self.old worker part }
+        requires ends { IsAtEnd self.old part }
+        requires free { refused self.old (alone_event worker part) ≡ None }
+        requires ended { state_of self.old.tree (sibling part.task) ≡ Some State.Ended }
+        requires parent { parent_of self.old.tree part.task ≡ Some parent }
+        requires places { HasPlaces self.old part parent }
+        ensures { EndsChild self.old self.new worker part (Some parent) }
+    {
+        let alloc = *self.sets.allocator();
+        let (task, other) = (part.task, sibling_of(part.task));
+        self.steps += part.fresh as u64 + 1;
+        self.journal
+            .push_reserved(Entry::new(worker, Kind::Ran(task, part.fresh + 1)));
+        self.hands.set(worker as usize, None);
+        self.tree.set_state(task, State::Ended);
+        let own_noted = take_remembered(alloc, &mut self.sets, task);
+        let other_noted = take_remembered(alloc, &mut self.sets, other);
+        let noted = take_remembered(alloc, &mut self.sets, parent);
+        let own = leave_own(alloc, &mut self.homes, part, own_noted);
+        let beside = leave_other(alloc, &mut self.homes, other, other_noted);
+        let above = take_rest(alloc, &mut self.homes, parent);
+        let children = in_order(own, beside);
+        let (tree, pool) = (&mut self.tree, &mut self.pool);
+        let (rest, noted) = join_children(tree, pool, parent, above, noted, children);
+        self.homes.set(parent as usize, Some(rest));
+        put_remembered(&mut self.sets, parent, noted);
+    }
+
+    /// The fresh steps of a part, and its next one, which is the last return of a task that another one forked, are entered. The
+    /// answer is the parent, where both its children have ended: it may be taken then. For want of memory nothing changes but
+    /// the places of the parent's heap and set.
+    pub fn ran_ending(&mut self, worker: u32, part: Private) -> Result<Option<u32>, NotRan>
+        requires room { 0 < self.old.journal.room }
+        requires fits { Fits self.old worker part }
+        requires ends { IsAtEnd self.old part }
+        ensures refused { RanAnswers result (refused self.old (alone_event worker part)) }
+        ensures same { IfErr result (λ e. IsUnchanged e.cause self.old self.new) }
+        ensures still { OnErr result (AllFit self.old self.new) }
+        ensures back { IfErr result (λ e. e.part ≡ part) }
+        ensures answered { IfOk result (EndsChild self.old self.new worker part) }
+    {
+        if let Some(cause) = self.end_refused(worker, &part) {
+            return Err(NotRan {
+                cause: NotEntered::Refuses(cause),
+                part,
+            });
+        }
+        self.stands();
+        if !self.has_sibling_ended(worker, &part) {
+            self.enter_end(worker, part);
+            return Ok(None);
+        }
+        let Some(parent) = self.tree.parent(part.task) else {
+            unreachable!()
+        };
+        match self.make_join_places(worker, &part, parent) {
+            Ok(()) => {
+                self.enter_join(worker, part, parent);
+                Ok(Some(parent))
+            }
+            Err(_) => Err(NotRan {
+                cause: NotEntered::NoMemory,
+                part,
+            }),
+        }
+    }
+}

@@ -1,0 +1,194 @@
+// A part's steps are entered with one that works on an object of another task.
+
+ghost use Rattle.std.specs.Prelude.{◌≡◌, ◌≢◌, ◌<◌, OnErr, OnOk, IfErr, IfOk, None};
+ghost use Rattle.hh_model.specs.Step.{ended_by, step};
+ghost use Rattle.shared_tree.specs.Alone.{alone_event, EndsAlone, GoesAlone, IsShared};
+ghost use Rattle.shared_tree.specs.Entered.{refused, RanAnswers};
+ghost use Rattle.shared_tree.specs.Fits.{Fits};
+ghost use Rattle.shared_tree.specs.Other.{then_accounts, IsOther, OtherAnswered, SameButRoom, TellsOther};
+
+use crate::answer::NotEntered;
+use crate::other::{OtherStep, named, step_on};
+use crate::ran::{Alone, NotRan};
+use crate::shared::Shared;
+use hh_lang::{IntReg, RefReg};
+use hh_model::End;
+use object_layout::Addr;
+use run_ledger::{Refused, RunEnd};
+use run_trace::{Entry, Kind};
+use task_machine::Private;
+
+impl Shared {
+    // Why the entry is refused.
+    fn other_refused(&self, worker: u32, part: &Private) -> Option<Refused>
+        requires fits { Fits self.now worker part.now }
+        requires shared { IsShared self.now part.now }
+        ensures { result ≡ refused self.now (alone_event worker part.now) }
+    {
+        self.alone_refused(worker, part)
+    }
+
+    // What the part's next step does, and the line of the text where it stands.
+    fn next_other(&self, worker: u32, part: &Private) -> (OtherStep, u32)
+        requires fits { Fits self.now worker part.now }
+        requires shared { IsShared self.now part.now }
+        requires other { IsOther self.now part.now }
+        requires free { refused self.now (alone_event worker part.now) ≡ None }
+        ensures { TellsOther self.now part.now result.0 result.1 }
+    {
+        let Some(line) = self.program.line(part.frames.fun(), part.frames.next()) else {
+            unreachable!()
+        };
+        let Some(object) = named(part, line.instr) else {
+            unreachable!()
+        };
+        let owner = self.pool.owner(object.chunk);
+        let Some(rest) = self.homes.at(owner as usize) else {
+            unreachable!()
+        };
+        let does = step_on(&self.tree, &self.pool, part, &rest.heap, object, line.instr);
+        (does, line.number)
+    }
+
+    // Enters a read of a number.
+    fn enter_number(
+        &mut self,
+        worker: u32,
+        part: &mut Private,
+        register: IntReg,
+        value: i64,
+        line: u32,
+    )
+        requires room { 0 < self.old.journal.room }
+        requires fits { Fits self.old worker part.old }
+        requires shared { IsShared self.old part.old }
+        requires free { refused self.old (alone_event worker part.old) ≡ None }
+        requires reads { TellsOther self.old part.old (OtherStep.SetsNumber register value) line }
+        ensures { GoesAlone self.old self.new worker part.old part.new }
+    {
+        let _ = line;
+        self.steps += part.fresh as u64 + 1;
+        self.journal
+            .push_reserved(Entry::new(worker, Kind::Ran(part.task, part.fresh + 1)));
+        let next = part.frames.next() + 1;
+        part.frames.set_int(register.index() as u32, value);
+        part.frames.set_next(next);
+        part.fresh = 0;
+    }
+
+    // Enters a read of a reference.
+    fn enter_reference(
+        &mut self,
+        worker: u32,
+        part: &mut Private,
+        register: RefReg,
+        value: Option<Addr>,
+        line: u32,
+    )
+        requires room { 0 < self.old.journal.room }
+        requires fits { Fits self.old worker part.old }
+        requires shared { IsShared self.old part.old }
+        requires free { refused self.old (alone_event worker part.old) ≡ None }
+        requires reads { TellsOther self.old part.old (OtherStep.SetsReference register value) line }
+        ensures { GoesAlone self.old self.new worker part.old part.new }
+    {
+        let _ = line;
+        self.steps += part.fresh as u64 + 1;
+        self.journal
+            .push_reserved(Entry::new(worker, Kind::Ran(part.task, part.fresh + 1)));
+        let next = part.frames.next() + 1;
+        part.frames.set_reference(register.index() as u32, value);
+        part.frames.set_next(next);
+        part.fresh = 0;
+    }
+
+    // Enters a step by which the machine ends: it can't be done, or is a read that is stopped.
+    fn enter_other_end(&mut self, worker: u32, part: &Private, end: End)
+        requires room { 0 < self.old.journal.room }
+        requires fits { Fits self.old worker part.now }
+        requires shared { IsShared self.old part.now }
+        requires free { refused self.old (alone_event worker part.now) ≡ None }
+        requires other { end ≢ End.Done }
+        requires ends { step self.old.program (then_accounts self.old part.now).machine part.now.task ≡ ended_by (then_accounts self.old part.now).machine end }
+        ensures { EndsAlone self.old self.new worker part.now }
+    {
+        self.steps += part.fresh as u64 + 1;
+        self.journal
+            .push_reserved(Entry::new(worker, Kind::Ran(part.task, part.fresh + 1)));
+        self.end = Some(RunEnd::Machine(end));
+    }
+
+    // Enters what the next step does.
+    fn enter_other(
+        &mut self,
+        worker: u32,
+        part: Private,
+        does: OtherStep,
+        line: u32,
+    ) -> Result<Alone, NotRan>
+        requires room { 0 < self.old.journal.room }
+        requires fits { Fits self.old worker part }
+        requires shared { IsShared self.old part }
+        requires free { refused self.old (alone_event worker part) ≡ None }
+        requires tells { TellsOther self.old part does line }
+        ensures refused { RanAnswers result None }
+        ensures same { OnErr result (SameButRoom self.old self.new) }
+        ensures back { IfErr result (λ e. e.part ≡ part) }
+        ensures answered { IfOk result (OtherAnswered self.old self.new worker part) }
+    {
+        let mut part = part;
+        match does {
+            OtherStep::SetsNumber(register, value) => {
+                self.enter_number(worker, &mut part, register, value, line);
+                Ok(Alone::Goes(part))
+            }
+            OtherStep::SetsReference(register, value) => {
+                self.enter_reference(worker, &mut part, register, value, line);
+                Ok(Alone::Goes(part))
+            }
+            OtherStep::Stops(owner) => {
+                let end = End::Entangled(part.task, owner);
+                self.enter_other_end(worker, &part, end);
+                Ok(Alone::Over)
+            }
+            OtherStep::Traps(kind) => {
+                let end = End::Trapped(kind, part.task, line);
+                self.enter_other_end(worker, &part, end);
+                Ok(Alone::Over)
+            }
+            OtherStep::StoresReference(object, field, value) => {
+                self.store_other(worker, part, object, field, value, None, line)
+            }
+            OtherStep::Swaps(register, object, field, value) => {
+                self.store_other(worker, part, object, field, value, Some(register), line)
+            }
+            OtherStep::StoresNumber(object, field, value) => {
+                self.enter_store_number(worker, &mut part, object, field, value, line);
+                Ok(Alone::Goes(part))
+            }
+        }
+    }
+
+    /// The fresh steps of a part, and its next one, which works on an object of another task, are entered. Where memory is
+    /// wanting nothing is, and what the barriers note is as it was, though there may be room for more of it.
+    pub fn ran_other(&mut self, worker: u32, part: Private) -> Result<Alone, NotRan>
+        requires room { 0 < self.old.journal.room }
+        requires fits { Fits self.old worker part }
+        requires shared { IsShared self.old part }
+        requires other { IsOther self.old part }
+        ensures refused { RanAnswers result (refused self.old (alone_event worker part)) }
+        ensures same { OnErr result (SameButRoom self.old self.new) }
+        ensures back { IfErr result (λ e. e.part ≡ part) }
+        ensures answered { IfOk result (OtherAnswered self.old self.new worker part) }
+    {
+        if let Some(cause) = self.other_refused(worker, &part) {
+            return Err(NotRan {
+                cause: NotEntered::Refuses(cause),
+                part,
+            });
+        }
+        self.stands();
+        let (does, line) = self.next_other(worker, &part);
+        self.enter_other(worker, part, does, line)
+    }
+}

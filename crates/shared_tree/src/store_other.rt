@@ -1,0 +1,128 @@
+// A part's steps are entered with one that writes an object of another task.
+
+ghost use Rattle.std.specs.Prelude.{◌≡◌, ◌<◌, ◌+◌, ◌^◌, OnErr, OnOk, IfErr, IfOk, None};
+ghost use Rattle.shared_tree.specs.Alone.{alone_event, GoesAlone, IsShared};
+ghost use Rattle.shared_tree.specs.Entered.{refused, RanAnswers};
+ghost use Rattle.shared_tree.specs.Fits.{Fits};
+ghost use Rattle.shared_tree.specs.Other.{store_frames, store_of, OtherAnswered, SameButRoom, TellsOther};
+
+use crate::answer::NotEntered;
+use crate::other::OtherStep;
+use crate::ran::{Alone, NotRan};
+use crate::shared::Shared;
+use crate::write_other::{write_number, write_reference};
+use hh_lang::IntReg;
+use object_layout::Addr;
+use run_trace::{Entry, Kind};
+use std::alloc::AllocError;
+use task_frames::Frames;
+use task_machine::Private;
+
+// The frames go on after a write, with 1 in the number register that a compare and swap sets.
+fn go_on(frames: &mut Frames, swap: Option<IntReg>)
+    requires { frames.old.top.next + 1 < 2 ^ 32 }
+    ensures { frames.new ≡ store_frames swap frames.old }
+{
+    let next = frames.next() + 1;
+    if let Some(register) = swap {
+        frames.set_int(register.index() as u32, 1);
+    }
+    frames.set_next(next);
+}
+
+impl Shared {
+    // Enters the write of a reference, which may be one of a compare and swap.
+    fn enter_store(
+        &mut self,
+        worker: u32,
+        part: &mut Private,
+        object: Addr,
+        field: u32,
+        value: Option<Addr>,
+        swap: Option<IntReg>,
+        line: u32,
+    ) -> Result<(), AllocError>
+        requires room { 0 < self.old.journal.room }
+        requires fits { Fits self.old worker part.old }
+        requires shared { IsShared self.old part.old }
+        requires free { refused self.old (alone_event worker part.old) ≡ None }
+        requires stores { TellsOther self.old part.old (store_of swap object field value) line }
+        ensures same { OnErr result (SameButRoom self.old self.new) }
+        ensures back { OnErr result (part.new ≡ part.old) }
+        ensures goes { OnOk result (GoesAlone self.old self.new worker part.old part.new) }
+    {
+        let _ = line;
+        write_reference(
+            &self.tree,
+            &self.pool,
+            &mut self.homes,
+            &mut self.sets,
+            object,
+            field,
+            value,
+        )?;
+        self.steps += part.fresh as u64 + 1;
+        self.journal
+            .push_reserved(Entry::new(worker, Kind::Ran(part.task, part.fresh + 1)));
+        go_on(&mut part.frames, swap);
+        part.fresh = 0;
+        Ok(())
+    }
+
+    // Enters the write of a number.
+    pub(crate) fn enter_store_number(
+        &mut self,
+        worker: u32,
+        part: &mut Private,
+        object: Addr,
+        field: u32,
+        value: i64,
+        line: u32,
+    )
+        requires room { 0 < self.old.journal.room }
+        requires fits { Fits self.old worker part.old }
+        requires shared { IsShared self.old part.old }
+        requires free { refused self.old (alone_event worker part.old) ≡ None }
+        requires stores { TellsOther self.old part.old (OtherStep.StoresNumber object field value) line }
+        ensures { GoesAlone self.old self.new worker part.old part.new }
+    {
+        let _ = line;
+        write_number(&self.pool, &mut self.homes, object, field, value);
+        self.steps += part.fresh as u64 + 1;
+        self.journal
+            .push_reserved(Entry::new(worker, Kind::Ran(part.task, part.fresh + 1)));
+        go_on(&mut part.frames, None);
+        part.fresh = 0;
+    }
+
+    // The same, and what becomes of the part.
+    pub(crate) fn store_other(
+        &mut self,
+        worker: u32,
+        part: Private,
+        object: Addr,
+        field: u32,
+        value: Option<Addr>,
+        swap: Option<IntReg>,
+        line: u32,
+    ) -> Result<Alone, NotRan>
+        requires room { 0 < self.old.journal.room }
+        requires fits { Fits self.old worker part }
+        requires shared { IsShared self.old part }
+        requires free { refused self.old (alone_event worker part) ≡ None }
+        requires stores { TellsOther self.old part (store_of swap object field value) line }
+        ensures refused { RanAnswers result None }
+        ensures same { OnErr result (SameButRoom self.old self.new) }
+        ensures back { IfErr result (λ e. e.part ≡ part) }
+        ensures answered { IfOk result (OtherAnswered self.old self.new worker part) }
+    {
+        let mut part = part;
+        match self.enter_store(worker, &mut part, object, field, value, swap, line) {
+            Ok(()) => Ok(Alone::Goes(part)),
+            Err(_) => Err(NotRan {
+                cause: NotEntered::NoMemory,
+                part,
+            }),
+        }
+    }
+}
