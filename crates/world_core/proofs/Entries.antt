@@ -40,7 +40,7 @@ use Rattle.shared_tree.specs.declared.answer.NotEntered.TheVariants.{NoMemory, R
 use Rattle.shared_tree.specs.Entered.{Enters, IsCaused, refused}
 use Rattle.shared_tree.proofs.Running.{ran_answer}
 use Rattle.shared_tree.proofs.LastSteps.{alone_answer}
-use Rattle.shared_tree.specs.Causes.{first_cause}
+use Rattle.shared_tree.specs.Causes.{first_cause, or_else}
 use Rattle.shared_tree.specs.Alone.{GoesAlone, EndsAlone, alone_event}
 use Rattle.shared_tree.specs.Links.{FitsFirst}
 use Rattle.shared_tree.proofs.Entered.{accounts_then}
@@ -110,7 +110,7 @@ root_runs m t L none lt = by (slice_get m.tasks t) refl
 -- ---- AN ENTRY
 
 -- the accounts after it
-after_entry : (w w' : World) (e : Event) → Enters w w' e → accounts w' ≡ after w.program w.settings (accounts w) e
+pub after_entry : (w w' : World) (e : Event) → Enters w w' e → accounts w' ≡ after w.program w.settings (accounts w) e
 after_entry w w' e E =
     ap (λ (p : ProgramText). ledger_of p w'.settings w'.journal.items) E.program
     ∙ (ap (λ (s : Limits). ledger_of w.program s w'.journal.items) E.settings
@@ -133,7 +133,7 @@ pub private_goes : (w w' : World) (part p : Private) → IsWorld w → IsWorld w
 private_goes w w' part p I I' paused goes fuel E end is F =
     let more = steps_by w w' part.task part.fresh I I' E in
     let some = paused.2 in (
-      record { goes = end ∙ goes; fresh = ap (λ (q : Private). q.fresh) is; fits = F; bare = ap (λ (q : Private). q.heap.chunks) is ∙ paused.1 },
+      record { goes = end ∙ goes; fresh = ap (λ (q : Private). q.fresh) is; fits = F; bare = ap (λ (q : Private). q.heap.chunks) is ∙ paused.1; idle = ap (λ (q : Private). q.begun) is ∙ paused.3 },
       fuel,
       omega (arith, more, some),
     )
@@ -142,10 +142,10 @@ private_goes w w' part p I I' paused goes fuel E end is F =
 
 module _ (w w' : World) (part : Private) (I : IsWorld w) (I' : IsWorld w') where
   -- the run goes on
-  pub alone_goes : (p : Private) → part.heap.chunks ≡ [] → w.steps < w.settings.fuel → GoesAlone w w' 0 part p → Turns w w' (Some p)
-  alone_goes p bare fuel G =
+  pub alone_goes : (p : Private) → part.heap.chunks ≡ [] → part.begun ≡ None → w.steps < w.settings.fuel → GoesAlone w w' 0 part p → Turns w w' (Some p)
+  alone_goes p bare idle fuel G =
       let more = steps_by w w' part.task (part.fresh + 1) I I' G.enters in (
-        record { goes = end_is w' I' ∙ G.goes; fresh = ap (λ (q : Private). q.fresh) G.part; fits = G.fits; bare = ap (λ (q : Private). q.heap.chunks) G.part ∙ bare },
+        record { goes = end_is w' I' ∙ G.goes; fresh = ap (λ (q : Private). q.fresh) G.part; fits = G.fits; bare = ap (λ (q : Private). q.heap.chunks) G.part ∙ bare; idle = ap (λ (q : Private). q.begun) G.part ∙ idle },
         fuel,
         omega (arith, more),
       )
@@ -172,7 +172,9 @@ pub private_free : (w : World) (part : Private) → IsWorld w → IsPaused w par
 private_free w part I paused goes fuel = ran_answer w 0 part I paused.0 (let some = paused.2 in omega (arith, some)) ∙ first_free w I goes fuel
 
 pub alone_free : (w : World) (part : Private) → IsWorld w → IsPaused w part true → w.end ≡ None → w.steps < w.settings.fuel → refused w (alone_event 0 part) ≡ None
-alone_free w part I paused goes fuel = alone_answer w 0 part I paused.0 paused.2 ∙ first_free w I goes fuel
+alone_free w part I paused goes fuel =
+    alone_answer w 0 part I paused.0 paused.2
+    ∙ (ap (λ o. or_else o (refused_if (is_some part.begun) Cause.Collecting None)) (first_free w I goes fuel) ∙ ap (λ b. refused_if (is_some b) Cause.Collecting None) paused.3)
 
 -- what isn't refused fails for want of memory alone
 pub only_memory : (e : NotEntered) (why : Option Refused) → why ≡ None → IsCaused e why → e ≡ NoMemory
@@ -242,20 +244,20 @@ left_to_do w None = 0
 left_to_do w (Some part) = w.settings.fuel - w.steps + 1
 
 -- the root taken
-pub root_taken : (w w' : World) (part : Private) → IsWorld w → IsWorld w' → w.journal.items ≡ [] → Enters w w' (record { worker = 0; kind = Took 0 }) → part.fresh ≡ 0 → Fits w' 0 part → part.heap.chunks ≡ [] → IsUnderWay w' part
-root_taken w w' part I I' none E fresh F bare = record { goes = end_is w' I' ∙ (ap (λ (l : Ledger). l.end) (after_entry w w' (record { worker = 0; kind = Took 0 }) E) ∙ ap (λ (j : List Event). (after w.program w.settings (ledger_of w.program w.settings j) (record { worker = 0; kind = Took 0 })).end) none); fresh = fresh; fits = F; bare = bare }
+pub root_taken : (w w' : World) (part : Private) → IsWorld w → IsWorld w' → w.journal.items ≡ [] → Enters w w' (record { worker = 0; kind = Took 0 }) → part.fresh ≡ 0 → Fits w' 0 part → part.heap.chunks ≡ [] → part.begun ≡ None → IsUnderWay w' part
+root_taken w w' part I I' none E fresh F bare idle = record { goes = end_is w' I' ∙ (ap (λ (l : Ledger). l.end) (after_entry w w' (record { worker = 0; kind = Took 0 }) E) ∙ ap (λ (j : List Event). (after w.program w.settings (ledger_of w.program w.settings j) (record { worker = 0; kind = Took 0 })).end) none); fresh = fresh; fits = F; bare = bare; idle = idle }
 
 -- ---- ALLOCATIONS are far fewer than 32 bits count
 
-pub few_allocations : (w : World) (part : Private) → IsWorld w → IsUnderWay w part → FitsFirst w part → part.allocations + 256 < 4294967296
-few_allocations w part I U F =
+pub few_allocations : (w : World) (part : Private) (n : ℕ) → IsWorld w → part.fresh ≡ 0 → FitsFirst w part → n ≤ 257 → part.allocations + n < 4294967296
+few_allocations w part n I fresh F few =
     let l : Ledger = accounts w in
-    let is : (beyond w.program l part).machine ≡ unended l.machine = beyond_machine w.program l part ∙ ap (steps w.program (unended l.machine) part.task) U.fresh in
+    let is : (beyond w.program l part).machine ≡ unended l.machine = beyond_machine w.program l part ∙ ap (steps w.program (unended l.machine) part.task) fresh in
     let count : part.allocations ≡ length (row_of (slice_get l.machine.store part.task)) = F.count ∙ ap (λ (m : State). length (row_of (slice_get m.store part.task))) is in
     let most : length (row_of (slice_get l.machine.store part.task)) ≤ l.steps = (journals_are_counted w.program w.settings w.journal.items).counts.objects part.task in
     let bound : l.steps ≤ w.settings.fuel + 256 = steps_are_bounded w.program w.settings w.journal.items I.legal in
     let fuel = I.limits.fuel.1 in
-    omega (arith, count, most, bound, fuel)
+    omega (arith, count, most, bound, fuel, few)
 
 -- the root was there, and its heap had no chunks
 pub root_bare : (w w' : World) (j : Space Event) (part : Private) → IsBareRoot w → w' ≡ record w { journal = j } → (r : Rest) × (rest_at w'.homes 0 ≡ Some r) × (part.heap ≡ r.heap) → part.heap.chunks ≡ []

@@ -61,7 +61,7 @@ after_is_run w q I goes =
     ∙ (ap (λ (z : State). steps w.program z q.task q.fresh) (same ∙ is)
     ∙ (steps_run w.program (run w.program limit ts) q.task q.fresh ∙ sym (run_more w.program ts (replicate q.fresh q.task) (start w.program limit))))
 
-pub after_is_kept : (w : World) (q : Private) → IsWorld w → w.end ≡ None → IsReady w.program → Kept (machine_after w q) × Lone (machine_after w q)
+after_is_kept : (w : World) (q : Private) → IsWorld w → w.end ≡ None → IsReady w.program → Kept (machine_after w q) × Lone (machine_after w q)
 after_is_kept w q I goes ready =
     let limit : ℕ = field_limit w.settings.version in
     subst (λ (m : State). Kept m × Lone m) (sym (after_is_run w q I goes))
@@ -70,7 +70,7 @@ after_is_kept w q I goes ready =
 -- ---- NO OTHER TASK HAS PART
 
 -- every name in the store is one of the first task's
-pub stored_first : (m : State) (n : Name) → Kept m → Lone m → IsStored m n → n.task ≡ 0
+stored_first : (m : State) (n : Name) → Kept m → Lone m → IsStored m n → n.task ≡ 0
 stored_first m n K L s =
     let k = K.store_of n s.0 s.1 in
     let lt : s.0.strand.task < length m.tasks = k.1.0 in

@@ -3,5 +3,5 @@ pub mod Lone
 pub mod Calm
 pub mod Entries
 pub mod Joint
-pub mod Still
+pub mod PartRuns
 pub mod Pausing

@@ -20,17 +20,18 @@ pub record Keeps (p : ProgramText) (s : Limits) (w : World) : Type 0 where
 abbrev pub IsBareRoot : World → Type 0
 IsBareRoot w = (r : Rest) → rest_at w.homes 0 ≡ Some r → r.heap.chunks ≡ []
 
--- the run goes on, and worker 0 holds a part that fits, all its steps entered, whose heap has no chunks
+-- the run goes on, and worker 0 holds a part that fits, all its steps entered, whose heap has no chunks and is amid no collection
 pub record IsUnderWay (w : World) (part : Private) : Type 0 where
   pub goes : w.end ≡ None
   pub fresh : part.fresh ≡ 0
   pub fits : Fits w 0 part
   pub bare : part.heap.chunks ≡ []
+  pub idle : part.begun ≡ None
 
 -- the part has taken private steps: a shared one comes next, or as many were taken as one entry holds
 abbrev pub IsPaused : World → Private → Bool → Type 0
-IsPaused w part true = Fits w 0 part × (part.heap.chunks ≡ []) × IsShared w part
-IsPaused w part false = Fits w 0 part × (part.heap.chunks ≡ []) × (part.fresh ≡ 256)
+IsPaused w part true = Fits w 0 part × (part.heap.chunks ≡ []) × IsShared w part × (part.begun ≡ None)
+IsPaused w part false = Fits w 0 part × (part.heap.chunks ≡ []) × (part.fresh ≡ 256) × (part.begun ≡ None)
 
 -- an entry more: the run has ended, or goes on with more steps taken, whose fuel wasn't spent before
 abbrev pub Turns : World → World → Option Private → Type 0

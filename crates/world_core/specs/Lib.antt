@@ -1,3 +1,4 @@
 pub mod Ready
 pub mod Alone
 pub mod Laws
+pub mod Next

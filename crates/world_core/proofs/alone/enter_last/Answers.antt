@@ -6,7 +6,7 @@ use Rattle.world_core.proofs.alone.enter_last.Goals as goal
 
 pub returns-in-Ok-Goes-clause-turns : goal.returns-in-Ok-Goes-clause-turns
 returns-in-Ok-Goes-clause-turns c =
-    alone_goes c.args.shared.now c.ran_alone-ran.new.self c.args.part c.stands.ensures c.stands-2.ensures c.in-Ok-Goes.part c.requires.paused.1 c.requires.fuel
+    alone_goes c.args.shared.now c.ran_alone-ran.new.self c.args.part c.stands.ensures c.stands-2.ensures c.in-Ok-Goes.part c.requires.paused.1 c.requires.paused.3 c.requires.fuel
     (subst (Answered c.args.shared.now c.ran_alone-ran.new.self 0 c.args.part) c.in-Ok-Goes.field-0-is c.in-Ok-Goes.ensures.answered)
 
 pub unreachable-requires : goal.unreachable-requires

@@ -4,7 +4,7 @@ use Rattle.world_core.proofs.Pausing.{never_due, never_in_need, paused_at_shared
 use Rattle.world_core.proofs.alone.run_part.Goals as goal
 
 pub run_local-requires-clause-few : goal.run_local-requires-clause-few
-run_local-requires-clause-few g c κs within = few_allocations c.args.shared.now c.args.part.now c.stands.ensures c.requires.way c.may_run.ensures
+run_local-requires-clause-few g c κs within = few_allocations c.args.shared.now c.args.part.now 256 c.stands.ensures c.requires.way.fresh c.may_run.ensures (omega arith)
 
 pub unreachable-requires : goal.unreachable-requires
 unreachable-requires g c =
