@@ -1,25 +1,25 @@
-mod ListLemmas
+pub mod ListLemmas
 mod Puts
 mod FoundLemmas
 mod Discovered
-mod LastChunk
+pub mod LastChunk
 mod Upto
 mod FollowLemmas
 mod FrameLemmas
 mod Exchanges
-mod Moves
-mod Rooms
+pub mod Moves
+pub mod Rooms
 mod Leading
 mod Larges
 mod Evacuated
-mod Numbers
-mod Extent
-mod Rebuilt
-mod Naming
-mod Order
-mod Tidied
+pub mod Numbers
+pub mod Extent
+pub mod Rebuilt
+pub mod Naming
+pub mod Order
+pub mod Tidied
 mod Collecting
-mod Reading
-mod Needs
+pub mod Reading
+pub mod Needs
 pub mod Telling
 pub mod Giving

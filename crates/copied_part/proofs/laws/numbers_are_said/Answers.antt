@@ -1,0 +1,5 @@
+use Rattle.copied_part.proofs.Saying as proved
+use Rattle.copied_part.proofs.laws.numbers_are_said.Goals as goal
+
+pub returns : goal.returns
+returns c = proved.numbers_are_said

@@ -1,0 +1,9 @@
+// That what a leaf collection makes of a part is a copy of it, as the relation of the core has it.
+#![tactic(auto)]
+
+mod laws;
+
+pub use laws::{
+    begun_can_copy, begun_is_copying, copied_are_measured, copied_fits, copies_fit,
+    numbers_are_said,
+};
