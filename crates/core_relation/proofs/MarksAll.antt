@@ -5,7 +5,7 @@ use Rattle.std.proofs.lemmas.Bool.{both_ways, and_from, eq-eqb}
 use Rattle.object_layout.specs.declared.word.Addr.{Addr}
 use Rattle.hh_model.specs.declared.data.Name.{Name}
 use Rattle.run_ledger.specs.declared.data.Ledger.{Ledger}
-use Rattle.run_ledger.specs.Heaps.{heap_of, marked_in}
+use Rattle.run_ledger.specs.Heaps.{held_in, heap_of, marked_in}
 use Rattle.run_ledger.specs.Reachable.{is_name}
 use Rattle.run_ledger.proofs.Members.{same_from_is_name, is_name_itself}
 use Rattle.ledger_steps.specs.Accounts.{Rests}
@@ -132,6 +132,26 @@ module _ (v : Value) (l : Ledger) (t : ℕ) (V : Stands v l) (rests : Rests l t)
         not_again a bs d.0 (subst (In bs) (ap (λ (o : Seen). o.at) same ∙ q.2) r.3)),
     once_marked bs (λ b j. each b (inr j)) d.1,
   )
+
+-- marked are no more than the snapshot has
+pub few_marked : (v : Value) (l : Ledger) (t : ℕ) (marked : List Addr) → Stands v l → Rests l t → ((a : Addr) → In marked a → (q : Seen) × In (objects v t) q × (q.at ≡ a) × In (heap_of l t).snapshot q.name) → IsDistinct same_address marked
+    → length marked ≤ length (heap_of l t).snapshot
+few_marked v l t marked V rests each once =
+    let ns = names v l t V rests marked each in
+    let as_many : length ns ≡ length marked = as_many v l t V rests marked each in
+    let le : length ns ≤ length (heap_of l t).snapshot = no_more ns (heap_of l t).snapshot (once_marked v l t V rests marked each once) (λ n i. (named_by v l t V rests marked each n i).4) in
+    omega (arith, le, as_many)
+
+-- and no fewer, where each object of it is marked
+pub all_marked : (v : Value) (l : Ledger) (t : ℕ) (marked : List Addr) → Stands v l → Rests l t → ((a : Addr) → In marked a → (q : Seen) × In (objects v t) q × (q.at ≡ a) × In (heap_of l t).snapshot q.name)
+    → IsDistinct is_name (heap_of l t).snapshot → ((n : Name) → In (heap_of l t).snapshot n → In (held_in (heap_of l t)) n) → ((q : Seen) → In (objects v t) q → In (heap_of l t).snapshot q.name → In marked q.at) → length (heap_of l t).snapshot ≤ length marked
+all_marked v l t marked V rests each distinct held every =
+    let ns = names v l t V rests marked each in
+    let as_many : length ns ≡ length marked = as_many v l t V rests marked each in
+    let le : length (heap_of l t).snapshot ≤ length ns = no_more (heap_of l t).snapshot ns (once_names (heap_of l t).snapshot distinct) (λ n i.
+    let o = held_object (v.homes t).chunks (heap_of l t) (V.homes t rests).names n (held n i) in
+    subst (In ns) o.2 (name_in v l t V rests marked each o.0 o.1 (every o.0 o.1 (subst (In (heap_of l t).snapshot) (sym o.2) i)))) in
+    omega (arith, le, as_many)
 
 pub marks_are_all : MarksAreAll
 marks_are_all v l t marked V rests distinct held M =

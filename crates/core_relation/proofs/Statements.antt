@@ -14,6 +14,7 @@ use Rattle.hh_model.specs.Step.{is_waiting}
 use Rattle.run_ledger.specs.declared.data.Ledger.{Ledger}
 use Rattle.run_ledger.specs.Heaps.{heap_of, with_heap, collected}
 use Rattle.run_ledger.specs.Sound.{SoundLedger}
+use Rattle.core_relation.specs.Stands.{Stands}
 use Rattle.core_relation.specs.Value.{Frame, Home, Value}
 use Rattle.ledger_steps.specs.Accounts.{Rests, rested, StepsAlone, Takes, SameTasks, Knows, Leaves}
 use Rattle.core_relation.specs.Fits.{Part, FitsAt, with_home, ahead, part_for}
@@ -100,4 +101,4 @@ NotesAhead =
 
 abbrev pub NotesBack : Type 0
 NotesBack =
-    (t : ℕ) (g : Home) (v : Value) (l : Ledger) → is_waiting (slice_get l.machine.tasks t) ≡ false → AllNoted (with_home v t g) (rested l t) → AllNoted v l
+    (t : ℕ) (g : Home) (v : Value) (l : Ledger) → is_waiting (slice_get l.machine.tasks t) ≡ false → Stands (with_home v t g) (rested l t) → AllNoted (with_home v t g) (rested l t) → AllNoted v l

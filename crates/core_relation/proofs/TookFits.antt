@@ -1,5 +1,5 @@
 -- The home of a task that a worker takes fits.
-use Rattle.std.proofs.Common.{◌≡◌, ℕ, Some, None, is_none, slice_get, inl, inr, refl, ap, sym, subst, ◌∙◌}
+use Rattle.std.proofs.Common.{length, ◌≡◌, ℕ, Some, None, is_none, slice_get, inl, inr, refl, ap, sym, subst, ◌∙◌}
 use Rattle.std.proofs.lemmas.Bool.{and_parts, cases_eq}
 use Rattle.hh_lang.specs.Form.{ProgramText}
 use Rattle.run_trace.specs.Entry.{Event}
@@ -55,6 +55,7 @@ module _ (p : ProgramText) (s : Limits) (q : Part) (v v' : Value) (l : Ledger) (
         (record {
           home = λ u r. home_kept (with_home v q.task q.home) (with_home v' q.task q.home) k k u (same u) (λ i e. C.owner i ∙ e) refl refl (F.stands.homes u r);
           objects = λ u. ap (λ (z : Home). objects_in z.chunks) (same u);
+          chunks = λ u e. ap (λ (z : Home). length z.chunks) (same u);
           frames = λ u. ap (λ (z : Home). z.frames) (same u);
           result = λ u. ap (λ (z : Home). z.result) (same u);
           owner = λ i u e. C.owner i ∙ e;

@@ -1,9 +1,12 @@
 -- What is marked of a waiting heap.
-use Rattle.std.specs.Prelude.{◌≡◌, ◌==◌, ◌&&◌, ℕ, Bool, Option, Some, None, List, length}
+use Rattle.std.specs.Prelude.{◌≡◌, ◌⊎◌, ◌↔◌, ◌==◌, ◌&&◌, ◌+◌, ◌<◌, ◌≤◌, ℕ, Bool, Option, Some, None, List, length}
 use Rattle.std.specs.List.{IsDistinct}
 use Rattle.object_layout.specs.declared.word.Addr.{Addr}
+use Rattle.hh_model.specs.declared.data.Name.{Name}
 use Rattle.run_ledger.specs.declared.data.Ledger.{Ledger}
 use Rattle.run_ledger.specs.Heaps.{heap_of}
+use Rattle.inner_mark_gc.specs.Marks.{IsMarking, Marks, Once, marked_of}
+use Rattle.inner_mark_gc.specs.Snapshot.{Fork, IsHeld, IsInSnapshot, Leads}
 use Rattle.core_relation.specs.Value.{Seen, Value, In, objects}
 
 abbrev pub same_address : Addr → Addr → Bool
@@ -15,6 +18,25 @@ pub record MarksStand (v : Value) (l : Ledger) (t : ℕ) (marked : List Addr) : 
   pub once : IsDistinct same_address marked
   pub each : (a : Addr) → In marked a → (q : Seen) × In (objects v t) q × (q.at ≡ a) × In (heap_of l t).snapshot q.name
 
-abbrev pub MarkedBy : Value → Ledger → ℕ → Option (List Addr) → Type 0
+-- a marking that can go on: from the heap as it was when it began it marks just the objects of these names
+pub record GoesOn (v : Value) (t : ℕ) (names : List Name) (m : Marks) : Type 0 where
+  pub fork : Fork
+  pub marks : IsMarking fork (v.noted t).kept m
+  -- its objects are those that are there now
+  pub there : (o : Seen) → In (objects v t) o → IsHeld fork.heap o.at
+  pub were : (a : Addr) → IsHeld fork.heap a → (o : Seen) × In (objects v t) o × (o.at ≡ a)
+  -- what was overwritten since then was kept
+  pub overwritten : (o : Seen) (a : Addr) → In (objects v t) o → v.owner a.chunk ≡ Some t → Leads fork.heap o.at a → In o.refs (Some a) ⊎ In (v.noted t).kept a
+  -- walks through it, also from what was kept, lead to just these names
+  pub snapshot : (o : Seen) → In (objects v t) o → IsInSnapshot fork (v.noted t).kept o.at ↔ In names o.name
+  -- each object found stands once, and there is room for all others, and for the chunks
+  pub once : Once m.found
+  pub marked : m.marked ≤ length m.found
+  pub followed : m.followed ≤ length (v.noted t).kept
+  pub slots : length (objects v t) < length m.found + m.slots
+  pub spare : length (objects v t) < length m.found + m.spare
+  pub places : length (v.homes t).chunks ≤ m.places
+
+abbrev pub MarkedBy : Value → Ledger → ℕ → Option Marks → Type 0
 MarkedBy v l t None = (heap_of l t).marked ≡ None
-MarkedBy v l t (Some marked) = MarksStand v l t marked
+MarkedBy v l t (Some m) = MarksStand v l t (marked_of m) × GoesOn v t (heap_of l t).snapshot m

@@ -34,6 +34,7 @@ use Rattle.core_relation.proofs.Members.{in_map, map_in}
 use Rattle.core_relation.proofs.With.{at_home, off_home}
 use Rattle.shared_tree.specs.Objects.{chunk_of}
 use Rattle.shared_tree.specs.World.{World, accounts, value_of}
+use Rattle.shared_tree.specs.Measured.{IsMeasured}
 use Rattle.shared_tree.specs.Stands.{IsWorld}
 use Rattle.shared_tree.specs.Fits.{Fits, home_of_part}
 use Rattle.shared_tree.specs.Due.{take_by}
@@ -46,6 +47,7 @@ use Rattle.shared_tree.proofs.Entering.{entered, entry_on}
 use Rattle.shared_tree.proofs.FreeChunks.{take_is}
 use Rattle.shared_tree.proofs.FuelEnds.{quiet_own}
 use Rattle.shared_tree.proofs.Linked as link
+use Rattle.shared_tree.proofs.Measuring.{all_taken_units, measured_kept}
 use Rattle.shared_tree.proofs.Running.{fits_now, home_is, status}
 use Rattle.shared_tree.proofs.Targets.{are_roots, has_it}
 use Rattle.shared_tree.proofs.BeginCauses.{begin_idle}
@@ -177,6 +179,7 @@ module _ (w : World) (k : ℕ) (p : Private) (I : IsWorld w) (F : Fits w k (reco
     part_same = record {
       home = home_at;
       objects = λ u. seen (λ (z : Home). objects_in z.chunks) refl u;
+      chunks = λ u e. seen (λ (z : Home). length z.chunks) refl u;
       frames = λ u. seen (λ (z : Home). z.frames) refl u;
       result = λ u. seen (λ (z : Home). z.result) refl u;
       owner = owner_kept;
@@ -245,8 +248,11 @@ module _ (w : World) (k : ℕ) (p : Private) (I : IsWorld w) (F : Fits w k (reco
         begins before after_ (rested l t) (rested L t) t F.fits.task b' (rested_sound l t (legal_knows w.program w.settings w.journal.items I.legal).sound) (fits_now w k P I F on).stands
         (ap (λ (m : State). slice_get m.tasks t) (with_machine l t let_go) ∙ F.fits.is) (status w k P I F on) (rested_worker l t) (waits_rest l t (idle_rest w I on)) (are_roots w k p I F on) begins_so
 
+    measured_then : IsMeasured pool Q
+    measured_then = (measured_kept w.pool pool t p.heap.chunks (first.units_stay w k p I F free pool news slots spare T j t) F.measured.0, all_taken_units w.pool pool p.task (take_by (small_words p.heap.chunks)) [] news T)
+
     pub begin_part : Fits w' k Q
-    begin_part = quiet_own w e I free tt (λ u m. m) pool w.end j.room (first.same w k p I F free pool news slots spare T j) (first.notes w k p I F free pool news slots spare T j) (first.counts w k p I F free pool news slots spare T j) T.limit k p g (Some b) F (places_form p.heap slots spare F.form) part_same begun_stands
+    begin_part = quiet_own w e I free tt (λ u m. m) pool w.end j.room (first.same w k p I F free pool news slots spare T j) (first.notes w k p I F free pool news slots spare T j) (first.counts w k p I F free pool news slots spare T j) T.limit (first.units_stay w k p I F free pool news slots spare T j) k p g (Some b) F (places_form p.heap slots spare F.form) measured_then part_same begun_stands
 
     -- no new chunk's number is one of the heap's
     pub new_fresh : (c : Content) → In ks c → IsFresh p.heap.chunks c.number

@@ -27,6 +27,7 @@ use Rattle.core_relation.specs.Value.{Begun, In, Value}
 use Rattle.core_relation.specs.Whole.{StandsFor}
 use Rattle.core_relation.proofs.Alone.{home_kept}
 use Rattle.shared_tree.specs.World.{World, accounts, totals_of, value_of}
+use Rattle.shared_tree.specs.Measured.{KeepsUnits}
 use Rattle.shared_tree.specs.Stands.{IsWorld}
 use Rattle.shared_tree.specs.Fits.{Fits, OthersFit}
 use Rattle.shared_tree.specs.Due.{take_by}
@@ -37,6 +38,7 @@ use Rattle.shared_tree.proofs.Asking.{account_is}
 use Rattle.shared_tree.proofs.Entering.{entered, entry_on, held_apart}
 use Rattle.shared_tree.proofs.FreeChunks.{take_is}
 use Rattle.shared_tree.proofs.FuelEnds.{quiet_others, quiet_world}
+use Rattle.shared_tree.proofs.Measuring.{all_taken_keep}
 use Rattle.shared_tree.proofs.Now.{stands_now}
 use Rattle.shared_tree.proofs.Running.{status}
 use Rattle.shared_tree.proofs.Targets.{chunk_in}
@@ -146,6 +148,7 @@ module _ (w : World) (k : ℕ) (p : Private) (I : IsWorld w) (F : Fits w k (reco
     same = record {
       home = λ u r. home_kept v v' l L u refl (λ c q. owner_kept c u q) (ap or_fresh (heap_off u (not_t u r))) (ap (λ (m : State). length (row_of (slice_get m.store u))) same_machine) (S.homes.homes u (rested_before u r));
       objects = λ u. refl;
+      chunks = λ u e. refl;
       frames = λ u. refl;
       result = λ u. refl;
       owner = owner_kept;
@@ -164,9 +167,12 @@ module _ (w : World) (k : ℕ) (p : Private) (I : IsWorld w) (F : Fits w k (reco
       refl,
     )
 
+    pub units_stay : (o : ℕ) → KeepsUnits w.pool pool o
+    units_stay = all_taken_keep w.pool pool p.task (take_by (small_words p.heap.chunks)) [] news T
+
     pub begin_world : IsWorld w'
-    begin_world = quiet_world w e I free tt (λ u m. m) pool w.end j.room same notes counts T.limit
+    begin_world = quiet_world w e I free tt (λ u m. m) pool w.end j.room same notes counts T.limit units_stay
 
     -- THE PARTS OF OTHERS
     pub begin_others : OthersFit w w' k
-    begin_others o q ne G = quiet_others w e I free tt (λ u m. m) pool w.end j.room same notes counts T.limit o q (held_apart w k o P q F G ne) G
+    begin_others o q ne G = quiet_others w e I free tt (λ u m. m) pool w.end j.room same notes counts T.limit units_stay o q (held_apart w k o P q F G ne) G

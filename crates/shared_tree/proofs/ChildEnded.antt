@@ -12,11 +12,9 @@ use Rattle.hh_model.specs.Step.{child_ended_by, ended_task, is_running, parent_o
 use Rattle.heap_tree.specs.declared.state.State.TheVariants.{Ended}
 use Rattle.heap_tree.specs.Node.{Node, state_of as state_in_tree, with_state}
 use Rattle.run_ledger.specs.declared.data.Ledger.{Ledger}
-use Rattle.run_ledger.specs.Heaps.{heap_of, let_go, or_fresh}
+use Rattle.run_ledger.specs.Heaps.{heap_of}
 use Rattle.task_machine.specs.declared.part.Private.{Private}
 use Rattle.ledger_steps.specs.Last.{EndsFirst, Ending, Runs, Splits}
-use Rattle.ledger_steps.proofs.Rested.{rested_view}
-use Rattle.ledger_steps.proofs.Ahead.{with_off}
 use Rattle.core_relation.specs.Value.{Home, Value}
 use Rattle.core_relation.specs.Changes.{EndsHome}
 use Rattle.core_relation.specs.Fits.{part_for, with_home}
@@ -28,7 +26,8 @@ use Rattle.core_relation.proofs.RanWhole.{ran_stands_for}
 use Rattle.core_relation.proofs.With.{at_home, off_home}
 use Rattle.core_relation.proofs.Workers.{ran_leaves}
 use Rattle.shared_tree.specs.declared.rest.Rest.{Rest}
-use Rattle.shared_tree.specs.World.{World, accounts, begun_of, flat, frame_of, home_in, home_of, node_of, rest_at, totals_of, value_of}
+use Rattle.shared_tree.specs.World.{World, accounts, begun_of, flat, frame_of, home_in, home_of, rest_at, totals_of, value_of}
+use Rattle.shared_tree.specs.Measured.{AreMeasured, RestsAreMeasured}
 use Rattle.shared_tree.specs.Stands.{HeapForm, IsWorld}
 use Rattle.shared_tree.specs.Fits.{Fits, OthersFit, home_of_part, part_of}
 use Rattle.shared_tree.specs.Alone.{IsShared, alone_event, ended_rest}
@@ -36,7 +35,7 @@ use Rattle.shared_tree.specs.ChildEnds.{EndsChild, IsAtEnd, running_parent, wher
 use Rattle.shared_tree.specs.Entered.{refused}
 use Rattle.shared_tree.proofs.ChildSteps as steps
 use Rattle.shared_tree.proofs.ChildSteps.{waits_stop}
-use Rattle.shared_tree.proofs.Entering.{accounts_are, entered, entered_world, held_apart, part_fits}
+use Rattle.shared_tree.proofs.Entering.{accounts_are, entered, entered_world, hand_is, held_apart, part_fits, unheld_before}
 use Rattle.shared_tree.proofs.LastEnds.{ends}
 use Rattle.shared_tree.proofs.LastEntry as last
 use Rattle.shared_tree.proofs.LastEntry.{last_event}
@@ -189,11 +188,17 @@ module _ (w : World) (k : ℕ) (p : Private) (I : IsWorld w) (F : Fits w k p) (a
       | inr ne ↦ I.heaps u r (sym (rest_off u ne) ∙ is)
     ]
 
+    measured_then : RestsAreMeasured w.pool homes hands
+    measured_then u r is f = elim (cases_eq u t) [
+      | inl q ↦ subst (λ z. AreMeasured w.pool z r.heap.chunks) (sym q) (subst (λ (z : Rest). AreMeasured w.pool t z.heap.chunks) (same_Some rest r (sym rest_now ∙ (ap (rest_at homes) (sym q) ∙ is))) F.measured.0)
+      | inr ne ↦ I.measured u r (sym (rest_off u ne) ∙ is) (unheld_before w.hands k None u f (λ h. ne (same_Some u t (sym h ∙ hand_is w k p I (steps.on w k p I F at_end free) F))))
+    ]
+
     ended_world : IsWorld w'
     ended_world =
         entered_world w (last_event k p) I free_last tree w.pool homes w.sets hands w.outputs all_steps w.end j.room (length-set w.homes t (Some rest) ∙ (I.made ∙ sym (made_by w.tree t Ended (slice_get w.tree t)))) (I.noted ∙ sym (made_by w.tree t Ended (slice_get w.tree t))) (length-set w.hands k None) refl
         (ran_stands_for w.program w.settings w.journal.items I.form I.legal v v' (totals_of w) (totals_of w') k t p.fresh h free_last E I.stands own (frame_of p.frames.top, map frame_of p.frames.below, ends_home) notes counts)
-        heaps_then
+        heaps_then measured_then
 
     ended_goes : (accounts w').end ≡ None
     ended_goes = sym (end_now w' ended_world) ∙ (end_now w I ∙ steps.on w k p I F at_end free)
@@ -205,7 +210,7 @@ module _ (w : World) (k : ℕ) (p : Private) (I : IsWorld w) (F : Fits w k p) (a
     -- THE PARTS OF OTHERS
     ended_others : OthersFit w w' k
     ended_others u r ne G =
-        part_fits w (last_event k p) I free_last tree w.pool homes w.sets hands w.outputs all_steps w.end j.room ended_world u r r (ap flat (got_other w.hands k u None ne)) G refl refl refl G.form
+        part_fits w (last_event k p) I free_last tree w.pool homes w.sets hands w.outputs all_steps w.end j.room ended_world u r r (ap flat (got_other w.hands k u None ne)) G refl refl refl G.form G.measured
         (ran_leaves w.program w.settings v v' l L t k p.fresh h E own (frame_of p.frames.top, map frame_of p.frames.below, ends_home) (part_of w.settings r) (held_apart w k u p r F G ne) G.fits)
 
     -- ---- AS THE CALL HAS IT

@@ -1,6 +1,6 @@
 -- A part gets a chunk.
 use Rattle.std.proofs.Common.{◌≡◌, ◌⊎◌, ℕ, zero, suc, ◌+◌, ◌*◌, ◌/◌, ◌<◌, ◌≤◌, true, false, ◌&&◌, not, Bool, cond, Option, Some, None, List, [], ◌∷◌, ◌++◌, length, map, slice_get, option_map, is_none, is_some, nat_lt, ◌==◌, inl, inr, refl, ap, ap₂, sym, subst, ◌∙◌, arith, lt-ltb, le-ltb, eq-eqb, ne_eqb}
-use Rattle.std.proofs.lemmas.Bool.{cases_eq, cases_lt, cond-false, cond-true, false≢true, leb-false}
+use Rattle.std.proofs.lemmas.Bool.{both_ways, cases_eq, cases_lt, cond-false, cond-true, false≢true, leb-false}
 use Rattle.std.proofs.lemmas.Option.{same_Some}
 use Rattle.listed.specs.Space.{Space}
 use Rattle.object_layout.specs.Chunks.{place_in}
@@ -44,6 +44,7 @@ use Rattle.ledger_steps.proofs.Ahead.{heap_then, with_at, with_machine, with_off
 use Rattle.ledger_steps.proofs.Rested.{rested_view}
 use Rattle.shared_tree.specs.Objects.{chunk_of, chunks_of}
 use Rattle.shared_tree.specs.World.{World, accounts, begun_of, totals_of, value_of}
+use Rattle.shared_tree.specs.Measured.{AreMeasured, IsMeasured, KeepsUnits}
 use Rattle.shared_tree.specs.Stands.{HeapForm, IsWorld}
 use Rattle.shared_tree.specs.Fits.{Fits, OthersFit, home_of_part}
 use Rattle.shared_tree.specs.Next.{part_asks}
@@ -57,6 +58,7 @@ use Rattle.shared_tree.proofs.FuelEnds.{quiet_others, quiet_own, quiet_world, sa
 use Rattle.shared_tree.proofs.Growing.{units_some, chunk_begun, chunk_held, chunk_large, chunk_since, chunk_with, grown_counted, in_more, large_more, none_in, objects_more}
 use Rattle.shared_tree.proofs.Grown.{form_more, laid_more, reserved_none}
 use Rattle.shared_tree.proofs.Linked as link
+use Rattle.shared_tree.proofs.Measuring.{all_kept, measured_both, measured_new, part_kept, taken_keeps}
 use Rattle.shared_tree.proofs.Needs.{at_work, chunk_is}
 use Rattle.shared_tree.proofs.Now.{stands_now, used_now}
 use Rattle.shared_tree.proofs.Running.{fits_now, home_is, status}
@@ -254,6 +256,7 @@ module _ (w : World) (k : ℕ) (p : Private) (I : IsWorld w) (F : Fits w k (reco
     objects_same = record {
       home = λ u r. home_kept v v' l L u refl (λ c e. owner_kept c u e) (ap or_fresh (heap_off u (not_t u r))) (ap (λ (m : State). length (row_of (slice_get m.store u))) same_machine) (S.homes.homes u (rested_before u r));
       objects = λ u. refl;
+      chunks = λ u e. refl;
       frames = λ u. refl;
       result = λ u. refl;
       owner = owner_kept;
@@ -277,8 +280,11 @@ module _ (w : World) (k : ℕ) (p : Private) (I : IsWorld w) (F : Fits w k (reco
     same : SameObjects v v' l (after w.program w.settings l e)
     same = subst (SameObjects v v' l) (sym then) objects_same
 
+    units_stay : (o : ℕ) → KeepsUnits w.pool pool o
+    units_stay = taken_keeps w.pool pool number (record { owner = p.task; units = u }) T
+
     pub chunk_world : IsWorld w'
-    chunk_world = quiet_world w e I free tt (λ u m. m) pool w.end j.room same notes counts T.rest.limit
+    chunk_world = quiet_world w e I free tt (λ u m. m) pool w.end j.room same notes counts T.rest.limit units_stay
 
     -- ---- THE PART
     abbrev before : Value
@@ -316,6 +322,11 @@ module _ (w : World) (k : ℕ) (p : Private) (I : IsWorld w) (F : Fits w k (reco
 
     chunks_are : g.chunks ≡ p.heap.chunks ++ K ∷ []
     chunks_are = chunks_added p.heap K refl size_least fresh slots spare
+
+    measured_then : IsMeasured pool Q
+    measured_then =
+        let old = part_kept w.pool pool P (units_stay t) F.measured in
+        (subst (AreMeasured pool t) (sym chunks_are) (measured_both pool t p.heap.chunks (K ∷ []) old.0 (measured_new w.pool pool K t u T refl)), old.1)
 
     shaped_then : IsShaped g
     shaped_then = shape_added p.heap K refl size_least fresh F.form.shaped slots spare
@@ -412,6 +423,10 @@ module _ (w : World) (k : ℕ) (p : Private) (I : IsWorld w) (F : Fits w k (reco
     part_same = record {
       home = home_at;
       objects = λ u. seen (λ (z : Home). objects_in z.chunks) objects_then u;
+      chunks = λ u e. elim (cases_eq u t) [
+        | inl q ↦ absurd (both_ways (is_waiting (slice_get l.machine.tasks t)) idle (ap (λ z. is_waiting (slice_get l.machine.tasks z)) (sym q) ∙ (ap (λ (m : State). is_waiting (slice_get m.tasks u)) (sym (with_machine l t let_go)) ∙ e)))
+        | inr ne ↦ ap (λ (z : Home). length z.chunks) (off_home v' t (home_of_part Q) u ne ∙ sym (off_home v t (home_of_part P) u ne))
+      ];
       frames = λ u. seen (λ (z : Home). z.frames) refl u;
       result = λ u. seen (λ (z : Home). z.result) refl u;
       owner = owner_kept;
@@ -445,13 +460,13 @@ module _ (w : World) (k : ℕ) (p : Private) (I : IsWorld w) (F : Fits w k (reco
 
     pub chunk_part : Fits w' k Q
     chunk_part =
-        quiet_own w e I free tt (λ u m. m) pool w.end j.room same notes counts T.rest.limit k p g p.begun F form_then
+        quiet_own w e I free tt (λ u m. m) pool w.end j.room same notes counts T.rest.limit units_stay k p g p.begun F form_then measured_then
         (subst (λ (z : Ledger). SameObjects before after_ (rested l t) (rested z t)) (sym then) part_same)
         (subst (λ (z : Ledger). BegunBy after_ (rested z t) t (begun_of p.begun)) (sym then) (subst (λ o. BegunBy after_ (rested L t) t (begun_of o)) (sym idle_part) none_then))
 
     -- ---- THE PARTS OF OTHERS
     pub chunk_others : OthersFit w w' k
-    chunk_others o q ne G = quiet_others w e I free tt (λ u m. m) pool w.end j.room same notes counts T.rest.limit o q (held_apart w k o P q F G ne) G
+    chunk_others o q ne G = quiet_others w e I free tt (λ u m. m) pool w.end j.room same notes counts T.rest.limit units_stay o q (held_apart w k o P q F G ne) G
 
 -- ---- WHERE TOO FEW ARE FREE
 module _ (w : World) (k : ℕ) (p : Private) (I : IsWorld w) (F : Fits w k (record p { fresh = 0 })) (on : (accounts w).end ≡ None) (free : refused w (record { worker = k; kind = ChunkOf p.task }) ≡ None)
@@ -488,10 +503,10 @@ module _ (w : World) (k : ℕ) (p : Private) (I : IsWorld w) (F : Fits w k (reco
   full_counts = (record { node = λ u. refl; hand = λ u. refl; steps = refl; outputs = refl }, full_units)
 
   pub full_world : IsWorld ended
-  full_world = quiet_world w full_event I free tt (λ u m. m) w.pool full_end j.room full_same full_notes full_counts refl
+  full_world = quiet_world w full_event I free tt (λ u m. m) w.pool full_end j.room full_same full_notes full_counts refl (all_kept w.pool)
 
   pub full_others : OthersFit w ended k
-  full_others o q ne G = quiet_others w full_event I free tt (λ u m. m) w.pool full_end j.room full_same full_notes full_counts refl o q (held_apart w k o (record p { fresh = 0 }) q F G ne) G
+  full_others o q ne G = quiet_others w full_event I free tt (λ u m. m) w.pool full_end j.room full_same full_notes full_counts refl (all_kept w.pool) o q (held_apart w k o (record p { fresh = 0 }) q F G ne) G
 
   abbrev full_home : Value
   full_home = with_home (value_of w) p.task (home_of_part (record p { fresh = 0 }))
@@ -515,7 +530,7 @@ module _ (w : World) (k : ℕ) (p : Private) (I : IsWorld w) (F : Fits w k (reco
   -- the part, whose heap may have places for other numbers of chunks
   pub full_part : (a b : ℕ) → Fits ended k (record p { fresh = 0; heap = with_places p.heap a b })
   full_part a b =
-      quiet_own w full_event I free tt (λ u m. m) w.pool full_end j.room full_same full_notes full_counts refl k p (with_places p.heap a b) p.begun F (places_form p.heap a b F.form)
+      quiet_own w full_event I free tt (λ u m. m) w.pool full_end j.room full_same full_notes full_counts refl (all_kept w.pool) k p (with_places p.heap a b) p.begun F (places_form p.heap a b F.form) F.measured
       (subst (λ (z : Ledger). SameObjects full_home full_home (rested (accounts w) p.task) (rested z p.task)) (sym ends_so)
       (same_value full_home (rested (accounts w) p.task) (rested full_ledger p.task) (with_machine full_ledger p.task let_go ∙ sym (with_machine (accounts w) p.task let_go)) heaps_rested (fits_now w k (record p { fresh = 0 }) I F on).stands.homes))
       (subst (λ (z : Ledger). BegunBy full_home (rested z p.task) p.task (begun_of p.begun)) (sym ends_so) (subst (λ o. BegunBy full_home (rested full_ledger p.task) p.task (begun_of o)) (sym full_idle) none_full))
@@ -542,7 +557,7 @@ places_added h K a b c d = by (K.size == 1024)
     by false = refl
 
 pub places_fit : (w : World) (k : ℕ) (p : Private) (a b : ℕ) → Fits w k p → Fits w k (record p { heap = with_places p.heap a b })
-places_fit w k p a b F = record { held = F.held; fits = F.fits; form = places_form p.heap a b F.form; leaf_limit = F.leaf_limit; field_limit = F.field_limit }
+places_fit w k p a b F = record { held = F.held; fits = F.fits; form = places_form p.heap a b F.form; measured = F.measured; leaf_limit = F.leaf_limit; field_limit = F.field_limit }
 
 module _ (w : World) (k : ℕ) (p : Private) (I : IsWorld w) (F : Fits w k p) (none : p.fresh ≡ 0) (free : refused w (record { worker = k; kind = ChunkOf p.task }) ≡ None) where
   part_is : p ≡ record p { fresh = 0 }

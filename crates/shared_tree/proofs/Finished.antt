@@ -34,11 +34,12 @@ use Rattle.core_relation.proofs.Workers.{ran_leaves}
 use Rattle.shared_tree.specs.declared.next.Ending.TheVariants.{Returns}
 use Rattle.shared_tree.specs.declared.rest.Rest.{Rest}
 use Rattle.shared_tree.specs.World.{World, accounts, begun_of, flat, frame_of, home_in, home_of, node_of, rest_at, totals_of, value_of}
+use Rattle.shared_tree.specs.Measured.{AreMeasured, RestsAreMeasured}
 use Rattle.shared_tree.specs.Stands.{HeapForm, IsWorld}
 use Rattle.shared_tree.specs.Fits.{Fits, OthersFit, home_of_part, part_of}
 use Rattle.shared_tree.specs.Alone.{IsShared, Tells, ended_rest}
 use Rattle.shared_tree.specs.Entered.{refused}
-use Rattle.shared_tree.proofs.Entering.{entered, entered_world, held_apart, part_fits}
+use Rattle.shared_tree.proofs.Entering.{entered, entered_world, hand_is, held_apart, part_fits, unheld_before}
 use Rattle.shared_tree.proofs.LastKinds.{done}
 use Rattle.shared_tree.proofs.LastEntry as last
 use Rattle.shared_tree.proofs.LastEntry.{last_event}
@@ -191,11 +192,17 @@ module _ (w : World) (k : ℕ) (p : Private) (I : IsWorld w) (F : Fits w k p) (s
       | inr ne ↦ I.heaps u r (sym (rest_off u ne) ∙ is)
     ]
 
+    measured_then : RestsAreMeasured w.pool homes hands
+    measured_then u r is f = elim (cases_eq u t) [
+      | inl q ↦ subst (λ z. AreMeasured w.pool z r.heap.chunks) (sym q) (subst (λ (z : Rest). AreMeasured w.pool t z.heap.chunks) (same_Some rest r (sym rest_now ∙ (ap (rest_at homes) (sym q) ∙ is))) F.measured.0)
+      | inr ne ↦ I.measured u r (sym (rest_off u ne) ∙ is) (unheld_before w.hands k None u f (λ h. ne (same_Some u t (sym h ∙ hand_is w k p I (last.on w k p I F shared free) F))))
+    ]
+
     pub done_world : IsWorld w'
     done_world =
         entered_world w (last_event k p) I free tree w.pool homes w.sets hands w.outputs steps (Some (Machine Done)) j.room (length-set w.homes t (Some rest) ∙ (I.made ∙ sym (made_by w.tree t Ended (slice_get w.tree t)))) (I.noted ∙ sym (made_by w.tree t Ended (slice_get w.tree t))) (length-set w.hands k None) refl
         (ran_stands_for w.program w.settings w.journal.items I.form I.legal v v' (totals_of w) (totals_of w') k t p.fresh h free E I.stands own (frame_of p.frames.top, map frame_of p.frames.below, ends_home) notes counts)
-        heaps_then
+        heaps_then measured_then
 
     pub done_ends : (accounts w').end ≡ Some (Machine Done)
     done_ends = sym (end_now w' done_world)
@@ -203,5 +210,5 @@ module _ (w : World) (k : ℕ) (p : Private) (I : IsWorld w) (F : Fits w k p) (s
     -- THE PARTS OF OTHERS
     pub done_others : OthersFit w w' k
     done_others u r ne G =
-        part_fits w (last_event k p) I free tree w.pool homes w.sets hands w.outputs steps (Some (Machine Done)) j.room done_world u r r (ap flat (got_other w.hands k u None ne)) G refl refl refl G.form
+        part_fits w (last_event k p) I free tree w.pool homes w.sets hands w.outputs steps (Some (Machine Done)) j.room done_world u r r (ap flat (got_other w.hands k u None ne)) G refl refl refl G.form G.measured
         (ran_leaves w.program w.settings v v' l L t k p.fresh h E own (frame_of p.frames.top, map frame_of p.frames.below, ends_home) (part_of w.settings r) (held_apart w k u p r F G ne) G.fits)

@@ -8,6 +8,8 @@ use Rattle.object_layout.specs.Place.{words_in}
 use Rattle.alloc_path.specs.Heap.{AreTidy, AreWithin, IsTidy}
 use Rattle.alloc_path.proofs.Near.{are_near}
 use Rattle.object_layout.specs.Cell.{IsObject}
+use Rattle.chunk_pool.specs.declared.pool.Held.{Held}
+use Rattle.chunk_pool.specs.Chunks.{held_at}
 use Rattle.hh_model.specs.declared.data.Name.{Name}
 use Rattle.run_ledger.specs.declared.data.Ledger.{Ledger}
 use Rattle.run_ledger.specs.Heaps.{heap_of}
@@ -31,6 +33,7 @@ use Rattle.core_relation.proofs.With.{at_home, off_home}
 use Rattle.shared_tree.specs.Again.{KeepsPlaces}
 use Rattle.shared_tree.specs.Objects.{chunk_of}
 use Rattle.shared_tree.specs.World.{World, accounts, begun_of, value_of}
+use Rattle.shared_tree.specs.Measured.{IsMeasured}
 use Rattle.shared_tree.specs.Stands.{HeapForm, IsWorld}
 use Rattle.shared_tree.specs.Fits.{Fits, home_of_part, part_of}
 use Rattle.shared_tree.specs.Links.{above_of}
@@ -181,6 +184,12 @@ module _ (w : World) (k : ℕ) (p q : Private) (n : ℕ) (I : IsWorld w) (F : Fi
       (link.at_rest w k p I F on) (rested_worker (task_steps w.program l t (p.fresh + n)) t) (link.idle w k p I F on) at_home_then
       (home_read w.program Q L' above machine_then formed_then counts_then (run.account_few w k p q n I F on idle R C) after here owned_then elsewhere)
 
+  measured_then : IsMeasured w.pool Q
+  measured_then = (
+    λ c i. (let j = keeps.numbers c i in ap (held_at w.pool) (sym j.2) ∙ (F.measured.0 j.0 j.1 ∙ ap (λ n. let h : Held = record { owner = t; units = n / 1024 } in Some h) j.3)),
+    F.measured.1,
+  )
+
   again : Fits w k Q
   again = record {
     held = F.held;
@@ -195,6 +204,7 @@ module _ (w : World) (k : ℕ) (p q : Private) (n : ℕ) (I : IsWorld w) (F : Fi
       fields = refl;
     };
     form = form_then;
+    measured = measured_then;
     leaf_limit = F.leaf_limit;
     field_limit = F.field_limit;
   }

@@ -14,6 +14,7 @@ use Rattle.write_barrier.specs.declared.sets.SetOf.{SetOf}
 use Rattle.write_barrier.specs.Stored.{content_of}
 use Rattle.task_machine.specs.declared.part.Private.{Private}
 use Rattle.shared_tree.specs.declared.rest.Rest.{Rest}
+use Rattle.inner_mark_gc.specs.Marks.{Marks}
 use Rattle.shared_tree.specs.World.{World, accounts, flat, rest_at}
 use Rattle.shared_tree.specs.Stands.{IsWorld}
 use Rattle.shared_tree.specs.Fits.{Fits, OthersFit}
@@ -94,30 +95,32 @@ module _ (w : World) (k : ℕ) (p : Private) (I : IsWorld w) (F : Fits w k p) (a
   pub own_set : p.task < length w.sets
   own_set = subst (λ n. p.task < n) (sym I.noted) (forked_by.has_node w k p I F at_fork free left right number B shallow)
 
-  module _ (homes : List (Option Rest)) (sets : List SetOf) (H : HomesFork w.homes homes p left right) (N : SetsFork w.sets sets p.task) (j : Space Event) where
+  module _ (homes : List (Option Rest)) (sets : List SetOf) (H : HomesFork w.homes homes p left right) (N : SetsFork w.sets sets p.task) (marks : List (Option Marks)) (unmarked : marks ≡ slice_set w.marks p.task None) (j : Space Event) where
     abbrev pub forked_alone : World
     forked_alone = record w {
       tree = forked w.tree p.task;
       homes = homes;
       sets = sets;
+      marks = marks;
       hands = slice_set w.hands k None;
       steps = w.steps + (p.fresh + 1);
       journal = record { items = w.journal.items ++ alone_event k p ∷ []; room = j.room };
     }
 
-    forked_is : record w { tree = forked w.tree p.task; homes = homes; sets = sets; hands = slice_set w.hands k None; steps = w.steps + suc p.fresh; journal = record { items = w.journal.items ++ last_event k p ∷ []; room = j.room } } ≡ forked_alone
+    forked_is : record w { tree = forked w.tree p.task; homes = homes; sets = sets; marks = marks; hands = slice_set w.hands k None; steps = w.steps + suc p.fresh; journal = record { items = w.journal.items ++ last_event k p ∷ []; room = j.room } } ≡ forked_alone
     forked_is =
         ap (λ n. let z : World = record w {
           tree = forked w.tree p.task;
           homes = homes;
           sets = sets;
+          marks = marks;
           hands = slice_set w.hands k None;
           steps = w.steps + n;
           journal = record { items = w.journal.items ++ record { worker = k; kind = Ran p.task n } ∷ []; room = j.room };
         } in z) more
 
     pub alone_world : IsWorld forked_alone
-    alone_world = subst IsWorld forked_is (forked_world w k p I F at_fork free left right number B shallow homes sets H N j)
+    alone_world = subst IsWorld forked_is (forked_world w k p I F at_fork free left right number B shallow homes sets H N marks unmarked j)
 
     pub alone_forks : (a b : ℕ) → a ≡ length w.tree → b ≡ length w.tree + 1 → ForksOn w forked_alone k p a b
     alone_forks a b ea eb =
@@ -126,8 +129,8 @@ module _ (w : World) (k : ℕ) (p : Private) (I : IsWorld w) (F : Fits w k p) (a
           enters = record { journal = refl; program = refl; settings = refl };
           left_is = ea ∙ long;
           right_is = eb ∙ ap (λ n. n + 1) long;
-          goes = subst (λ (z : World). (accounts z).end ≡ None) forked_is (forked_goes w k p I F at_fork free left right number B shallow homes sets H N j);
-          others = subst (λ (z : World). OthersFit w z k) forked_is (forked_others w k p I F at_fork free left right number B shallow homes sets H N j);
+          goes = subst (λ (z : World). (accounts z).end ≡ None) forked_is (forked_goes w k p I F at_fork free left right number B shallow homes sets H N marks unmarked j);
+          others = subst (λ (z : World). OthersFit w z k) forked_is (forked_others w k p I F at_fork free left right number B shallow homes sets H N marks unmarked j);
         }
 
 -- ---- WHAT THE CODE MAKES OF HOMES AND SETS

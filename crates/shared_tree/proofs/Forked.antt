@@ -1,5 +1,5 @@
 -- A fork is entered: the task waits, and two children are ready.
-use Rattle.std.proofs.Common.{◌≡◌, ℕ, suc, ◌+◌, ◌<◌, ◌++◌, arith, true, false, nat_lt, Option, Some, None, List, [], ◌∷◌, length, length-set, slice_get, slice_set, option_map, inl, inr, refl, ap, ap₂, sym, subst, ◌∙◌}
+use Rattle.std.proofs.Common.{◌≡◌, ℕ, zero, suc, ◌+◌, ◌<◌, ◌++◌, arith, true, false, nat_lt, Option, Some, None, List, [], ◌∷◌, length, length-set, slice_get, slice_set, option_map, inl, inr, refl, ap, ap₂, sym, subst, ◌∙◌}
 use Rattle.std.proofs.lemmas.Bool.{cases_eq, cases_lt, cond-true, lt-ltb}
 use Rattle.std.proofs.lemmas.Option.{same_Some}
 use Rattle.listed.proofs.Members.{got_back, got_front, got_other, got_past, got_within}
@@ -18,14 +18,11 @@ use Rattle.heap_tree.specs.declared.state.State.TheVariants.{Waiting}
 use Rattle.heap_tree.specs.Node.{Node, child_of, depth_of, forked, with_state}
 use Rattle.heap_tree.proofs.ChangeLemmas.{all}
 use Rattle.run_ledger.specs.declared.data.Ledger.{Ledger}
-use Rattle.run_ledger.specs.Heaps.{heap_of, let_go, or_fresh}
 use Rattle.write_barrier.specs.declared.sets.SetOf.{SetOf}
 use Rattle.write_barrier.specs.Stored.{content_at, content_of}
 use Rattle.task_machine.specs.declared.part.Private.{Private}
 use Rattle.ledger_steps.specs.Accounts.{rested}
 use Rattle.ledger_steps.specs.Last.{Forking, ForksOn, Runs, Splits}
-use Rattle.ledger_steps.proofs.Ahead.{with_off}
-use Rattle.ledger_steps.proofs.Rested.{rested_view}
 use Rattle.core_relation.specs.Value.{Home, Noted, Value, sources}
 use Rattle.core_relation.specs.Begins.{AreRoots}
 use Rattle.core_relation.specs.Changes.{ForksHome, advanced, child_home}
@@ -37,13 +34,16 @@ use Rattle.core_relation.proofs.RanWhole.{ran_stands_for}
 use Rattle.core_relation.proofs.With.{at_home, off_home}
 use Rattle.core_relation.proofs.Workers.{ran_leaves}
 use Rattle.shared_tree.specs.declared.rest.Rest.{Rest}
-use Rattle.shared_tree.specs.World.{World, accounts, begun_of, flat, home_in, home_of, node_of, noted_in, rest_at, source_of, totals_of, value_of}
+use Rattle.inner_mark_gc.specs.Marks.{Marks}
+use Rattle.shared_tree.specs.World.{World, marks_at, accounts, begun_of, flat, home_in, home_of, node_of, noted_in, rest_at, source_of, totals_of, value_of}
+use Rattle.shared_tree.specs.Measured.{AreMeasured, RestsAreMeasured}
 use Rattle.shared_tree.specs.Stands.{HeapForm, IsWorld}
 use Rattle.shared_tree.specs.Fits.{Fits, OthersFit, home_of_part, part_of}
 use Rattle.shared_tree.specs.Alone.{IsShared, alone_event}
 use Rattle.shared_tree.specs.Forks.{ForksTo, HomesFork, IsAtFork, SetsFork, keeping, waiting_rest}
 use Rattle.shared_tree.specs.Entered.{refused}
-use Rattle.shared_tree.proofs.Entering.{entered, entered_world, held_apart, part_fits}
+use Rattle.shared_tree.proofs.Entering.{hand_is, held_apart, unheld_before}
+use Rattle.shared_tree.proofs.EnteringMarks.{entered_marks, marked_fits, marked_world}
 use Rattle.shared_tree.proofs.ForkSteps as steps
 use Rattle.shared_tree.proofs.LastEntry as last
 use Rattle.shared_tree.proofs.LastEntry.{last_event}
@@ -52,7 +52,7 @@ use Rattle.shared_tree.proofs.Linked as link
 use Rattle.shared_tree.proofs.Now.{end_now}
 use Rattle.shared_tree.proofs.RootsAre.{roots_are}
 use Rattle.shared_tree.proofs.Taking.{item_there, made_by, node_by, node_off, put_there, worker_there}
-use Rattle.shared_tree.proofs.Notings.{empty_form, keeping_kept, keeping_sources, none_marked, noted_by, noted_of}
+use Rattle.shared_tree.proofs.Notings.{empty_form, keeping_kept, keeping_sources, noted_by, noted_of}
 
 abbrev left_of : Instr → ℕ
 left_of (Par g h) = g
@@ -61,6 +61,11 @@ left_of _ = 0
 abbrev right_of : Instr → ℕ
 right_of (Par g h) = h
 right_of _ = 0
+
+none_left : (marks : List (Option Marks)) (t : ℕ) → marks_at (slice_set marks t None) t ≡ None
+none_left [] t = refl
+none_left (m ∷ marks) zero = refl
+none_left (m ∷ marks) (suc t) = none_left marks t
 
 module _ (w : World) (k : ℕ) (p : Private) (I : IsWorld w) (F : Fits w k p) (at_fork : IsAtFork w p) (free : refused w (alone_event k p) ≡ None) (left right number : ℕ) (B : ForksTo w p left right number) (shallow : depth_of w.tree p.task < 1000) where
   abbrev t : ℕ
@@ -152,7 +157,7 @@ module _ (w : World) (k : ℕ) (p : Private) (I : IsWorld w) (F : Fits w k p) (a
   here : vt.homes t ≡ h
   here = at_home v t h
 
-  module _ (homes : List (Option Rest)) (sets : List SetOf) (H : HomesFork w.homes homes p left right) (N : SetsFork w.sets sets t) (j : Space Event) where
+  module _ (homes : List (Option Rest)) (sets : List SetOf) (H : HomesFork w.homes homes p left right) (N : SetsFork w.sets sets t) (marks : List (Option Marks)) (unmarked : marks ≡ slice_set w.marks t None) (j : Space Event) where
     abbrev tree : List Node
     tree = forked w.tree t
 
@@ -163,15 +168,15 @@ module _ (w : World) (k : ℕ) (p : Private) (I : IsWorld w) (F : Fits w k p) (a
     all_steps = w.steps + suc p.fresh
 
     abbrev pub w' : World
-    w' = entered w (last_event k p) tree w.pool homes sets hands w.outputs all_steps w.end j.room
+    w' = entered_marks w (last_event k p) tree w.pool homes sets hands w.outputs all_steps w.end j.room marks
 
     abbrev v' : Value
     v' = value_of w'
 
-    noted_then : (u : ℕ) → v'.noted u ≡ noted_of (content_at sets u)
+    noted_then : (u : ℕ) → noted_in (slice_get sets u) ≡ noted_of (content_at sets u)
     noted_then u = noted_by sets u
 
-    noted_now : (u : ℕ) → v.noted u ≡ noted_of (content_at w.sets u)
+    noted_now : (u : ℕ) → noted_in (slice_get w.sets u) ≡ noted_of (content_at w.sets u)
     noted_now u = noted_by w.sets u
 
     left_set : content_at sets a ≡ Some (record { sources = []; kept = []; keeps = false })
@@ -183,7 +188,7 @@ module _ (w : World) (k : ℕ) (p : Private) (I : IsWorld w) (F : Fits w k p) (a
     other_set : (u : ℕ) → (u ≡ t → ⊥) → (u ≡ a → ⊥) → (u ≡ a + 1 → ⊥) → content_at sets u ≡ content_at w.sets u
     other_set u nt na nb = N.others u nt (λ e. na (e ∙ sym set_is)) (λ e. nb (e ∙ ap (λ n. n + 1) (sym set_is)))
 
-    same_noted : (u : ℕ) → (u ≡ t → ⊥) → (u ≡ a → ⊥) → (u ≡ a + 1 → ⊥) → v'.noted u ≡ v.noted u
+    same_noted : (u : ℕ) → (u ≡ t → ⊥) → (u ≡ a → ⊥) → (u ≡ a + 1 → ⊥) → noted_in (slice_get sets u) ≡ noted_in (slice_get w.sets u)
     same_noted u nt na nb = noted_then u ∙ (ap noted_of (other_set u nt na nb) ∙ sym (noted_now u))
 
     source_same : (u : ℕ) → (u ≡ a → ⊥) → (u ≡ a + 1 → ⊥) → sources v' u ≡ sources v u
@@ -217,10 +222,10 @@ module _ (w : World) (k : ℕ) (p : Private) (I : IsWorld w) (F : Fits w k p) (a
     forks_notes = record {
       keeps = keeps_now;
       kept = ap (λ (z : Noted). z.kept) (noted_then t) ∙ (ap (λ o. (noted_of o).kept) N.parent ∙ keeping_kept (content_at w.sets t));
-      marked = ap (λ (z : Noted). z.marked) (noted_then t) ∙ none_marked (content_at sets t);
+      marked = ap (λ ms. marks_at ms t) unmarked ∙ none_left w.marks t;
       left = ap (λ (z : Noted). z.keeps) (noted_then a ∙ ap noted_of left_set);
       right = ap (λ (z : Noted). z.keeps) (noted_then (a + 1) ∙ ap noted_of right_set);
-      others = λ u nt na nb. let e = same_noted u nt na nb in record { keeps = ap (λ (z : Noted). z.keeps) e; kept = ap (λ (z : Noted). z.kept) e; marked = ap (λ (z : Noted). z.marked) e };
+      others = λ u nt na nb. let e = same_noted u nt na nb in record { keeps = ap (λ (z : Noted). z.keeps) e; kept = ap (λ (z : Noted). z.kept) e; marked = ap (λ ms. marks_at ms u) unmarked ∙ ap flat (got_other w.marks t u None nt) };
     }
 
     roots : (rs : List Addr) × AreRoots vt (rested M t) t rs
@@ -281,13 +286,28 @@ module _ (w : World) (k : ℕ) (p : Private) (I : IsWorld w) (F : Fits w k p) (a
       ]
     ]
 
+    measured_at : (u : ℕ) (r q : Rest) → rest_at homes u ≡ Some r → rest_at homes u ≡ Some q → AreMeasured w.pool u q.heap.chunks → AreMeasured w.pool u r.heap.chunks
+    measured_at u r q is that has = subst (λ (z : Rest). AreMeasured w.pool u z.heap.chunks) (same_Some q r (sym that ∙ is)) has
+
+    measured_then : RestsAreMeasured w.pool homes hands
+    measured_then u r is f = elim (cases_eq u t) [
+      | inl e ↦ measured_at u r (waiting_rest p) is (ap (rest_at homes) e ∙ H.parent) (subst (λ z. AreMeasured w.pool z p.heap.chunks) (sym e) F.measured.0)
+      | inr nt ↦ elim (cases_eq u (length w.homes)) [
+        | inl e ↦ measured_at u r _ is (ap (rest_at homes) e ∙ H.left_home.2) (λ c i. absurd i)
+        | inr na ↦ elim (cases_eq u (length w.homes + 1)) [
+          | inl e ↦ measured_at u r _ is (ap (rest_at homes) e ∙ H.right_home.2) (λ c i. absurd i)
+          | inr nb ↦ I.measured u r (sym (H.others u nt na nb) ∙ is) (unheld_before w.hands k None u f (λ h. nt (same_Some u t (sym h ∙ hand_is w k p I (steps.on w k p I F at_fork free) F))))
+        ]
+      ]
+    ]
+
     pub forked_world : IsWorld w'
     forked_world =
         let n = all w.tree t in
-        entered_world w (last_event k p) I free_last tree w.pool homes sets hands w.outputs all_steps w.end j.room
+        marked_world w (last_event k p) I free_last tree w.pool homes sets hands w.outputs all_steps w.end j.room marks
         (H.count ∙ (ap (λ n. n + 2) I.made ∙ sym n)) (N.count ∙ (ap (λ n. n + 2) I.noted ∙ sym n)) (length-set w.hands k None) refl
         (ran_stands_for w.program w.settings w.journal.items I.form I.legal v v' (totals_of w) (totals_of w') k t p.fresh h free_last E I.stands own forks_home (roots.0, roots.1, forks_notes) counts)
-        heaps_then
+        heaps_then measured_then
 
     pub forked_goes : (accounts w').end ≡ None
     forked_goes = sym (end_now w' forked_world) ∙ (end_now w I ∙ steps.on w k p I F at_fork free)
@@ -295,5 +315,5 @@ module _ (w : World) (k : ℕ) (p : Private) (I : IsWorld w) (F : Fits w k p) (a
     -- THE PARTS OF OTHERS
     pub forked_others : OthersFit w w' k
     forked_others u r ne G =
-        part_fits w (last_event k p) I free_last tree w.pool homes sets hands w.outputs all_steps w.end j.room forked_world u r r (ap flat (got_other w.hands k u None ne)) G refl refl refl G.form
+        marked_fits w (last_event k p) I free_last tree w.pool homes sets hands w.outputs all_steps w.end j.room marks forked_world u r r (ap flat (got_other w.hands k u None ne)) G refl refl refl G.form G.measured
         (ran_leaves w.program w.settings v v' l L t k p.fresh h E own forks_home (part_of w.settings r) (held_apart w k u p r F G ne) G.fits)

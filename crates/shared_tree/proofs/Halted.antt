@@ -88,7 +88,7 @@ module _ (w : World) (k : ℕ) (p : Private) (I : IsWorld w) (F : Fits w k p) (s
     trap_world =
         entered_world w (last_event k p) I free w.tree w.pool w.homes w.sets w.hands w.outputs steps (Some (Machine x)) j.room I.made I.noted refl refl
         (ran_stands_for w.program w.settings w.journal.items I.form I.legal v v (totals_of w) (totals_of w') k t p.fresh h free E I.stands own refl tt counts)
-        I.heaps
+        I.heaps I.measured
 
     pub trap_ends : (accounts w').end ≡ Some (Machine x)
     trap_ends = sym (end_now w' trap_world)
@@ -96,5 +96,5 @@ module _ (w : World) (k : ℕ) (p : Private) (I : IsWorld w) (F : Fits w k p) (s
     -- THE PARTS OF OTHERS
     pub trap_others : OthersFit w w' k
     trap_others u r ne G =
-        part_fits w (last_event k p) I free w.tree w.pool w.homes w.sets w.hands w.outputs steps (Some (Machine x)) j.room trap_world u r r refl G refl refl refl G.form
+        part_fits w (last_event k p) I free w.tree w.pool w.homes w.sets w.hands w.outputs steps (Some (Machine x)) j.room trap_world u r r refl G refl refl refl G.form G.measured
         (ran_leaves w.program w.settings v v l L t k p.fresh h E own refl (part_of w.settings r) (held_apart w k u p r F G ne) G.fits)

@@ -1,6 +1,6 @@
 -- What a value has for tasks that workers hold means nothing: two values that differ there alone stand for the same accounts,
 -- and the same parts fit them.
-use Rattle.std.proofs.Common.{◌≡◌, ℕ, true, not, Option, Some, None, slice_get, inl, inr, refl, ap, sym, subst, ◌∙◌}
+use Rattle.std.proofs.Common.{length, ◌≡◌, ℕ, true, not, Option, Some, None, slice_get, inl, inr, refl, ap, sym, subst, ◌∙◌}
 use Rattle.std.proofs.lemmas.Bool.{cases_eq, and_parts}
 use Rattle.object_layout.specs.declared.word.Addr.{Addr}
 use Rattle.hh_lang.specs.Form.{ProgramText}
@@ -26,6 +26,7 @@ use Rattle.core_relation.proofs.Alone.{home_kept}
 use Rattle.core_relation.proofs.Carry.{object_kept, task_kept}
 use Rattle.core_relation.proofs.Notes.{notes_stay, same_whole}
 use Rattle.core_relation.proofs.Parts.{ahead_alone}
+use Rattle.core_relation.proofs.Rooted.{root_same}
 use Rattle.core_relation.proofs.Same.{source_same}
 use Rattle.core_relation.proofs.With.{at_home, off_home}
 use Rattle.ledger_steps.specs.Accounts.{StepsAlone}
@@ -73,8 +74,8 @@ module _ (v : Value) (hs : ℕ → Home) (l : Ledger) (same : (u : ℕ) → Rest
   module _ (waits : (u : ℕ) → is_waiting (slice_get l.machine.tasks u) ≡ true → Rests l u) where
     noted : (c : Totals) → StandsFor v c l → (t : ℕ) → Rests l t → NotedAt v' l t
     noted c S t r =
-        notes_stay v v' l l t (record { keeps = refl; kept = refl; waits = refl; swept = refl; snapshot = refl; none_new = λ k e. e }) refl refl
-        (same_whole v v' t (ap (λ (h : Home). objects_in h.chunks) (same t r))) (record { keeps = S.keeps t; since = S.since t; marks = S.marks t })
+        notes_stay v v' l l t (record { keeps = refl; kept = refl; waits = refl; swept = refl; snapshot = refl; none_new = λ k e. e; frames = ap (λ (h : Home). h.frames) (same t r); rooted = λ b y. root_same v v' l l t (λ s i. i) (λ k e. e) b y y.rests (ap (λ (h : Home). objects_in h.chunks) (same y.home y.rests)) }) refl refl
+        (same_whole v v' t (ap (λ (h : Home). objects_in h.chunks) (same t r)) (ap (λ (h : Home). length h.chunks) (same t r))) (record { keeps = S.keeps t; since = S.since t; marks = S.marks t })
 
     rest : (c : Totals) → StandsFor v c l → (t : ℕ) → (v.noted t).keeps ≡ true → Rests l t
     rest c S t e = waits t (and_parts (is_waiting (slice_get l.machine.tasks t)) (not (heap_of l t).swept) (sym (S.keeps t) ∙ e)).0

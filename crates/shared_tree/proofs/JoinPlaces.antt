@@ -15,7 +15,8 @@ use Rattle.core_relation.specs.Worker.{Fits as FitsValue}
 use Rattle.shared_tree.specs.declared.rest.Rest.{Rest}
 use Rattle.shared_tree.specs.declared.rest.Work.{Work}
 use Rattle.shared_tree.specs.declared.rest.Work.TheVariants.{Calls, Result}
-use Rattle.shared_tree.specs.World.{World, accounts, home_by, home_in, rest_at, totals_of, value_of}
+use Rattle.shared_tree.specs.World.{World, accounts, marks_at, home_by, home_in, rest_at, totals_of, value_of}
+use Rattle.shared_tree.specs.Measured.{AreMeasured, IsUnheld}
 use Rattle.shared_tree.specs.Stands.{HeapForm, IsWorld}
 use Rattle.shared_tree.specs.Fits.{Fits, part_of}
 use Rattle.shared_tree.specs.Alone.{alone_event}
@@ -45,7 +46,7 @@ module _ (w : World) (homes : List (Option Rest)) (sets : List SetOf) (many : le
   value_same : value_of w' ≡ value_of w
   value_same =
       let hs : (λ t. home_in (rest_at homes t)) ≡ (λ t. home_in (rest_at w.homes t)) = fun_ext (λ u. home_same (rest_at w.homes u) (rest_at homes u) (same u)) in
-      let ns : (value_of w').noted ≡ (value_of w).noted = fun_ext (λ u. noted_by sets u ∙ (ap noted_of (same_sets u) ∙ sym (noted_by w.sets u))) in
+      let ns : (value_of w').noted ≡ (value_of w).noted = fun_ext (λ u. ap (λ (z : Noted). record z { marked = marks_at w.marks u }) (noted_by sets u ∙ (ap noted_of (same_sets u) ∙ sym (noted_by w.sets u)))) in
       ap (λ (f : ℕ → Home). let v : Value = record { homes = f; noted = (value_of w').noted; owner = (value_of w).owner } in v) hs
       ∙ ap (λ (f : ℕ → Noted). let v : Value = record { homes = (value_of w).homes; noted = f; owner = (value_of w).owner } in v) ns
 
@@ -53,6 +54,10 @@ module _ (w : World) (homes : List (Option Rest)) (sets : List SetOf) (many : le
     form_then : (u : ℕ) (r : Rest) (o : Option Rest) → rest_at w.homes u ≡ o → IsSameRest o (rest_at homes u) → rest_at homes u ≡ Some r → HeapForm r.heap
     form_then u r None e S is = none_some (sym S ∙ is)
     form_then u r (Some z) e S is = subst (λ (y : Rest). HeapForm y.heap) (same_Some _ r (sym S.2 ∙ is)) (form_places z.heap S.0 S.1 (I.heaps u z e))
+
+    measured_then : (u : ℕ) (r : Rest) (o : Option Rest) → rest_at w.homes u ≡ o → IsSameRest o (rest_at homes u) → rest_at homes u ≡ Some r → IsUnheld w.hands u → AreMeasured w.pool u r.heap.chunks
+    measured_then u r None e S is f = none_some (sym S ∙ is)
+    measured_then u r (Some z) e S is f = subst (λ (y : Rest). AreMeasured w.pool u y.heap.chunks) (same_Some _ r (sym S.2 ∙ is)) (I.measured u z e f)
 
     places_world_by : IsWorld w'
     places_world_by = record {
@@ -65,6 +70,7 @@ module _ (w : World) (homes : List (Option Rest)) (sets : List SetOf) (many : le
       limit = I.limit;
       stands = subst (λ (v : Value). StandsForAll v (totals_of w) (accounts w)) (sym value_same) I.stands;
       heaps = λ u r is. form_then u r (rest_at w.homes u) refl (same u) is;
+      measured = λ u r is f. measured_then u r (rest_at w.homes u) refl (same u) is f;
     }
 
   places_fit_by : (k : ℕ) (p : Private) → Fits w k p → Fits w' k p
@@ -72,6 +78,7 @@ module _ (w : World) (homes : List (Option Rest)) (sets : List SetOf) (many : le
     held = F.held;
     fits = subst (λ (v : Value). FitsValue w.program w.settings (part_of w.settings p) v (accounts w)) (sym value_same) F.fits;
     form = F.form;
+    measured = F.measured;
     leaf_limit = F.leaf_limit;
     field_limit = F.field_limit;
   }

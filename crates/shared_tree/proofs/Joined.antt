@@ -1,5 +1,5 @@
 -- A child's last frame returns after its sibling's: both join their parent, which is ready again.
-use Rattle.std.proofs.Common.{◌≡◌, ℕ, ℤ, suc, ◌+◌, ◌++◌, arith, Option, Some, None, List, [], ◌∷◌, length-set, map, slice_set, inl, inr, refl, ap, sym, subst, ◌∙◌}
+use Rattle.std.proofs.Common.{◌≡◌, ℕ, ℤ, suc, ◌+◌, ◌++◌, arith, Option, Some, None, List, [], ◌∷◌, length-set, slice_get, map, slice_set, inl, inr, refl, ap, sym, subst, ◌∙◌}
 use Rattle.std.proofs.lemmas.Bool.{cases_eq}
 use Rattle.std.proofs.lemmas.Option.{same_Some}
 use Rattle.listed.proofs.Members.{got_other}
@@ -32,7 +32,7 @@ use Rattle.core_relation.proofs.Workers.{ran_leaves}
 use Rattle.shared_tree.specs.declared.rest.Rest.{Rest}
 use Rattle.shared_tree.specs.declared.rest.Work.{Work}
 use Rattle.shared_tree.specs.declared.rest.Work.TheVariants.{Calls}
-use Rattle.shared_tree.specs.World.{World, accounts, flat, home_by, home_in, rest_at, source_of, totals_of, value_of}
+use Rattle.shared_tree.specs.World.{World, noted_in, accounts, flat, home_by, home_in, rest_at, source_of, totals_of, value_of}
 use Rattle.shared_tree.specs.Stands.{HeapForm, IsWorld}
 use Rattle.shared_tree.specs.Fits.{Fits, OthersFit, home_of_part, part_of}
 use Rattle.shared_tree.specs.Alone.{alone_event}
@@ -41,6 +41,7 @@ use Rattle.shared_tree.specs.Entered.{refused}
 use Rattle.shared_tree.specs.Joins.{AreSides, HomesJoin, IsRestOf, SetsJoin, sources_at}
 use Rattle.shared_tree.proofs.ChildSteps as steps
 use Rattle.shared_tree.proofs.Entering.{accounts_are, entered, entered_world, held_apart, part_fits}
+use Rattle.shared_tree.proofs.JoinMeasured.{joined_measured, others_measured}
 use Rattle.shared_tree.proofs.Notings.{empty_form, noted_by, noted_of}
 use Rattle.shared_tree.proofs.JoinHomes.{Merges, by_content, joins_homes}
 use Rattle.shared_tree.proofs.JoinTree.{joined_long, left_node, other_node, parent_node, right_node}
@@ -132,10 +133,10 @@ module _ (w : World) (k : ℕ) (p : Private) (I : IsWorld w) (F : Fits w k p) (a
       sources_was : (u : ℕ) → sources vt u ≡ map source_of (sources_at w.sets u)
       sources_was u = ap (λ (z : Noted). z.sources) (noted_by w.sets u) ∙ by_content (content_at w.sets u)
 
-      set_then : (u : ℕ) (y : NotedOf) → content_at sets u ≡ Some y → v'.noted u ≡ noted_of (Some y)
+      set_then : (u : ℕ) (y : NotedOf) → content_at sets u ≡ Some y → noted_in (slice_get sets u) ≡ noted_of (Some y)
       set_then u y e = noted_by sets u ∙ ap noted_of e
 
-      same_noted : (u : ℕ) → (u ≡ q → ⊥) → (u ≡ c → ⊥) → (u ≡ c + 1 → ⊥) → v'.noted u ≡ v.noted u
+      same_noted : (u : ℕ) → (u ≡ q → ⊥) → (u ≡ c → ⊥) → (u ≡ c + 1 → ⊥) → noted_in (slice_get sets u) ≡ noted_in (slice_get w.sets u)
       same_noted u nq nc nd = noted_by sets u ∙ (ap noted_of (N.others u nq nc nd) ∙ sym (noted_by w.sets u))
 
       notes : JoinsNotes vt v' q c (c + 1)
@@ -143,7 +144,7 @@ module _ (w : World) (k : ℕ) (p : Private) (I : IsWorld w) (F : Fits w k p) (a
         parent = ap (λ (z : Noted). z.keeps) (set_then q _ N.parent_set);
         left = ap (λ (z : Noted). z.keeps) (set_then c _ N.left_set);
         right = ap (λ (z : Noted). z.keeps) (set_then (c + 1) _ N.right_set);
-        others = λ u nq nc nd. let e = same_noted u nq nc nd in record { keeps = ap (λ (z : Noted). z.keeps) e; kept = ap (λ (z : Noted). z.kept) e; marked = ap (λ (z : Noted). z.marked) e };
+        others = λ u nq nc nd. let e = same_noted u nq nc nd in record { keeps = ap (λ (z : Noted). z.keeps) e; kept = ap (λ (z : Noted). z.kept) e; marked = refl };
       }
 
       -- ---- THE HOMES
@@ -260,7 +261,7 @@ module _ (w : World) (k : ℕ) (p : Private) (I : IsWorld w) (F : Fits w k p) (a
           let n = joined_long w.tree t q c (c + 1) (both.child_of_two w k p I F at_end free ended above beside frames above_is calls beside_is c lh rh al ar side) q_c q_d c_d in
           entered_world w (last_event k p) I free_last tree pool homes sets hands w.outputs all_steps w.end j.room (H.many ∙ (I.made ∙ sym n)) (N.many ∙ (I.noted ∙ sym n)) (length-set w.hands k None) relabelled.limit
           (ran_stands_for w.program w.settings w.journal.items I.form I.legal v v' (totals_of w) (totals_of w') k t p.fresh h free_last E I.stands own made notes_so counts)
-          heaps_then
+          heaps_then (joined_measured w k p I F at_end free ended above beside frames above_is calls beside_is c lh rh al ar side homes pool heap H relabelled heap_is)
 
       joined_goes : (accounts w').end ≡ None
       joined_goes = sym (end_now w' joined_world) ∙ (end_now w I ∙ steps.on w k p I F at_end free)
@@ -272,7 +273,7 @@ module _ (w : World) (k : ℕ) (p : Private) (I : IsWorld w) (F : Fits w k p) (a
       -- THE PARTS OF OTHERS
       joined_others : OthersFit w w' k
       joined_others u i ne G =
-          part_fits w (last_event k p) I free_last tree pool homes sets hands w.outputs all_steps w.end j.room joined_world u i i (ap flat (got_other w.hands k u None ne)) G refl refl refl G.form
+          part_fits w (last_event k p) I free_last tree pool homes sets hands w.outputs all_steps w.end j.room joined_world u i i (ap flat (got_other w.hands k u None ne)) G refl refl refl G.form (others_measured w k p I F at_end free ended above beside frames above_is calls beside_is c lh rh al ar side homes pool heap H relabelled heap_is u i ne G)
           (ran_leaves w.program w.settings v v' l L t k p.fresh h E own made (part_of w.settings i) (held_apart w k u p i F G ne) G.fits)
 
       -- ---- AS THE CALL HAS IT

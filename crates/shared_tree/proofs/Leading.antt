@@ -12,7 +12,7 @@ use Rattle.object_layout.specs.Chunks.{cell_of, put_object, with_cell}
 use Rattle.object_layout.specs.Content.{Content}
 use Rattle.alloc_path.specs.Heap.{Heap, room_of}
 use Rattle.alloc_path.specs.FieldLaws.{with_ref_of}
-use Rattle.chunk_pool.specs.Chunks.{owner_of}
+use Rattle.chunk_pool.specs.Chunks.{Chunks, owner_of}
 use Rattle.remembered_set.specs.declared.remembered.Source.{Source}
 use Rattle.remembered_set.specs.Moved.{held_by, new_reference, redirected, written}
 use Rattle.leaf_copy_gc.specs.Redirected.{new_address}
@@ -24,11 +24,13 @@ use Rattle.shared_tree.specs.declared.rest.Work.{Work}
 use Rattle.shared_tree.specs.declared.rest.Work.TheVariants.{Calls, Result}
 use Rattle.shared_tree.specs.Objects.{chunk_of, chunks_of}
 use Rattle.shared_tree.specs.RestingHeaps.{refs_for, refs_in, refs_of_rest, with_ref_at, with_ref_for, with_ref_in}
+use Rattle.shared_tree.specs.Measured.{AreMeasured}
 use Rattle.shared_tree.specs.Stands.{HeapForm}
 use Rattle.shared_tree.specs.World.{flat, home_by, home_in, home_of, rest_at, source_of}
 use Rattle.shared_tree.proofs.CellLaws.{with_fields}
 use Rattle.shared_tree.proofs.Cells.{seen_cell, seen_object}
 use Rattle.shared_tree.proofs.LeadRefs.{AreOnce, home_each, home_stays, home_together, lead_at, lead_off, lead_one, none_home, set_itself}
+use Rattle.shared_tree.proofs.Measuring.{measured_written}
 use Rattle.shared_tree.proofs.Rewritten.{chunks_put, form_written}
 use Rattle.alloc_path.specs.Heap.{room_at}
 use Rattle.alloc_path.specs.PlaceLaws.{KeepsCounts}
@@ -49,9 +51,10 @@ pub record SourceThere (H : Heaps) (s : Source) (Good : ℕ → Type 0) : Type 0
   pub birth : Birth
   pub born : (cell_of rest.heap.chunks s.object).mark ≡ Born birth
 
--- the resting heaps are formed, and the good ones' chunks are their own
+-- the resting heaps are formed, and the good ones' chunks are their own, with their units
 pub record AreFormed (H : Heaps) (Good : ℕ → Type 0) : Type 0 where
   pub form : (u : ℕ) (r : Rest) → rest_at H.homes u ≡ Some r → HeapForm r.heap
+  pub measured : (u : ℕ) (r : Rest) → Good u → rest_at H.homes u ≡ Some r → AreMeasured H.pool u r.heap.chunks
   pub owned : (u : ℕ) (r : Rest) → Good u → rest_at H.homes u ≡ Some r → (k : Content) → In r.heap.chunks k → owner_of H.pool k.number ≡ Some u
 
 rest_set : (homes : List (Option Rest)) (z : ℕ) (r x : Rest) → rest_at homes z ≡ Some r → rest_at (slice_set homes z (Some x)) z ≡ Some x
@@ -230,6 +233,14 @@ module _ (ms : List (Addr × Addr)) where
         | inr ne ↦ F.form u q (sym (rest_off H.homes T.home u (Some r') ne) ∙ e)
       ]
 
+      measured_now : (u : ℕ) (q : Rest) → Good u → rest_at homes' u ≡ Some q → AreMeasured H.pool u q.heap.chunks
+      measured_now u q good e = elim (cases_eq u T.home) [
+        | inl at ↦
+            let is' : q ≡ r' = same_Some q r' (sym e ∙ (ap (rest_at homes') at ∙ rest_set H.homes T.home T.rest r' T.is)) in
+            subst (λ (z : Rest). AreMeasured H.pool u z.heap.chunks) (sym is') (measured_written H.pool u T.rest.heap.chunks s.object d (F.measured u T.rest good (ap (rest_at H.homes) at ∙ T.is)))
+        | inr ne ↦ F.measured u q good (sym (rest_off H.homes T.home u (Some r') ne) ∙ e)
+      ]
+
       owned_now : (u : ℕ) (q : Rest) → Good u → rest_at homes' u ≡ Some q → (k : Content) → In q.heap.chunks k → owner_of H.pool k.number ≡ Some u
       owned_now u q good e k i = elim (cases_eq u T.home) [
         | inl at ↦
@@ -282,7 +293,7 @@ module _ (ms : List (Addr × Addr)) where
       changed = record {
         pool = refl;
         count = length-set H.homes T.home (Some r');
-        formed = record { form = form_now; owned = owned_now };
+        formed = record { form = form_now; measured = measured_now; owned = owned_now };
         homes = homes_now;
         there = there_now;
       }
@@ -316,10 +327,11 @@ module _ (ms : List (Addr × Addr)) where
     pub pool : H'.pool ≡ H.pool
     pub count : length H'.homes ≡ length H.homes
     pub form : (u : ℕ) (r : Rest) → rest_at H'.homes u ≡ Some r → HeapForm r.heap
+    pub measured : (u : ℕ) (r : Rest) → Good u → rest_at H'.homes u ≡ Some r → AreMeasured H.pool u r.heap.chunks
     pub homes : (u : ℕ) → Good u → home_in (rest_at H'.homes u) ≡ rewritten_home f (map source_of ss) (home_in (rest_at H.homes u))
 
   pub lead_all : (ss : List Source) (H : Heaps) (Good : ℕ → Type 0) → AreOnce (map source_of ss) → ((s : Source) → In ss s → SourceThere H s Good) → AreFormed H Good → Led H Good ss (fold (redirected refs_in with_ref_in ms) H ss)
-  lead_all [] H Good once there F = record { pool = refl; count = refl; form = F.form; homes = λ u good. sym (none_home f (home_in (rest_at H.homes u))) }
+  lead_all [] H Good once there F = record { pool = refl; count = refl; form = F.form; measured = F.measured; homes = λ u good. sym (none_home f (home_in (rest_at H.homes u))) }
   lead_all (s ∷ ss) H Good once there F =
       let T = step H Good F s (there s (inl refl)) in
       let R = lead_all ss (redirected refs_in with_ref_in ms H s) Good once.1 (λ x i. T.there x (there x (inr i))) T.formed in
@@ -327,5 +339,6 @@ module _ (ms : List (Addr × Addr)) where
         pool = R.pool ∙ T.pool;
         count = R.count ∙ T.count;
         form = R.form;
+        measured = λ u r good e. subst (λ (z : Chunks). AreMeasured z u r.heap.chunks) T.pool (R.measured u r good e);
         homes = λ u good. R.homes u good ∙ (ap (rewritten_home f (map source_of ss)) (T.homes u good) ∙ home_together f (source_of s) (map source_of ss) (home_in (rest_at H.homes u)) once.0);
       }

@@ -54,6 +54,7 @@ use Rattle.shared_tree.specs.declared.heaps.Heaps.{Heaps}
 use Rattle.shared_tree.specs.declared.rest.Rest.{Rest}
 use Rattle.shared_tree.specs.Objects.{chunk_of, chunks_of}
 use Rattle.shared_tree.specs.World.{World, accounts, home_in, rest_at, source_of, totals_of, value_of}
+use Rattle.shared_tree.specs.Measured.{KeepsUnits, RestsAreMeasured}
 use Rattle.shared_tree.specs.Stands.{IsWorld}
 use Rattle.shared_tree.specs.Fits.{Fits, OthersFit, home_of_part, part_of}
 use Rattle.shared_tree.specs.LeafEnd.{FitsCopied, end_event, ended}
@@ -61,13 +62,14 @@ use Rattle.shared_tree.specs.RestingHeaps.{refs_for, refs_in, refs_of_rest, with
 use Rattle.shared_tree.specs.Roots.{heaps_of, sources_of}
 use Rattle.shared_tree.specs.Entered.{refused}
 use Rattle.shared_tree.proofs.Cells.{fresh_off, seen_object}
-use Rattle.shared_tree.proofs.Entering.{accounts_are, entered, entered_world, entry_on, held_on, part_fits}
+use Rattle.shared_tree.proofs.Entering.{accounts_are, entered, entered_world, entry_on, held_on, part_fits, unheld_at_rest, unheld_rests}
 use Rattle.shared_tree.proofs.Entered.{legal_then}
 use Rattle.shared_tree.proofs.FreeChunks.{refs_long}
 use Rattle.shared_tree.proofs.Going.{journal_goes, same_going}
 use Rattle.shared_tree.proofs.Held.{fits_held, stands_for_held}
 use Rattle.shared_tree.proofs.LeafSources.{all_at, all_rec, are_once, fresh_by, noted_sources, owner_none}
 use Rattle.shared_tree.proofs.Leading.{AreFormed, Led, SourceThere, home_chunks, lead_all}
+use Rattle.shared_tree.proofs.Measuring.{given_keeps, measured_given, measured_kept, part_kept}
 use Rattle.shared_tree.proofs.Now.{stands_now}
 
 module _ (w : World) (k : ℕ) (p : Private) (moved : Moved) (I : IsWorld w) (F : FitsCopied w k p moved) (free : refused w (end_event k p moved) ≡ None) where
@@ -140,6 +142,7 @@ module _ (w : World) (k : ℕ) (p : Private) (moved : Moved) (I : IsWorld w) (F 
   formed : AreFormed (heaps_of w) Good
   formed = record {
     form = I.heaps;
+    measured = λ u r good q. I.measured u r q (unheld_at_rest w u I on good);
     owned = λ u r good q c i. (S.homes.homes u good).owned (chunk_of c) (subst (λ (h : Home). In h.chunks (chunk_of c)) (sym (ap home_in q)) (subst (λ cs. In cs (chunk_of c)) (sym (home_chunks r)) (in_map chunk_of r.heap.chunks c i)));
   }
 
@@ -287,8 +290,18 @@ module _ (w : World) (k : ℕ) (p : Private) (moved : Moved) (I : IsWorld w) (F 
     stands_then : StandsForAll v' (totals_of w') L
     stands_then = subst (λ o. StandsFor v' (totals_of w') (by_end L o)) (sym on') (stands_for_held v'' (λ u. v'.homes u) L same waiters (totals_of w') stands_now_so)
 
+    -- THE UNITS
+    own_apart : (c : Content) → In p.heap.chunks c → IsFresh moved.back.items c.number
+    own_apart c i = fresh_by moved.back.items c.number (λ b j q. fresh_off p.heap.chunks c b.number (all_at (λ (b : Content). IsFresh p.heap.chunks b.number) moved.back.items b j F.back.gone) i (sym q))
+
+    units_stay : (u : ℕ) → (u ≡ t → ⊥) → KeepsUnits w.pool pool u
+    units_stay u ne = given_keeps w.pool pool moved.back.items t u G F.back.owned ne
+
+    measured_then : RestsAreMeasured pool H'.homes w.hands
+    measured_then u r is none = measured_kept w.pool pool u r.heap.chunks (units_stay u (λ q. none k ((S.totals.hand k u).1 (ap (λ z. (heap_of l z).worker) q ∙ F.held)))) (led.measured u r (unheld_rests w u I on none) is)
+
     pub end_world : IsWorld w'
-    end_world = entered_world w e I free w.tree pool H'.homes w.sets w.hands w.outputs w.steps w.end room (led.count ∙ I.made) I.noted refl G.limit stands_then led.form
+    end_world = entered_world w e I free w.tree pool H'.homes w.sets w.hands w.outputs w.steps w.end room (led.count ∙ I.made) I.noted refl G.limit stands_then led.form measured_then
 
     -- PARTS
     held_value : (q : Part) → FitsValue w.program w.settings q v'' L → FitsValue w.program w.settings q v' L
@@ -302,16 +315,20 @@ module _ (w : World) (k : ℕ) (p : Private) (moved : Moved) (I : IsWorld w) (F 
           (subst (λ n. FitsValue w.program w.settings (part_for w.settings t (home_of_part (ended p)) n) v'' L) (sym F.fresh)
           (ends_fit_then w.program w.settings w.journal.items I.legal v v'' k t moved.taken moved.given moved.left F.home (home_of_part (ended p)) f free C ends refl)));
       form = F.form;
+      measured = (measured_given w.pool pool moved.back.items t p.heap.chunks G own_apart F.measured, λ n i. absurd i);
       leaf_limit = F.leaf_limit;
       field_limit = F.field_limit;
     }
 
+    apart : (u : ℕ) (q : Private) → (u ≡ k → ⊥) → Fits w u q → q.task ≡ t → ⊥
+    apart u q ne Q same = ne (same_Some u k (sym Q.held ∙ (ap (λ z. (heap_of l z).worker) same ∙ F.held)))
+
     pub end_others : OthersFit w w' k
     end_others u q ne Q =
-        part_fits w e I free w.tree pool H'.homes w.sets w.hands w.outputs w.steps w.end room end_world u q q refl Q refl refl refl Q.form
+        part_fits w e I free w.tree pool H'.homes w.sets w.hands w.outputs w.steps w.end room end_world u q q refl Q refl refl refl Q.form (part_kept w.pool pool q (units_stay q.task (apart u q ne Q)) Q.measured)
         (held_value (part_of w.settings q)
         (ends_leave w.program w.settings w.journal.items I.legal v v'' k t moved.taken moved.given moved.left F.home (home_of_part (ended p)) f free C ends (part_of w.settings q)
-        (λ same'. ne (same_Some u k (sym Q.held ∙ (ap (λ z. (heap_of l z).worker) (sym same') ∙ F.held)))) Q.fits))
+        (λ same'. apart u q ne Q (sym same')) Q.fits))
 
   -- AS THE CALL HAS IT
   module _ (X : Heaps) (is : X ≡ fold (redirected refs_in with_ref_in moved.moved.items) (heaps_of w) (sources_of (slice_get w.sets p.task))) (once : StandOnce (sources_of (slice_get w.sets p.task))) where

@@ -253,6 +253,24 @@ module _ (tree : List Node) (pool : Chunks) (sets sets' : List SetOf) (a : Addr)
       by None k = k
       by (Some c) k = subst (λ xs. In xs b) (sym (kept_after t c)) (one (is_of (heap_of pool overwritten) t && c.keeps) c k)
 
+  -- behind what was there
+  pub kept_more : (t : ℕ) → (more : List Addr) × ((now t).kept ≡ (was t).kept ++ more)
+  kept_more t = by (content_at sets t) refl
+    where
+      none_more : (xs : List Addr) → xs ≡ xs ++ []
+      none_more [] = refl
+      none_more (x ∷ xs) = ap (λ ys. x ∷ ys) (none_more xs)
+
+      one : (x : Bool) (c : Content) → (more : List Addr) × (cond x (c.kept ++ option_to_list overwritten) c.kept ≡ c.kept ++ more)
+      one true c = (option_to_list overwritten, refl)
+      one false c = ([], none_more c.kept)
+
+      by : (o : Option Content) → content_at sets t ≡ o → (more : List Addr) × ((now t).kept ≡ (was t).kept ++ more)
+      by None e = ([], ap (λ (x : Noted). x.kept) (now_is t ∙ ap (λ z. noted_of (option_map (after t) z)) e) ∙ ap (λ (x : Noted). x.kept ++ []) (sym (was_is t ∙ ap noted_of e)))
+      by (Some c) e =
+          let m = one (is_of (heap_of pool overwritten) t && c.keeps) c in
+          (m.0, ap (λ (x : Noted). x.kept) (now_is t ∙ ap (λ z. noted_of (option_map (after t) z)) e) ∙ (kept_after t c ∙ (m.1 ∙ ap (λ (x : Noted). x.kept ++ m.0) (sym (was_is t ∙ ap noted_of e)))))
+
   -- what is overwritten, where it points into t's heap, while that keeps
   pub keeps_old : (t : ℕ) (b : Addr) → (was t).keeps ≡ true → overwritten ≡ Some b → owner_of pool b.chunk ≡ Some t → In (now t).kept b
   keeps_old t b keeps eo eb = subst (λ (x : Noted). In x.kept b) (sym (now_is t)) (by (content_at sets t) (ap (λ (x : Noted). x.keeps) (sym (was_is t)) ∙ keeps))

@@ -28,10 +28,6 @@ pub keeping_kept : (o : Option Content) → (noted_of (option_map keeping o)).ke
 keeping_kept None = refl
 keeping_kept (Some c) = refl
 
-pub none_marked : (o : Option Content) → (noted_of o).marked ≡ None
-none_marked None = refl
-none_marked (Some c) = refl
-
 -- ---- AN EMPTY HEAP
 
 pub empty_form : (slots spare : ℕ) → HeapForm (record { chunks = []; current = None; reserved = None; since = 0; slots = slots; spare = spare })

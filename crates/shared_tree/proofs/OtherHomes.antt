@@ -26,8 +26,9 @@ use Rattle.core_relation.proofs.With.{at_home, off_home}
 use Rattle.shared_tree.specs.declared.rest.Rest.{Rest}
 use Rattle.shared_tree.specs.declared.rest.Work.{Work}
 use Rattle.shared_tree.specs.declared.rest.Work.TheVariants.{Calls, Result}
-use Rattle.shared_tree.specs.World.{World, accounts, flat, home_by, home_in, home_of, no_home, rest_at, value_by, value_of}
+use Rattle.shared_tree.specs.World.{World, accounts, flat, home_by, home_in, home_of, no_home, rest_at, value_by, value_of, with_marks}
 use Rattle.shared_tree.specs.Objects.{chunks_of, seen}
+use Rattle.shared_tree.specs.Measured.{AreMeasured, RestsAreMeasured}
 use Rattle.shared_tree.specs.Stands.{HeapForm, IsWorld}
 use Rattle.shared_tree.specs.Fits.{Fits, home_of_part}
 use Rattle.shared_tree.specs.Other.{put_rest}
@@ -35,6 +36,7 @@ use Rattle.shared_tree.proofs.CellLaws.{with_fields}
 use Rattle.shared_tree.proofs.Cells.{seen_object}
 use Rattle.shared_tree.proofs.Foreign.{IsForeign}
 use Rattle.shared_tree.proofs.Linked as link
+use Rattle.shared_tree.proofs.Measuring.{measured_written}
 use Rattle.shared_tree.proofs.Rewritten.{chunks_elsewhere, chunks_put, chunks_same, form_written, room_written}
 
 -- a home whose heap alone changes
@@ -108,7 +110,7 @@ module _ (w : World) (k : ℕ) (p : Private) (I : IsWorld w) (F : Fits w k p) (o
       homes = slice_set w.homes u (Some r')
 
       abbrev pub v' : Value
-      v' = value_by homes sets w.pool
+      v' = with_marks w.marks (value_by homes sets w.pool)
 
       abbrev pub v1 : Value
       v1 = record v' { homes = resting l v'.homes }
@@ -136,6 +138,15 @@ module _ (w : World) (k : ℕ) (p : Private) (I : IsWorld w) (F : Fits w k p) (o
             let is : s ≡ r' = same_Some s r' (sym e ∙ (ap (rest_at homes) q ∙ ap flat (got_same w.homes u (Some r) (Some r') was_there))) in
             subst (λ (x : Rest). HeapForm x.heap) (sym is) (form_written r.heap a d form mark size)
         | inr ne ↦ I.heaps z s (sym (ap flat (got_other w.homes u z (Some r') ne)) ∙ e)
+      ]
+
+      -- and the pool has its chunks' units still
+      pub measures : RestsAreMeasured w.pool homes w.hands
+      measures z s e f' = elim (cases_eq z u) [
+        | inl q ↦
+            let is : s ≡ r' = same_Some s r' (sym e ∙ (ap (rest_at homes) q ∙ ap flat (got_same w.homes u (Some r) (Some r') was_there))) in
+            subst (λ (x : Rest). AreMeasured w.pool z x.heap.chunks) (sym is) (measured_written w.pool z r.heap.chunks a d (I.measured z r (ap (rest_at w.homes) q ∙ O.there) f'))
+        | inr ne ↦ I.measured z s (sym (ap flat (got_other w.homes u z (Some r') ne)) ∙ e) f'
       ]
 
       -- the home of the object's owner

@@ -117,7 +117,7 @@ module _ (w : World) (k : ℕ) (p : Private) (I : IsWorld w) (F : Fits w k p) (s
       read_world =
           entered_world w (last_event k p) I free w.tree w.pool w.homes w.sets w.hands w.outputs steps w.end j.room I.made I.noted refl refl
           (ran_stands_for w.program w.settings w.journal.items I.form I.legal v v (totals_of w) (totals_of w') k t p.fresh h free E I.stands own refl tt counts)
-          I.heaps
+          I.heaps I.measured
 
       pub read_goes : (accounts w').end ≡ None
       read_goes = sym (end_now w' read_world) ∙ (end_now w I ∙ last.on w k p I F shared free)
@@ -132,11 +132,11 @@ module _ (w : World) (k : ℕ) (p : Private) (I : IsWorld w) (F : Fits w k p) (s
 
       pub read_part : Fits w' k q
       read_part =
-          part_fits w (last_event k p) I free w.tree w.pool w.homes w.sets w.hands w.outputs steps w.end j.room read_world k p q refl F refl refl refl F.form
+          part_fits w (last_event k p) I free w.tree w.pool w.homes w.sets w.hands w.outputs steps w.end j.room read_world k p q refl F refl refl refl F.form F.measured
           (ran_fits_then w.program w.settings v v l L t k p.fresh h (home_of_part q) E own refl goes_home)
 
       -- THE PARTS OF OTHERS
       pub read_others : OthersFit w w' k
       read_others u r ne G =
-          part_fits w (last_event k p) I free w.tree w.pool w.homes w.sets w.hands w.outputs steps w.end j.room read_world u r r refl G refl refl refl G.form
+          part_fits w (last_event k p) I free w.tree w.pool w.homes w.sets w.hands w.outputs steps w.end j.room read_world u r r refl G refl refl refl G.form G.measured
           (ran_leaves w.program w.settings v v l L t k p.fresh h E own refl (part_of w.settings r) (held_apart w k u p r F G ne) G.fits)

@@ -158,10 +158,11 @@ module _ (w : World) (k : ℕ) (p : Private) (I : IsWorld w) (F : Fits w k p) (o
 
       keeps : (z : ℕ) → (z ≡ t → ⊥) → (old.noted z).keeps ≡ true → Keeps old new z a i
       keeps z ne on' = record {
-        marked = noting.marked_noted w.tree w.pool w.sets sets a i overwritten value u O.place.chunk C z;
-        grows = λ e j. noting.kept_grows w.tree w.pool w.sets sets a i overwritten value u O.place.chunk C z e j;
-        old = λ s e j at field owner.
-            let same : z ≡ u = other.lies_old w k p I F on n a O d refl size f (λ number at' birth. refl) sets top z ne s j at in
+        marked = refl;
+        more = (noting.kept_more w.tree w.pool w.sets sets a i overwritten value u O.place.chunk C z).0;
+        grows = (noting.kept_more w.tree w.pool w.sets sets a i overwritten value u O.place.chunk C z).1;
+        old = λ y0 s e there j at field owner.
+            let same : y0 ≡ u = same_Some y0 u (sym there ∙ O.place.chunk) in
             let y = other.read_old w k p I F on n a O d refl size f (λ number at' birth. refl) sets top s (subst (λ r. In (objects old r) s) same j) at in
             noting.keeps_old w.tree w.pool w.sets sets a i overwritten value u O.place.chunk C z e on' (old_field s e y.0 y.1 field) owner;
         only = λ e j. elim (noting.kept_only w.tree w.pool w.sets sets a i overwritten value u O.place.chunk C z e j) [

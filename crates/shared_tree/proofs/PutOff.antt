@@ -41,6 +41,7 @@ use Rattle.shared_tree.proofs.Begun.{account_idle, none_begun}
 use Rattle.shared_tree.proofs.Due.{due_is}
 use Rattle.shared_tree.proofs.Entering.{entered, entry_on, held_apart}
 use Rattle.shared_tree.proofs.FuelEnds.{quiet_others, quiet_own, quiet_world}
+use Rattle.shared_tree.proofs.Measuring.{all_kept}
 use Rattle.shared_tree.proofs.Now.{stands_now, used_now}
 use Rattle.shared_tree.proofs.Refusals.{on_is, refused_is}
 use Rattle.shared_tree.proofs.Running.{fits_now, home_is}
@@ -137,6 +138,7 @@ module _ (w : World) (k : ℕ) (p : Private) (I : IsWorld w) (F : Fits w k (reco
   same = record {
     home = λ u r. home_kept v v l L u refl (λ c e. e) (ap or_fresh (heap_off u (not_t u r))) (ap (λ (m : State). length (row_of (slice_get m.store u))) same_machine) (S.homes.homes u (rested_before u r));
     objects = λ u. refl;
+    chunks = λ u e. refl;
     frames = λ u. refl;
     result = λ u. refl;
     owner = λ c u e. e;
@@ -152,7 +154,7 @@ module _ (w : World) (k : ℕ) (p : Private) (I : IsWorld w) (F : Fits w k (reco
   counts = (record { node = λ u. refl; hand = λ u. refl; steps = refl; outputs = refl }, refl, refl)
 
   pub put_off_world : IsWorld w'
-  put_off_world = quiet_world w e I free tt (λ u m. m) w.pool w.end j.room same notes counts refl
+  put_off_world = quiet_world w e I free tt (λ u m. m) w.pool w.end j.room same notes counts refl (all_kept w.pool)
 
   -- THE PART
   abbrev before : Value
@@ -203,6 +205,7 @@ module _ (w : World) (k : ℕ) (p : Private) (I : IsWorld w) (F : Fits w k (reco
   part_same = record {
     home = home_at;
     objects = λ u. seen (λ (z : Home). objects_in z.chunks) refl u;
+    chunks = λ u e. seen (λ (z : Home). length z.chunks) refl u;
     frames = λ u. seen (λ (z : Home). z.frames) refl u;
     result = λ u. seen (λ (z : Home). z.result) refl u;
     owner = λ c u e. e;
@@ -237,12 +240,12 @@ module _ (w : World) (k : ℕ) (p : Private) (I : IsWorld w) (F : Fits w k (reco
   none_then = ap (λ (z : Account). z.begun) account_same ∙ (rested_view (λ (z : Account). z.begun) (λ z. refl) l t ∙ account_idle w k P F on idle_part)
 
   pub put_off_part : Fits w' k Q
-  put_off_part = quiet_own w e I free tt (λ u m. m) w.pool w.end j.room same notes counts refl k p (reset p.heap) p.begun F (reset_form p.heap F.form) part_same
+  put_off_part = quiet_own w e I free tt (λ u m. m) w.pool w.end j.room same notes counts refl (all_kept w.pool) k p (reset p.heap) p.begun F (reset_form p.heap F.form) F.measured part_same
       (subst (λ o. BegunBy after_ (rested L t) t (begun_of o)) (sym idle_part) none_then)
 
   -- THE PARTS OF OTHERS
   pub put_off_others : OthersFit w w' k
-  put_off_others o q ne G = quiet_others w e I free tt (λ u m. m) w.pool w.end j.room same notes counts refl o q (held_apart w k o P q F G ne) G
+  put_off_others o q ne G = quiet_others w e I free tt (λ u m. m) w.pool w.end j.room same notes counts refl (all_kept w.pool) o q (held_apart w k o P q F G ne) G
 
 -- AS THE CALL HAS IT
 module _ (w : World) (k : ℕ) (p : Private) (F : Fits w k p) (none : p.fresh ≡ 0) where

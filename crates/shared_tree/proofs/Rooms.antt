@@ -6,7 +6,7 @@ use Rattle.write_barrier.specs.Stored.{content_at}
 use Rattle.core_relation.specs.Value.{Value}
 use Rattle.core_relation.specs.Whole.{StandsForAll}
 use Rattle.core_relation.specs.Worker.{Fits as FitsValue}
-use Rattle.shared_tree.specs.World.{World, accounts, noted_in, totals_of, value_of}
+use Rattle.shared_tree.specs.World.{World, accounts, marks_at, noted_in, totals_of, value_of}
 use Rattle.shared_tree.specs.Stands.{IsWorld}
 use Rattle.shared_tree.specs.Fits.{Fits, part_of}
 use Rattle.shared_tree.specs.Other.{SameButRoom}
@@ -20,7 +20,7 @@ module _ (w : World) (sets : List SetOf) (many : length sets ≡ length w.sets) 
   noted_same t = noted_is (slice_get w.sets t) ∙ (ap noted_of (sym (same t)) ∙ sym (noted_is (slice_get sets t)))
 
   value_same : value_of w ≡ value_of roomier
-  value_same = λ i. record (value_of w) { noted = λ t. noted_same t i }
+  value_same = λ i. record (value_of w) { noted = λ t. record (noted_same t i) { marked = marks_at w.marks t } }
 
   pub roomier_world : IsWorld w → IsWorld roomier
   roomier_world I = record {
@@ -33,6 +33,7 @@ module _ (w : World) (sets : List SetOf) (many : length sets ≡ length w.sets) 
     limit = I.limit;
     stands = subst (λ (v : Value). StandsForAll v (totals_of w) (accounts w)) value_same I.stands;
     heaps = I.heaps;
+    measured = I.measured;
   }
 
   pub roomier_fit : (k : ℕ) (p : Private) → Fits w k p → Fits roomier k p
@@ -40,6 +41,7 @@ module _ (w : World) (sets : List SetOf) (many : length sets ≡ length w.sets) 
     held = F.held;
     fits = subst (λ (v : Value). FitsValue w.program w.settings (part_of w.settings p) v (accounts w)) value_same F.fits;
     form = F.form;
+    measured = F.measured;
     leaf_limit = F.leaf_limit;
     field_limit = F.field_limit;
   }

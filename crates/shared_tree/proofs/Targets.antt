@@ -97,7 +97,7 @@ has_it ks k number i q = by (place_in ks number) refl
     by None e = absurd (fresh_off ks k number e i q)
     by (Some j) e = refl
 
-home_chunks : (r : Rest) → (home_of r).chunks ≡ chunks_of r.heap.chunks
+pub home_chunks : (r : Rest) → (home_of r).chunks ≡ chunks_of r.heap.chunks
 home_chunks r = by r.work
   where
     by : (x : Work) → (home_by r.heap r.allocations x).chunks ≡ chunks_of r.heap.chunks

@@ -23,7 +23,6 @@ use Rattle.shared_tree.specs.declared.rest.Work.TheVariants.{Calls, Result}
 use Rattle.shared_tree.specs.declared.answer.NotEntered.{NotEntered}
 use Rattle.shared_tree.specs.declared.answer.NotEntered.TheVariants.{NoMemory, Refuses}
 use Rattle.shared_tree.specs.World.{World, rest_at}
-use Rattle.shared_tree.specs.Fits.{Fits}
 use Rattle.shared_tree.specs.Forks.{nothing_noted}
 
 -- the result of a task that has ended
@@ -87,10 +86,6 @@ pub record SameButPlaces (w after : World) : Type 0 where
   pub homes : (u : ℕ) → IsSameRest (rest_at w.homes u) (rest_at after.homes u)
   pub many_sets : length after.sets ≡ length w.sets
   pub sets : (u : ℕ) → content_at after.sets u ≡ content_at w.sets u
-
--- each part that fitted the one fits the other
-abbrev pub AllFit : World → World → Type 0
-AllFit w after = (k : ℕ) (p : Private) → Fits w k p → Fits after k p
 
 -- a refused call changes nothing, and one for which there was no memory nothing but places
 abbrev pub IsUnchanged : NotEntered → World → World → Type 0

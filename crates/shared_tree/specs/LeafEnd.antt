@@ -16,6 +16,7 @@ use Rattle.task_machine.specs.declared.part.Private.{Private}
 use Rattle.core_relation.specs.Copies.{CopyFits}
 use Rattle.core_relation.specs.Value.{Home}
 use Rattle.shared_tree.specs.Fits.{home_of_part}
+use Rattle.shared_tree.specs.Measured.{AreMeasured}
 use Rattle.shared_tree.specs.Stands.{HeapForm}
 use Rattle.shared_tree.specs.World.{World, accounts, value_of}
 
@@ -41,6 +42,7 @@ pub record FitsCopied (w : World) (worker : ℕ) (p : Private) (moved : Moved) :
   pub held : (heap_of (accounts w) p.task).worker ≡ Some worker
   pub copy : CopyFits w.program w.settings p.task home (home_of_part (ended p)) (new_address moved.moved.items) (value_of w) (aside (accounts w))
   pub form : HeapForm p.heap
+  pub measured : AreMeasured w.pool p.task p.heap.chunks
   pub fresh : p.fresh ≡ 0
   pub leaf_limit : p.leaf_limit ≡ w.settings.leaf
   pub field_limit : p.field_limit ≡ field_limit w.settings.version

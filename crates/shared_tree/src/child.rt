@@ -1,13 +1,13 @@
 // A part's steps are entered with the last return of a task that another one forked.
 
-ghost use Rattle.std.specs.Prelude.{◌≡◌, ◌<◌, ◌+◌, ◌^◌, ◌↔◌, IsTrue, OnErr, OnOk, IfErr, IfOk, None, Some};
+ghost use Rattle.std.specs.Prelude.{◌≡◌, ◌<◌, ◌+◌, ◌^◌, ◌↔◌, IsTrue, OnErr, OnOk, IfErr, IfOk, None, Some, slice_set};
 ghost use Rattle.heap_tree.specs.Node.{parent_of, state_of};
 ghost use Rattle.heap_tree.specs.Pairs.{sibling};
 ghost use Rattle.shared_tree.specs.Alone.{alone_event, ended_rest};
 ghost use Rattle.shared_tree.specs.ChildEnds.{EndsChild, IsAtEnd};
 ghost use Rattle.shared_tree.specs.Entered.{refused, RanAnswers};
-ghost use Rattle.shared_tree.specs.Fits.{Fits};
-ghost use Rattle.shared_tree.specs.Joins.{AllFit, HasPlaces, IsUnchanged, SameButPlaces};
+ghost use Rattle.shared_tree.specs.Fits.{AllFit, Fits};
+ghost use Rattle.shared_tree.specs.Joins.{HasPlaces, IsUnchanged, SameButPlaces};
 
 use crate::answer::NotEntered;
 use crate::join::{
@@ -74,7 +74,8 @@ impl Shared {
         requires ends { IsAtEnd self.old part }
         requires free { refused self.old (alone_event worker part) ≡ None }
         requires alone { state_of self.old.tree (sibling part.task) ≡ Some State.Ended → ⊥ }
-        ensures { EndsChild self.old self.new worker part None }
+        ensures ended { EndsChild self.old self.new worker part None }
+        ensures hand { self.new.hands ≡ slice_set self.old.hands worker None }
     {
         let task = part.task;
         self.steps += part.fresh as u64 + 1;
@@ -122,7 +123,8 @@ impl Shared {
         requires ended { state_of self.old.tree (sibling part.task) ≡ Some State.Ended }
         requires parent { parent_of self.old.tree part.task ≡ Some parent }
         requires places { HasPlaces self.old part parent }
-        ensures { EndsChild self.old self.new worker part (Some parent) }
+        ensures joined { EndsChild self.old self.new worker part (Some parent) }
+        ensures hand { self.new.hands ≡ slice_set self.old.hands worker None }
     {
         let alloc = *self.sets.allocator();
         let (task, other) = (part.task, sibling_of(part.task));
@@ -156,6 +158,7 @@ impl Shared {
         ensures still { OnErr result (AllFit self.old self.new) }
         ensures back { IfErr result (λ e. e.part ≡ part) }
         ensures answered { IfOk result (EndsChild self.old self.new worker part) }
+        ensures hand { OnOk result (self.new.hands ≡ slice_set self.old.hands worker None) }
     {
         if let Some(cause) = self.end_refused(worker, &part) {
             return Err(NotRan {

@@ -6,6 +6,7 @@ ghost use Rattle.heap_tree.specs.Node.{depth_of, forked, state_of};
 ghost use Rattle.shared_tree.specs.Alone.{alone_event, EndsAlone};
 ghost use Rattle.shared_tree.specs.Entered.{refused, RanAnswers};
 ghost use Rattle.shared_tree.specs.Fits.{Fits};
+ghost use Rattle.shared_tree.specs.Hands.{LeavesHand};
 ghost use Rattle.shared_tree.specs.Forks.{begun_rest, waiting_rest, ForkAnswered, ForksTo, IsAtFork, SetsFork};
 
 use crate::answer::NotEntered;
@@ -16,6 +17,7 @@ use fork_join::{Child, fork};
 use heap_tree::{State, Tree};
 use hh_lang::Instr;
 use hh_model::{End, Trap};
+use inner_mark_gc::Marking;
 use listed::Listed;
 use run_ledger::{Refused, RunEnd};
 use run_trace::{Entry, Kind};
@@ -122,6 +124,15 @@ fn fork_sets(sets: &mut Vec<SetOf>, t: u32)
     sets.push_reserved(SetOf::new(alloc));
 }
 
+// What is marked once a task has forked: nothing of its heap.
+fn clear_marks(marks: &mut Listed<Option<Marking>>, t: u32)
+    ensures { marks.new ≡ slice_set marks.old t None }
+{
+    if (t as usize) < marks.len() {
+        marks.set(t as usize, None);
+    }
+}
+
 // The homes once a task has forked, for which there are places.
 fn put_homes(homes: &mut Listed<Option<Rest>>, part: Private, left: Child, right: Child)
     requires made { part.task < length homes.old }
@@ -198,6 +209,7 @@ impl Shared {
         ensures same { OnErr result (self.new ≡ self.old) }
         ensures back { IfErr result (λ e. e.part ≡ part) }
         ensures answered { IfOk result (ForkAnswered self.old self.new worker part) }
+        ensures hand { IfOk result (LeavesHand self.old.hands self.new.hands worker) }
     {
         let _ = line;
         let grown = grow(
@@ -220,6 +232,7 @@ impl Shared {
             .push_reserved(Entry::new(worker, Kind::Ran(part.task, part.fresh + 1)));
         self.hands.set(worker as usize, None);
         fork_sets(&mut self.sets, part.task);
+        clear_marks(&mut self.marks, part.task);
         put_homes(&mut self.homes, part, first, second);
         Ok(Forking::Forked { left, right })
     }
@@ -234,6 +247,7 @@ impl Shared {
         ensures same { OnErr result (self.new ≡ self.old) }
         ensures back { IfErr result (λ e. e.part ≡ part) }
         ensures answered { IfOk result (ForkAnswered self.old self.new worker part) }
+        ensures hand { IfOk result (LeavesHand self.old.hands self.new.hands worker) }
     {
         if let Some(cause) = self.fork_refused(worker, &part) {
             return Err(NotRan {

@@ -8,6 +8,7 @@ use crate::shared::Shared;
 use chunk_pool::Pool;
 use heap_tree::Tree;
 use hh_lang::Program;
+use inner_mark_gc::Marking;
 use listed::Listed;
 use run_ledger::RunEnd;
 use run_trace::{Entry, Settings};
@@ -24,6 +25,7 @@ pub struct Left {
     pool: Pool,
     homes: Listed<Option<Rest>>,
     sets: Vec<SetOf>,
+    marks: Listed<Option<Marking>>,
     hands: Listed<Option<u32>>,
     outputs: Listed<i64>,
     steps: u64,
@@ -36,7 +38,7 @@ impl Model for Left {
 
     ghost Value = { World };
 
-    ghost view = { λ s. record { program = s.program; settings = s.settings; tree = s.tree; pool = s.pool; homes = s.homes; sets = s.sets.items; hands = s.hands; outputs = s.outputs; journal = record { items = []; room = 0 }; steps = s.steps; end = s.end } };
+    ghost view = { λ s. record { program = s.program; settings = s.settings; tree = s.tree; pool = s.pool; homes = s.homes; sets = s.sets.items; marks = s.marks; hands = s.hands; outputs = s.outputs; journal = record { items = []; room = 0 }; steps = s.steps; end = s.end } };
 }
 
 impl Left {
@@ -75,6 +77,7 @@ impl Shared {
             pool,
             homes,
             sets,
+            marks,
             hands,
             outputs,
             journal,
@@ -88,6 +91,7 @@ impl Shared {
             pool,
             homes,
             sets,
+            marks,
             hands,
             outputs,
             steps,

@@ -28,14 +28,14 @@ fn field_counts(limit: u32, refs: i64, ints: i64) -> Option<(u32, u32)>
 }
 
 // What a number register of the top frame holds.
-fn number(part: &Private, register: IntReg) -> i64
+pub(crate) fn number(part: &Private, register: IntReg) -> i64
     ensures { result ≡ int_of part.now.frames.top register }
 {
     part.frames.int(register.index() as u32)
 }
 
 // What a reference register of the top frame holds.
-fn reference(part: &Private, register: RefReg) -> Option<Addr>
+pub(crate) fn reference(part: &Private, register: RefReg) -> Option<Addr>
     ensures { result ≡ ref_of part.now.frames.top register }
 {
     part.frames.reference(register.index() as u32)
@@ -84,7 +84,7 @@ pub(crate) enum Ending {
 }
 
 // A number as the index of one of so many fields.
-fn field_index(count: u32, index: i64) -> Option<u32>
+pub(crate) fn field_index(count: u32, index: i64) -> Option<u32>
     ensures { result ≡ place_in count index }
 {
     if index < 0 {

@@ -8,6 +8,7 @@ ghost use Rattle.hh_model.specs.Effect.{place_in};
 ghost use Rattle.task_machine.specs.Plan.{int_of, ref_of, same_reference};
 ghost use Rattle.shared_tree.specs.Other.{object_named, or_frozen, or_range, other_step, reads_into, swaps, IsReadable};
 
+use crate::next::{field_index, number, reference};
 use alloc_path::LeafHeap;
 use chunk_pool::Pool;
 use heap_tree::Tree;
@@ -33,35 +34,6 @@ pub(crate) enum OtherStep {
     Swaps(IntReg, Addr, u32, Option<Addr>),
     /// A number field of the object gets a value.
     StoresNumber(Addr, u32, i64),
-}
-
-// What a number register of the top frame holds.
-fn number(part: &Private, register: IntReg) -> i64
-    ensures { result ≡ int_of part.now.frames.top register }
-{
-    part.frames.int(register.index() as u32)
-}
-
-// What a reference register of the top frame holds.
-fn reference(part: &Private, register: RefReg) -> Option<Addr>
-    ensures { result ≡ ref_of part.now.frames.top register }
-{
-    part.frames.reference(register.index() as u32)
-}
-
-// A number as the index of one of so many fields.
-fn field_index(count: u32, index: i64) -> Option<u32>
-    ensures { result ≡ place_in count index }
-{
-    if index < 0 {
-        return None;
-    }
-    let index = index as u64;
-    if index < count as u64 {
-        Some(index as u32)
-    } else {
-        None
-    }
 }
 
 /// The address of the object that an instruction works on.

@@ -67,8 +67,8 @@ invariant_of-self c =
     c.set_state.ensures (c.set-2.ensures ∙ ap (λ (r : Rest). slice_set w.homes p.task (Some r)) c.ended.ensures) c.set.ensures (journal_by w.journal _ _ (alone_event k p) c.new.ensures c.push_reserved.ensures)))
     (alone_world w k p I F at free no (record { items = []; room = w.journal.room - 1 }))
 
-pub returns : goal.returns
-returns c =
+pub returns-clause-ended : goal.returns-clause-ended
+returns-clause-ended c =
     let w : World = the_view c.self.inside in
     let p : Private = c.args.part in
     let k : ℕ = c.args.worker in

@@ -104,10 +104,10 @@ invariant_of-self-2 c =
     let H : HomesFork w.homes c.put_homes.new.homes p c.args.left c.args.right = homes_fork_by w.homes c.grow-grown.new.homes c.put_homes.new.homes p c.args.left c.args.right c.in-Ok.first c.in-Ok.second made c.in-Ok.ensures.homes first second c.put_homes.ensures in
     let N : SetsFork w.sets c.fork_sets.new.sets.items p.task = subst (λ (xs : List SetOf). SetsFork xs c.fork_sets.new.sets.items p.task) c.in-Ok.ensures.sets c.fork_sets.ensures in
     let j : Space Event = record { items = []; room = w.journal.room - 1 } in
-    let v : World = record w { steps = w.steps + (p.fresh + 1); sets = c.fork_sets.new.sets.items } in
+    let v : World = record w { steps = w.steps + (p.fresh + 1); sets = c.fork_sets.new.sets.items; marks = c.clear_marks.new.marks } in
     subst IsWorld (sym (four_changed v (forked w.tree p.task) _ c.put_homes.new.homes c.put_homes.new.homes (slice_set w.hands k None) _ (record { items = _; room = w.journal.room - 1 }) _
     c.in-Ok.ensures.tree refl c.set.ensures (journal_by w.journal _ _ (alone_event k p) c.new.ensures c.push_reserved.ensures)))
-    (alone_world w k p I F at free c.args.left c.args.right c.args.line B low c.put_homes.new.homes c.fork_sets.new.sets.items H N j)
+    (alone_world w k p I F at free c.args.left c.args.right c.args.line B low c.put_homes.new.homes c.fork_sets.new.sets.items H N c.clear_marks.new.marks c.clear_marks.ensures j)
 
 pub returns-clause-answered : goal.returns-clause-answered
 returns-clause-answered c =
@@ -126,9 +126,9 @@ returns-clause-answered c =
     let H : HomesFork w.homes c.put_homes.new.homes p c.args.left c.args.right = homes_fork_by w.homes c.grow-grown.new.homes c.put_homes.new.homes p c.args.left c.args.right c.in-Ok.first c.in-Ok.second made c.in-Ok.ensures.homes first second c.put_homes.ensures in
     let N : SetsFork w.sets c.fork_sets.new.sets.items p.task = subst (λ (xs : List SetOf). SetsFork xs c.fork_sets.new.sets.items p.task) c.in-Ok.ensures.sets c.fork_sets.ensures in
     let j : Space Event = record { items = []; room = w.journal.room - 1 } in
-    let v : World = record w { steps = w.steps + (p.fresh + 1); sets = c.fork_sets.new.sets.items } in
+    let v : World = record w { steps = w.steps + (p.fresh + 1); sets = c.fork_sets.new.sets.items; marks = c.clear_marks.new.marks } in
     subst (λ (z : World). ForksOn z (record v { tree = c.grow-grown.new.tree; homes = c.put_homes.new.homes; hands = c.set.new.self; journal = c.push_reserved.new.self }) k p c.in-Ok.first.task c.in-Ok.second.task) c.self.view_is
     (subst (λ (z : World). ForksOn w z k p c.in-Ok.first.task c.in-Ok.second.task) (sym (four_changed v (forked w.tree p.task) _ c.put_homes.new.homes c.put_homes.new.homes (slice_set w.hands k None) _ (record { items = _; room = w.journal.room - 1 }) _
     c.in-Ok.ensures.tree refl c.set.ensures (journal_by w.journal _ _ (alone_event k p) c.new.ensures c.push_reserved.ensures)))
-    (alone_forks w k p I F at free c.args.left c.args.right c.args.line B low c.put_homes.new.homes c.fork_sets.new.sets.items H N j c.in-Ok.first.task c.in-Ok.second.task
+    (alone_forks w k p I F at free c.args.left c.args.right c.args.line B low c.put_homes.new.homes c.fork_sets.new.sets.items H N c.clear_marks.new.marks c.clear_marks.ensures j c.in-Ok.first.task c.in-Ok.second.task
     (ap (λ (z : Child). z.task) c.in-Ok.ensures.left_child) (ap (λ (z : Child). z.task) c.in-Ok.ensures.right_child)))

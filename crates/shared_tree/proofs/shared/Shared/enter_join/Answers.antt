@@ -388,8 +388,8 @@ invariant_of-self c =
     let same = four_changed v (joined_nodes (with_state w.tree p.task Ended) c.args.parent left.side.task right.side.task) c.join_children-rest.new.tree homes homes (slice_set w.hands k None) c.set.new.self (record { items = _; room = w.journal.room - 1 }) c.push_reserved.new.self tree refl c.set.ensures (journal_by w.journal _ _ (alone_event k p) c.new.ensures c.push_reserved.ensures) in
     subst IsWorld (sym same) both.0
 
-pub returns : goal.returns
-returns c =
+pub returns-clause-joined : goal.returns-clause-joined
+returns-clause-joined c =
     let w : World = the_view c.self.inside in
     let p : Private = c.args.part in
     let k : ℕ = c.args.worker in

@@ -143,3 +143,9 @@ returns-in-Err-NoMemory-clause-fits c =
     let F : Fits w k p = subst (λ (z : World). Fits z k p) (sym c.self.view_is) c.requires.fits in
     subst (λ (z : Chunks). Fits (record w { pool = z }) k (record p { heap = c.make_room.new.self })) (sym c.in-Err-NoMemory.ensures.err)
     (subst (λ (h : Heap). Fits w k (record p { heap = h })) (sym c.make_room.ensures.kept) (places_fit w k p c.make_room.new.self.slots c.make_room.new.self.spare F))
+
+pub returns-in_err-make_room-clause-fits : goal.returns-in_err-make_room-clause-fits
+returns-in_err-make_room-clause-fits c =
+    let p : Private = c.args.part.now in
+    subst (λ (h : Heap). Fits c.args.self.now c.args.worker (record p { heap = h })) (sym c.make_room.ensures.kept)
+    (places_fit c.args.self.now c.args.worker p c.make_room.new.self.slots c.make_room.new.self.spare c.requires.fits)

@@ -1,4 +1,4 @@
-use Rattle.std.proofs.Common.{◌≡◌, ℕ, Option, Some, None, ap, sym, ◌∙◌}
+use Rattle.std.proofs.Common.{◌≡◌, ℕ, Option, Some, None, slice_set, ap, sym, ◌∙◌}
 use Rattle.heap_tree.specs.Node.{parent_of}
 use Rattle.task_machine.specs.declared.part.Private.{Private}
 use Rattle.shared_tree.specs.World.{World}
@@ -50,7 +50,7 @@ returns-in-Ok-clause-answered c =
     let p : Private = c.args.part in
     let k : ℕ = c.args.worker in
     let free : refused w (alone_event k p) ≡ None = sym c.end_refused.ensures ∙ c.in_default.is in
-    places_ends w c.make_join_places.new.self c.make_join_places.ensures.same c.enter_join.new.self k p _ c.enter_join.ensures
+    places_ends w c.make_join_places.new.self c.make_join_places.ensures.same c.enter_join.new.self k p _ c.enter_join.ensures.joined
 
 pub returns-in-Err-clause-still : goal.returns-in-Err-clause-still
 returns-in-Err-clause-still c =
@@ -59,3 +59,8 @@ returns-in-Err-clause-still c =
     let k : ℕ = c.args.worker in
     let free : refused w (alone_event k p) ≡ None = sym c.end_refused.ensures ∙ c.in_default.is in
     λ u r G. places_fit w c.make_join_places.new.self c.make_join_places.ensures.same u r G
+
+pub returns-in-Ok-clause-hand : goal.returns-in-Ok-clause-hand
+returns-in-Ok-clause-hand c =
+    let w : World = c.args.self.now in
+    c.enter_join.ensures.hand ∙ ap (λ (z : World). slice_set z.hands c.args.worker None) c.make_join_places.ensures.same.rest

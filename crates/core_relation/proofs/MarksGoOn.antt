@@ -1,0 +1,81 @@
+-- A marking that can go on still can, where objects stay and what was overwritten was kept.
+use Rattle.std.proofs.Common.{◌≡◌, ℕ, ◌+◌, ◌<◌, ◌≤◌, ◌++◌, arith, Some, List, [], length, length-append, Contains, ◌⊎◌, ◌↔◌, inl, inr, refl, ap, sym, subst, ◌∙◌}
+use Rattle.object_layout.specs.declared.word.Addr.{Addr}
+use Rattle.hh_model.specs.declared.data.Name.{Name}
+use Rattle.listed.proofs.Members.{contains_from_in, in_append_cases, in_append_left, in_append_right, in_from_contains}
+use Rattle.walks.proofs.Reached.{reached_more, reached_start, reached_within}
+use Rattle.inner_mark_gc.specs.Marks.{IsMarking, Marks}
+use Rattle.inner_mark_gc.specs.Snapshot.{Fork, IsHeld, IsInSnapshot, Leads, Starts}
+use Rattle.inner_mark_gc.proofs.GoingOn.{marking_goes_on}
+use Rattle.core_relation.specs.Value.{Home, In, Seen, Value, objects}
+use Rattle.core_relation.specs.Marking.{GoesOn}
+use Rattle.core_relation.specs.Since.{kept}
+
+-- WHAT WAS KEPT SINCE, which is of the snapshot, leads to nothing more
+module _ (f : Fork) (kept more : List Addr) (of : (a : Addr) → In more a → IsInSnapshot f kept a) where
+  start_then : (a : Addr) → Starts f (kept ++ more) a → IsInSnapshot f kept a
+  start_then a s = elim (in_append_cases f.roots (kept ++ more) a (in_from_contains (f.roots ++ (kept ++ more)) a s.1)) [
+    | inl i ↦ reached_start (Starts f kept) (Leads f.heap) a (s.0, contains_from_in (f.roots ++ kept) a (in_append_left f.roots kept a i))
+    | inr i ↦ elim (in_append_cases kept more a i) [
+      | inl j ↦ reached_start (Starts f kept) (Leads f.heap) a (s.0, contains_from_in (f.roots ++ kept) a (in_append_right f.roots kept a j))
+      | inr j ↦ of a j
+    ]
+  ]
+
+  start_before : (a : Addr) → Starts f kept a → Starts f (kept ++ more) a
+  start_before a s = (
+    s.0,
+    contains_from_in (f.roots ++ (kept ++ more)) a (elim (in_append_cases f.roots kept a (in_from_contains (f.roots ++ kept) a s.1)) [
+      | inl i ↦ in_append_left f.roots (kept ++ more) a i
+      | inr i ↦ in_append_right f.roots (kept ++ more) a (in_append_left kept more a i)
+    ]),
+  )
+
+  pub same_snapshot : (a : Addr) → IsInSnapshot f (kept ++ more) a ↔ IsInSnapshot f kept a
+  same_snapshot a = (
+    (λ w. reached_within (Starts f (kept ++ more)) (Leads f.heap) (IsInSnapshot f kept) start_then (λ b x r g. reached_more (Starts f kept) (Leads f.heap) b x r g) a w),
+    (λ w. reached_within (Starts f kept) (Leads f.heap) (IsInSnapshot f (kept ++ more)) (λ x s. reached_start (Starts f (kept ++ more)) (Leads f.heap) x (start_before x s)) (λ b x r g. reached_more (Starts f (kept ++ more)) (Leads f.heap) b x r g) a w),
+  )
+
+-- THE MARKING of t's heap
+module _ (v v' : Value) (t : ℕ) (snapshot : List Name) (m : Marks) (more : List Addr) (grows : kept v' t ≡ kept v t ++ more)
+    (there : (o : Seen) → In (objects v t) o → (q : Seen) × In (objects v' t) q × (q.at ≡ o.at) × (q.name ≡ o.name))
+    (were : (q : Seen) → In (objects v' t) q → (o : Seen) × In (objects v t) o × (q.at ≡ o.at) × (q.name ≡ o.name) × ((a : Addr) → v.owner a.chunk ≡ Some t → In o.refs (Some a) → In q.refs (Some a) ⊎ In (kept v' t) a))
+    (none_new : (k : ℕ) → v'.owner k ≡ Some t → v.owner k ≡ Some t) (count : length (objects v' t) ≡ length (objects v t)) (chunks : length (v'.homes t).chunks ≡ length (v.homes t).chunks)
+    (new : (b : Addr) → In more b → (o : Seen) × In (objects v t) o × (o.at ≡ b) × In snapshot o.name) (G : GoesOn v t snapshot m) where
+  of : (a : Addr) → In more a → IsInSnapshot G.fork (kept v t) a
+  of a i = let o = new a i in subst (IsInSnapshot G.fork (kept v t)) o.2 ((G.snapshot o.0 o.1).1 o.3)
+
+  more_followed : m.followed ≤ length (kept v' t)
+  more_followed =
+      let few : m.followed ≤ length (kept v t) = G.followed in
+      let sum : length (kept v' t) ≡ length (kept v t) + length more = ap (λ (xs : List Addr). length xs) grows ∙ length-append (kept v t) more in
+      omega (arith, few, sum)
+
+  pub goes_on : GoesOn v' t snapshot m
+  goes_on = record {
+    fork = G.fork;
+    marks = subst (λ ks. IsMarking G.fork ks m) (sym grows) (marking_goes_on G.fork (kept v t) more m G.followed G.marks);
+    there = λ q i. (let o = were q i in subst (IsHeld G.fork.heap) (sym o.2) (G.there o.0 o.1));
+    were = λ a h. (let o = G.were a h in let q = there o.0 o.1 in (q.0, q.1, q.2 ∙ o.2));
+    overwritten = λ q a i c w.
+        let o = were q i in
+        let mine : v.owner a.chunk ≡ Some t = none_new a.chunk c in
+        elim (G.overwritten o.0 a o.1 mine (subst (λ b. Leads G.fork.heap b a) o.2 w)) [
+          | inl r ↦ o.4 a mine r
+          | inr k ↦ inr (subst (λ ks. In ks a) (sym grows) (in_append_left (kept v t) more a k))
+        ];
+    snapshot = λ q i.
+        let o = were q i in
+        let s = G.snapshot o.0 o.1 in
+        let same = same_snapshot G.fork (kept v t) more of q.at in (
+          (λ w. subst (In snapshot) (sym o.3) (s.0 (subst (IsInSnapshot G.fork (kept v t)) o.2 (same.0 (subst (λ ks. IsInSnapshot G.fork ks q.at) grows w))))),
+          (λ n. subst (λ ks. IsInSnapshot G.fork ks q.at) (sym grows) (same.1 (subst (IsInSnapshot G.fork (kept v t)) (sym o.2) (s.1 (subst (In snapshot) o.3 n))))),
+        );
+    once = G.once;
+    marked = G.marked;
+    followed = more_followed;
+    slots = subst (λ n. n < length m.found + m.slots) (sym count) G.slots;
+    spare = subst (λ n. n < length m.found + m.spare) (sym count) G.spare;
+    places = subst (λ n. n ≤ m.places) (sym chunks) G.places;
+  }

@@ -1,0 +1,145 @@
+-- How other tasks have part in a part's next step, by the line that comes next; and what is left where memory is wanting.
+use Rattle.std.proofs.Common.{◌≡◌, ℕ, ◌||◌, not, true, Bool, false, Option, Some, None, List, length, slice_get, slice_set, option_map, is_some, refl, ap, sym, subst, ◌∙◌}
+use Rattle.hh_lang.specs.declared.instr.Instr.{Instr}
+use Rattle.hh_lang.specs.declared.instr.Instr.TheVariants.{Par, Ret}
+use Rattle.hh_lang.specs.declared.program.Line.{Line}
+use Rattle.hh_model.specs.declared.data.State.{State}
+use Rattle.hh_model.specs.declared.data.Task.{Task}
+use Rattle.hh_model.specs.Step.{fetched}
+use Rattle.run_ledger.specs.declared.data.Ledger.{Ledger}
+use Rattle.run_ledger.specs.Steps.{owns, task_steps, touched}
+use Rattle.task_machine.specs.declared.part.Private.{Private}
+use Rattle.task_machine.specs.Fits.{FitsNow as FitsMachine}
+use Rattle.task_machine.specs.Place.{Places}
+use Rattle.task_machine.proofs.Agreement.{same_line}
+use Rattle.core_relation.proofs.Hands.{none_held}
+use Rattle.write_barrier.specs.declared.sets.SetOf.{SetOf}
+use Rattle.write_barrier.specs.Stored.{content_of}
+use Rattle.shared_tree.specs.World.{World, accounts, flat, rest_at, value_of}
+use Rattle.shared_tree.specs.Stands.{IsWorld}
+use Rattle.shared_tree.specs.Fits.{AllFit, Fits}
+use Rattle.shared_tree.specs.Alone.{IsBeyond, IsShared, alone_event, machine_after}
+use Rattle.shared_tree.specs.ChildEnds.{IsAtEnd, is_last, is_last_by, is_last_line}
+use Rattle.shared_tree.specs.Entered.{refused}
+use Rattle.shared_tree.specs.Forks.{ForkAnswered, IsAtFork, is_fork, is_fork_by, is_par}
+use Rattle.shared_tree.specs.Hands.{HoldsNone, LeavesHand}
+use Rattle.shared_tree.specs.Joins.{IsUnchanged, SameButPlaces}
+use Rattle.shared_tree.specs.declared.answer.NotEntered.{NotEntered}
+use Rattle.shared_tree.specs.declared.answer.NotEntered.TheVariants.{NoMemory, Refuses}
+use Rattle.shared_tree.specs.Links.{above_of}
+use Rattle.shared_tree.specs.Next.{is_beyond, is_beyond_by, is_beyond_line, is_joint, next_line}
+use Rattle.shared_tree.specs.Other.{IsOther, SameButRoom, is_other, is_other_by, is_other_line}
+use Rattle.shared_tree.specs.Ran.{IsJoint, RanTo, ran_by}
+use Rattle.shared_tree.specs.declared.fork.Forking.{Forking}
+use Rattle.shared_tree.specs.declared.fork.Forking.TheVariants.{Forked, Over}
+use Rattle.shared_tree.proofs.AloneEntries.{runs_on}
+use Rattle.shared_tree.proofs.ForkSteps.{same_length}
+use Rattle.shared_tree.proofs.JoinPlaces.{same_itself, same_world}
+use Rattle.shared_tree.proofs.LastSteps.{fits_machine, machine_same}
+use Rattle.shared_tree.proofs.Now.{hand_now}
+use Rattle.shared_tree.proofs.Taking.{put_there, worker_there}
+
+or_false : (a : Bool) → (a || false) ≡ true → a ≡ true
+or_false true e = e
+or_false false e = e
+
+other_by : (tasks : List Task) (t : ℕ) (x : Task) (i : Instr) → ((g h : ℕ) → i ≡ Par g h → ⊥) → (i ≡ Ret → ⊥) → (is_joint x i || not (owns tasks t (touched x.top i))) ≡ true → not (owns tasks t (touched x.top i)) ≡ true
+other_by tasks t x (Par g h) par ret e = absurd (par g h refl)
+other_by tasks t x Ret par ret e = absurd (ret refl)
+other_by tasks t x _ par ret e = e
+
+module _ (w : World) (k : ℕ) (p : Private) (I : IsWorld w) (F : Fits w k p) (shared : IsShared w p) (free : refused w (alone_event k p) ≡ None) (joint : IsJoint w p) (line : Line) (next : next_line w.program p ≡ Some line) where
+  on : (accounts w).end ≡ None
+  on = runs_on w k p I F shared free
+
+  abbrev t : ℕ
+  t = p.task
+
+  abbrev M : Ledger
+  M = task_steps w.program (accounts w) t p.fresh
+
+  abbrev above : Places
+  above = above_of (value_of w) (accounts w) t
+
+  abbrev G : FitsMachine w.program p M.machine above
+  G = fits_machine w k p I F shared on
+
+  machine_is : machine_after w p ≡ M.machine
+  machine_is = machine_same w k p I F shared on
+
+  at : fetched w.program G.task.top ≡ Some line
+  at = sym (same_line w.program p M.machine above G) ∙ next
+
+  joint_line : (is_joint G.task line.instr || not (owns M.machine.tasks t (touched G.task.top line.instr))) ≡ true
+  joint_line =
+      ap (is_beyond_line M.machine t G.task) (sym at)
+      ∙ (ap (is_beyond_by w.program M.machine t) (sym G.is) ∙ (ap (λ (m : State). is_beyond w.program m t) (sym machine_is) ∙ joint))
+
+  pub at_fork : (g h : ℕ) → line.instr ≡ Par g h → IsAtFork w p
+  at_fork g h by = record {
+    forks =
+        ap (λ (m : State). is_fork_by w.program (slice_get m.tasks t)) machine_is
+        ∙ (ap (is_fork_by w.program) G.is ∙ (ap is_fork at ∙ ap is_par by));
+    few = shared.few;
+  }
+
+  pub at_end : line.instr ≡ Ret → IsAtEnd w p
+  at_end by = record {
+    ends =
+        ap (λ (m : State). is_last_by w.program (slice_get m.tasks t)) machine_is
+        ∙ (ap (is_last_by w.program) G.is
+        ∙ (ap (is_last_line G.task) at
+        ∙ (ap (is_last G.task) by ∙ or_false _ (ap (λ i. is_joint G.task i || not (owns M.machine.tasks t (touched G.task.top i))) (sym by) ∙ joint_line))));
+    few = shared.few;
+  }
+
+  pub at_other : ((g h : ℕ) → line.instr ≡ Par g h → ⊥) → (line.instr ≡ Ret → ⊥) → IsOther w p
+  at_other par ret =
+      ap (λ (m : State). is_other w.program m t) machine_is
+      ∙ (ap (is_other_by w.program M.machine t) G.is
+      ∙ (ap (is_other_line M.machine t G.task) at ∙ other_by M.machine.tasks t G.task line.instr par ret joint_line))
+
+-- ---- WHO HOLDS NOTHING
+
+pub holds_none : (w after : World) (k : ℕ) (p : Private) → IsWorld w → IsWorld after → refused w (alone_event k p) ≡ None → (accounts after).end ≡ None → after.hands ≡ slice_set w.hands k None → HoldsNone after k
+holds_none w after k p I I' free goes hand =
+    none_held (accounts after) k (sym (hand_now after I' goes k) ∙ (ap (λ hs. flat (slice_get hs k)) hand ∙ ap flat (put_there w.hands k None (worker_there w (alone_event k p) I free))))
+
+-- ---- WANT OF MEMORY
+
+some_is : (o : Option SetOf) → is_some (option_map content_of o) ≡ is_some o
+some_is None = refl
+some_is (Some s) = refl
+
+pub same_places : (w after : World) → SameButRoom w after → SameButPlaces w after
+same_places w after S =
+    let homes_are : after.homes ≡ w.homes = ap (λ (z : World). z.homes) S.same in
+    record {
+      rest = S.same ∙ ap (λ hs. let z : World = record w { homes = hs; sets = after.sets } in z) (sym homes_are);
+      many = ap length homes_are;
+      homes = λ u. same_itself (rest_at w.homes u) (rest_at after.homes u) (ap (λ hs. rest_at hs u) homes_are);
+      many_sets = same_length after.sets w.sets (λ u. sym (some_is (slice_get after.sets u)) ∙ (ap is_some (S.sets u) ∙ some_is (slice_get w.sets u)));
+      sets = S.sets;
+    }
+
+pub unchanged_places : (w after : World) (e : NotEntered) → IsUnchanged e w after → SameButPlaces w after
+unchanged_places w after (Refuses cause) same = subst (SameButPlaces w) (sym same) (same_world w)
+unchanged_places w after NoMemory same = same
+
+-- ---- WHAT IT COMES TO
+
+pub forks_to : (w after : World) (k : ℕ) (p : Private) → IsWorld w → IsWorld after → refused w (alone_event k p) ≡ None → (f : Forking) → ForkAnswered w after k p f → LeavesHand w.hands after.hands k f → RanTo w after k p (ran_by f)
+forks_to w after k p I I' free (Forked left right) on hand = (on, holds_none w after k p I I' free on.goes hand)
+forks_to w after k p I I' free Over over hand = over
+
+pub beyond_same : (w after : World) (p q : Private) → IsBeyond w after p q → (G : World → Private → Type 0) → G w p → G after q
+beyond_same w after p q B G g = subst (λ (z : World). G z q) (sym B.same) (subst (G w) (sym B.part) g)
+
+pub beyond_back : (w after : World) (p q : Private) → IsBeyond w after p q → (G : World → Private → Type 0) → G after q → G w p
+beyond_back w after p q B G g = subst (λ (z : World). G z p) B.same (subst (G after) B.part g)
+
+pub same_by : (w after : World) → after ≡ w → SameButPlaces w after
+same_by w after same = subst (SameButPlaces w) (sym same) (same_world w)
+
+pub fit_by : (w after : World) → after ≡ w → AllFit w after
+fit_by w after same = subst (AllFit w) (sym same) (λ k p F. F)

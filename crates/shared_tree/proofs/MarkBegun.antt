@@ -1,0 +1,209 @@
+-- A marking of a heap that waits begins, from the registers and the roots as they are now: it can go on to the whole snapshot.
+use Rattle.std.proofs.Common.{◌≡◌, ◌⊎◌, ◌↔◌, ℕ, suc, ◌+◌, ◌<◌, ◌≤◌, ◌++◌, arith, true, false, Option, Some, None, List, [], ◌∷◌, All, Contains, length, length-append, map, slice_get, inl, inr, refl, ap, sym, subst, ◌∙◌}
+use Rattle.std.proofs.lemmas.Bool.{false≢true}
+use Rattle.std.proofs.lemmas.List.Elements.{All-head, All-tail}
+use Rattle.listed.proofs.Members.{contains_from_in, in_append_cases, in_append_left, in_append_right, in_from_contains}
+use Rattle.walks.proofs.Reached.{reached_more, reached_start, reached_within}
+use Rattle.object_layout.specs.declared.word.Addr.{Addr}
+use Rattle.object_layout.specs.Cell.{Born, Cell, Hole, IsObject, Mark, Moved, marked_object, moved_to, size_of}
+use Rattle.object_layout.specs.Chunks.{cell_of, held_size, object_count, one_each, sum_in}
+use Rattle.object_layout.specs.Content.{Content}
+use Rattle.alloc_path.specs.Heap.{AreTidy, IsTidy}
+use Rattle.hh_model.specs.declared.data.Name.{Name}
+use Rattle.hh_model.specs.declared.data.Task.{Task}
+use Rattle.hh_model.specs.Step.{is_waiting}
+use Rattle.run_ledger.specs.declared.data.Ledger.{Ledger}
+use Rattle.run_ledger.specs.Heaps.{heap_of}
+use Rattle.run_ledger.specs.Sound.{SoundLedger}
+use Rattle.run_ledger.proofs.Journals.{legal_sound}
+use Rattle.alloc_path.proofs.Settled.{unmoved_at}
+use Rattle.inner_mark_gc.specs.Marks.{IsMarking, IsOf, Marks, marked_of}
+use Rattle.inner_mark_gc.specs.Snapshot.{Fork, IsHeld, IsInSnapshot, Leads, Starts, refs_of}
+use Rattle.ledger_steps.specs.Accounts.{Rests}
+use Rattle.ledger_steps.proofs.Split.{legal_idle}
+use Rattle.core_relation.specs.Value.{Frame, Home, In, Seen, Value, objects, objects_in}
+use Rattle.core_relation.specs.Begins.{IsAt, IsRoot, LeadsAt}
+use Rattle.core_relation.specs.Marking.{GoesOn}
+use Rattle.core_relation.specs.Now.{IsReachedNow, StartsNow}
+use Rattle.core_relation.specs.Since.{Since, kept}
+use Rattle.core_relation.specs.Stands.{Stands}
+use Rattle.core_relation.specs.Whole.{StandsFor}
+use Rattle.core_relation.proofs.Past.{task_by, waiting_stops}
+use Rattle.core_relation.proofs.SnapshotNow.{snapshot_now}
+use Rattle.shared_tree.specs.declared.rest.Rest.{Rest}
+use Rattle.shared_tree.specs.Objects.{chunk_of, chunks_of, objects_from, seen, seen_by}
+use Rattle.shared_tree.specs.World.{World, accounts, home_in, home_of, rest_at, totals_of, value_of}
+use Rattle.shared_tree.specs.Stands.{HeapForm, IsWorld}
+use Rattle.shared_tree.specs.Marking.{MarksBegin}
+use Rattle.shared_tree.proofs.Cells.{object_seen, seen_object}
+use Rattle.shared_tree.proofs.Now.{stands_now}
+use Rattle.shared_tree.proofs.Targets.{home_chunks}
+
+-- AS MANY OBJECTS are counted as are read
+cells_counted : (cs : List Cell) (number at : ℕ) → All (λ c. moved_to c.mark ≡ None) cs → sum_in one_each cs ≡ length (objects_from number at cs)
+cells_counted [] number at t = refl
+cells_counted (c ∷ cs) number at t = by c.mark (All-head (λ (d : Cell). moved_to d.mark ≡ None) c cs t) (cells_counted cs number (at + size_of c) (All-tail (λ (d : Cell). moved_to d.mark ≡ None) c cs t))
+  where
+    by : (m : Mark) → moved_to m ≡ None → sum_in one_each cs ≡ length (objects_from number (at + size_of c) cs) → held_size m 1 + sum_in one_each cs ≡ length (seen_by number at c m (objects_from number (at + size_of c) cs))
+    by (Born b) e go = omega (arith, go)
+    by (Moved to) e go = absurd cc
+    by Hole e go = omega (arith, go)
+
+pub objects_counted : (ks : List Content) → AreTidy ks → object_count ks ≡ length (objects_in (chunks_of ks))
+objects_counted [] t = refl
+objects_counted (k ∷ ks) t =
+    let one : sum_in one_each k.cells ≡ length (chunk_of k).objects = cells_counted k.cells k.number 0 (All-head IsTidy k ks t).unmoved in
+    let rest : object_count ks ≡ length (objects_in (chunks_of ks)) = objects_counted ks (All-tail IsTidy k ks t) in
+    let sum : length ((chunk_of k).objects ++ objects_in (chunks_of ks)) ≡ length (chunk_of k).objects + length (objects_in (chunks_of ks)) = length-append (chunk_of k).objects (objects_in (chunks_of ks)) in
+    omega (arith, one, rest, sum)
+
+pub length_chunks : (cs : List Content) → length (chunks_of cs) ≡ length cs
+length_chunks [] = refl
+length_chunks (c ∷ cs) = ap suc (length_chunks cs)
+
+-- OBJECTS of chunks, by their cells
+cell_refs : (c : Cell) (m : Mark) → IsObject m → (marked_object m c).refs ≡ c.refs
+cell_refs c (Born b) o = refl
+cell_refs c (Moved to) o = refl
+cell_refs c Hole o = absurd o
+
+pub held_seen : (ks : List Content) → AreTidy ks → (a : Addr) → IsHeld ks a → (o : Seen) × In (objects_in (chunks_of ks)) o × (o.at ≡ a) × (refs_of ks a ≡ o.refs)
+held_seen ks t a h = by (cell_of ks a).mark refl h (unmoved_at ks a t)
+  where
+    by : (m : Mark) → (cell_of ks a).mark ≡ m → IsObject m → moved_to (cell_of ks a).mark ≡ None → (o : Seen) × In (objects_in (chunks_of ks)) o × (o.at ≡ a) × (refs_of ks a ≡ o.refs)
+    by (Born b) e o u = (seen a.chunk a.offset b (cell_of ks a), object_seen ks a b e, refl, cell_refs (cell_of ks a) (cell_of ks a).mark h)
+    by (Moved to) e o u = absurd (none_some (sym u ∙ ap moved_to e))
+      where
+        none_some : {A : Type 0} {x : Addr} → ◌≡◌ {A = Option Addr} None (Some x) → A
+        none_some q = absurd cc
+    by Hole e o u = absurd o
+
+module _ (w : World) (I : IsWorld w) (on : (accounts w).end ≡ None) (t : ℕ) (r : Rest) (there : rest_at w.homes t ≡ Some r) (wait : is_waiting (slice_get (accounts w).machine.tasks t) ≡ true) (keeps : ((value_of w).noted t).keeps ≡ true) where
+  abbrev l : Ledger
+  l = accounts w
+
+  abbrev v : Value
+  v = value_of w
+
+  abbrev ks : List Content
+  ks = r.heap.chunks
+
+  stands : StandsFor v (totals_of w) l
+  stands = stands_now w I on
+
+  sound : SoundLedger l
+  sound = legal_sound w.program w.settings w.journal.items I.legal
+
+  pub rests : Rests l t
+  rests = legal_idle w.program w.settings w.journal.items I.legal on t (waiting_stops (slice_get l.machine.tasks t) wait)
+
+  form : HeapForm r.heap
+  form = I.heaps t r there
+
+  pub home_is : (v.homes t).chunks ≡ chunks_of ks
+  home_is = ap (λ o. (home_in o).chunks) there ∙ home_chunks r
+
+  pub to_home : (o : Seen) → In (objects_in (chunks_of ks)) o → In (objects v t) o
+  to_home o i = subst (λ cs. In (objects_in cs) o) (sym home_is) i
+
+  pub from_home : (o : Seen) → In (objects v t) o → In (objects_in (chunks_of ks)) o
+  from_home o i = subst (λ cs. In (objects_in cs) o) home_is i
+
+  pub is_held : (o : Seen) → In (objects v t) o → IsHeld ks o.at
+  is_held o i = let y = seen_object ks o form.shaped.apart (from_home o i) in subst IsObject (sym y.mark) tt
+
+  pub seen_at : (a : Addr) → IsHeld ks a → (o : Seen) × In (objects v t) o × (o.at ≡ a) × (refs_of ks a ≡ o.refs)
+  seen_at a h = let o = held_seen ks form.tidy a h in (o.0, to_home o.0 o.1, o.2, o.3)
+
+  pub refs_are : (o : Seen) → In (objects v t) o → refs_of ks o.at ≡ o.refs
+  refs_are o i =
+      let y = seen_object ks o form.shaped.apart (from_home o i) in
+      cell_refs (cell_of ks o.at) (cell_of ks o.at).mark (subst IsObject (sym y.mark) tt) ∙ sym (ap (λ (z : Seen). z.refs) y.is)
+
+  -- the roots: what registers name, and what remembered fields hold
+  module _ (roots : List Addr) (are : (a : Addr) → In roots a ↔ (((o : Seen) × IsAt (v.homes t) a o × ((f : Frame) × In (v.homes t).frames f × In f.refs (Some a))) ⊎ IsRoot v l t a)) where
+    abbrev pub f : Fork
+    f = record { heap = ks; roots = roots }
+
+    abbrev IsThere : Addr → Type 0
+    IsThere a = IsReachedNow v l t a × ((o : Seen) × IsAt (v.homes t) a o)
+
+    start_now : (a : Addr) → Starts f (kept v t) a → IsThere a
+    start_now a s =
+        let o = seen_at a s.0 in
+        let at : IsAt (v.homes t) a o.0 = (o.1, o.2) in
+        let now : ((g : Frame) × In (v.homes t).frames g × In g.refs (Some a)) ⊎ (IsRoot v l t a ⊎ In (kept v t) a) = elim (in_append_cases roots (kept v t) a (in_from_contains (roots ++ kept v t) a s.1)) [
+          | inl i ↦ elim ((are a).0 i) [ inl n ↦ inl n.2 | inr y ↦ inr (inl y) ]
+          | inr k ↦ inr (inr k)
+        ] in
+        (reached_start (StartsNow v l t) (LeadsAt (v.homes t)) a (o.0, at, now), (o.0, at))
+
+    more_now : (b a : Addr) → IsThere b → Leads ks b a → IsThere a
+    more_now b a y d =
+        let o : (o : Seen) × IsAt (v.homes t) b o = y.1 in
+        let q = seen_at a d.0 in
+        let at : IsAt (v.homes t) a q.0 = (q.1, q.2) in
+        let refs : refs_of ks b ≡ o.0.refs = ap (refs_of ks) (sym o.1.1) ∙ refs_are o.0 o.1.0 in
+        (reached_more (StartsNow v l t) (LeadsAt (v.homes t)) b a y.0 (o.0, q.0, o.1, subst (λ rs. In rs (Some a)) refs (in_from_contains (refs_of ks b) (Some a) d.1), at), (q.0, at))
+
+    to_now : (a : Addr) → IsInSnapshot f (kept v t) a → IsReachedNow v l t a
+    to_now a g = (reached_within (Starts f (kept v t)) (Leads ks) IsThere start_now more_now a g).0
+
+    held_at : (a : Addr) (o : Seen) → IsAt (v.homes t) a o → IsHeld ks a
+    held_at a o at = subst (IsHeld ks) at.1 (is_held o at.0)
+
+    start_then : (a : Addr) → StartsNow v l t a → IsInSnapshot f (kept v t) a
+    start_then a s =
+        reached_start (Starts f (kept v t)) (Leads ks) a (
+          held_at a s.0 s.1,
+          contains_from_in (roots ++ kept v t) a (elim s.2 [
+            | inl n ↦ in_append_left roots (kept v t) a ((are a).1 (inl (s.0, s.1, n)))
+            | inr y ↦ elim y [
+              | inl z ↦ in_append_left roots (kept v t) a ((are a).1 (inr z))
+              | inr k ↦ in_append_right roots (kept v t) a k
+            ]
+          ]),
+        )
+
+    more_then : (b a : Addr) → IsInSnapshot f (kept v t) b → LeadsAt (v.homes t) b a → IsInSnapshot f (kept v t) a
+    more_then b a g d =
+        let refs : refs_of ks b ≡ d.0.refs = ap (refs_of ks) (sym d.2.1) ∙ refs_are d.0 d.2.0 in
+        reached_more (Starts f (kept v t)) (Leads ks) b a g (held_at a d.1 d.4, contains_from_in (refs_of ks b) (Some a) (subst (λ rs. In rs (Some a)) (sym refs) d.3))
+
+    from_now : (a : Addr) → IsReachedNow v l t a → IsInSnapshot f (kept v t) a
+    from_now a g = reached_within (StartsNow v l t) (LeadsAt (v.homes t)) (IsInSnapshot f (kept v t)) start_then more_then a g
+
+    task : (x : Task) × (slice_get l.machine.tasks t ≡ Some x)
+    task = by (slice_get l.machine.tasks t) refl wait
+      where
+        by : (o : Option Task) → slice_get l.machine.tasks t ≡ o → is_waiting o ≡ true → (x : Task) × (slice_get l.machine.tasks t ≡ Some x)
+        by None e h = absurd (false≢true h)
+        by (Some x) e h = (x, e)
+
+    pub snapshot_is : (o : Seen) → In (objects v t) o → IsInSnapshot f (kept v t) o.at ↔ In (heap_of l t).snapshot o.name
+    snapshot_is o i =
+        let s = snapshot_now v l t task.0 sound stands.homes task.1 wait rests (stands.since t keeps) o i in
+        ((λ g. s.0 (to_now o.at g)), (λ n. from_now o.at (s.1 n)))
+
+    -- what the marking has then
+    pub begun_goes_on : (m : Marks) → IsOf ks (kept v t) m → IsMarking f (kept v t) m → GoesOn v t (heap_of l t).snapshot m
+    begun_goes_on m own marks =
+        let count : object_count ks ≡ length (objects v t) = objects_counted ks form.tidy ∙ ap (λ cs. length (objects_in cs)) (sym home_is) in
+        let chunks : length ks ≡ length (v.homes t).chunks = sym (length_chunks ks) ∙ ap (λ cs. length cs) (sym home_is) in
+        record {
+          fork = f;
+          marks = marks;
+          there = is_held;
+          were = λ a h. (let o = seen_at a h in (o.0, o.1, o.2));
+          overwritten = λ o a i c d. inl (subst (λ rs. In rs (Some a)) (refs_are o i) (in_from_contains (refs_of ks o.at) (Some a) d.1));
+          snapshot = snapshot_is;
+          once = own.room.once;
+          marked = own.marked;
+          followed = own.followed;
+          slots = subst (λ n. n < length m.found + m.slots) count own.room.slots;
+          spare = subst (λ n. n < length m.found + m.spare) count own.room.spare;
+          places = subst (λ n. n ≤ m.places) chunks own.room.places;
+        }
+
+pub marks_begin : MarksBegin
+marks_begin w t r roots m I on there wait keeps are own marks = begun_goes_on w I on t r there wait keeps roots are m own marks

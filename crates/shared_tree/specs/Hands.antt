@@ -1,0 +1,15 @@
+-- Who holds nothing once a task has forked or ended.
+use Rattle.std.specs.Prelude.{◌≡◌, ◌≢◌, ℕ, Option, Some, None, List, slice_set}
+use Rattle.run_ledger.specs.Heaps.{heap_of}
+use Rattle.shared_tree.specs.declared.fork.Forking.{Forking}
+use Rattle.shared_tree.specs.declared.fork.Forking.TheVariants.{Forked, Over}
+use Rattle.shared_tree.specs.World.{World, accounts}
+
+-- the worker holds no task
+abbrev pub HoldsNone : World → ℕ → Type 0
+HoldsNone w k = (t : ℕ) → (heap_of (accounts w) t).worker ≢ Some k
+
+-- where a task has forked, the worker that held it holds none
+abbrev pub LeavesHand : List (Option ℕ) → List (Option ℕ) → ℕ → Forking → Type 0
+LeavesHand hands after k (Forked left right) = after ≡ slice_set hands k None
+LeavesHand hands after k Over = Unit {0}

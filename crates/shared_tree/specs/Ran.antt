@@ -1,0 +1,38 @@
+-- The one entry of a part's fresh steps and its next one, which isn't private, whatever that is.
+use Rattle.std.specs.Prelude.{◌≡◌, ℕ, true}
+use Rattle.task_machine.specs.declared.part.Private.{Private}
+use Rattle.shared_tree.specs.declared.fork.Forking.{Forking}
+use Rattle.shared_tree.specs.declared.fork.Forking.TheVariants.{Forked as ForksInto, Over as TooDeep}
+use Rattle.shared_tree.specs.declared.ran_last.Joint.{Joint}
+use Rattle.shared_tree.specs.declared.ran_last.Joint.TheVariants.{Forks, Returns, Works}
+use Rattle.shared_tree.specs.declared.ran_last.Ran.{Ran}
+use Rattle.shared_tree.specs.declared.ran_last.Ran.TheVariants.{Goes, Forked, Ended, Over}
+use Rattle.shared_tree.specs.World.{World}
+use Rattle.shared_tree.specs.Alone.{EndsAlone, GoesAlone, machine_after}
+use Rattle.shared_tree.specs.ChildEnds.{EndsChild, IsAtEnd}
+use Rattle.shared_tree.specs.Forks.{ForksOn, IsAtFork}
+use Rattle.shared_tree.specs.Hands.{HoldsNone}
+use Rattle.shared_tree.specs.Next.{is_beyond}
+use Rattle.shared_tree.specs.Other.{IsOther}
+
+-- other tasks have part in the part's next step
+abbrev pub IsJoint : World → Private → Type 0
+IsJoint w p = is_beyond w.program (machine_after w p) p.task ≡ true
+
+-- how they have part in it
+abbrev pub ComesTo : World → Private → Joint → Type 0
+ComesTo w p Forks = IsAtFork w p
+ComesTo w p Returns = IsAtEnd w p
+ComesTo w p Works = IsOther w p
+
+-- a fork
+abbrev pub ran_by : Forking → Ran
+ran_by (ForksInto left right) = Forked left right
+ran_by TooDeep = Over
+
+-- what the worker's task has come to: where it forks or ends, the worker holds nothing
+abbrev pub RanTo : World → World → ℕ → Private → Ran → Type 0
+RanTo w after k p (Goes q) = GoesAlone w after k p q
+RanTo w after k p (Forked left right) = ForksOn w after k p left right × HoldsNone after k
+RanTo w after k p (Ended resumed) = EndsChild w after k p resumed × HoldsNone after k
+RanTo w after k p Over = EndsAlone w after k p
