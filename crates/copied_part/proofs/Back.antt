@@ -38,7 +38,7 @@ use Rattle.copied_part.proofs.Naming as naming
 numbers_emptied : (ks : List Content) → numbers (map emptied ks) ≡ numbers ks
 numbers_emptied ks = nums.numbers_of_map emptied (λ k. refl) ks
 
-size_of_new : (ks : List Content) (k : Content) → AreNew ks → In ks k → k.size ≡ 1024
+pub size_of_new : (ks : List Content) (k : Content) → AreNew ks → In ks k → k.size ≡ 1024
 size_of_new [] k n i = absurd i
 size_of_new (x ∷ ks) k n (inl e) = ap (λ (z : Content). z.size) (sym e) ∙ n.0.1
 size_of_new (x ∷ ks) k n (inr i) = size_of_new ks k n.1 i

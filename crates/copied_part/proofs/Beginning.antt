@@ -15,7 +15,7 @@ enough_taken : (needed counted n : ℕ) → needed ≡ counted → n ≡ take_by
 enough_taken needed counted n e q = omega (arith, e, q)
 
 pub begun_is_copying : BegunIsCopying
-begun_is_copying w k old new roots to B world fits fresh measured =
+begun_is_copying w k old new roots to B world fits fresh =
     let chunks : new.heap.chunks ≡ old.heap.chunks = ap (λ (p : Private). p.heap.chunks) B.part in
     let need : small_laid new.heap.chunks ≡ small_words new.heap.chunks = (needs_are_counted new.heap.chunks (record { tidy = fits.form.tidy; apart = fits.form.shaped.apart })).0 in
     record {
@@ -30,5 +30,4 @@ begun_is_copying w k old new roots to B world fits fresh measured =
         enough = enough_taken (small_laid new.heap.chunks) (small_words new.heap.chunks) (length to.chunks.items) need (B.count ∙ ap (λ ks. take_by (small_words ks)) (sym chunks));
       };
       numbers = refl;
-      measured = measured;
     }

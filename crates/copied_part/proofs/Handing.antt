@@ -1,11 +1,12 @@
 -- A part that was copied fits the shared value for the end of its collection.
-use Rattle.std.proofs.Common.{◌≡◌, ℕ, zero, suc, ◌≤◌, arith, All, Option, Some, None, List, [], ◌∷◌, length, slice_get, sum_by, refl, ap, sym, subst, ◌∙◌}
+use Rattle.std.proofs.Common.{◌≡◌, ℕ, zero, suc, ◌/◌, ◌++◌, ◌≤◌, arith, All, Option, Some, None, List, [], ◌∷◌, length, slice_get, sum_by, refl, ap, sym, subst, ◌∙◌}
 use Rattle.std.specs.Prelude.{pos, reverse}
 use Rattle.std.proofs.lemmas.List.{length-map}
 use Rattle.std.proofs.lemmas.List.Sums.{sum_by-cons}
 use Rattle.object_layout.specs.Content.{Content}
 use Rattle.alloc_path.specs.Heap.{AreApart, Heap, IsFresh}
 use Rattle.alloc_path.specs.Units.{counted32, unit_count}
+use Rattle.chunk_pool.specs.declared.pool.Held.{Held}
 use Rattle.chunk_pool.specs.Chunks.{owner_of}
 use Rattle.inner_mark_gc.specs.Swept.{units_kept}
 use Rattle.run_ledger.specs.declared.data.Heap.{Heap as Account}
@@ -28,10 +29,11 @@ use Rattle.core_relation.specs.Value.{Begun as SeenBegun, Home, In}
 use Rattle.core_relation.proofs.Members.{in_map}
 use Rattle.shared_tree.specs.Fits.{home_of_part}
 use Rattle.shared_tree.specs.LeafEnd.{AreBack, FitsCopied}
-use Rattle.shared_tree.specs.Measured.{AreMeasured}
+use Rattle.shared_tree.specs.Measured.{AreMeasured, AreUnits, news_of}
+use Rattle.shared_tree.proofs.Measuring.{measured_both}
 use Rattle.shared_tree.specs.World.{World, accounts, begun_of, frames_of, home_with, value_of}
 use Rattle.copied_part.specs.Copied.{IsBegun, part_home}
-use Rattle.copied_part.specs.Handed.{CopiedAreMeasured, CopiedFits, IsCopying}
+use Rattle.copied_part.specs.Handed.{CopiedFits, IsCopying}
 use Rattle.copied_part.proofs.Back as back
 use Rattle.copied_part.proofs.Copying as copying
 use Rattle.copied_part.proofs.Copying.{copies_fit}
@@ -92,6 +94,16 @@ module _ (w : World) (k : ℕ) (p : Private) (b : Begun) (news : List Content) (
       let c : w.settings.chunks ≤ 65536 = C.world.limits.chunks.1 in
       omega (arith, a, u, c)
 
+  -- the pool has its chunks and the new ones with their units
+  units : AreUnits w.pool p.task b.news
+  units = subst (λ o. AreUnits w.pool p.task (news_of o)) C.begun C.fits.measured.1
+
+  all_measured : AreMeasured w.pool p.task (p.heap.chunks ++ news)
+  all_measured =
+      measured_both w.pool p.task p.heap.chunks news C.fits.measured.0 (λ c i.
+      units c.number (subst (λ ns. In ns c.number) (sym C.numbers) (in_map (λ (c : Content). c.number) news c i))
+      ∙ ap (λ n. let h : Held = record { owner = p.task; units = n / 1024 } in Some h) (sym (back.size_of_new news c C.new.new i)))
+
   module _ (h' : Heap) (s' : Stack) (out : Moved) (D : IsCollected p.heap p.frames b.roots news h' s' out) where
     -- what is known of the heap before
     O : Old p.heap D.survivors (aside (accounts w)).machine (heap_of (aside (accounts w)) p.task)
@@ -112,16 +124,16 @@ module _ (w : World) (k : ℕ) (p : Private) (b : Begun) (news : List Content) (
     are_back = record {
       apart = subst AreApart (sym D.back) (back.back_apart p.heap (outside p.frames b.roots) D.survivors news D.are C.new (aside (accounts w)).machine (heap_of (aside (accounts w)) p.task) O);
       owned = subst (All (λ c. owner_of w.pool c.number ≡ Some p.task)) (sym D.back)
-          (back.back_owned p.heap (outside p.frames b.roots) D.survivors news D.are C.new (aside (accounts w)).machine (heap_of (aside (accounts w)) p.task) O w.pool p.task C.measured);
+          (back.back_owned p.heap (outside p.frames b.roots) D.survivors news D.are C.new (aside (accounts w)).machine (heap_of (aside (accounts w)) p.task) O w.pool p.task all_measured);
       gone = subst (All (λ c. IsFresh h'.chunks c.number)) (sym D.back)
           (subst (λ (x : Heap). All (λ c. IsFresh x.chunks c.number) Back) (sym D.heap) (back.back_gone p.heap (outside p.frames b.roots) D.survivors news D.are C.new (aside (accounts w)).machine (heap_of (aside (accounts w)) p.task) O));
       units = ap (units_kept w.pool) D.back
-          ∙ (back.back_units p.heap (outside p.frames b.roots) D.survivors news D.are C.new (aside (accounts w)).machine (heap_of (aside (accounts w)) p.task) O w.pool p.task C.measured ∙ given_is);
+          ∙ (back.back_units p.heap (outside p.frames b.roots) D.survivors news D.are C.new (aside (accounts w)).machine (heap_of (aside (accounts w)) p.task) O w.pool p.task all_measured ∙ given_is);
     }
 
-    pub measured : AreMeasured w.pool p.task h'.chunks
+    measured : AreMeasured w.pool p.task h'.chunks
     measured = subst (λ (x : Heap). AreMeasured w.pool p.task x.chunks) (sym D.heap)
-        (back.heap_measured p.heap (outside p.frames b.roots) D.survivors news D.are C.new (aside (accounts w)).machine (heap_of (aside (accounts w)) p.task) O w.pool p.task C.measured)
+        (back.heap_measured p.heap (outside p.frames b.roots) D.survivors news D.are C.new (aside (accounts w)).machine (heap_of (aside (accounts w)) p.task) O w.pool p.task all_measured)
 
     pub copied : FitsCopied w k (record p { heap = h'; frames = s' }) out
     copied =
@@ -131,6 +143,7 @@ module _ (w : World) (k : ℕ) (p : Private) (b : Begun) (news : List Content) (
           held = C.fits.held;
           copy = made.0;
           form = made.1;
+          measured = measured;
           fresh = C.fresh;
           leaf_limit = C.fits.leaf_limit;
           field_limit = C.fits.field_limit;
@@ -142,6 +155,3 @@ module _ (w : World) (k : ℕ) (p : Private) (b : Begun) (news : List Content) (
 
 pub copied_fits : CopiedFits
 copied_fits w k p b news C h' s' out D = copied w k p b news C h' s' out D
-
-pub copied_are_measured : CopiedAreMeasured
-copied_are_measured w k p b news C h' s' out D = measured w k p b news C h' s' out D

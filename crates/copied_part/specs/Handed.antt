@@ -14,7 +14,6 @@ use Rattle.core_relation.specs.Value.{In}
 use Rattle.shared_tree.specs.Fits.{Fits}
 use Rattle.shared_tree.specs.LeafBegin.{HasBegun, number_of}
 use Rattle.shared_tree.specs.LeafEnd.{FitsCopied}
-use Rattle.shared_tree.specs.Measured.{AreMeasured}
 use Rattle.shared_tree.specs.Stands.{IsWorld}
 use Rattle.shared_tree.specs.World.{World}
 
@@ -26,21 +25,14 @@ pub record IsCopying (w : World) (worker : ℕ) (p : Private) (b : Begun) (news 
   pub begun : p.begun ≡ Some b
   pub new : CanTake p.heap.chunks news
   pub numbers : b.news ≡ map (λ k. k.number) news
-  pub measured : AreMeasured w.pool p.task (p.heap.chunks ++ news)
 
 abbrev pub CopiedFits : Type 0
 CopiedFits =
     (w : World) (worker : ℕ) (p : Private) (b : Begun) (news : List Content) → IsCopying w worker p b news
     → (h' : Heap) (frames' : Stack) (out : Moved) → IsCollected p.heap p.frames b.roots news h' frames' out → FitsCopied w worker (record p { heap = h'; frames = frames' }) out
 
--- and the chunks of its heap have their units still
-abbrev pub CopiedAreMeasured : Type 0
-CopiedAreMeasured =
-    (w : World) (worker : ℕ) (p : Private) (b : Begun) (news : List Content) → IsCopying w worker p b news
-    → (h' : Heap) (frames' : Stack) (out : Moved) → IsCollected p.heap p.frames b.roots news h' frames' out → AreMeasured w.pool p.task h'.chunks
-
 -- a part that has just begun its collection is so
 abbrev pub BegunIsCopying : Type 0
 BegunIsCopying =
     (w : World) (worker : ℕ) (old new : Private) (roots : List Addr) (to : ToChunks) → HasBegun old new roots to → IsWorld w → Fits w worker new → new.fresh ≡ 0
-    → AreMeasured w.pool new.task (new.heap.chunks ++ to.chunks.items) → IsCopying w worker new (record { roots = roots; news = map number_of to.chunks.items }) to.chunks.items
+    → IsCopying w worker new (record { roots = roots; news = map number_of to.chunks.items }) to.chunks.items

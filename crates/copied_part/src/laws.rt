@@ -1,7 +1,7 @@
 // The laws of copied parts, each the clause of a function that does nothing.
 
 ghost use Rattle.copied_part.specs.Copied.{BegunCanCopy, CopiesFit, NumbersAreSaid};
-ghost use Rattle.copied_part.specs.Handed.{BegunIsCopying, CopiedAreMeasured, CopiedFits};
+ghost use Rattle.copied_part.specs.Handed.{BegunIsCopying, CopiedFits};
 
 /// What copying makes of a part fits for the end of its collection.
 pub fn copies_fit()
@@ -21,11 +21,6 @@ pub fn begun_can_copy()
 /// A part that was copied fits the shared value for the end of its collection.
 pub fn copied_fits()
     ensures { CopiedFits }
-{}
-
-/// The pool has the chunks of its heap with their units still.
-pub fn copied_are_measured()
-    ensures { CopiedAreMeasured }
 {}
 
 /// A part that has just begun its collection can be copied into the chunks that this took.

@@ -1,7 +1,6 @@
--- Entries of a run of one worker.
+-- What entries make of the totals, which aren't refused, and whole runs of one worker.
 use Rattle.std.proofs.Common.{◌≡◌, ℕ, zero, suc, ◌+◌, ◌-◌, ◌<◌, ◌≤◌, ◌&&◌, Bool, true, false, Option, Some, None, List, [], ◌∷◌, length, slice_get, is_some, option_map, nat_le, nat_lt, refl, ap, sym, subst, ◌∙◌, arith}
 use Rattle.std.proofs.lemmas.Bool.{false≢true}
-use Rattle.alloc_path.specs.Heap.{Heap as HeapOfCode}
 use Rattle.listed.specs.Space.{Space}
 use Rattle.hh_lang.specs.Form.{ProgramText}
 use Rattle.run_trace.specs.declared.entry.Kind.TheVariants.{Took, Fuel, Ran as RanKind}
@@ -29,8 +28,7 @@ use Rattle.task_machine.specs.declared.part.Private.{Private}
 use Rattle.task_machine.specs.Outline.{steps}
 use Rattle.task_machine.specs.Fits.{unended}
 use Rattle.ledger_steps.proofs.Split.{steps_last}
-use Rattle.shared_tree.specs.declared.rest.Rest.{Rest}
-use Rattle.shared_tree.specs.World.{World, accounts, rest_at}
+use Rattle.shared_tree.specs.World.{World, accounts}
 use Rattle.shared_tree.specs.Stands.{IsWorld}
 use Rattle.shared_tree.specs.Fits.{Fits, beyond}
 use Rattle.ledger_steps.specs.Accounts.{aside}
@@ -46,7 +44,7 @@ use Rattle.shared_tree.specs.Links.{FitsFirst}
 use Rattle.shared_tree.proofs.Entered.{accounts_then}
 use Rattle.world_core.specs.declared.alone.Finish.TheVariants.{Ended}
 use Rattle.world_core.specs.Ready.{IsReady}
-use Rattle.world_core.specs.Alone.{IsBareRoot, IsPaused, IsUnderWay, IsRun, Keeps, Turns}
+use Rattle.world_core.specs.Alone.{IsRun, Keeps}
 use Rattle.world_core.proofs.Lone.{Lone, run_lone}
 use Rattle.world_core.proofs.Calm.{ready_is_paced}
 
@@ -61,14 +59,14 @@ beyond_machine p l q = heap_machine (task_steps p (aside l) q.task q.fresh) q.ta
 
 -- ---- THE TOTALS: to hand the root back changes none
 
-heap_end : (l : Ledger) (t : ℕ) (f : Heap → Heap) → (with_heap l t f).end ≡ l.end
+pub heap_end : (l : Ledger) (t : ℕ) (f : Heap → Heap) → (with_heap l t f).end ≡ l.end
 heap_end l t f = by (heap_at l t)
   where
     by : (o : Option Heap) → (with_heap_at l t f o).end ≡ l.end
     by None = refl
     by (Some h) = refl
 
-heap_steps : (l : Ledger) (t : ℕ) (f : Heap → Heap) → (with_heap l t f).steps ≡ l.steps
+pub heap_steps : (l : Ledger) (t : ℕ) (f : Heap → Heap) → (with_heap l t f).steps ≡ l.steps
 heap_steps l t f = by (heap_at l t)
   where
     by : (o : Option Heap) → (with_heap_at l t f o).steps ≡ l.steps
@@ -86,7 +84,7 @@ by_end_same l (Some (Pool n)) = (refl, refl)
 pub end_is : (w : World) → IsWorld w → w.end ≡ (accounts w).end
 end_is w I = I.stands.totals.end ∙ (by_end_same (accounts w) (accounts w).end).0
 
-steps_is : (w : World) → IsWorld w → w.steps ≡ (accounts w).steps
+pub steps_is : (w : World) → IsWorld w → w.steps ≡ (accounts w).steps
 steps_is w I = I.stands.totals.steps ∙ (by_end_same (accounts w) (accounts w).end).1
 
 -- ---- WHAT EVERY VALUE OF SUCH A RUN KEEPS
@@ -116,44 +114,6 @@ after_entry w w' e E =
     ∙ (ap (λ (s : Limits). ledger_of w.program s w'.journal.items) E.settings
     ∙ (ap (ledger_of w.program w.settings) E.journal ∙ accounts_then w.program w.settings w.journal.items e))
 
--- OF STEPS
-
--- OF STEPS: private ones, as many as one entry holds
-
-private_event : Private → Event
-private_event part = record { worker = 0; kind = RanKind part.task part.fresh }
-
-steps_by : (w w' : World) (t k : ℕ) → IsWorld w → IsWorld w' → Enters w w' (record { worker = 0; kind = RanKind t k }) → w'.steps ≡ w.steps + k
-steps_by w w' t k I I' E =
-    steps_is w' I' ∙ (ap (λ (l : Ledger). l.steps) (after_entry w w' (record { worker = 0; kind = RanKind t k }) E)
-    ∙ (task_steps_steps w.program k (accounts w) t ∙ ap (λ (n : ℕ). n + k) (sym (steps_is w I))))
-
-pub private_goes : (w w' : World) (part p : Private) → IsWorld w → IsWorld w' → IsPaused w part false → w.end ≡ None → w.steps < w.settings.fuel
-    → Enters w w' (record { worker = 0; kind = RanKind part.task part.fresh }) → w'.end ≡ w.end → p ≡ record part { fresh = 0 } → Fits w' 0 p → Turns w w' (Some p)
-private_goes w w' part p I I' paused goes fuel E end is F =
-    let more = steps_by w w' part.task part.fresh I I' E in
-    let some = paused.2 in (
-      record { goes = end ∙ goes; fresh = ap (λ (q : Private). q.fresh) is; fits = F; bare = ap (λ (q : Private). q.heap.chunks) is ∙ paused.1; idle = ap (λ (q : Private). q.begun) is ∙ paused.3 },
-      fuel,
-      omega (arith, more, some),
-    )
-
--- AND OF A SHARED ONE behind them
-
-module _ (w w' : World) (part : Private) (I : IsWorld w) (I' : IsWorld w') where
-  -- the run goes on
-  pub alone_goes : (p : Private) → part.heap.chunks ≡ [] → part.begun ≡ None → w.steps < w.settings.fuel → GoesAlone w w' 0 part p → Turns w w' (Some p)
-  alone_goes p bare idle fuel G =
-      let more = steps_by w w' part.task (part.fresh + 1) I I' G.enters in (
-        record { goes = end_is w' I' ∙ G.goes; fresh = ap (λ (q : Private). q.fresh) G.part; fits = G.fits; bare = ap (λ (q : Private). q.heap.chunks) G.part ∙ bare; idle = ap (λ (q : Private). q.begun) G.part ∙ idle },
-        fuel,
-        omega (arith, more),
-      )
-
-  -- the run has ended
-  pub alone_over : EndsAlone w w' 0 part → is_some w'.end ≡ true
-  alone_over E = ap is_some (end_is w' I') ∙ E.ends
-
 -- ---- ENTRIES THAT AREN'T REFUSED
 
 -- a refusal that is none isn't one
@@ -167,14 +127,9 @@ first_free w I goes fuel =
     let hired : nat_lt 0 w.settings.workers ≡ true = (let k = I.limits.workers.0 in grind (arith, k)) in
     rw (goes, left, hired) refl
 
--- so are the steps of a part that fits
-pub private_free : (w : World) (part : Private) → IsWorld w → IsPaused w part false → w.end ≡ None → w.steps < w.settings.fuel → refused w (record { worker = 0; kind = RanKind part.task part.fresh }) ≡ None
-private_free w part I paused goes fuel = ran_answer w 0 part I paused.0 (let some = paused.2 in omega (arith, some)) ∙ first_free w I goes fuel
-
-pub alone_free : (w : World) (part : Private) → IsWorld w → IsPaused w part true → w.end ≡ None → w.steps < w.settings.fuel → refused w (alone_event 0 part) ≡ None
-alone_free w part I paused goes fuel =
-    alone_answer w 0 part I paused.0 paused.2
-    ∙ (ap (λ o. or_else o (refused_if (is_some part.begun) Cause.Collecting None)) (first_free w I goes fuel) ∙ ap (λ b. refused_if (is_some b) Cause.Collecting None) paused.3)
+pub none_of : {A : Type 0} (o : Option A) → is_some o ≡ false → o ≡ None
+none_of None h = refl
+none_of (Some x) h = absurd (false≢true (sym h))
 
 -- what isn't refused fails for want of memory alone
 pub only_memory : (e : NotEntered) (why : Option Refused) → why ≡ None → IsCaused e why → e ≡ NoMemory
@@ -231,22 +186,6 @@ is_whole p s w e ready I k ends =
       paced = ready_is_paced p s w.journal.items ready legal;
     }
 
--- ---- THE LOOP
-
--- worker 0 holds a part, or the run has ended
-abbrev pub Standing : World → Option Private → Type 0
-Standing w None = is_some w.end ≡ true
-Standing w (Some part) = IsUnderWay w part
-
--- the steps until the fuel is spent, and one for the part
-abbrev pub left_to_do : World → Option Private → ℕ
-left_to_do w None = 0
-left_to_do w (Some part) = w.settings.fuel - w.steps + 1
-
--- the root taken
-pub root_taken : (w w' : World) (part : Private) → IsWorld w → IsWorld w' → w.journal.items ≡ [] → Enters w w' (record { worker = 0; kind = Took 0 }) → part.fresh ≡ 0 → Fits w' 0 part → part.heap.chunks ≡ [] → part.begun ≡ None → IsUnderWay w' part
-root_taken w w' part I I' none E fresh F bare idle = record { goes = end_is w' I' ∙ (ap (λ (l : Ledger). l.end) (after_entry w w' (record { worker = 0; kind = Took 0 }) E) ∙ ap (λ (j : List Event). (after w.program w.settings (ledger_of w.program w.settings j) (record { worker = 0; kind = Took 0 })).end) none); fresh = fresh; fits = F; bare = bare; idle = idle }
-
 -- ---- ALLOCATIONS are far fewer than 32 bits count
 
 pub few_allocations : (w : World) (part : Private) (n : ℕ) → IsWorld w → part.fresh ≡ 0 → FitsFirst w part → n ≤ 257 → part.allocations + n < 4294967296
@@ -258,10 +197,6 @@ few_allocations w part n I fresh F few =
     let bound : l.steps ≤ w.settings.fuel + 256 = steps_are_bounded w.program w.settings w.journal.items I.legal in
     let fuel = I.limits.fuel.1 in
     omega (arith, count, most, bound, fuel, few)
-
--- the root was there, and its heap had no chunks
-pub root_bare : (w w' : World) (j : Space Event) (part : Private) → IsBareRoot w → w' ≡ record w { journal = j } → (r : Rest) × (rest_at w'.homes 0 ≡ Some r) × (part.heap ≡ r.heap) → part.heap.chunks ≡ []
-root_bare w w' j part bare same h = ap (λ (z : HeapOfCode). z.chunks) h.2 ∙ bare h.0 (sym (ap (λ (z : World). rest_at z.homes 0) same) ∙ h.1)
 
 -- fuel is left where the counts say so
 pub fuel_left : (w : World) → IsWorld w → (n k : ℕ) (s : Limits) → n ≡ (accounts w).steps → s ≡ w.settings → k ≡ s.fuel → n < k → w.steps < w.settings.fuel
@@ -275,11 +210,6 @@ fuel_spent w I n k s steps same fuel le =
     let a : w.steps ≡ (accounts w).steps = steps_is w I in
     let b : s.fuel ≡ w.settings.fuel = ap (λ (z : Limits). z.fuel) same in
     omega (arith, a, b, steps, fuel, le)
-
--- an entry after room was made is one after what was before
-pub turned_from : (w w' : World) (j : Space Event) (o : Option Private) → Turns (record w { journal = j }) w' o → Turns w w' o
-turned_from w w' j None h = h
-turned_from w w' j (Some p) h = h
 
 -- what the run of a value leaves
 pub is_whole_of : (p : ProgramText) (s : Limits) (first w : World) (end e : RunEnd) → IsReady p → IsWorld w → first.program ≡ p → first.settings ≡ s → Keeps first.program first.settings w → w.end ≡ Some end → Ended end ≡ Ended e → IsRun p s w e

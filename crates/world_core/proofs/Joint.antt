@@ -125,12 +125,11 @@ module _ (p : ProgramText) (m : State) (ready : IsReady p) (K : Kept m) (L : Lon
   pub never_here : is_beyond p m t ≡ false
   never_here = ap (is_beyond_by p m t) is ∙ never_line (fetched p x.top) refl
 
-pub never_beyond : (w : World) (part q : Private) (text : ProgramText) → IsReady text → w.program ≡ text → IsWorld w → w.end ≡ None → FitsFirst w part → (w' : World) → IsBeyond w w' part q → ⊥
-never_beyond w part q text ready same I goes F w' B =
+pub never_beyond : (w : World) (part q : Private) → IsReady w.program → IsWorld w → w.end ≡ None → FitsFirst w part → (w' : World) → IsBeyond w w' part q → ⊥
+never_beyond w part q ready I goes F w' B =
     let limit : ℕ = field_limit w.settings.version in
     let ts : List ℕ = tasks_of w.journal.items ++ replicate part.fresh part.task in
     let is : machine_after w part ≡ run w.program limit ts = after_is_run w part I goes in
-    let here : IsReady w.program = subst IsReady (sym same) ready in
-    let both = after_is_kept w part I goes here in
+    let both = after_is_kept w part I goes ready in
     let stored = subst NamesAreStoredIn (sym is) (names_are_stored w.program limit ts) in
-    false≢true (sym (never_here w.program (machine_after w part) here both.0 both.1 stored.held part.task F.task F.is F.running) ∙ B.beyond)
+    false≢true (sym (never_here w.program (machine_after w part) ready both.0 both.1 stored.held part.task F.task F.is F.running) ∙ B.beyond)

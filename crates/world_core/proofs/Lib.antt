@@ -4,4 +4,7 @@ pub mod Calm
 pub mod Entries
 pub mod Joint
 pub mod PartRuns
+pub mod Turning
 pub mod Pausing
+pub mod Driven
+pub mod Collecting

@@ -1,11 +1,11 @@
--- Runs of programs that neither fork nor make objects: no step asks for words, and the root stays the one task.
+-- Runs of programs that don't fork: the root stays the one task.
 use Rattle.std.proofs.Common.{◌≡◌, ◌<◌, ◌+◌, ℕ, ℤ, zero, suc, Bool, true, false, cond, Option, Some, None, List, [], ◌∷◌, length, slice_get, slice_set, All, is_some, refl, ap, sym, subst, ◌∙◌, arith, ◌⊎◌, inl, inr}
 use Rattle.std.proofs.lemmas.Bool.{false≢true}
 use Rattle.std.proofs.lemmas.Option.{same_Some}
 use Rattle.std.proofs.Math.ListN.{length-set}
 use Rattle.listed.proofs.Members.{got_cases, got_within}
 use Rattle.hh_lang.specs.declared.instr.Instr.{Instr}
-use Rattle.hh_lang.specs.declared.instr.Instr.TheVariants.{Newm, Pack, Par}
+use Rattle.hh_lang.specs.declared.instr.Instr.TheVariants.{Par}
 use Rattle.hh_lang.specs.declared.program.Line.{Line}
 use Rattle.hh_lang.specs.declared.program.Fun.{Fun}
 use Rattle.hh_lang.specs.Form.{ProgramText, line_at, code_of}
@@ -16,13 +16,12 @@ use Rattle.hh_model.specs.declared.data.End.{End}
 use Rattle.hh_model.specs.declared.data.End.TheVariants.{Done}
 use Rattle.hh_model.specs.declared.data.Task.{Task}
 use Rattle.hh_model.specs.declared.data.State.{State}
-use Rattle.hh_model.specs.Names.{words_asked}
-use Rattle.hh_model.specs.Step.{asked_by, asked_line, fetched, is_running, runs, waits, parent_of, step, run, run_from, start, ended_task, result_of, child}
+use Rattle.hh_model.specs.Step.{fetched, runs, waits, parent_of, step, run, run_from, start, ended_task, result_of, child}
 use Rattle.hh_model.proofs.Kept.{Kept, step_kept, start_kept}
 use Rattle.hh_model.proofs.Steps.{step_cases}
 use Rattle.run_ledger.specs.Journals.{tasks_of}
 use Rattle.world_core.specs.Ready.{is_ready, IsReady}
-use Rattle.world_core.specs.Laws.{ReadyAsksNothing, ReadyHasOneTask}
+use Rattle.world_core.specs.Laws.{ReadyHasOneTask}
 
 -- EACH LINE IS READY
 
@@ -40,28 +39,6 @@ line_in (Some f) n line each e = all_at Ready f.code n line (each f refl) e
 
 pub ready_line : (p : ProgramText) → IsReady p → (g n : ℕ) (line : Line) → line_at p g n ≡ Some line → is_ready line.instr ≡ true
 ready_line p ready g n line e = line_in (slice_get p.functions g) n line (λ f is. all_at (λ (k : Fun). All Ready k.code) p.functions g f ready is) e
-
--- NO STEP ASKS FOR WORDS
-
-none_asked : (limit : ℕ) (f : Frame) (i : Instr) → is_ready i ≡ true → words_asked limit f i ≡ None
-none_asked limit f (Newm d r i) h = absurd (false≢true h)
-none_asked limit f (Pack d r i) h = absurd (false≢true h)
-none_asked limit f _ h = refl
-
-line_asks : (limit : ℕ) (f : Frame) (o : Option Line) → ((line : Line) → o ≡ Some line → is_ready line.instr ≡ true) → asked_line limit f o ≡ None
-line_asks limit f None each = refl
-line_asks limit f (Some line) each = none_asked limit f line.instr (each line refl)
-
-pub ready_asks_nothing : ReadyAsksNothing
-ready_asks_nothing p ready m t = by (slice_get m.tasks t)
-  where
-    running : (x : Task) (b : Bool) → cond b (asked_line m.field_limit x.top (fetched p x.top)) None ≡ None
-    running x true = line_asks m.field_limit x.top (fetched p x.top) (λ line e. ready_line p ready x.top.function x.top.next line e)
-    running x false = refl
-
-    by : (o : Option Task) → asked_by p m o ≡ None
-    by None = refl
-    by (Some x) = running x (is_running (Some x))
 
 -- THE ROOT IS THE ONE TASK: it doesn't wait, and runs until the machine ends
 

@@ -1,11 +1,9 @@
--- What a reader may ask of runs of one task without objects.
+-- What a reader may ask of runs of one task.
 use Rattle.std.specs.Prelude.{◌≡◌, ◌↔◌, ℕ, true, None, length}
 use Rattle.run_trace.specs.Entry.{Event}
 use Rattle.run_trace.specs.Settings.{Limits}
 use Rattle.std.specs.Prelude.{List}
 use Rattle.hh_lang.specs.Form.{ProgramText}
-use Rattle.hh_model.specs.declared.data.State.{State}
-use Rattle.hh_model.specs.Step.{asked}
 use Rattle.run_ledger.specs.Journals.{is_legal, machine_of}
 use Rattle.run_ledger.specs.Pace.{is_paced}
 use Rattle.world_core.specs.Ready.{IsReady, first_unready}
@@ -13,10 +11,6 @@ use Rattle.world_core.specs.Ready.{IsReady, first_unready}
 -- no instruction is found just where all are ready
 abbrev pub UnreadyIsFound : Type 0
 UnreadyIsFound = (p : ProgramText) → (first_unready p ≡ None) ↔ IsReady p
-
--- no step asks for words
-abbrev pub ReadyAsksNothing : Type 0
-ReadyAsksNothing = (p : ProgramText) → IsReady p → (m : State) (t : ℕ) → asked p m t ≡ None
 
 -- the root is the one task
 abbrev pub ReadyHasOneTask : Type 0

@@ -1,14 +1,12 @@
--- Programs that one task runs without objects: no instruction makes an object or forks.
+-- Programs that one task runs: no instruction forks.
 use Rattle.std.specs.Prelude.{◌≡◌, ℕ, Bool, true, false, not, Option, List, All, find, flat_map, option_map}
 use Rattle.hh_lang.specs.declared.instr.Instr.{Instr}
-use Rattle.hh_lang.specs.declared.instr.Instr.TheVariants.{Newm, Pack, Par}
+use Rattle.hh_lang.specs.declared.instr.Instr.TheVariants.{Par}
 use Rattle.hh_lang.specs.declared.program.Line.{Line}
 use Rattle.hh_lang.specs.declared.program.Fun.{Fun}
 use Rattle.hh_lang.specs.Form.{ProgramText}
 
 abbrev pub is_ready : Instr → Bool
-is_ready (Newm d r i) = false
-is_ready (Pack d r i) = false
 is_ready (Par f g) = false
 is_ready _ = true
 

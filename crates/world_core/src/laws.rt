@@ -1,15 +1,10 @@
-// The laws of runs of one task without objects, each the clause of a function that does nothing.
+// The laws of runs of one task, each the clause of a function that does nothing.
 
-ghost use Rattle.world_core.specs.Laws.{UnreadyIsFound, ReadyAsksNothing, ReadyHasOneTask, ReadyIsPaced};
+ghost use Rattle.world_core.specs.Laws.{UnreadyIsFound, ReadyHasOneTask, ReadyIsPaced};
 
 /// No instruction is found that isn't ready just where all are.
 pub fn unready_is_found()
     ensures { UnreadyIsFound }
-{}
-
-/// No step of such a program asks for words.
-pub fn ready_asks_nothing()
-    ensures { ReadyAsksNothing }
 {}
 
 /// The root is the one task of such a run.

@@ -1,16 +1,16 @@
-// Whether a program is one that one task runs without objects.
+// Whether a program is one that one task runs.
 
 ghost use Rattle.std.specs.Prelude.{◌≡◌, ◌↔◌, IsNone};
 ghost use Rattle.world_core.specs.Ready.{is_ready, IsReady, first_unready_of, first_unready};
 
 use hh_lang::{Instr, Line, Program};
 
-// Whether an instruction neither makes an object nor forks.
+// Whether an instruction doesn't fork.
 fn is_ready(instr: Instr) -> bool
     ensures { result ≡ is_ready instr }
 {
     match instr {
-        Instr::Newm(_, _, _) | Instr::Pack(_, _, _) | Instr::Par(_, _) => false,
+        Instr::Par(_, _) => false,
         _ => true,
     }
 }
@@ -27,7 +27,7 @@ fn first_in(code: &[Line]) -> Option<u32>
     None
 }
 
-/// The line of the first instruction that makes an object or forks, in the order of the functions and of each one's code.
+/// The line of the first instruction that forks, in the order of the functions and of each one's code.
 /// Its time is linear in the code.
 pub fn first_unready(program: &Program) -> Option<u32>
     ensures line { result ≡ first_unready program.now }

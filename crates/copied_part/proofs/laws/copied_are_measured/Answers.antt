@@ -1,5 +1,0 @@
-use Rattle.copied_part.proofs.Handing as proved
-use Rattle.copied_part.proofs.laws.copied_are_measured.Goals as goal
-
-pub returns : goal.returns
-returns c = proved.copied_are_measured
