@@ -99,6 +99,46 @@ fn seven(rt: HostRuntime) -> Result<(), Fail> {
     Ok(())
 }
 
+// Runs that make objects: 100 objects of 10 words, each over the last; 1,000, of which two collections drop most; an object that
+// refers to itself; large objects, and one that is larger than any may be.
+#[test]
+fn objects_are_made(rt: HostRuntime) -> Result<(), Fail> {
+    let cases = [
+        (
+            "fn main\nset i0 0\nset i1 8\nset i2 1\nset i3 100\nlab top\nnewm r0 i0 i1\nsub i3 i3 i2\njz i3 done\njmp top\nlab done\nret\nend",
+            0,
+            "end: done\n",
+        ),
+        (
+            "fn main\nset i0 0\nset i1 8\nset i2 1\nset i3 1000\nlab top\nnewm r0 i0 i1\nsub i3 i3 i2\njz i3 done\njmp top\nlab done\nret\nend",
+            0,
+            "end: done\n",
+        ),
+        (
+            "fn main\nset i0 1\nset i1 13\nnewm r0 i0 i1\nset i2 0\nputr r0 i2 r0\nmovr r1 r0\nnewm r2 i0 i1\ngetr r3 r0 i2\nsame i3 r0 r1\nsame i4 r3 r1\nout i3\nout i4\nret\nend",
+            0,
+            "1\n1\nend: done\n",
+        ),
+        (MAKES_1023_FIELDS, 0, "end: done\n"),
+        (
+            "fn main\nset i0 0\nset i1 1000000\nnewm r0 i0 i1\nret\nend\n",
+            0,
+            "end: done\n",
+        ),
+        (
+            "fn main\nset i0 0\nset i1 1000001\nnewm r0 i0 i1\nret\nend\n",
+            4,
+            "end: trap size task 0 line 4\n",
+        ),
+    ];
+    for (text, status, bytes) in cases {
+        let (code, written) = said(&rt, "run", text)?;
+        assert_eq!(rt; code, status);
+        assert_eq!(rt; written.as_slice(), bytes.as_bytes());
+    }
+    Ok(())
+}
+
 // Runs that go on over many entries, and how each of them ends.
 #[test]
 fn runs_end(rt: HostRuntime) -> Result<(), Fail> {
@@ -153,15 +193,12 @@ fn programs_run(rt: HostRuntime) -> Result<(), Fail> {
             "end: done\n",
         ),
         ("", 3, "end: source refused line 1 nomain\n"),
+        ("fn g\nnewm r0 i0 i0\nend\nfn main\nend", 0, "end: done\n"),
+        ("fn main\nset i0 1\npack r0 0 1\nend", 0, "end: done\n"),
         (
-            "fn g\nnewm r0 i0 i0\nend\nfn main\nend",
+            "fn g\npar g g\nend\nfn main\nend",
             3,
             "end: source refused line 2 word\n",
-        ),
-        (
-            "fn main\nset i0 1\npack r0 0 1\nend",
-            3,
-            "end: source refused line 3 word\n",
         ),
         (
             "fn main\npar main main\nend",
