@@ -1,5 +1,6 @@
 -- How other tasks have part in a part's next step, by the line that comes next; and what is left where memory is wanting.
-use Rattle.std.proofs.Common.{◌≡◌, ℕ, ◌||◌, not, true, Bool, false, Option, Some, None, List, length, slice_get, slice_set, option_map, is_some, refl, ap, sym, subst, ◌∙◌}
+use Rattle.std.specs.Result.{IfErr, OnErr}
+use Rattle.std.proofs.Common.{◌≡◌, ℕ, Result, Ok, Err, ◌||◌, not, true, Bool, false, Option, Some, None, List, length, slice_get, slice_set, option_map, is_some, refl, ap, sym, subst, ◌∙◌}
 use Rattle.hh_lang.specs.declared.instr.Instr.{Instr}
 use Rattle.hh_lang.specs.declared.instr.Instr.TheVariants.{Par, Ret}
 use Rattle.hh_lang.specs.declared.program.Line.{Line}
@@ -20,7 +21,9 @@ use Rattle.shared_tree.specs.Stands.{IsWorld}
 use Rattle.shared_tree.specs.Fits.{AllFit, Fits}
 use Rattle.shared_tree.specs.Alone.{IsBeyond, IsShared, alone_event, machine_after}
 use Rattle.shared_tree.specs.ChildEnds.{IsAtEnd, is_last, is_last_by, is_last_line}
-use Rattle.shared_tree.specs.Entered.{refused}
+use Rattle.run_ledger.specs.declared.data.Refused.{Refused}
+use Rattle.shared_tree.specs.Entered.{IsCaused, RanAnswers, refused}
+use Rattle.shared_tree.specs.declared.ran.NotRan.{NotRan}
 use Rattle.shared_tree.specs.Forks.{ForkAnswered, IsAtFork, is_fork, is_fork_by, is_par}
 use Rattle.shared_tree.specs.Hands.{HoldsNone, LeavesHand}
 use Rattle.shared_tree.specs.Joins.{IsUnchanged, SameButPlaces}
@@ -122,9 +125,17 @@ same_places w after S =
       sets = S.sets;
     }
 
-pub unchanged_places : (w after : World) (e : NotEntered) → IsUnchanged e w after → SameButPlaces w after
-unchanged_places w after (Refuses cause) same = subst (SameButPlaces w) (sym same) (same_world w)
-unchanged_places w after NoMemory same = same
+-- an entry that isn't refused wasn't made for want of memory alone
+pub room_unchanged : (w after : World) (e : NotEntered) → IsCaused e None → SameButRoom w after → IsUnchanged e w after
+room_unchanged w after (Refuses cause) why S = absurd (none_cause why)
+  where
+    none_cause : {r : Refused} → ◌≡◌ {A = Option Refused} None (Some r) → ⊥
+    none_cause q = cc
+room_unchanged w after NoMemory why S = same_places w after S
+
+pub results_unchanged : {A : Type 0} → (w after : World) (r : Result A NotRan) → RanAnswers r None → OnErr r (SameButRoom w after) → IfErr r (λ e. IsUnchanged e.cause w after)
+results_unchanged w after (Ok a) why S = tt
+results_unchanged w after (Err e) why S = room_unchanged w after e.cause why S
 
 -- ---- WHAT IT COMES TO
 
@@ -135,11 +146,9 @@ forks_to w after k p I I' free Over over hand = over
 pub beyond_same : (w after : World) (p q : Private) → IsBeyond w after p q → (G : World → Private → Type 0) → G w p → G after q
 beyond_same w after p q B G g = subst (λ (z : World). G z q) (sym B.same) (subst (G w) (sym B.part) g)
 
-pub beyond_back : (w after : World) (p q : Private) → IsBeyond w after p q → (G : World → Private → Type 0) → G after q → G w p
-beyond_back w after p q B G g = subst (λ (z : World). G z p) B.same (subst (G after) B.part g)
-
-pub same_by : (w after : World) → after ≡ w → SameButPlaces w after
-same_by w after same = subst (SameButPlaces w) (sym same) (same_world w)
+pub same_by : (w after : World) (e : NotEntered) → after ≡ w → IsUnchanged e w after
+same_by w after (Refuses cause) same = same
+same_by w after NoMemory same = subst (SameButPlaces w) (sym same) (same_world w)
 
 pub fit_by : (w after : World) → after ≡ w → AllFit w after
 fit_by w after same = subst (AllFit w) (sym same) (λ k p F. F)

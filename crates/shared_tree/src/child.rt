@@ -3,7 +3,7 @@
 ghost use Rattle.std.specs.Prelude.{◌≡◌, ◌<◌, ◌+◌, ◌^◌, ◌↔◌, IsTrue, OnErr, OnOk, IfErr, IfOk, None, Some, slice_set};
 ghost use Rattle.heap_tree.specs.Node.{parent_of, state_of};
 ghost use Rattle.heap_tree.specs.Pairs.{sibling};
-ghost use Rattle.shared_tree.specs.Alone.{alone_event, ended_rest};
+ghost use Rattle.shared_tree.specs.Alone.{alone_event};
 ghost use Rattle.shared_tree.specs.ChildEnds.{EndsChild, IsAtEnd};
 ghost use Rattle.shared_tree.specs.Entered.{refused, RanAnswers};
 ghost use Rattle.shared_tree.specs.Fits.{AllFit, Fits};
@@ -14,26 +14,14 @@ use crate::join::{
     chunks_at, in_order, join_children, leave_other, leave_own, make_home_places, make_set_places,
     places, put_remembered, sources_of, take_remembered, take_rest,
 };
+use crate::last::at_end;
 use crate::ran::NotRan;
-use crate::rest::{Rest, Work};
 use crate::shared::Shared;
 use heap_tree::State;
 use run_ledger::Refused;
 use run_trace::{Entry, Kind};
 use std::alloc::AllocError;
 use task_machine::Private;
-
-// What goes with a task whose last frame returned.
-fn ended(part: Private) -> Rest
-    ensures { result ≡ ended_rest part }
-{
-    let result = (part.frames.int(0), part.frames.reference(0));
-    Rest {
-        work: Work::Result(result.0, result.1),
-        heap: part.heap,
-        allocations: part.allocations,
-    }
-}
 
 // The other child of the same fork.
 fn sibling_of(t: u32) -> u32
@@ -83,7 +71,7 @@ impl Shared {
             .push_reserved(Entry::new(worker, Kind::Ran(task, part.fresh + 1)));
         self.tree.set_state(task, State::Ended);
         self.hands.set(worker as usize, None);
-        self.homes.set(task as usize, Some(ended(part)));
+        self.homes.set(task as usize, Some(at_end(part)));
     }
 
     // Makes places in the parent's heap and set for what both children bring; nothing else changes.

@@ -19,7 +19,7 @@ use std::alloc::AllocError;
 use task_machine::Private;
 
 // What goes with a task whose last frame returned.
-fn at_end(part: Private) -> Rest
+pub(crate) fn at_end(part: Private) -> Rest
     ensures { result ≡ ended_rest part }
 {
     let result = (part.frames.int(0), part.frames.reference(0));

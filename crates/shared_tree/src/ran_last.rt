@@ -6,7 +6,7 @@ ghost use Rattle.shared_tree.specs.ChildEnds.{IsAtEnd};
 ghost use Rattle.shared_tree.specs.Entered.{refused, RanAnswers};
 ghost use Rattle.shared_tree.specs.Fits.{AllFit, Fits};
 ghost use Rattle.shared_tree.specs.Forks.{IsAtFork};
-ghost use Rattle.shared_tree.specs.Joins.{SameButPlaces};
+ghost use Rattle.shared_tree.specs.Joins.{IsUnchanged};
 ghost use Rattle.shared_tree.specs.Other.{IsOther};
 ghost use Rattle.shared_tree.specs.Ran.{ran_by, ComesTo, IsJoint, RanTo};
 
@@ -75,7 +75,7 @@ impl Shared {
         requires fits { Fits self.old worker part }
         requires forks { IsAtFork self.old part }
         ensures refused { RanAnswers result (refused self.old (alone_event worker part)) }
-        ensures same { OnErr result (SameButPlaces self.old self.new) }
+        ensures same { IfErr result (λ e. IsUnchanged e.cause self.old self.new) }
         ensures still { OnErr result (AllFit self.old self.new) }
         ensures back { IfErr result (λ e. e.part ≡ part) }
         ensures answered { IfOk result (RanTo self.old self.new worker part) }
@@ -95,7 +95,7 @@ impl Shared {
         requires fits { Fits self.old worker part }
         requires ends { IsAtEnd self.old part }
         ensures refused { RanAnswers result (refused self.old (alone_event worker part)) }
-        ensures same { OnErr result (SameButPlaces self.old self.new) }
+        ensures same { IfErr result (λ e. IsUnchanged e.cause self.old self.new) }
         ensures still { OnErr result (AllFit self.old self.new) }
         ensures back { IfErr result (λ e. e.part ≡ part) }
         ensures answered { IfOk result (RanTo self.old self.new worker part) }
@@ -116,7 +116,7 @@ impl Shared {
         requires shared { IsShared self.old part }
         requires other { IsOther self.old part }
         ensures refused { RanAnswers result (refused self.old (alone_event worker part)) }
-        ensures same { OnErr result (SameButPlaces self.old self.new) }
+        ensures same { IfErr result (λ e. IsUnchanged e.cause self.old self.new) }
         ensures still { OnErr result (AllFit self.old self.new) }
         ensures back { IfErr result (λ e. e.part ≡ part) }
         ensures answered { IfOk result (RanTo self.old self.new worker part) }
@@ -137,7 +137,7 @@ impl Shared {
         requires free { refused self.old (alone_event worker part) ≡ None }
         requires joint { IsJoint self.old part }
         ensures refused { RanAnswers result None }
-        ensures same { OnErr result (SameButPlaces self.old self.new) }
+        ensures same { IfErr result (λ e. IsUnchanged e.cause self.old self.new) }
         ensures still { OnErr result (AllFit self.old self.new) }
         ensures back { IfErr result (λ e. e.part ≡ part) }
         ensures answered { IfOk result (RanTo self.old self.new worker part) }
@@ -156,7 +156,7 @@ impl Shared {
         requires fits { Fits self.old worker part }
         requires shared { IsShared self.old part }
         ensures refused { RanAnswers result (refused self.old (alone_event worker part)) }
-        ensures same { OnErr result (SameButPlaces self.old self.new) }
+        ensures same { IfErr result (λ e. IsUnchanged e.cause self.old self.new) }
         ensures still { OnErr result (AllFit self.old self.new) }
         ensures back { IfErr result (λ e. e.part ≡ part) }
         ensures answered { IfOk result (RanTo self.old self.new worker part) }

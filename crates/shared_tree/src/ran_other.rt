@@ -5,6 +5,7 @@ ghost use Rattle.hh_model.specs.Step.{ended_by, step};
 ghost use Rattle.shared_tree.specs.Alone.{alone_event, EndsAlone, GoesAlone, IsShared};
 ghost use Rattle.shared_tree.specs.Entered.{refused, RanAnswers};
 ghost use Rattle.shared_tree.specs.Fits.{Fits};
+ghost use Rattle.shared_tree.specs.Joins.{IsUnchanged};
 ghost use Rattle.shared_tree.specs.Other.{then_accounts, IsOther, OtherAnswered, SameButRoom, TellsOther};
 
 use crate::answer::NotEntered;
@@ -170,7 +171,8 @@ impl Shared {
     }
 
     /// The fresh steps of a part, and its next one, which works on an object of another task, are entered. Where memory is
-    /// wanting nothing is, and what the barriers note is as it was, though there may be room for more of it.
+    /// wanting nothing is, and what the barriers note is as it was, though there may be room for more of it. A refusal changes
+    /// nothing at all.
     pub fn ran_other(&mut self, worker: u32, part: Private) -> Result<Alone, NotRan>
         requires room { 0 < self.old.journal.room }
         requires fits { Fits self.old worker part }
@@ -178,6 +180,7 @@ impl Shared {
         requires other { IsOther self.old part }
         ensures refused { RanAnswers result (refused self.old (alone_event worker part)) }
         ensures same { OnErr result (SameButRoom self.old self.new) }
+        ensures unchanged { IfErr result (λ e. IsUnchanged e.cause self.old self.new) }
         ensures back { IfErr result (λ e. e.part ≡ part) }
         ensures answered { IfOk result (OtherAnswered self.old self.new worker part) }
     {

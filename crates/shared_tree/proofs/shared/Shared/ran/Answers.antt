@@ -35,7 +35,7 @@ returns-in-Ok-Beyond-clause-still c =
     subst (λ (w : World). OnErr c.ran_joint.result (AllFit w c.ran_joint.new.self)) B.same c.ran_joint.ensures.still
 
 pub returns-in-Err-clause-same : goal.returns-in-Err-clause-same
-returns-in-Err-clause-same c = same_by c.args.self.now c.ran_alone.new.self c.in-Err.ensures.same
+returns-in-Err-clause-same c = same_by c.args.self.now c.ran_alone.new.self c.in-Err.failed.cause c.in-Err.ensures.same
 
 pub returns-in-Err-clause-still : goal.returns-in-Err-clause-still
 returns-in-Err-clause-still c = fit_by c.args.self.now c.ran_alone.new.self c.in-Err.ensures.same

@@ -10,7 +10,7 @@ returns-in-Ok-clause-answered c =
     (forks_to c.args.self.now c.ran_forking-forking.new.self c.args.worker c.args.part c.stands.ensures c.stands-2.ensures c.in-Ok.ensures.refused c.in-Ok.forking c.in-Ok.ensures.answered c.in-Ok.ensures.hand)
 
 pub returns-in-Err-clause-same : goal.returns-in-Err-clause-same
-returns-in-Err-clause-same c = same_by c.args.self.now c.ran_forking-forking.new.self c.in-Err.ensures.same
+returns-in-Err-clause-same c = same_by c.args.self.now c.ran_forking-forking.new.self c.in-Err.failed.cause c.in-Err.ensures.same
 
 pub returns-in-Err-clause-still : goal.returns-in-Err-clause-still
 returns-in-Err-clause-still c = fit_by c.args.self.now c.ran_forking-forking.new.self c.in-Err.ensures.same

@@ -1,0 +1,5 @@
+use Rattle.shared_tree.proofs.Joints.{results_unchanged}
+use Rattle.shared_tree.proofs.shared.Shared.ran_other.Goals as goal
+
+pub returns-clause-unchanged : goal.returns-clause-unchanged
+returns-clause-unchanged c = results_unchanged c.args.self.now c.enter_other.new.self c.enter_other.result c.enter_other.ensures.refused c.enter_other.ensures.same
