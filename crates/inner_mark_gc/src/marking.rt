@@ -96,6 +96,13 @@ impl Marking {
         self.marked == self.found.len() && self.has_all(&kept[self.followed..])
     }
 
+    /// How many objects are marked.
+    pub fn marked(&self) -> usize
+        ensures { result ≡ self.now.marked }
+    {
+        self.marked
+    }
+
     // Whether an object is found.
     pub(crate) fn has(&self, object: Addr) -> bool
         ensures { result ≡ has_address self.now.found object }

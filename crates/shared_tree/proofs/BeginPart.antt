@@ -49,7 +49,8 @@ use Rattle.shared_tree.proofs.FuelEnds.{quiet_own}
 use Rattle.shared_tree.proofs.Linked as link
 use Rattle.shared_tree.proofs.Measuring.{all_taken_units, measured_kept}
 use Rattle.shared_tree.proofs.Running.{fits_now, home_is, status}
-use Rattle.shared_tree.proofs.Targets.{are_roots, has_it}
+use Rattle.shared_tree.proofs.RootsHeld.{has_it}
+use Rattle.shared_tree.proofs.Targets.{are_roots}
 use Rattle.shared_tree.proofs.BeginCauses.{begin_idle}
 use Rattle.shared_tree.proofs.Beginning as first
 use Rattle.shared_tree.proofs.NewChunks.{distinct_numbers, idle_rest, length_map}

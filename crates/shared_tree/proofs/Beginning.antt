@@ -41,7 +41,7 @@ use Rattle.shared_tree.proofs.FuelEnds.{quiet_others, quiet_world}
 use Rattle.shared_tree.proofs.Measuring.{all_taken_keep}
 use Rattle.shared_tree.proofs.Now.{stands_now}
 use Rattle.shared_tree.proofs.Running.{status}
-use Rattle.shared_tree.proofs.Targets.{chunk_in}
+use Rattle.shared_tree.proofs.RootsHeld.{chunk_in}
 use Rattle.shared_tree.proofs.NewChunks.{all_at}
 
 module _ (w : World) (k : ℕ) (p : Private) (I : IsWorld w) (F : Fits w k (record p { fresh = 0 })) (free : refused w (record { worker = k; kind = Begin p.task }) ≡ None) where

@@ -1,11 +1,11 @@
 -- A marking that can go on marks more: what it asks of the heap, and that it can go on then.
-use Rattle.std.proofs.Common.{◌≡◌, ◌⊎◌, ◌↔◌, ℕ, ◌+◌, ◌<◌, ◌≤◌, true, false, Option, Some, None, List, [], ◌∷◌, All, Contains, is_some, length, nat_lt, slice_get, inl, inr, refl, ap, sym, subst, ◌∙◌}
+use Rattle.std.proofs.Common.{◌≡◌, ◌⊎◌, ◌↔◌, ℕ, ◌+◌, ◌<◌, ◌≤◌, true, Option, Some, None, List, [], ◌∷◌, All, Contains, is_some, length, nat_lt, slice_get, inl, inr, refl, ap, sym, subst, ◌∙◌}
 use Rattle.std.proofs.lemmas.Bool.{cond-true, false≢true, lt-ltb}
 use Rattle.std.proofs.lemmas.Option.{same_Some}
-use Rattle.listed.proofs.Members.{contains_from_in, got_in, in_from_contains}
+use Rattle.listed.proofs.Members.{contains_from_in, in_from_contains}
 use Rattle.walks.proofs.Reached.{reached_more, reached_within}
 use Rattle.object_layout.specs.declared.word.Addr.{Addr}
-use Rattle.object_layout.specs.Cell.{Born, Cell, Hole, IsObject, Mark, Moved, marked_object}
+use Rattle.object_layout.specs.Cell.{Born, Hole, IsObject, Mark, Moved, marked_object}
 use Rattle.object_layout.specs.Chunks.{cell_of, has_chunk, object_count, place_of}
 use Rattle.object_layout.specs.Content.{Content}
 use Rattle.hh_model.specs.declared.data.Task.{Task}
@@ -31,8 +31,8 @@ use Rattle.core_relation.proofs.Rooted.{lies_in}
 use Rattle.core_relation.proofs.SnapshotNow.{snapshot_now}
 use Rattle.shared_tree.specs.declared.rest.Rest.{Rest}
 use Rattle.shared_tree.specs.Marking.{MarksGoFurther}
-use Rattle.shared_tree.specs.Objects.{chunk_of, chunks_of}
-use Rattle.shared_tree.proofs.Targets.{chunk_in}
+use Rattle.shared_tree.specs.Objects.{chunk_of}
+use Rattle.shared_tree.proofs.RootsHeld.{chunk_in}
 use Rattle.std.proofs.lemmas.List.Elements.{All-cons, All-nil}
 use Rattle.shared_tree.specs.World.{World, accounts, rest_at, totals_of, value_of}
 use Rattle.shared_tree.specs.Stands.{HeapForm, IsWorld}

@@ -1,46 +1,37 @@
 -- What is there of a heap that is being marked.
-use Rattle.std.proofs.Common.{◌≡◌, ◌==◌, ◌↔◌, ℕ, zero, ◌&&◌, not, Bool, true, false, IsTrue, Option, Some, None, List, is_some, option_map, slice_get, refl, ap, sym, subst, ◌∙◌}
-use Rattle.std.proofs.lemmas.Bool.{and_parts, eq-eqb, eqb-true}
-use Rattle.hh_model.specs.declared.data.Status.{Status}
-use Rattle.hh_model.specs.declared.data.Status.TheVariants.{Running, Waiting, Ended, Joined}
-use Rattle.hh_model.specs.declared.data.Task.{Task}
-use Rattle.hh_model.specs.Step.{is_waiting, waits}
+use Rattle.std.proofs.Common.{◌≡◌, ◌==◌, ◌↔◌, ℕ, ◌<◌, Bool, true, false, IsTrue, Option, Some, None, List, is_some, length, slice_get, refl, sym, subst}
+use Rattle.std.proofs.lemmas.Bool.{eq-eqb, eqb-true}
+use Rattle.listed.proofs.Members.{got_within}
+use Rattle.hh_model.specs.Step.{is_waiting}
 use Rattle.run_ledger.specs.declared.data.Ledger.{Ledger}
 use Rattle.run_ledger.specs.declared.data.Refused.{Refused}
-use Rattle.run_ledger.specs.declared.data.Refused.TheVariants.{NotMarking, NotWaiting, Swept}
+use Rattle.run_ledger.specs.declared.data.Refused.TheVariants.{NotMarking}
 use Rattle.run_ledger.specs.Entries.{refused_unless}
 use Rattle.run_ledger.specs.Heaps.{heap_of, left_in}
 use Rattle.inner_mark_gc.specs.Marks.{IsAllMarked, IsMarking, Marks}
 use Rattle.inner_mark_gc.specs.Snapshot.{Fork, IsSince}
-use Rattle.ledger_steps.proofs.Split.{legal_idle}
-use Rattle.core_relation.specs.Marking.{GoesOn, MarkedBy}
-use Rattle.core_relation.specs.Reads.{HoldsRead}
+use Rattle.write_barrier.specs.declared.sets.SetOf.{SetOf}
+use Rattle.core_relation.specs.Marking.{MarkedBy}
 use Rattle.core_relation.specs.Since.{kept}
-use Rattle.core_relation.specs.Stands.{Place}
-use Rattle.core_relation.specs.Value.{Home, Value}
+use Rattle.core_relation.specs.Value.{Value}
 use Rattle.core_relation.specs.Whole.{StandsFor}
-use Rattle.core_relation.proofs.Past.{waiting_stops}
 use Rattle.shared_tree.specs.declared.rest.Rest.{Rest}
 use Rattle.shared_tree.specs.Causes.{or_else}
-use Rattle.shared_tree.specs.MarkCauses.{is_state_waiting, marking_cause}
+use Rattle.shared_tree.specs.MarkCauses.{marking_cause, waiting_cause}
 use Rattle.shared_tree.specs.Marking.{Further}
 use Rattle.shared_tree.specs.MarkStand.{MarksStand}
-use Rattle.shared_tree.specs.World.{World, accounts, home_in, marks_at, no_home, noted_in, rest_at, totals_of, value_of}
+use Rattle.shared_tree.specs.World.{World, accounts, flat, marks_at, noted_in, rest_at, totals_of, value_of}
 use Rattle.shared_tree.specs.Stands.{IsWorld}
-use Rattle.shared_tree.proofs.MarkCauses.{waits_by}
 use Rattle.shared_tree.proofs.MarkFurther.{marks_go_further}
 use Rattle.shared_tree.proofs.Now.{stands_now}
+use Rattle.shared_tree.proofs.WaitingHomes as homes
+use Rattle.shared_tree.proofs.WaitingHomes.{some_of}
 
 -- no cause is given
-causes_by : (a k b : Bool) → or_else (refused_unless a NotWaiting (refused_unless k Swept None)) (refused_unless b NotMarking None) ≡ None → (a ≡ true) × (k ≡ true) × (b ≡ true)
-causes_by false k b e = absurd cc
-causes_by true false b e = absurd cc
-causes_by true true false e = absurd cc
-causes_by true true true e = (refl, refl, refl)
-
-some_of : {A : Type 0} (o : Option A) → is_some o ≡ true → (x : A) × (o ≡ Some x)
-some_of None h = absurd cc
-some_of (Some x) h = (x, refl)
+or_none : (o : Option Refused) (b : Bool) → or_else o (refused_unless b NotMarking None) ≡ None → (o ≡ None) × (b ≡ true)
+or_none (Some c) b e = absurd cc
+or_none None false e = absurd cc
+or_none None true e = (refl, refl)
 
 module _ (w : World) (I : IsWorld w) (on : (accounts w).end ≡ None) (t : ℕ) (free : marking_cause w t ≡ None) where
   abbrev l : Ledger
@@ -52,38 +43,53 @@ module _ (w : World) (I : IsWorld w) (on : (accounts w).end ≡ None) (t : ℕ) 
   S : StandsFor v (totals_of w) l
   S = stands_now w I on
 
-  tells : (is_state_waiting (option_map (λ m. m.state) (slice_get w.tree t)) ≡ true) × ((noted_in (slice_get w.sets t)).keeps ≡ true) × (is_some (marks_at w.marks t) ≡ true)
-  tells = causes_by (is_state_waiting (option_map (λ m. m.state) (slice_get w.tree t))) (noted_in (slice_get w.sets t)).keeps (is_some (marks_at w.marks t)) free
+  tells : (waiting_cause w t ≡ None) × (is_some (marks_at w.marks t) ≡ true)
+  tells = or_none (waiting_cause w t) (is_some (marks_at w.marks t)) free
 
   pub wait : is_waiting (slice_get l.machine.tasks t) ≡ true
-  wait = sym (waits_by (slice_get w.tree t) (slice_get l.machine.tasks t) (heap_of l t).worker (S.totals.node t)) ∙ tells.0
+  wait = homes.wait w I on t tells.0
 
   pub keeps : ((value_of w).noted t).keeps ≡ true
-  keeps = tells.1
-
-  -- its home is there
-  home_there : (x : Task) → slice_get l.machine.tasks t ≡ Some x → (o : Option Rest) → rest_at w.homes t ≡ o → is_some o ≡ true
-  home_there x is (Some r) e = refl
-  home_there x is None e = absurd (by x.status (ap is_waiting (sym is) ∙ wait) (subst (λ z. HoldsRead (Place v l) (home_in z) x x.status) e (S.homes.tasks t x (legal_idle w.program w.settings w.journal.items I.legal on t (waiting_stops (slice_get l.machine.tasks t) wait)) is)))
-    where
-      by : (s : Status) → waits s ≡ true → HoldsRead (Place v l) no_home x s → ⊥
-      by Running h r = r
-      by Waiting h r = r
-      by (Ended k n) h r = absurd cc
-      by Joined h r = absurd cc
-
-  task : (x : Task) × (slice_get l.machine.tasks t ≡ Some x)
-  task = by (slice_get l.machine.tasks t) refl wait
-    where
-      by : (o : Option Task) → slice_get l.machine.tasks t ≡ o → is_waiting o ≡ true → (x : Task) × (slice_get l.machine.tasks t ≡ Some x)
-      by None e h = absurd cc
-      by (Some x) e h = (x, e)
+  keeps = homes.keeps w I on t tells.0
 
   pub rest : (r : Rest) × (rest_at w.homes t ≡ Some r)
-  rest = some_of (rest_at w.homes t) (home_there task.0 task.1 (rest_at w.homes t) refl)
+  rest = homes.rest w I on t tells.0
 
   pub marks : (m : Marks) × (marks_at w.marks t ≡ Some m)
-  marks = some_of (marks_at w.marks t) tells.2
+  marks = some_of (marks_at w.marks t) tells.1
+
+  pub never_gone : rest_at w.homes t ≡ None → ⊥
+  never_gone = homes.never_gone w I on t tells.0
+
+  pub never_unmarked : marks_at w.marks t ≡ None → ⊥
+  never_unmarked none = by (marks_at w.marks t) none tells.1
+    where
+      by : (o : Option Marks) → o ≡ None → is_some o ≡ true → ⊥
+      by None e h = absurd cc
+      by (Some x) e h = absurd cc
+
+  pub homes_within : t < length w.homes
+  homes_within = homes.within w I on t tells.0
+
+  pub sets_within : t < length w.sets
+  sets_within = within w.sets keeps
+    where
+      within : (ss : List SetOf) → (noted_in (slice_get ss t)).keeps ≡ true → t < length ss
+      within ss h = by (slice_get ss t) refl h
+        where
+          by : (o : Option SetOf) → slice_get ss t ≡ o → (noted_in o).keeps ≡ true → t < length ss
+          by None e h = absurd cc
+          by (Some x) e h = got_within ss t x e
+
+  pub marks_within : t < length w.marks
+  marks_within = within w.marks (tells.1)
+    where
+      within : (ms : List (Option Marks)) → is_some (marks_at ms t) ≡ true → t < length ms
+      within ms h = by (slice_get ms t) refl h
+        where
+          by : (o : Option (Option Marks)) → slice_get ms t ≡ o → is_some (flat o) ≡ true → t < length ms
+          by None e h = absurd cc
+          by (Some o) e h = got_within ms t o e
 
   module _ (r : Rest) (m : Marks) (there : rest_at w.homes t ≡ Some r) (at : marks_at w.marks t ≡ Some m) where
     M : MarkedBy v l t (Some m)

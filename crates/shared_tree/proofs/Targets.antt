@@ -1,101 +1,33 @@
 -- The roots of a part's heap are those by the accounts: what remembered fields hold, as far as it points into the heap.
-use Rattle.std.proofs.Common.{◌≡◌, ℕ, zero, suc, ◌<◌, arith, Bool, true, false, cond, Option, Some, None, List, [], ◌∷◌, inl, inr, length, map, slice_get, is_some, refl, ap, sym, subst, ◌∙◌}
-use Rattle.std.specs.Prelude.{slice_index_or}
-use Rattle.std.specs.List.{AllByRecursion}
-use Rattle.std.proofs.lemmas.Bool.{false≢true}
-use Rattle.std.proofs.lemmas.Option.{get_or_from_slice_get, same_Some}
-use Rattle.listed.proofs.Members.{in_append_cases, in_append_left, in_append_right}
+use Rattle.std.proofs.Common.{◌≡◌, ℕ, Option, Some, None, List, map, slice_get, refl, ap, sym, subst, ◌∙◌}
 use Rattle.object_layout.specs.declared.word.Addr.{Addr}
 use Rattle.object_layout.specs.Cell.{Born, Cell, marked_object}
-use Rattle.object_layout.specs.Chunks.{cell_of, has_chunk, object_of, place_in}
-use Rattle.object_layout.specs.Content.{Content}
+use Rattle.object_layout.specs.Chunks.{cell_of, object_of}
 use Rattle.remembered_set.specs.declared.remembered.Source.{Source}
-use Rattle.remembered_set.specs.Moved.{AreFields, held_by, into, targets_of}
-use Rattle.hh_model.specs.declared.data.Object.{Object}
-use Rattle.hh_model.specs.Effect.{object_at}
+use Rattle.remembered_set.specs.Moved.{AreFields}
 use Rattle.run_ledger.specs.declared.data.Ledger.{Ledger}
 use Rattle.task_machine.specs.declared.part.Private.{Private}
 use Rattle.write_barrier.specs.declared.sets.SetOf.{SetOf}
-use Rattle.ledger_steps.specs.Accounts.{Rests, own, rested}
+use Rattle.ledger_steps.specs.Accounts.{Rests, rested}
 use Rattle.ledger_steps.proofs.Rested.{rested_worker}
-use Rattle.core_relation.specs.Begins.{AreRoots, IsRoot}
+use Rattle.core_relation.specs.Begins.{AreRoots}
 use Rattle.core_relation.specs.Fits.{with_home}
-use Rattle.core_relation.specs.Stands.{IsSource, Place, Stands}
-use Rattle.core_relation.specs.Value.{Chunk, Home, In, Lies, Seen, Value, objects, objects_in, sources}
-use Rattle.core_relation.proofs.Members.{in_chunk, in_map, map_in}
-use Rattle.core_relation.proofs.Roots.{name_at}
+use Rattle.core_relation.specs.Stands.{Stands}
+use Rattle.core_relation.specs.Value.{Home, In, Seen, Value, objects, objects_in, sources}
+use Rattle.core_relation.proofs.Members.{in_chunk}
 use Rattle.core_relation.proofs.With.{at_home, off_home}
 use Rattle.shared_tree.specs.declared.rest.Rest.{Rest}
 use Rattle.shared_tree.specs.declared.rest.Work.{Work}
 use Rattle.shared_tree.specs.declared.rest.Work.TheVariants.{Calls, Result}
-use Rattle.shared_tree.specs.Objects.{chunk_of, chunks_of}
+use Rattle.shared_tree.specs.Objects.{chunks_of}
 use Rattle.shared_tree.specs.World.{World, accounts, home_by, home_in, home_of, noted_in, rest_at, source_of, value_of}
 use Rattle.shared_tree.specs.Stands.{IsWorld}
 use Rattle.shared_tree.specs.Fits.{Fits, home_of_part}
 use Rattle.shared_tree.specs.RestingHeaps.{refs_for, refs_in, refs_of_rest}
 use Rattle.shared_tree.specs.Roots.{heaps_of, roots_of, sources_of}
-use Rattle.shared_tree.proofs.Cells.{fresh_off, seen_object}
-use Rattle.shared_tree.proofs.FreeChunks.{refs_long}
-use Rattle.shared_tree.proofs.Linked.{placed_in}
+use Rattle.shared_tree.proofs.Cells.{seen_object}
+use Rattle.shared_tree.proofs.RootsHeld as held
 use Rattle.shared_tree.proofs.Running.{fits_now}
-
--- ---- LISTS
-
-got_index : {A : Type 0} (xs : List A) (i : ℕ) (d : A) → i < length xs → slice_get xs i ≡ Some (slice_index_or xs i d)
-got_index [] i d lt = absurd (omega (arith, lt))
-got_index (x ∷ xs) zero d lt = refl
-got_index (x ∷ xs) (suc i) d lt = got_index xs i d (omega (arith, lt))
-
-got_less : {A : Type 0} (xs : List A) (i : ℕ) (x : A) → slice_get xs i ≡ Some x → i < length xs
-got_less [] i x e = absurd cc
-got_less (y ∷ ys) zero x e = omega arith
-got_less (y ∷ ys) (suc i) x e = let r = got_less ys i x e in omega (arith, r)
-
-all_in : {A : Type 0} (P : A → Type 0) (xs : List A) → ((x : A) → In xs x → P x) → AllByRecursion P xs
-all_in P [] f = tt
-all_in P (x ∷ xs) f = (f x (inl refl), all_in P xs (λ y i. f y (inr i)))
-
-into_tells : (ks : List Content) (o : Option Addr) (a : Addr) → In (into ks o) a → (o ≡ Some a) × (has_chunk ks a.chunk ≡ true)
-into_tells ks None a i = absurd i
-into_tells ks (Some b) a i = by (has_chunk ks b.chunk) refl i
-  where
-    by : (v : Bool) → has_chunk ks b.chunk ≡ v → In (cond v (b ∷ []) []) a → (Some b ≡ Some a) × (has_chunk ks a.chunk ≡ true)
-    by true e (inl q) = (ap Some q, ap (λ (z : Addr). has_chunk ks z.chunk) (sym q) ∙ e)
-    by true e (inr j) = absurd j
-    by false e j = absurd j
-
-into_there : (ks : List Content) (o : Option Addr) (a : Addr) → o ≡ Some a → has_chunk ks a.chunk ≡ true → In (into ks o) a
-into_there ks o a e h = subst (λ z. In (into ks z) a) (sym e) (subst (λ v. In (cond v (a ∷ []) []) a) (sym h) (inl refl))
-
-module _ {S : Type 0} (refs_at : S → Addr → List (Option Addr)) (h : S) (ks : List Content) where
-  targets_tell : (ss : List Source) (a : Addr) → In (targets_of refs_at h ks ss) a → (s : Source) × In ss s × (held_by refs_at h s ≡ Some a) × (has_chunk ks a.chunk ≡ true)
-  targets_tell [] a i = absurd i
-  targets_tell (s ∷ ss) a i = elim (in_append_cases (into ks (held_by refs_at h s)) (targets_of refs_at h ks ss) a i) [
-    | inl j ↦ let t = into_tells ks (held_by refs_at h s) a j in (s, inl refl, t.0, t.1)
-    | inr j ↦ let r = targets_tell ss a j in (r.0, inr r.1, r.2, r.3)
-  ]
-
-  targets_there : (ss : List Source) (s : Source) (a : Addr) → In ss s → held_by refs_at h s ≡ Some a → has_chunk ks a.chunk ≡ true → In (targets_of refs_at h ks ss) a
-  targets_there [] s a i e c = absurd i
-  targets_there (x ∷ ss) s a (inl q) e c =
-      in_append_left (into ks (held_by refs_at h x)) (targets_of refs_at h ks ss) a (into_there ks (held_by refs_at h x) a (ap (held_by refs_at h) q ∙ e) c)
-  targets_there (x ∷ ss) s a (inr j) e c = in_append_right (into ks (held_by refs_at h x)) (targets_of refs_at h ks ss) a (targets_there ss s a j e c)
-
--- ---- CHUNKS
-
-pub chunk_in : (ks : List Content) (number : ℕ) → has_chunk ks number ≡ true → (k : Content) × In ks k × (k.number ≡ number)
-chunk_in ks number h = by (place_in ks number) refl h
-  where
-    by : (o : Option ℕ) → place_in ks number ≡ o → is_some o ≡ true → (k : Content) × In ks k × (k.number ≡ number)
-    by None e h = absurd (false≢true h)
-    by (Some i) e h = placed_in ks number i e
-
-pub has_it : (ks : List Content) (k : Content) (number : ℕ) → In ks k → k.number ≡ number → has_chunk ks number ≡ true
-has_it ks k number i q = by (place_in ks number) refl
-  where
-    by : (o : Option ℕ) → place_in ks number ≡ o → is_some o ≡ true
-    by None e = absurd (fresh_off ks k number e i q)
-    by (Some j) e = refl
 
 pub home_chunks : (r : Rest) → (home_of r).chunks ≡ chunks_of r.heap.chunks
 home_chunks r = by r.work
@@ -104,7 +36,7 @@ home_chunks r = by r.work
     by (Calls s) = refl
     by (Result n b) = refl
 
-noted_sources : (o : Option SetOf) → (noted_in o).sources ≡ map source_of (sources_of o)
+pub noted_sources : (o : Option SetOf) → (noted_in o).sources ≡ map source_of (sources_of o)
 noted_sources None = refl
 noted_sources (Some s) = refl
 
@@ -117,7 +49,7 @@ pub record RestObject (w : World) (u : ℕ) (o : Seen) : Type 0 where
   pub is : rest_at w.homes u ≡ Some rest
   pub refs : refs_of_rest (rest_at w.homes u) o.at ≡ o.refs
 
-rest_object : (w : World) (u : ℕ) → IsWorld w → (o : Seen) → In (objects_in (home_in (rest_at w.homes u)).chunks) o → RestObject w u o
+pub rest_object : (w : World) (u : ℕ) → IsWorld w → (o : Seen) → In (objects_in (home_in (rest_at w.homes u)).chunks) o → RestObject w u o
 rest_object w u I o i = by (rest_at w.homes u) refl i
   where
     by : (q : Option Rest) → rest_at w.homes u ≡ q → In (objects_in (home_in q).chunks) o → RestObject w u o
@@ -126,6 +58,10 @@ rest_object w u I o i = by (rest_at w.homes u) refl i
         let y = seen_object r.heap.chunks o (I.heaps u r e).shaped.apart (subst (λ cs. In (objects_in cs) o) (home_chunks r) j) in
         let refs : (object_of r.heap.chunks o.at).refs ≡ o.refs = object_refs (cell_of r.heap.chunks o.at) y.mark ∙ sym (ap (λ (z : Seen). z.refs) y.is) in
         record { rest = r; is = e; refs = ap (λ z. refs_of_rest z o.at) e ∙ refs }
+
+-- an object of a home at rest, as it is read in the value
+pub read_at_rest : (w : World) (u : ℕ) → IsWorld w → (o : Seen) → In (objects_in (home_in (rest_at w.homes u)).chunks) o → (value_of w).owner o.at.chunk ≡ Some u → refs_in (heaps_of w) o.at ≡ o.refs
+read_at_rest w u I o i owner = ap (λ q. refs_for w.homes q o.at) owner ∙ (rest_object w u I o i).refs
 
 -- ---- A PART WITHOUT FRESH STEPS, before the run's end
 module _ (w : World) (k : ℕ) (p : Private) (I : IsWorld w) (F : Fits w k (record p { fresh = 0 })) (on : (accounts w).end ≡ None) where
@@ -153,107 +89,26 @@ module _ (w : World) (k : ℕ) (p : Private) (I : IsWorld w) (F : Fits w k (reco
   at_rest : Rests L t
   at_rest = rested_worker (accounts w) t
 
-  here : v'.homes t ≡ home_of_part P
-  here = at_home v t (home_of_part P)
+  here : (v'.homes t).chunks ≡ chunks_of p.heap.chunks
+  here = ap (λ (z : Home). z.chunks) (at_home v t (home_of_part P))
 
   sources_are : sources v' t ≡ map source_of ss
   sources_are = noted_sources (slice_get w.sets t)
 
-  -- the owner of a resting home's object
-  owner_at : (u : ℕ) → Rests L u → (o : Seen) → In (objects v' u) o → v'.owner o.at.chunk ≡ Some u
-  owner_at u r o i =
+  -- the objects of other homes are read in the value
+  read : (u : ℕ) → (u ≡ t → ⊥) → Rests L u → (o : Seen) → In (objects v' u) o → refs_in (heaps_of w) o.at ≡ o.refs
+  read u ne r o i =
       let c = in_chunk (v'.homes u).chunks o i in
-      ap v'.owner ((W.homes u r).inside c.0 o c.1 c.2) ∙ (W.homes u r).owned c.0 c.1
-
-  -- a source's object, in its home
-  record SourceAt (s : Source) : Type 0 where
-    home : ℕ
-    rests : Rests L home
-    object : Seen
-    there : In (objects v' home) object
-    at : object.at ≡ s.object
-    refs : refs_in (heaps_of w) s.object ≡ object.refs
-    field : s.field < length object.refs
-
-  refs_at_home : (u : ℕ) → (u ≡ t → ⊥) → (r : Rests L u) → (o : Seen) → In (objects v' u) o → (a : Addr) → o.at ≡ a → refs_in (heaps_of w) a ≡ o.refs
-  refs_at_home u ne r o i a e =
-      let j : In (objects_in (home_in (rest_at w.homes u)).chunks) o = subst (λ (z : Home). In (objects_in z.chunks) o) (off_home v t (home_of_part P) u ne) i in
-      let R = rest_object w u I o j in
-      ap (refs_in (heaps_of w)) (sym e) ∙ (ap (λ q. refs_for w.homes q o.at) (owner_at u r o i) ∙ R.refs)
-
-  source_at : (s : Source) → In ss s → SourceAt s
-  source_at s i =
-      let S : IsSource v' L t (source_of s) = W.sources t (source_of s) (subst (λ xs. In xs (source_of s)) (sym sources_are) (in_map source_of ss s i)) in
-      let lies : Lies (v'.homes (own L S.name)).chunks S.name s.object = S.place.here S.rests in
-      let o : Seen = lies.0 in
-      let c = W.contents (own L S.name) o S.rests lies.1 in
-      let same : S.object ≡ c.0 = same_Some S.object c.0 (sym S.is ∙ (ap (object_at L.machine.store) (sym lies.2.name) ∙ c.1)) in
-      let long : length o.refs ≡ length S.object.refs = refs_long (Place v' L) o.refs c.0.refs c.2.refs ∙ ap (λ (z : Object). length z.refs) (sym same) in
-      let within : s.field < length S.object.refs = S.field in
-      record {
-        home = own L S.name;
-        rests = S.rests;
-        object = o;
-        there = lies.1;
-        at = lies.2.at;
-        refs = refs_at_home (own L S.name) S.below S.rests o lies.1 s.object lies.2.at;
-        field = omega (arith, long, within);
-      }
+      read_at_rest w u I o (subst (λ (z : Home). In (objects_in z.chunks) o) (off_home v t (home_of_part P) u ne) i) (ap v'.owner ((W.homes u r).inside c.0 o c.1 c.2) ∙ (W.homes u r).owned c.0 c.1)
 
   -- EACH SOURCE IS A FIELD
   pub are_fields : AreFields refs_in (heaps_of w) ss
-  are_fields = all_in (λ s. s.field < length (refs_in (heaps_of w) s.object)) ss (λ s i. let A = source_at s i in subst (λ rs. s.field < length rs) (sym A.refs) A.field)
-
-  -- the object in the part's heap to which a reference of another home's object leads
-  leads_here : (u : ℕ) → Rests L u → (o : Seen) → In (objects v' u) o → (i : ℕ) (a : Addr) → slice_get o.refs i ≡ Some (Some a) → v'.owner a.chunk ≡ Some t → (q : Seen) × In (objects_in (home_of_part P).chunks) q × (q.at ≡ a)
-  leads_here u r o j i a e mine =
-      let c = W.contents u o r j in
-      let n = name_at (Place v' L) o.refs c.0.refs i a c.2.refs e in
-      let owned : own L n.0 ≡ t = same_Some (own L n.0) t (sym n.2.chunk ∙ mine) in
-      let lies : Lies (v'.homes t).chunks n.0 a = subst (λ z. Lies (v'.homes z).chunks n.0 a) owned (n.2.here (subst (Rests L) (sym owned) at_rest)) in
-      (lies.0, subst (λ (z : Home). In (objects_in z.chunks) lies.0) here lies.1, lies.2.at)
+  are_fields = held.are_fields v' L t W at_rest p.heap.chunks here ss sources_are (heaps_of w) read
 
   -- THE ROOTS
   pub are_roots : AreRoots v' L t (roots_of w p)
-  are_roots a = (to, from)
-    where
-      to : In (roots_of w p) a → IsRoot v' L t a
-      to i =
-          let T = targets_tell refs_in (heaps_of w) p.heap.chunks ss a i in
-          let A = source_at T.0 T.1 in
-          let holds : slice_get A.object.refs T.0.field ≡ Some (slice_index_or A.object.refs T.0.field None) = got_index A.object.refs T.0.field None A.field in
-          let is : slice_index_or A.object.refs T.0.field None ≡ Some a = ap (λ rs. slice_index_or rs T.0.field None) (sym A.refs) ∙ T.2 in
-          let c = chunk_in p.heap.chunks a.chunk T.3 in
-          record {
-            source = source_of T.0;
-            home = A.home;
-            object = A.object;
-            rests = A.rests;
-            noted = subst (λ xs. In xs (source_of T.0)) (sym sources_are) (in_map source_of ss T.0 T.1);
-            there = A.there;
-            at = A.at;
-            holds = holds ∙ ap Some is;
-            into = ap v'.owner (sym c.2) ∙ (W.homes t at_rest).owned (chunk_of c.0) (subst (λ (z : Home). In z.chunks (chunk_of c.0)) (sym here) (in_map chunk_of p.heap.chunks c.0 c.1));
-          }
-
-      from : IsRoot v' L t a → In (roots_of w p) a
-      from R =
-          let s = map_in source_of ss R.source (subst (λ xs. In xs R.source) sources_are R.noted) in
-          let S : IsSource v' L t R.source = W.sources t R.source R.noted in
-          let owner : own L S.name ≡ R.home = same_Some (own L S.name) R.home (sym S.place.chunk ∙ (ap (λ (z : Addr). v'.owner z.chunk) (sym R.at) ∙ owner_at R.home R.rests R.object R.there)) in
-          let at : R.object.at ≡ s.0.object = R.at ∙ ap (λ z. z.object) (sym s.2) in
-          let holds : slice_get R.object.refs s.0.field ≡ Some (Some a) = ap (λ z. slice_get R.object.refs z.field) s.2 ∙ R.holds in
-          let refs : refs_in (heaps_of w) s.0.object ≡ R.object.refs = refs_at_home R.home (λ e. S.below (owner ∙ e)) R.rests R.object R.there s.0.object at in
-          let held : held_by refs_in (heaps_of w) s.0 ≡ Some a = ap (λ rs. slice_index_or rs s.0.field None) refs ∙ get_or_from_slice_get R.object.refs s.0.field (Some a) None holds in
-          let q = leads_here R.home R.rests R.object R.there R.source.field a R.holds R.into in
-          let c = in_chunk (home_of_part P).chunks q.0 q.1 in
-          let d = map_in chunk_of p.heap.chunks c.0 c.1 in
-          let number : d.0.number ≡ a.chunk = ap (λ (z : Chunk). z.number) d.2 ∙ (sym (inside_here c.0 q.0 c.1 c.2) ∙ ap (λ (z : Addr). z.chunk) q.2) in
-          targets_there refs_in (heaps_of w) p.heap.chunks ss s.0 a s.1 held (has_it p.heap.chunks d.0 a.chunk d.1 number)
-        where
-          inside_here : (c : Chunk) (o : Seen) → In (home_of_part P).chunks c → In c.objects o → o.at.chunk ≡ c.number
-          inside_here c o i j = (W.homes t at_rest).inside c o (subst (λ (z : Home). In z.chunks c) (sym here) i) j
+  are_roots = held.are_roots v' L t W at_rest p.heap.chunks here ss sources_are (heaps_of w) read
 
   -- and each is an object of the heap
   pub root_here : (a : Addr) → In (roots_of w p) a → (q : Seen) × In (objects_in (chunks_of p.heap.chunks)) q × (q.at ≡ a)
-  root_here a i = let R = (are_roots a).0 i in leads_here R.home R.rests R.object R.there R.source.field a R.holds R.into
+  root_here = held.root_here v' L t W at_rest p.heap.chunks here ss sources_are (heaps_of w) read

@@ -1,8 +1,9 @@
 -- Why the heap of a task is neither marked nor swept, as the shared value tells it.
 use Rattle.std.specs.Prelude.{◌≡◌, ◌==◌, ℕ, Bool, true, false, Option, Some, None, is_some, nat_le, slice_get}
 use Rattle.run_trace.specs.declared.entry.Kind.TheVariants.{Mark, More, Sweep}
+use Rattle.run_trace.specs.Settings.{Limits}
 use Rattle.run_ledger.specs.declared.data.Refused.{Refused}
-use Rattle.run_ledger.specs.declared.data.Refused.TheVariants.{Count, Left, Marked, Marking, NotDue, NotMarking, NotWaiting, Swept}
+use Rattle.run_ledger.specs.declared.data.Refused.TheVariants.{Left, Marked, Marking, NotDue, NotMarking, NotWaiting, Swept}
 use Rattle.run_ledger.specs.Entries.{counted, kind_refusal, refused_if, refused_unless}
 use Rattle.run_ledger.specs.Heaps.{heap_of, left_in, marked_in, sweep_number, words_in}
 use Rattle.heap_tree.specs.declared.state.State.{State}
@@ -28,11 +29,14 @@ waiting_cause w t = refused_unless (is_state_waiting (state_of w.tree t)) NotWai
 abbrev pub marking_cause : World → ℕ → Option Refused
 marking_cause w t = or_else (waiting_cause w t) (refused_unless (is_some (marks_at w.marks t)) NotMarking None)
 
+-- or since it has too few words
+abbrev pub words_cause : Limits → ℕ → Option Refused
+words_cause s words = refused_unless (nat_le s.inner words) (NotDue words) None
+
 -- THE LAW: entries that mark and sweep are refused so
 pub record MarksAreRefused (w : World) (k t : ℕ) : Type 0 where
   pub mark : kind_refusal w.program w.settings (accounts w) k (Mark t)
-      ≡ or_else (waiting_cause w t) (refused_if (is_some (marks_at w.marks t)) Marking (
-      refused_unless (nat_le w.settings.inner (words_in (accounts w).machine (heap_of (accounts w) t))) (NotDue (words_in (accounts w).machine (heap_of (accounts w) t))) None))
+      ≡ or_else (waiting_cause w t) (refused_if (is_some (marks_at w.marks t)) Marking (words_cause w.settings (words_in (accounts w).machine (heap_of (accounts w) t))))
   pub more : (n : ℕ) → kind_refusal w.program w.settings (accounts w) k (More t n) ≡ or_else (marking_cause w t) (refused_if (left_in (heap_of (accounts w) t) == 0) Marked None)
   pub sweep : (given : ℕ) → kind_refusal w.program w.settings (accounts w) k (Sweep t given)
       ≡ or_else (marking_cause w t) (

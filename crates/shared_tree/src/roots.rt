@@ -18,7 +18,7 @@ use task_machine::Private;
 use write_barrier::SetOf;
 
 // What the remembered fields of a heap hold, as far as it points into these chunks.
-fn targets_in(
+pub(crate) fn targets_in(
     alloc: Global,
     sets: &[SetOf],
     task: u32,

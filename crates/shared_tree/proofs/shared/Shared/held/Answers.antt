@@ -1,0 +1,49 @@
+use Rattle.std.proofs.Common.{◌≡◌, ℕ, arith, length, length-append, ap, sym, ◌∙◌}
+use Rattle.std.proofs.lemmas.List.Sums.{sum_by-append}
+use Rattle.alloc_path.specs.Heap.{counted}
+use Rattle.run_ledger.specs.declared.data.Ledger.{Ledger}
+use Rattle.run_ledger.specs.Heaps.{words_at, words_sum}
+use Rattle.run_ledger.specs.Report.{kept}
+use Rattle.shared_tree.specs.HeldNames.{kept_of}
+use Rattle.shared_tree.specs.World.{World, accounts}
+use Rattle.shared_tree.specs.contracts.shared.Shared.{the_view}
+use Rattle.shared_tree.proofs.KeptNames.{counted_few, counted_more, homes_few, kept_before, kept_homes, kept_more, objects_few, words_few}
+use Rattle.shared_tree.proofs.shared.Shared.held.Goals as goal
+
+pub overflow_cast-t-end : goal.overflow_cast-t-end
+overflow_cast-t-end c =
+    let few = homes_few (the_view c.self.inside) c.self.invariant in
+    let is = c.len-t-end.ensures in
+    omega (arith, few, is)
+
+pub loop-t-preserved : goal.loop-t-preserved
+loop-t-preserved c =
+    let l : Ledger = accounts c.args.self.now in
+    let t : ℕ = c.loop-t.t in
+    record {
+      objects = c.saturating_add-objects.ensures
+          ∙ (counted_more c.loop-t.objects c.held_of-held.result.0 (length (kept_before l t)) (length (kept_of l t)) c.loop-t.invariant.objects c.held_of-held.ensures.objects
+          ∙ ap counted (sym (ap length (kept_more l t) ∙ length-append (kept_before l t) (kept_of l t))));
+      words = c.saturating_add-words.ensures
+          ∙ (counted_more c.loop-t.words c.held_of-held.result.1 (words_sum l.machine (kept_before l t)) (words_sum l.machine (kept_of l t)) c.loop-t.invariant.words c.held_of-held.ensures.words
+          ∙ ap counted (sym (ap (words_sum l.machine) (kept_more l t) ∙ sum_by-append (words_at l.machine) (kept_before l t) (kept_of l t))));
+    }
+
+pub returns-clause-objects : goal.returns-clause-objects
+returns-clause-objects c =
+    let w : World = the_view c.self.inside in
+    let end : c.loop-t.t ≡ length w.homes = omega arith in
+    let is : length (kept_before (accounts w) c.loop-t.t) ≡ length (kept (accounts w)) = ap (λ n. length (kept_before (accounts w) n)) end ∙ ap length (kept_homes w c.self.invariant) in
+    c.loop-t.invariant.objects
+    ∙ (ap (λ (z : World). counted (length (kept_before (accounts z) c.loop-t.t))) (sym c.self.view_is)
+    ∙ (ap counted is ∙ (counted_few (length (kept (accounts w))) (objects_few w c.self.invariant) ∙ ap (λ (z : World). length (kept (accounts z))) c.self.view_is)))
+
+pub returns-clause-words : goal.returns-clause-words
+returns-clause-words c =
+    let w : World = the_view c.self.inside in
+    let end : c.loop-t.t ≡ length w.homes = omega arith in
+    let is : words_sum (accounts w).machine (kept_before (accounts w) c.loop-t.t) ≡ words_sum (accounts w).machine (kept (accounts w)) =
+    ap (λ n. words_sum (accounts w).machine (kept_before (accounts w) n)) end ∙ ap (words_sum (accounts w).machine) (kept_homes w c.self.invariant) in
+    c.loop-t.invariant.words
+    ∙ (ap (λ (z : World). counted (words_sum (accounts z).machine (kept_before (accounts z) c.loop-t.t))) (sym c.self.view_is)
+    ∙ (ap counted is ∙ (counted_few (words_sum (accounts w).machine (kept (accounts w))) (words_few w c.self.invariant) ∙ ap (λ (z : World). words_sum (accounts z).machine (kept (accounts z))) c.self.view_is)))

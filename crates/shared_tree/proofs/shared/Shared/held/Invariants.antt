@@ -1,0 +1,12 @@
+use Rattle.std.proofs.Common.{◌≡◌, length}
+use Rattle.alloc_path.specs.Heap.{counted}
+use Rattle.run_ledger.specs.Heaps.{words_sum}
+use Rattle.shared_tree.specs.World.{accounts}
+use Rattle.shared_tree.proofs.KeptNames.{kept_before}
+use Rattle.shared_tree.proofs.shared.Shared.held.Given as goal
+
+abbrev pub invariant-loop-t : goal.invariant-loop-t
+invariant-loop-t l = record {
+  objects : l.objects ≡ counted (length (kept_before (accounts l.self) l.t));
+  words : l.words ≡ counted (words_sum (accounts l.self).machine (kept_before (accounts l.self) l.t));
+}

@@ -1,0 +1,67 @@
+use Rattle.std.proofs.Common.{◌≡◌, ◌==◌, ◌↔◌, ℕ, All, IsTrue, List, Some, None, ap, sym, subst, ◌∙◌}
+use Rattle.object_layout.specs.declared.word.Addr.{Addr}
+use Rattle.run_ledger.specs.Heaps.{heap_of, left_in}
+use Rattle.inner_mark_gc.specs.Marks.{IsAllMarked, IsMarking, IsOf}
+use Rattle.inner_mark_gc.specs.Snapshot.{Fork, IsHeld, IsSince}
+use Rattle.core_relation.specs.Since.{kept}
+use Rattle.shared_tree.specs.MarkCauses.{marking_cause}
+use Rattle.shared_tree.specs.Marking.{Further}
+use Rattle.shared_tree.specs.World.{World, accounts, flat, marks_at, rest_at, value_of}
+use Rattle.shared_tree.specs.contracts.shared.Shared.{the_view}
+use Rattle.shared_tree.proofs.MarkEntries.{kept_is}
+use Rattle.shared_tree.proofs.MarkReady.{further, keeps, left_by, marks_within, never_gone}
+use Rattle.shared_tree.proofs.shared.Shared.is_marked.Goals as goal
+
+pub unreachable-requires : goal.unreachable-requires
+unreachable-requires c =
+    let w : World = the_view c.self.inside in
+    let t : ℕ = c.args.t in
+    let on : (accounts w).end ≡ None = ap (λ (z : World). (accounts z).end) c.self.view_is ∙ c.requires.goes in
+    let free : marking_cause w t ≡ None = ap (λ (z : World). marking_cause z t) c.self.view_is ∙ c.requires.marking in
+    never_gone w c.self.invariant on t free (ap flat c.at.ensures ∙ c.in_default.is)
+
+pub at-requires-2 : goal.at-requires-2
+at-requires-2 c =
+    let w : World = the_view c.self.inside in
+    let t : ℕ = c.args.t in
+    let on : (accounts w).end ≡ None = ap (λ (z : World). (accounts z).end) c.self.view_is ∙ c.requires.goes in
+    let free : marking_cause w t ≡ None = ap (λ (z : World). marking_cause z t) c.self.view_is ∙ c.requires.marking in
+    marks_within w c.self.invariant on t free
+
+pub ready-requires-clause-kept : goal.ready-requires-clause-kept
+ready-requires-clause-kept c =
+    let w : World = the_view c.self.inside in
+    let t : ℕ = c.args.t in
+    let on : (accounts w).end ≡ None = ap (λ (z : World). (accounts z).end) c.self.view_is ∙ c.requires.goes in
+    let free : marking_cause w t ≡ None = ap (λ (z : World). marking_cause z t) c.self.view_is ∙ c.requires.marking in
+    let there : rest_at w.homes t ≡ Some c.in-Some.rest = ap flat c.at.ensures ∙ c.in-Some.is in
+    let at : marks_at w.marks t ≡ Some c.in-Some-at.marking = ap flat c.at-2.ensures ∙ c.in-Some-at.is in
+    let same : c.as_slice-kept.result.now ≡ kept (value_of w) t = c.as_slice-kept.ensures ∙ kept_is w.sets t c.index.result.now (keeps w c.self.invariant on t free) c.index.ensures in
+    let F : Further w t c.in-Some.rest c.in-Some-at.marking = further w c.self.invariant on t free c.in-Some.rest c.in-Some-at.marking there at in
+    subst (λ (xs : List Addr). All (IsHeld c.in-Some.rest.heap.chunks) xs) (sym same) F.kept
+
+pub ready-requires-clause-own : goal.ready-requires-clause-own
+ready-requires-clause-own c =
+    let w : World = the_view c.self.inside in
+    let t : ℕ = c.args.t in
+    let on : (accounts w).end ≡ None = ap (λ (z : World). (accounts z).end) c.self.view_is ∙ c.requires.goes in
+    let free : marking_cause w t ≡ None = ap (λ (z : World). marking_cause z t) c.self.view_is ∙ c.requires.marking in
+    let there : rest_at w.homes t ≡ Some c.in-Some.rest = ap flat c.at.ensures ∙ c.in-Some.is in
+    let at : marks_at w.marks t ≡ Some c.in-Some-at.marking = ap flat c.at-2.ensures ∙ c.in-Some-at.is in
+    let same : c.as_slice-kept.result.now ≡ kept (value_of w) t = c.as_slice-kept.ensures ∙ kept_is w.sets t c.index.result.now (keeps w c.self.invariant on t free) c.index.ensures in
+    let F : Further w t c.in-Some.rest c.in-Some-at.marking = further w c.self.invariant on t free c.in-Some.rest c.in-Some-at.marking there at in
+    subst (λ (xs : List Addr). IsOf c.in-Some.rest.heap.chunks xs c.in-Some-at.marking) (sym same) F.own
+
+pub returns : goal.returns
+returns c =
+    let w : World = the_view c.self.inside in
+    let t : ℕ = c.args.t in
+    let on : (accounts w).end ≡ None = ap (λ (z : World). (accounts z).end) c.self.view_is ∙ c.requires.goes in
+    let free : marking_cause w t ≡ None = ap (λ (z : World). marking_cause z t) c.self.view_is ∙ c.requires.marking in
+    let there : rest_at w.homes t ≡ Some c.in-Some.rest = ap flat c.at.ensures ∙ c.in-Some.is in
+    let at : marks_at w.marks t ≡ Some c.in-Some-at.marking = ap flat c.at-2.ensures ∙ c.in-Some-at.is in
+    let same : c.as_slice-kept.result.now ≡ kept (value_of w) t = c.as_slice-kept.ensures ∙ kept_is w.sets t c.index.result.now (keeps w c.self.invariant on t free) c.index.ensures in
+    let F : Further w t c.in-Some.rest c.in-Some-at.marking = further w c.self.invariant on t free c.in-Some.rest c.in-Some-at.marking there at in
+    left_by w c.self.invariant on t free c.in-Some.rest c.in-Some-at.marking there at c.ready.result
+    (subst (λ (xs : List Addr). (f : Fork) → IsSince f xs c.in-Some.rest.heap.chunks → IsMarking f xs c.in-Some-at.marking → IsTrue c.ready.result ↔ IsAllMarked f xs c.in-Some-at.marking) same c.ready.ensures.ready)
+    ∙ ap (λ (z : World). left_in (heap_of (accounts z) t) == 0) c.self.view_is

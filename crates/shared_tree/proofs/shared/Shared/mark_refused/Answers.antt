@@ -1,0 +1,58 @@
+use Rattle.std.proofs.Common.{◌≡◌, ℕ, true, false, is_some, ap, sym, subst, ◌∙◌}
+use Rattle.run_trace.specs.declared.entry.Kind.TheVariants.{Mark}
+use Rattle.run_ledger.specs.Heaps.{heap_of, words_in}
+use Rattle.alloc_path.specs.Heap.{counted}
+use Rattle.shared_tree.specs.Causes.{first_cause}
+use Rattle.shared_tree.specs.Entered.{refused}
+use Rattle.shared_tree.specs.MarkCauses.{words_cause}
+use Rattle.shared_tree.specs.World.{World, accounts}
+use Rattle.shared_tree.specs.Stands.{IsWorld}
+use Rattle.shared_tree.specs.contracts.shared.Shared.{the_view}
+use Rattle.shared_tree.proofs.MarkEntries.{mark_as_marking, mark_as_waiting, mark_as_words}
+use Rattle.shared_tree.proofs.Needs.{first_answer}
+use Rattle.shared_tree.proofs.shared.Shared.mark_refused.Goals as goal
+
+pub returns-then-is_some : goal.returns-then-is_some
+returns-then-is_some c =
+    let z : World = c.args.self.now in
+    let k : ℕ = c.args.worker in
+    let t : ℕ = c.args.t in
+    let I : IsWorld z = subst IsWorld c.self.view_is c.self.invariant in
+    let w : World = the_view c.self.inside in
+    let some : is_some (first_cause w.end w.steps w.settings k false) ≡ true = ap is_some (sym c.first_cause-first.ensures) ∙ (sym c.is_some.ensures ∙ c.if-is_some.true) in
+    c.first_cause-first.ensures
+    ∙ subst (λ (y : World). first_cause w.end w.steps w.settings k false ≡ refused y (record { worker = k; kind = Mark t })) c.self.view_is (sym (first_answer w c.self.invariant (record { worker = k; kind = Mark t }) some))
+
+pub returns-then-is_some-2 : goal.returns-then-is_some-2
+returns-then-is_some-2 c =
+    let z : World = c.args.self.now in
+    let k : ℕ = c.args.worker in
+    let t : ℕ = c.args.t in
+    let I : IsWorld z = subst IsWorld c.self.view_is c.self.invariant in
+    let first : is_some (first_cause z.end z.steps z.settings k false) ≡ false =
+    ap (λ (y : World). is_some (first_cause y.end y.steps y.settings k false)) (sym c.self.view_is) ∙ (ap is_some (sym c.first_cause-first.ensures) ∙ (sym c.is_some.ensures ∙ c.if-is_some.false)) in
+    mark_as_waiting z I k t c.waiting_cause-waiting.result first c.waiting_cause-waiting.ensures (sym c.is_some-2.ensures ∙ c.if-is_some-2.true)
+
+pub returns-then-is_marking : goal.returns-then-is_marking
+returns-then-is_marking c =
+    let z : World = c.args.self.now in
+    let k : ℕ = c.args.worker in
+    let t : ℕ = c.args.t in
+    let I : IsWorld z = subst IsWorld c.self.view_is c.self.invariant in
+    let first : is_some (first_cause z.end z.steps z.settings k false) ≡ false =
+    ap (λ (y : World). is_some (first_cause y.end y.steps y.settings k false)) (sym c.self.view_is) ∙ (ap is_some (sym c.first_cause-first.ensures) ∙ (sym c.is_some.ensures ∙ c.if-is_some.false)) in
+    mark_as_marking z I k t c.waiting_cause-waiting.result first c.waiting_cause-waiting.ensures (sym c.is_some-2.ensures ∙ c.if-is_some-2.false) (sym c.is_marking.ensures ∙ c.if-is_marking.true)
+
+pub returns : goal.returns
+returns c =
+    let z : World = c.args.self.now in
+    let k : ℕ = c.args.worker in
+    let t : ℕ = c.args.t in
+    let I : IsWorld z = subst IsWorld c.self.view_is c.self.invariant in
+    let first : is_some (first_cause z.end z.steps z.settings k false) ≡ false =
+    ap (λ (y : World). is_some (first_cause y.end y.steps y.settings k false)) (sym c.self.view_is) ∙ (ap is_some (sym c.first_cause-first.ensures) ∙ (sym c.is_some.ensures ∙ c.if-is_some.false)) in
+    let words : ℕ = counted (words_in (accounts z).machine (heap_of (accounts z) t)) in
+    c.words_cause.ensures
+    ∙ (ap (words_cause c.self.inside.settings) c.words_at.ensures
+    ∙ (ap (λ (y : World). words_cause y.settings words) c.self.view_is
+    ∙ mark_as_words z I k t c.waiting_cause-waiting.result first c.waiting_cause-waiting.ensures (sym c.is_some-2.ensures ∙ c.if-is_some-2.false) (sym c.is_marking.ensures ∙ c.if-is_marking.false)))

@@ -1,0 +1,17 @@
+use Rattle.std.proofs.Common.{◌≡◌, ℕ, ◌<◌, ◌^◌, arith, Some, None, ap, ◌∙◌}
+use Rattle.shared_tree.specs.MarkCauses.{marking_cause}
+use Rattle.shared_tree.specs.World.{World, accounts, flat, marks_at}
+use Rattle.shared_tree.specs.contracts.shared.Shared.{the_view}
+use Rattle.shared_tree.proofs.SweptUnits.{few_at}
+use Rattle.shared_tree.proofs.shared.Shared.marked_count.Goals as goal
+
+pub overflow_cast-result : goal.overflow_cast-result
+overflow_cast-result c =
+    let w : World = the_view c.self.inside in
+    let t : ℕ = c.args.t in
+    let on : (accounts w).end ≡ None = ap (λ (z : World). (accounts z).end) c.self.view_is ∙ c.requires.goes in
+    let free : marking_cause w t ≡ None = ap (λ (z : World). marking_cause z t) c.self.view_is ∙ c.requires.marking in
+    let at : marks_at w.marks t ≡ Some c.in-Some.marking = ap flat c.at.ensures ∙ c.in-Some.is in
+    let few : c.in-Some.marking.marked < 2 ^ 32 = few_at w c.self.invariant on t free c.in-Some.marking at in
+    let is = c.marked.ensures in
+    omega (arith, few, is)

@@ -1,0 +1,51 @@
+use Rattle.std.proofs.Common.{◌≡◌, ℕ, true, false, is_some, ap, sym, subst, ◌∙◌}
+use Rattle.run_trace.specs.declared.entry.Kind.TheVariants.{More}
+use Rattle.shared_tree.specs.Causes.{first_cause}
+use Rattle.shared_tree.specs.Entered.{refused}
+use Rattle.shared_tree.specs.World.{World}
+use Rattle.shared_tree.specs.Stands.{IsWorld}
+use Rattle.shared_tree.specs.contracts.shared.Shared.{the_view}
+use Rattle.shared_tree.proofs.MarkEntries.{some_as_left, some_as_marking}
+use Rattle.shared_tree.proofs.Needs.{first_answer}
+use Rattle.shared_tree.proofs.shared.Shared.some_refused.Goals as goal
+
+pub returns-then-is_some : goal.returns-then-is_some
+returns-then-is_some c =
+    let z : World = c.args.self.now in
+    let k : ℕ = c.args.worker in
+    let t : ℕ = c.args.t in
+    let I : IsWorld z = subst IsWorld c.self.view_is c.self.invariant in
+    let w : World = the_view c.self.inside in
+    let some : is_some (first_cause w.end w.steps w.settings k false) ≡ true = ap is_some (sym c.first_cause-first.ensures) ∙ (sym c.is_some.ensures ∙ c.if-is_some.true) in
+    c.first_cause-first.ensures
+    ∙ subst (λ (y : World). first_cause w.end w.steps w.settings k false ≡ refused y (record { worker = k; kind = More t c.args.n })) c.self.view_is (sym (first_answer w c.self.invariant (record { worker = k; kind = More t c.args.n }) some))
+
+pub returns-then-is_some-2 : goal.returns-then-is_some-2
+returns-then-is_some-2 c =
+    let z : World = c.args.self.now in
+    let k : ℕ = c.args.worker in
+    let t : ℕ = c.args.t in
+    let I : IsWorld z = subst IsWorld c.self.view_is c.self.invariant in
+    let first : is_some (first_cause z.end z.steps z.settings k false) ≡ false =
+    ap (λ (y : World). is_some (first_cause y.end y.steps y.settings k false)) (sym c.self.view_is) ∙ (ap is_some (sym c.first_cause-first.ensures) ∙ (sym c.is_some.ensures ∙ c.if-is_some.false)) in
+    some_as_marking z I k t c.args.n c.marking_cause-marking.result first c.marking_cause-marking.ensures (sym c.is_some-2.ensures ∙ c.if-is_some-2.true)
+
+pub returns-then-is_marked : goal.returns-then-is_marked
+returns-then-is_marked c =
+    let z : World = c.args.self.now in
+    let k : ℕ = c.args.worker in
+    let t : ℕ = c.args.t in
+    let I : IsWorld z = subst IsWorld c.self.view_is c.self.invariant in
+    let first : is_some (first_cause z.end z.steps z.settings k false) ≡ false =
+    ap (λ (y : World). is_some (first_cause y.end y.steps y.settings k false)) (sym c.self.view_is) ∙ (ap is_some (sym c.first_cause-first.ensures) ∙ (sym c.is_some.ensures ∙ c.if-is_some.false)) in
+    some_as_left z I k t c.args.n c.marking_cause-marking.result first c.marking_cause-marking.ensures (sym c.is_some-2.ensures ∙ c.if-is_some-2.false) true (sym c.if-is_marked.true ∙ c.is_marked.ensures)
+
+pub returns-else-is_marked : goal.returns-else-is_marked
+returns-else-is_marked c =
+    let z : World = c.args.self.now in
+    let k : ℕ = c.args.worker in
+    let t : ℕ = c.args.t in
+    let I : IsWorld z = subst IsWorld c.self.view_is c.self.invariant in
+    let first : is_some (first_cause z.end z.steps z.settings k false) ≡ false =
+    ap (λ (y : World). is_some (first_cause y.end y.steps y.settings k false)) (sym c.self.view_is) ∙ (ap is_some (sym c.first_cause-first.ensures) ∙ (sym c.is_some.ensures ∙ c.if-is_some.false)) in
+    some_as_left z I k t c.args.n c.marking_cause-marking.result first c.marking_cause-marking.ensures (sym c.is_some-2.ensures ∙ c.if-is_some-2.false) false (sym c.if-is_marked.false ∙ c.is_marked.ensures)

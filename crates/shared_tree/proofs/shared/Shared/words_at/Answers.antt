@@ -1,0 +1,28 @@
+use Rattle.std.proofs.Common.{◌≡◌, ℕ, Some, None, ap, sym, ◌∙◌}
+use Rattle.alloc_path.specs.Heap.{counted}
+use Rattle.run_ledger.specs.Heaps.{heap_of, words_in}
+use Rattle.shared_tree.specs.MarkCauses.{waiting_cause}
+use Rattle.shared_tree.specs.World.{World, accounts, flat, rest_at}
+use Rattle.shared_tree.specs.contracts.shared.Shared.{the_view}
+use Rattle.shared_tree.proofs.MarkEntries.{words_now}
+use Rattle.shared_tree.proofs.WaitingHomes.{never_gone}
+use Rattle.shared_tree.proofs.shared.Shared.words_at.Goals as goal
+
+pub unreachable-requires : goal.unreachable-requires
+unreachable-requires c =
+    let w : World = the_view c.self.inside in
+    let t : ℕ = c.args.t in
+    let on : (accounts w).end ≡ None = ap (λ (z : World). (accounts z).end) c.self.view_is ∙ c.requires.goes in
+    let free : waiting_cause w t ≡ None = ap (λ (z : World). waiting_cause z t) c.self.view_is ∙ c.requires.waits in
+    never_gone w c.self.invariant on t free (ap flat c.at.ensures ∙ c.in-None.is)
+
+pub returns : goal.returns
+returns c =
+    let w : World = the_view c.self.inside in
+    let t : ℕ = c.args.t in
+    let on : (accounts w).end ≡ None = ap (λ (z : World). (accounts z).end) c.self.view_is ∙ c.requires.goes in
+    let free : waiting_cause w t ≡ None = ap (λ (z : World). waiting_cause z t) c.self.view_is ∙ c.requires.waits in
+    let there : rest_at w.homes t ≡ Some c.in-Some.rest = ap flat c.at.ensures ∙ c.in-Some.is in
+    c.words.ensures
+    ∙ (ap counted (sym (words_now w c.self.invariant t on free c.in-Some.rest there))
+    ∙ ap (λ (z : World). counted (words_in (accounts z).machine (heap_of (accounts z) t))) c.self.view_is)

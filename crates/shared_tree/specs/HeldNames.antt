@@ -1,0 +1,20 @@
+-- What the heaps of tasks hold that don't run, task by task.
+use Rattle.std.specs.Prelude.{ℕ, Bool, true, false, Option, Some, None, List, [], if◌then◌else◌, slice_get}
+use Rattle.heap_tree.specs.declared.state.State.{State}
+use Rattle.heap_tree.specs.declared.state.State.TheVariants.{Ready, Out, Waiting, Ended, Joined}
+use Rattle.hh_model.specs.declared.data.Name.{Name}
+use Rattle.hh_model.specs.Step.{is_running}
+use Rattle.run_ledger.specs.declared.data.Ledger.{Ledger}
+use Rattle.run_ledger.specs.Heaps.{heap_of, held_in}
+
+abbrev pub is_state_running : Option State → Bool
+is_state_running None = false
+is_state_running (Some Ready) = true
+is_state_running (Some Out) = true
+is_state_running (Some Waiting) = false
+is_state_running (Some Ended) = false
+is_state_running (Some Joined) = false
+
+-- the names that the heap of the task t holds, unless the task runs
+abbrev pub kept_of : Ledger → ℕ → List Name
+kept_of l t = if is_running (slice_get l.machine.tasks t) then [] else held_in (heap_of l t)

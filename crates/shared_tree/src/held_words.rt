@@ -1,0 +1,57 @@
+// What lies in the heaps of the tasks that don't run.
+
+ghost use Rattle.std.specs.Prelude.{◌≡◌, ◌<◌, length};
+ghost use Rattle.alloc_path.specs.Heap.{counted};
+ghost use Rattle.heap_tree.specs.Node.{state_of};
+ghost use Rattle.run_ledger.specs.Heaps.{words_sum};
+ghost use Rattle.run_ledger.specs.Report.{kept};
+ghost use Rattle.shared_tree.specs.HeldNames.{is_state_running, kept_of};
+ghost use Rattle.shared_tree.specs.World.{accounts};
+
+use crate::shared::Shared;
+use heap_tree::State;
+
+impl Shared {
+    // Whether a task runs.
+    fn runs(&self, t: u32) -> bool
+        ensures { result ≡ is_state_running (state_of self.now.tree t) }
+    {
+        match self.tree.state(t) {
+            Some(State::Ready) => true,
+            Some(State::Out) => true,
+            _ => false,
+        }
+    }
+
+    // How many objects lie in the heap of a task, and their words, as far as 64 bits count; none of a task that runs.
+    fn held_of(&self, t: u32) -> (u64, u64)
+        requires made { t < length self.now.homes }
+        ensures objects { result.0 ≡ counted (length (kept_of (accounts self.now) t)) }
+        ensures words { result.1 ≡ counted (words_sum (accounts self.now).machine (kept_of (accounts self.now) t)) }
+    {
+        self.stands();
+        if self.runs(t) {
+            return (0, 0);
+        }
+        match self.homes.at(t as usize) {
+            Some(rest) => (rest.heap.objects(), rest.heap.words()),
+            None => (0, 0),
+        }
+    }
+
+    /// How many objects lie in the heaps of the tasks that neither a worker holds nor are ready, and their words: what the
+    /// report of the journal says is held.
+    pub fn held(&self) -> (u64, u64)
+        ensures objects { result.0 ≡ length (kept (accounts self.now)) }
+        ensures words { result.1 ≡ words_sum (accounts self.now).machine (kept (accounts self.now)) }
+    {
+        let mut objects = 0u64;
+        let mut words = 0u64;
+        for t in 0..self.homes.len() as u32 {
+            let held = self.held_of(t);
+            objects = objects.saturating_add(held.0);
+            words = words.saturating_add(held.1);
+        }
+        (objects, words)
+    }
+}

@@ -1,0 +1,103 @@
+// The marking of a heap begins.
+
+ghost use Rattle.std.specs.Prelude.{◌≡◌, ◌<◌, IfOk, OnErr, OnOk, None};
+ghost use Rattle.run_ledger.specs.Heaps.{heap_of};
+ghost use Rattle.core_relation.specs.Marking.{GoesOn};
+ghost use Rattle.shared_tree.specs.Entered.{refused, Answers, Enters};
+ghost use Rattle.shared_tree.specs.Fits.{AllFit};
+ghost use Rattle.shared_tree.specs.MarkCauses.{words_cause};
+ghost use Rattle.shared_tree.specs.World.{accounts, value_of};
+
+use crate::answer::NotEntered;
+use crate::causes::first_cause;
+use crate::mark_places::put_marking;
+use crate::shared::Shared;
+use inner_mark_gc::Marking;
+use run_ledger::Refused;
+use run_trace::{Entry, Kind, Settings};
+use std::alloc::AllocError;
+
+// Of a heap that can be marked, of so many words: why its marking isn't due.
+fn words_cause(settings: Settings, words: u64) -> Option<Refused>
+    ensures { result ≡ words_cause settings words }
+{
+    if settings.inner() as u64 <= words {
+        None
+    } else {
+        Some(Refused::NotDue(words))
+    }
+}
+
+impl Shared {
+    // Why the entry is refused.
+    fn mark_refused(&self, worker: u32, t: u32) -> Option<Refused>
+        ensures { result ≡ refused self.now (record { worker = worker; kind = Kind.Mark t }) }
+    {
+        let first = first_cause(self.end, self.steps, self.settings, worker, false);
+        if first.is_some() {
+            return first;
+        }
+        let waiting = self.waiting_cause(t);
+        if waiting.is_some() {
+            return waiting;
+        }
+        if self.is_marking(t) {
+            return Some(Refused::Marking);
+        }
+        words_cause(self.settings, self.words_at(t))
+    }
+
+    // A marking that has marked nothing yet, of the heap of a task that waits.
+    fn marking_of(&mut self, worker: u32, t: u32) -> Result<Marking, AllocError>
+        requires free { refused self.old (record { worker = worker; kind = Kind.Mark t }) ≡ None }
+        ensures same { self.new ≡ self.old }
+        ensures none { IfOk result (λ m. m.marked ≡ 0) }
+        ensures goes { IfOk result (λ m. GoesOn (value_of self.old) t (heap_of (accounts self.old) t).snapshot m) }
+    {
+        self.stands();
+        let _ = worker;
+        let starts = self.starts(t)?;
+        match self.homes.at(t as usize) {
+            Some(rest) => Marking::begin(*self.sets.allocator(), &rest.heap, &starts),
+            None => unreachable!(),
+        }
+    }
+
+    // Makes the entry.
+    fn enter_mark(&mut self, worker: u32, t: u32, marking: Marking) -> Result<(), AllocError>
+        requires room { 0 < self.old.journal.room }
+        requires free { refused self.old (record { worker = worker; kind = Kind.Mark t }) ≡ None }
+        requires none { marking.marked ≡ 0 }
+        requires goes { GoesOn (value_of self.old) t (heap_of (accounts self.old) t).snapshot marking }
+        ensures same { OnErr result (self.new ≡ self.old) }
+        ensures enters { OnOk result (Enters self.old self.new (record { worker = worker; kind = Kind.Mark t })) }
+        ensures fits { OnOk result (AllFit self.old self.new) }
+    {
+        let alloc = *self.sets.allocator();
+        put_marking(alloc, &mut self.marks, t, marking)?;
+        self.journal
+            .push_reserved(Entry::new(worker, Kind::Mark(t)));
+        Ok(())
+    }
+
+    /// The marking of the heap of a waiting task begins: from what the task's registers hold, and from the fields of heaps
+    /// above that point down into it.
+    pub fn mark(&mut self, worker: u32, t: u32) -> Result<(), NotEntered>
+        requires room { 0 < self.old.journal.room }
+        ensures refused { Answers result (refused self.old (record { worker = worker; kind = Kind.Mark t })) }
+        ensures same { OnErr result (self.new ≡ self.old) }
+        ensures enters { OnOk result (Enters self.old self.new (record { worker = worker; kind = Kind.Mark t })) }
+        ensures fits { OnOk result (AllFit self.old self.new) }
+    {
+        if let Some(cause) = self.mark_refused(worker, t) {
+            return Err(NotEntered::Refuses(cause));
+        }
+        let Ok(marking) = self.marking_of(worker, t) else {
+            return Err(NotEntered::NoMemory);
+        };
+        match self.enter_mark(worker, t, marking) {
+            Ok(()) => Ok(()),
+            Err(_) => Err(NotEntered::NoMemory),
+        }
+    }
+}

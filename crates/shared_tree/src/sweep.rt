@@ -1,0 +1,154 @@
+// The heap of a waiting task is swept.
+
+ghost use Rattle.std.specs.Prelude.{◌≡◌, ◌≢◌, ◌==◌, ◌<◌, ℕ, OnErr, OnOk, IsSome, None, Some, length, option_map, slice_get, slice_set};
+ghost use Rattle.inner_mark_gc.specs.Marks.{Marks};
+ghost use Rattle.run_ledger.specs.Entries.{counted, refused_unless};
+ghost use Rattle.run_ledger.specs.Heaps.{heap_of, left_in, marked_in, sweep_number};
+ghost use Rattle.shared_tree.specs.Entered.{cause_of, refused, Enters};
+ghost use Rattle.shared_tree.specs.Fits.{AllFit};
+ghost use Rattle.shared_tree.specs.MarkCauses.{marking_cause};
+ghost use Rattle.shared_tree.specs.Sweeping.{forgotten, CanSweep, SweepsHome};
+ghost use Rattle.shared_tree.specs.World.{accounts, marks_at, rest_at};
+ghost use Rattle.shared_tree.specs.declared.rest.Rest.{Rest as RestOf};
+ghost use Rattle.write_barrier.specs.Stored.{content_at};
+
+use crate::causes::first_cause;
+use crate::rest::Rest;
+use crate::shared::Shared;
+use chunk_pool::Pool;
+use inner_mark_gc::Marking;
+use listed::Listed;
+use run_ledger::Refused;
+use run_trace::{Entry, Kind};
+use std::mem;
+use write_barrier::SetOf;
+
+// A heap keeps no overwritten references from now on.
+fn forget_kept(sets: &mut Vec<SetOf>, t: u32)
+    requires made { t < length sets.old.items }
+    ensures many { length sets.new.items ≡ length sets.old.items }
+    ensures none { content_at sets.new.items t ≡ option_map forgotten (content_at sets.old.items t) }
+    ensures others { (u : ℕ) → u ≢ t → slice_get sets.new.items u ≡ slice_get sets.old.items u }
+{
+    let set = &mut sets[t as usize];
+    set.keeps = false;
+    set.kept.clear();
+}
+
+// Drops what isn't marked of the heap of a task that no worker holds, and ends its marking.
+fn drop_unmarked(
+    homes: &mut Listed<Option<Rest>>,
+    marks: &mut Listed<Option<Marking>>,
+    pool: &mut Pool,
+    t: u32,
+)
+    requires home { IsSome (rest_at homes.old t) }
+    requires marking { IsSome (marks_at marks.old t) }
+    requires can { (r : RestOf) (m : Marks) → rest_at homes.old t ≡ Some r → marks_at marks.old t ≡ Some m → CanSweep r.heap m pool.old }
+    ensures swept { (r : RestOf) (m : Marks) → rest_at homes.old t ≡ Some r → marks_at marks.old t ≡ Some m → SweepsHome homes.old homes.new pool.old pool.new t r m }
+    ensures marks { marks.new ≡ slice_set marks.old t None }
+{
+    let Some(rest) = mem::replace(homes.at_mut(t as usize), None) else {
+        unreachable!()
+    };
+    let Some(marking) = mem::replace(marks.at_mut(t as usize), None) else {
+        unreachable!()
+    };
+    let mut rest = rest;
+    let _ = marking.sweep(&mut rest.heap, pool);
+    homes.set(t as usize, Some(rest));
+}
+
+impl Shared {
+    // How many objects of a heap are marked, while it is being marked.
+    fn marked_count(&self, t: u32) -> u32
+        requires goes { (accounts self.now).end ≡ None }
+        requires marking { marking_cause self.now t ≡ None }
+        ensures { result ≡ marked_in (heap_of (accounts self.now) t) }
+    {
+        match self.marks.at(t as usize) {
+            Some(marking) => marking.marked() as u32,
+            None => unreachable!(),
+        }
+    }
+
+    // Why a heap that is being marked isn't swept with so many units given back.
+    fn given_cause(&self, t: u32, given: u32) -> Option<Refused>
+        requires goes { (accounts self.now).end ≡ None }
+        requires marking { marking_cause self.now t ≡ None }
+        ensures { result ≡ refused_unless (left_in (heap_of (accounts self.now) t) == 0) (Refused.Left (marked_in (heap_of (accounts self.now) t))) (counted given (sweep_number (accounts self.now).machine (heap_of (accounts self.now) t)) None) }
+    {
+        if !self.is_marked(t) {
+            return Some(Refused::Left(self.marked_count(t)));
+        }
+        let units = self.would_give(t);
+        if given == units {
+            None
+        } else {
+            Some(Refused::Count(given, units))
+        }
+    }
+
+    // Why the entry is refused.
+    fn sweep_refused(&self, worker: u32, t: u32, given: u32) -> Option<Refused>
+        ensures { result ≡ refused self.now (record { worker = worker; kind = Kind.Sweep t given }) }
+    {
+        let first = first_cause(self.end, self.steps, self.settings, worker, false);
+        if first.is_some() {
+            return first;
+        }
+        let marking = self.marking_cause(t);
+        if marking.is_some() {
+            return marking;
+        }
+        self.given_cause(t, given)
+    }
+
+    // Makes the entry.
+    fn enter_sweep(&mut self, worker: u32, t: u32, given: u32)
+        requires room { 0 < self.old.journal.room }
+        requires free { refused self.old (record { worker = worker; kind = Kind.Sweep t given }) ≡ None }
+        ensures enters { Enters self.old self.new (record { worker = worker; kind = Kind.Sweep t given }) }
+        ensures fits { AllFit self.old self.new }
+    {
+        drop_unmarked(&mut self.homes, &mut self.marks, &mut self.pool, t);
+        forget_kept(&mut self.sets, t);
+        self.journal
+            .push_reserved(Entry::new(worker, Kind::Sweep(t, given)));
+    }
+
+    /// How many units of 1,024 words a sweep of a marked heap gives back.
+    pub fn would_give(&self, t: u32) -> u32
+        requires goes { (accounts self.now).end ≡ None }
+        requires marked { marking_cause self.now t ≡ None }
+        requires none_left { left_in (heap_of (accounts self.now) t) ≡ 0 }
+        ensures { result ≡ sweep_number (accounts self.now).machine (heap_of (accounts self.now) t) }
+    {
+        let Some(rest) = self.homes.at(t as usize) else {
+            unreachable!()
+        };
+        let Some(marking) = self.marks.at(t as usize) else {
+            unreachable!()
+        };
+        marking.would_give(&rest.heap)
+    }
+
+    /// The heap of a waiting task is swept: of its objects just those that were reached at the task's fork stay, each where
+    /// it lies, and chunks without an object are given back. From then on its overwritten references aren't kept. It takes no
+    /// memory.
+    pub fn sweep(&mut self, worker: u32, t: u32, given: u32) -> Result<(), Refused>
+        requires room { 0 < self.old.journal.room }
+        ensures refused { cause_of result ≡ refused self.old (record { worker = worker; kind = Kind.Sweep t given }) }
+        ensures same { OnErr result (self.new ≡ self.old) }
+        ensures enters { OnOk result (Enters self.old self.new (record { worker = worker; kind = Kind.Sweep t given })) }
+        ensures fits { OnOk result (AllFit self.old self.new) }
+    {
+        match self.sweep_refused(worker, t, given) {
+            Some(cause) => Err(cause),
+            None => {
+                self.enter_sweep(worker, t, given);
+                Ok(())
+            }
+        }
+    }
+}
