@@ -32,7 +32,7 @@ use Rattle.ledger_steps.proofs.Rested.{rested_view, rested_worker}
 use Rattle.shared_tree.specs.World.{World, accounts, value_of}
 use Rattle.shared_tree.specs.Stands.{IsWorld}
 use Rattle.shared_tree.specs.Fits.{Fits, home_of_part, part_of}
-use Rattle.shared_tree.specs.Next.{instr_asks, line_asks, next_line, part_asks}
+use Rattle.shared_tree.specs.Next.{instr_asks, line_asks, part_asks}
 use Rattle.shared_tree.proofs.Linked as link
 use Rattle.shared_tree.proofs.Running.{counted_now}
 

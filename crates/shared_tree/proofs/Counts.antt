@@ -1,6 +1,6 @@
 -- A heap is as its account says, by what of it alone is known and what its home is read as.
-use Rattle.std.proofs.Common.{◌≡◌, ◌⊎◌, ℕ, zero, suc, ◌+◌, ◌*◌, ◌/◌, ◌<◌, ◌^◌, ◌==◌, ◌&&◌, ◌++◌, not, arith, Bool, true, false, cond, Option, Some, None, List, [], ◌∷◌, length, map, filter, inl, inr, refl, ap, ap₂, sym, subst, ◌∙◌, ne_eqb}
-use Rattle.std.proofs.lemmas.Bool.{cond-true, false≢true, both_ways}
+use Rattle.std.proofs.Common.{◌≡◌, ℕ, zero, suc, ◌+◌, ◌*◌, ◌/◌, ◌<◌, ◌^◌, ◌==◌, ◌&&◌, ◌++◌, not, arith, Bool, true, false, cond, Option, Some, None, List, [], ◌∷◌, length, map, inl, inr, refl, ap, ap₂, sym, subst, ◌∙◌, ne_eqb}
+use Rattle.std.proofs.lemmas.Bool.{cond-true, false≢true}
 use Rattle.object_layout.specs.Cell.{Born, Cell, Hole, Mark, Moved, size_of}
 use Rattle.object_layout.specs.Chunks.{chunk_at}
 use Rattle.object_layout.specs.Content.{Content}
@@ -9,7 +9,7 @@ use Rattle.run_ledger.specs.declared.data.Heap.{Heap as Account}
 use Rattle.alloc_path.specs.Heap.{Heap, IsReserved, room_of}
 use Rattle.task_machine.specs.Accounts.{AreReserved, IsCounted, large_names, named_by, names_in, small_lists}
 use Rattle.task_machine.specs.Place.{name_of}
-use Rattle.core_relation.specs.Layout.{AreLaidOut, has_none, reserved_chunks, reserved_units}
+use Rattle.core_relation.specs.Layout.{has_none, reserved_chunks, reserved_units}
 use Rattle.core_relation.specs.Stands.{HasNames, large_chunks, names_of, small_chunks}
 use Rattle.core_relation.specs.Value.{Chunk, In, Seen, objects_in}
 use Rattle.shared_tree.specs.Objects.{chunk_of, chunks_of, objects_from, seen_by}

@@ -1,5 +1,5 @@
 -- What the next step of a part does in the machine, where it is no private one.
-use Rattle.std.proofs.Common.{◌≡◌, ◌⊎◌, ℕ, ℤ, pos, ◌+◌, ◌==◌, ◌||◌, not, eq-eqb, Bool, true, false, cond, Option, Some, None, List, [], ◌∷◌, ◌++◌, length, replicate, slice_get, slice_set, unwrap_or, is_some, nat_lt, inl, refl, ap, ap₂, sym, subst, ◌∙◌}
+use Rattle.std.proofs.Common.{◌≡◌, ℕ, ℤ, pos, ◌+◌, ◌==◌, ◌||◌, not, eq-eqb, Bool, true, false, cond, Option, Some, None, List, [], ◌∷◌, ◌++◌, length, replicate, slice_get, slice_set, unwrap_or, is_some, nat_lt, inl, refl, ap, ap₂, sym, subst, ◌∙◌}
 use Rattle.std.proofs.lemmas.Bool.{both_ways, cond-false, cond-true}
 use Rattle.listed.proofs.Members.{contains_from_in}
 use Rattle.object_layout.specs.declared.word.Addr.{Addr}
@@ -17,7 +17,7 @@ use Rattle.hh_model.specs.declared.data.End.TheVariants.{Trapped}
 use Rattle.hh_model.specs.declared.data.State.{State}
 use Rattle.hh_model.specs.declared.data.Trap.{Trap}
 use Rattle.hh_model.specs.declared.data.Trap.TheVariants.{Div as DivTrap, Nil as NilTrap, Range, Frozen as FrozenTrap, Size as SizeTrap, Depth as DepthTrap}
-use Rattle.hh_model.specs.Effect.{Effect, Goes, Calls, Returns as ReturnsBy, Traps as TrapsBy, calculated, counts_in, flat, int_eq, int_in, made, object_at, onward, or_trap, place_in, put_object, read_effect, ref_in, same_name, unless_frozen, with_int, with_ref}
+use Rattle.hh_model.specs.Effect.{Effect, Goes, Calls, Returns as ReturnsBy, Traps as TrapsBy, calculated, counts_in, flat, int_in, made, object_at, onward, or_trap, place_in, put_object, read_effect, ref_in, same_name, unless_frozen, with_int}
 use Rattle.hh_model.specs.Names.{words_for}
 use Rattle.hh_model.specs.Step.{ended_by, entry_frame, fetched, frame_limit, last_of, owner_of, returned_to, setting, step, with_task}
 use Rattle.hh_model.specs.ReadLaws.{Holds, ReadsFreely}
@@ -33,7 +33,6 @@ use Rattle.task_machine.proofs.Fitting.{is_alone, step_by, x}
 use Rattle.task_machine.proofs.Owned.{other_at, own_object}
 use Rattle.task_machine.proofs.OwnReads.{Own, ints_index, nil_effect, object_effect, owned_here, refs_index}
 use Rattle.task_machine.proofs.Registers.{does, int_here, ref_here}
-use Rattle.task_machine.proofs.Stands.{frames_length}
 use Rattle.shared_tree.specs.declared.next.Ending.{Ending}
 use Rattle.shared_tree.specs.declared.next.Ending.TheVariants.{Prints, Returns, Traps, Beyond}
 use Rattle.shared_tree.specs.Alone.{SaysOf, TellsOf}

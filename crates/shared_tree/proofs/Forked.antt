@@ -35,7 +35,7 @@ use Rattle.core_relation.proofs.With.{at_home, off_home}
 use Rattle.core_relation.proofs.Workers.{ran_leaves}
 use Rattle.shared_tree.specs.declared.rest.Rest.{Rest}
 use Rattle.inner_mark_gc.specs.Marks.{Marks}
-use Rattle.shared_tree.specs.World.{World, marks_at, accounts, begun_of, flat, home_in, home_of, node_of, noted_in, rest_at, source_of, totals_of, value_of}
+use Rattle.shared_tree.specs.World.{World, marks_at, accounts, begun_of, flat, home_in, home_of, node_of, noted_in, rest_at, totals_of, value_of}
 use Rattle.shared_tree.specs.Measured.{AreMeasured, RestsAreMeasured}
 use Rattle.shared_tree.specs.Stands.{HeapForm, IsWorld}
 use Rattle.shared_tree.specs.Fits.{Fits, OthersFit, home_of_part, part_of}

@@ -1,15 +1,14 @@
 -- A heap with an empty chunk more: the objects that are read, and its account.
-use Rattle.std.proofs.Common.{◌≡◌, ◌⊎◌, ℕ, zero, suc, ◌+◌, ◌-◌, ◌*◌, ◌/◌, ◌<◌, ◌≤◌, ◌==◌, not, arith, Bool, true, false, cond, Option, Some, None, List, [], ◌∷◌, ◌++◌, length, length-append, map, filter, All, nat_le, inl, inr, ne_eqb, refl, ap, sym, subst, ◌∙◌}
+use Rattle.std.proofs.Common.{◌≡◌, ◌⊎◌, ℕ, zero, suc, ◌+◌, ◌-◌, ◌*◌, ◌<◌, ◌≤◌, ◌==◌, arith, Bool, true, false, cond, Option, Some, None, List, [], ◌∷◌, ◌++◌, length, length-append, map, All, inl, inr, ne_eqb, refl, ap, sym, subst, ◌∙◌}
 use Rattle.std.proofs.lemmas.Bool.{cases_lt, cond-false, leb-false}
 use Rattle.hh_model.specs.declared.data.Name.{Name}
 use Rattle.run_ledger.specs.declared.data.Heap.{Heap as Account}
 use Rattle.run_ledger.specs.Heaps.{chunk_words, is_small, units}
 use Rattle.run_ledger.specs.Entries.{chunk_units, with_chunk}
-use Rattle.object_layout.specs.Cell.{Cell}
 use Rattle.object_layout.specs.Chunks.{chunk_at}
 use Rattle.object_layout.specs.Content.{Content}
 use Rattle.object_layout.specs.Place.{words_in}
-use Rattle.alloc_path.specs.Heap.{Heap, IsCurrent, IsFresh, IsReserved, added, room_at, room_of, with_places}
+use Rattle.alloc_path.specs.Heap.{Heap, IsCurrent, IsReserved, added, room_at, with_places}
 use Rattle.task_machine.specs.Accounts.{AreReserved, IsCounted, IsLastLarge, IsLastSmall, large_names, names_in, small_lists}
 use Rattle.task_machine.specs.Fits.{IsShaped}
 use Rattle.core_relation.specs.Value.{Chunk, In, Seen, objects_in}

@@ -1,5 +1,5 @@
 -- How a heap with an empty chunk more is laid out, and what is known of it.
-use Rattle.std.proofs.Common.{◌≡◌, ◌⊎◌, ℕ, zero, suc, ◌+◌, ◌*◌, ◌/◌, ◌<◌, ◌≤◌, ◌==◌, ◌&&◌, ◌++◌, not, arith, Bool, true, false, cond, Option, Some, None, List, [], ◌∷◌, length, length-append, map, inl, inr, refl, ap, sym, subst, ◌∙◌, ne_eqb}
+use Rattle.std.proofs.Common.{◌≡◌, ◌⊎◌, ℕ, ◌*◌, ◌/◌, ◌<◌, ◌≤◌, ◌==◌, ◌&&◌, ◌++◌, not, arith, Bool, true, false, cond, Option, Some, None, List, [], ◌∷◌, length, length-append, map, inl, inr, refl, ap, sym, subst, ◌∙◌, ne_eqb}
 use Rattle.std.specs.List.{AllByRecursion, IsDistinct}
 use Rattle.std.proofs.lemmas.Bool.{cases_lt, cond-true, cond-false, eqb-true}
 use Rattle.object_layout.specs.Chunks.{chunk_at}
@@ -9,7 +9,7 @@ use Rattle.alloc_path.specs.Heap.{AreTidy, AreWithin, Heap, IsFresh, IsTidy, IsR
 use Rattle.task_machine.specs.Accounts.{AreReserved, IsLastLarge, IsLastSmall}
 use Rattle.task_machine.specs.Fits.{IsShaped}
 use Rattle.core_relation.specs.Layout.{AreLaidOut, has_none, reserved_chunks, reserved_units}
-use Rattle.core_relation.specs.Value.{Chunk, In, Seen, objects_in}
+use Rattle.core_relation.specs.Value.{Chunk, In}
 use Rattle.core_relation.proofs.Members.{map_in}
 use Rattle.shared_tree.specs.Objects.{AreNear, chunk_of, chunks_of}
 use Rattle.shared_tree.specs.Stands.{HeapForm}

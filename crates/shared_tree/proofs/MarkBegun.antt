@@ -1,5 +1,5 @@
 -- A marking of a heap that waits begins, from the registers and the roots as they are now: it can go on to the whole snapshot.
-use Rattle.std.proofs.Common.{◌≡◌, ◌⊎◌, ◌↔◌, ℕ, suc, ◌+◌, ◌<◌, ◌≤◌, ◌++◌, arith, true, false, Option, Some, None, List, [], ◌∷◌, All, Contains, length, length-append, map, slice_get, inl, inr, refl, ap, sym, subst, ◌∙◌}
+use Rattle.std.proofs.Common.{◌≡◌, ◌⊎◌, ◌↔◌, ℕ, suc, ◌+◌, ◌<◌, ◌≤◌, ◌++◌, arith, true, Option, Some, None, List, [], ◌∷◌, All, length, length-append, slice_get, inl, inr, refl, ap, sym, subst, ◌∙◌}
 use Rattle.std.proofs.lemmas.Bool.{false≢true}
 use Rattle.std.proofs.lemmas.List.Elements.{All-head, All-tail}
 use Rattle.listed.proofs.Members.{contains_from_in, in_append_cases, in_append_left, in_append_right, in_from_contains}
@@ -9,7 +9,6 @@ use Rattle.object_layout.specs.Cell.{Born, Cell, Hole, IsObject, Mark, Moved, ma
 use Rattle.object_layout.specs.Chunks.{cell_of, held_size, object_count, one_each, sum_in}
 use Rattle.object_layout.specs.Content.{Content}
 use Rattle.alloc_path.specs.Heap.{AreTidy, IsTidy}
-use Rattle.hh_model.specs.declared.data.Name.{Name}
 use Rattle.hh_model.specs.declared.data.Task.{Task}
 use Rattle.hh_model.specs.Step.{is_waiting}
 use Rattle.run_ledger.specs.declared.data.Ledger.{Ledger}
@@ -17,22 +16,21 @@ use Rattle.run_ledger.specs.Heaps.{heap_of}
 use Rattle.run_ledger.specs.Sound.{SoundLedger}
 use Rattle.run_ledger.proofs.Journals.{legal_sound}
 use Rattle.alloc_path.proofs.Settled.{unmoved_at}
-use Rattle.inner_mark_gc.specs.Marks.{IsMarking, IsOf, Marks, marked_of}
+use Rattle.inner_mark_gc.specs.Marks.{IsMarking, IsOf, Marks}
 use Rattle.inner_mark_gc.specs.Snapshot.{Fork, IsHeld, IsInSnapshot, Leads, Starts, refs_of}
 use Rattle.ledger_steps.specs.Accounts.{Rests}
 use Rattle.ledger_steps.proofs.Split.{legal_idle}
-use Rattle.core_relation.specs.Value.{Frame, Home, In, Seen, Value, objects, objects_in}
+use Rattle.core_relation.specs.Value.{Frame, In, Seen, Value, objects, objects_in}
 use Rattle.core_relation.specs.Begins.{IsAt, IsRoot, LeadsAt}
 use Rattle.core_relation.specs.Marking.{GoesOn}
 use Rattle.core_relation.specs.Now.{IsReachedNow, StartsNow}
-use Rattle.core_relation.specs.Since.{Since, kept}
-use Rattle.core_relation.specs.Stands.{Stands}
+use Rattle.core_relation.specs.Since.{kept}
 use Rattle.core_relation.specs.Whole.{StandsFor}
-use Rattle.core_relation.proofs.Past.{task_by, waiting_stops}
+use Rattle.core_relation.proofs.Past.{waiting_stops}
 use Rattle.core_relation.proofs.SnapshotNow.{snapshot_now}
 use Rattle.shared_tree.specs.declared.rest.Rest.{Rest}
 use Rattle.shared_tree.specs.Objects.{chunk_of, chunks_of, objects_from, seen, seen_by}
-use Rattle.shared_tree.specs.World.{World, accounts, home_in, home_of, rest_at, totals_of, value_of}
+use Rattle.shared_tree.specs.World.{World, accounts, home_in, rest_at, totals_of, value_of}
 use Rattle.shared_tree.specs.Stands.{HeapForm, IsWorld}
 use Rattle.shared_tree.specs.Marking.{MarksBegin}
 use Rattle.shared_tree.proofs.Cells.{object_seen, seen_object}

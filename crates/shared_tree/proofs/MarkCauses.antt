@@ -1,5 +1,5 @@
 -- Entries that mark and sweep are refused as the shared value tells it.
-use Rattle.std.proofs.Common.{◌≡◌, ℕ, ◌==◌, ◌&&◌, not, Bool, true, false, Option, Some, None, is_some, nat_le, option_map, slice_get, refl, ap, sym, subst, ◌∙◌}
+use Rattle.std.proofs.Common.{◌≡◌, ℕ, ◌==◌, ◌&&◌, not, Bool, true, false, Option, Some, None, is_some, nat_le, option_map, slice_get, refl, ap, sym, ◌∙◌}
 use Rattle.std.proofs.lemmas.Option.{same_Some}
 use Rattle.hh_model.specs.declared.data.Status.{Status}
 use Rattle.hh_model.specs.declared.data.Status.TheVariants.{Running, Waiting, Ended, Joined}
@@ -10,7 +10,7 @@ use Rattle.heap_tree.specs.declared.state.State.TheVariants.{Ready, Out, Waiting
 use Rattle.heap_tree.specs.Node.{Node}
 use Rattle.run_ledger.specs.declared.data.Ledger.{Ledger}
 use Rattle.run_ledger.specs.declared.data.Refused.{Refused}
-use Rattle.run_ledger.specs.declared.data.Refused.TheVariants.{Count, Left, Marked, Marking, NotDue, NotMarking, NotWaiting, Swept}
+use Rattle.run_ledger.specs.declared.data.Refused.TheVariants.{Left, Marked, Marking, NotDue, NotMarking, NotWaiting, Swept}
 use Rattle.run_ledger.specs.Entries.{counted, refused_if, refused_unless}
 use Rattle.run_ledger.specs.Heaps.{heap_of, left_in, marked_in, sweep_number, words_in}
 use Rattle.inner_mark_gc.specs.Marks.{Marks}
@@ -20,8 +20,7 @@ use Rattle.core_relation.specs.Whole.{Node as SeenNode, StandsFor, State as Seen
 use Rattle.core_relation.specs.Whole.{Ready as IsReady, Out as IsOut, Waits, HasEnded, HasJoined}
 use Rattle.shared_tree.specs.Causes.{or_else}
 use Rattle.shared_tree.specs.MarkCauses.{MarksRefuse, is_state_waiting}
-use Rattle.shared_tree.specs.World.{World, accounts, marks_at, node_of, noted_in, state_of, totals_of, value_of}
-use Rattle.shared_tree.specs.Stands.{IsWorld}
+use Rattle.shared_tree.specs.World.{accounts, marks_at, node_of, noted_in, state_of, totals_of, value_of}
 use Rattle.shared_tree.proofs.Now.{stands_now}
 
 -- WHO WAITS

@@ -1,31 +1,28 @@
 -- How many objects a marking marks, as its account counts them.
-use Rattle.std.proofs.Common.{◌≡◌, ℕ, zero, suc, ◌+◌, ◌-◌, ◌<◌, ◌≤◌, arith, min, Option, Some, None, List, [], ◌∷◌, Contains, length, slice_get, take, true, inl, inr, refl, ap, sym, subst, ◌∙◌}
+use Rattle.std.proofs.Common.{◌≡◌, ℕ, zero, suc, ◌+◌, ◌-◌, ◌<◌, ◌≤◌, arith, min, Option, Some, None, List, [], ◌∷◌, length, slice_get, take, inl, inr, refl, ap, sym, subst, ◌∙◌}
 use Rattle.std.specs.Prelude.{unwrap_or}
 use Rattle.std.proofs.Math.Nat.{min-eq_left, min-eq_right}
 use Rattle.std.proofs.lemmas.Bool.{cases_lt}
 use Rattle.listed.proofs.Members.{contains_from_in, in_from_contains}
 use Rattle.object_layout.specs.declared.word.Addr.{Addr}
 use Rattle.hh_model.specs.declared.data.Name.{Name}
-use Rattle.hh_model.specs.Step.{is_waiting}
 use Rattle.run_ledger.specs.declared.data.Heap.{Heap}
 use Rattle.run_ledger.specs.declared.data.Ledger.{Ledger}
 use Rattle.run_ledger.specs.Heaps.{heap_of, held_in, left_in, marked_in, or_fresh, with_heap}
 use Rattle.run_ledger.proofs.History.{snapshots_are_held}
-use Rattle.inner_mark_gc.specs.Marks.{IsAllMarked, IsMarking, Marks, marked_of}
-use Rattle.inner_mark_gc.specs.Snapshot.{Fork, IsHeld, IsInSnapshot, IsSince, Leads, Starts}
+use Rattle.inner_mark_gc.specs.Marks.{Marks, marked_of}
+use Rattle.inner_mark_gc.specs.Snapshot.{IsHeld, IsInSnapshot, Leads, Starts}
 use Rattle.inner_mark_gc.proofs.Marked.{in_take}
 use Rattle.walks.proofs.Reached.{reached_within}
 use Rattle.ledger_steps.specs.Accounts.{Rests}
 use Rattle.ledger_steps.proofs.Ahead.{heap_then, with_at}
 use Rattle.core_relation.specs.Value.{In, Seen, Value, objects}
-use Rattle.core_relation.specs.Marking.{GoesOn, MarkedBy, MarksStand}
+use Rattle.core_relation.specs.Marking.{GoesOn, MarkedBy}
 use Rattle.core_relation.specs.Since.{kept}
 use Rattle.core_relation.specs.Whole.{StandsFor}
 use Rattle.core_relation.proofs.MarksAll.{all_marked, few_marked}
-use Rattle.shared_tree.specs.declared.rest.Rest.{Rest}
 use Rattle.shared_tree.specs.Marking.{MarksCount}
-use Rattle.shared_tree.specs.World.{World, accounts, marks_at, rest_at, totals_of, value_of}
-use Rattle.shared_tree.specs.Stands.{IsWorld}
+use Rattle.shared_tree.specs.World.{accounts, totals_of, value_of}
 use Rattle.shared_tree.proofs.MarkBegun as begun
 use Rattle.shared_tree.proofs.MarkFurther.{is_since}
 use Rattle.shared_tree.proofs.MarkWorld.{distinct_once, take_once}

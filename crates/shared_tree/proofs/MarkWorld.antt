@@ -7,8 +7,6 @@ use Rattle.listed.proofs.Members.{contains_from_in, in_from_contains}
 use Rattle.object_layout.specs.declared.word.Addr.{Addr}
 use Rattle.hh_model.specs.declared.data.State.{State}
 use Rattle.hh_model.specs.Effect.{row_of}
-use Rattle.hh_model.specs.Step.{is_waiting}
-use Rattle.run_trace.specs.declared.entry.Kind.{Kind}
 use Rattle.run_trace.specs.declared.entry.Kind.TheVariants.{Took, Ran, Chunk, Begin, End, PutOff, Mark, More, Sweep, Fuel}
 use Rattle.run_trace.specs.Entry.{Event}
 use Rattle.run_ledger.specs.declared.data.Heap.{Heap}
@@ -22,11 +20,10 @@ use Rattle.inner_mark_gc.specs.Snapshot.{IsHeld, IsInSnapshot, Leads, Starts}
 use Rattle.inner_mark_gc.proofs.Marked.{in_take}
 use Rattle.walks.proofs.Reached.{reached_within}
 use Rattle.ledger_steps.specs.Accounts.{Rests}
-use Rattle.task_machine.specs.declared.part.Private.{Private}
 use Rattle.core_relation.specs.Value.{In, Seen, Value, objects}
 use Rattle.core_relation.specs.Changes.{SameObjects}
 use Rattle.core_relation.specs.Counts.{CountsGo, IsMarked, IsQuiet}
-use Rattle.core_relation.specs.Marking.{GoesOn, MarkedBy, MarksStand, same_address}
+use Rattle.core_relation.specs.Marking.{GoesOn, MarkedBy, same_address}
 use Rattle.core_relation.specs.Since.{MarksOn, NotesStay, kept}
 use Rattle.core_relation.specs.Layout.{AreLaidOut}
 use Rattle.core_relation.specs.Stands.{HasNames, HomeStands}
@@ -37,7 +34,7 @@ use Rattle.core_relation.proofs.EntriesWhole.{quiet_stands_for}
 use Rattle.core_relation.proofs.WorkersPast.{quiet_leaves}
 use Rattle.shared_tree.specs.World.{World, accounts, marks_at, totals_of, value_of}
 use Rattle.shared_tree.specs.Stands.{IsWorld}
-use Rattle.shared_tree.specs.Fits.{AllFit, Fits, part_of}
+use Rattle.shared_tree.specs.Fits.{AllFit, part_of}
 use Rattle.shared_tree.specs.Entered.{refused}
 use Rattle.shared_tree.proofs.Entering.{entry_on}
 use Rattle.shared_tree.proofs.EnteringMarks.{entered_marks, marked_fits, marked_world}

@@ -1,5 +1,5 @@
 -- The run ends by a step that can't be done, or by a read that is stopped.
-use Rattle.std.proofs.Common.{◌≡◌, ℕ, suc, ◌+◌, Some, None, slice_get, refl, ap, sym, ◌∙◌}
+use Rattle.std.proofs.Common.{◌≡◌, ℕ, suc, ◌+◌, Some, None, refl, ap, sym, ◌∙◌}
 use Rattle.std.proofs.lemmas.Option.{same_Some}
 use Rattle.listed.specs.Space.{Space}
 use Rattle.run_trace.specs.Entry.{Event}
@@ -9,7 +9,6 @@ use Rattle.hh_model.specs.declared.data.State.{State}
 use Rattle.hh_model.specs.Step.{ended_by, step}
 use Rattle.run_ledger.specs.declared.data.Ledger.{Ledger}
 use Rattle.run_ledger.specs.declared.data.RunEnd.TheVariants.{Machine}
-use Rattle.run_ledger.specs.Heaps.{or_fresh}
 use Rattle.run_ledger.specs.Steps.{task_steps}
 use Rattle.task_machine.specs.declared.part.Private.{Private}
 use Rattle.ledger_steps.specs.Last.{Halting, Halts, Runs, Splits}

@@ -10,7 +10,6 @@ use Rattle.hh_model.specs.declared.data.Task.{Task}
 use Rattle.hh_model.specs.Effect.{Effect, Goes}
 use Rattle.hh_model.specs.Step.{follow, runs}
 use Rattle.run_ledger.specs.declared.data.Ledger.{Ledger}
-use Rattle.run_ledger.specs.Heaps.{or_fresh}
 use Rattle.run_ledger.specs.Steps.{task_steps}
 use Rattle.task_frames.specs.declared.frames.Frame.{Frame}
 use Rattle.task_machine.specs.declared.part.Private.{Private}

@@ -37,7 +37,7 @@ use Rattle.shared_tree.specs.declared.rest.Rest.{Rest}
 use Rattle.shared_tree.specs.World.{World, accounts, frame_of, value_of}
 use Rattle.shared_tree.specs.Stands.{IsWorld}
 use Rattle.shared_tree.specs.Fits.{Fits, OthersFit, home_of_part}
-use Rattle.shared_tree.specs.Alone.{GoesAlone, IsShared, alone_event}
+use Rattle.shared_tree.specs.Alone.{GoesAlone, IsShared}
 use Rattle.shared_tree.specs.Entered.{refused}
 use Rattle.shared_tree.specs.Other.{put_rest}
 use Rattle.shared_tree.proofs.Foreign.{IsForeign, in_register, reads_length, x}

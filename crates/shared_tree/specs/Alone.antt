@@ -1,5 +1,5 @@
 -- An entry of a part's fresh steps and its next one, which isn't private.
-use Rattle.std.specs.Prelude.{◌≤◌, ◌≡◌, ℕ, ℤ, ◌+◌, ◌||◌, not, true, false, Option, Some, None, [], slice_get, is_some}
+use Rattle.std.specs.Prelude.{◌≤◌, ◌≡◌, ℕ, ◌+◌, ◌||◌, not, true, false, Some, None, [], slice_get, is_some}
 use Rattle.hh_lang.specs.declared.instr.Instr.TheVariants.{Out, Ret}
 use Rattle.hh_lang.specs.declared.program.Line.{Line}
 use Rattle.hh_lang.specs.Form.{ProgramText}

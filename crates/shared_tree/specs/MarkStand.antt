@@ -1,5 +1,5 @@
 -- What there is of a heap that is being marked.
-use Rattle.std.specs.Prelude.{◌≡◌, ◌==◌, ◌↔◌, ℕ, Bool, true, IsTrue, Option, Some, None, slice_get}
+use Rattle.std.specs.Prelude.{◌≡◌, ◌==◌, ◌↔◌, ℕ, Bool, true, IsTrue, Some, None, slice_get}
 use Rattle.hh_model.specs.Step.{is_waiting}
 use Rattle.run_ledger.specs.Heaps.{heap_of, left_in}
 use Rattle.inner_mark_gc.specs.Marks.{IsAllMarked, IsMarking, Marks}

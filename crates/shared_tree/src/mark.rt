@@ -29,8 +29,8 @@ fn words_cause(settings: Settings, words: u64) -> Option<Refused>
 }
 
 impl Shared {
-    // Why the entry is refused.
-    fn mark_refused(&self, worker: u32, t: u32) -> Option<Refused>
+    /// Why the entry is refused.
+    pub fn mark_refused(&self, worker: u32, t: u32) -> Option<Refused>
         ensures { result ≡ refused self.now (record { worker = worker; kind = Kind.Mark t }) }
     {
         let first = first_cause(self.end, self.steps, self.settings, worker, false);

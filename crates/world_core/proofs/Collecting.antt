@@ -1,5 +1,5 @@
 -- The collection of the root's part: it can be copied, what was copied fits for the end, and less is left to do behind that.
-use Rattle.std.proofs.Common.{◌≡◌, ℕ, ◌<◌, All, Some, None, List, map, refl, ap, sym, subst, ◌∙◌, arith}
+use Rattle.std.proofs.Common.{◌≡◌, ◌<◌, All, Some, None, List, map, refl, ap, sym, subst, ◌∙◌, arith}
 use Rattle.object_layout.specs.declared.word.Addr.{Addr}
 use Rattle.object_layout.specs.Content.{Content}
 use Rattle.alloc_path.specs.Heap.{Heap}
@@ -28,7 +28,7 @@ use Rattle.copied_part.specs.Handed.{IsCopying}
 use Rattle.copied_part.proofs.Beginning.{begun_is_copying}
 use Rattle.copied_part.proofs.Handing.{begun, copied_fits}
 use Rattle.copied_part.proofs.Saying.{begun_can_copy}
-use Rattle.world_core.specs.Alone.{Begins, IsUnderWay, Turns}
+use Rattle.world_core.specs.Alone.{Begins, Turns}
 use Rattle.world_core.proofs.Driven.{end_kept}
 use Rattle.world_core.proofs.Entries.{end_is, first_free}
 use Rattle.world_core.proofs.Turning.{end_less}

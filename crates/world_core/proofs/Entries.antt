@@ -1,9 +1,8 @@
 -- What entries make of the totals, which aren't refused, and whole runs of one worker.
-use Rattle.std.proofs.Common.{◌≡◌, ℕ, zero, suc, ◌+◌, ◌-◌, ◌<◌, ◌≤◌, ◌&&◌, Bool, true, false, Option, Some, None, List, [], ◌∷◌, length, slice_get, is_some, option_map, nat_le, nat_lt, refl, ap, sym, subst, ◌∙◌, arith}
+use Rattle.std.proofs.Common.{◌≡◌, ℕ, zero, suc, ◌+◌, ◌<◌, ◌≤◌, ◌&&◌, Bool, true, false, Option, Some, None, List, [], ◌∷◌, length, slice_get, is_some, option_map, nat_le, nat_lt, refl, ap, sym, subst, ◌∙◌, arith}
 use Rattle.std.proofs.lemmas.Bool.{false≢true}
-use Rattle.listed.specs.Space.{Space}
 use Rattle.hh_lang.specs.Form.{ProgramText}
-use Rattle.run_trace.specs.declared.entry.Kind.TheVariants.{Took, Fuel, Ran as RanKind}
+use Rattle.run_trace.specs.declared.entry.Kind.TheVariants.{Took, Fuel}
 use Rattle.run_trace.specs.Entry.{Event}
 use Rattle.run_trace.specs.Settings.{Limits, field_limit}
 use Rattle.hh_model.specs.declared.data.Task.{Task}
@@ -20,7 +19,7 @@ use Rattle.run_ledger.specs.declared.data.Refused.{Refused}
 use Rattle.run_ledger.specs.declared.data.Refused.TheVariants as Cause
 use Rattle.run_ledger.specs.Entries.{refusal, refused_if, refused_unless, after}
 use Rattle.run_ledger.specs.Journals.{opening, ledger_of, end_of, is_legal, tasks_of}
-use Rattle.run_ledger.proofs.Bounds.{steps_are_bounded, task_steps_steps}
+use Rattle.run_ledger.proofs.Bounds.{steps_are_bounded}
 use Rattle.run_ledger.proofs.Counted.{journals_are_counted}
 use Rattle.hh_model.specs.Effect.{row_of}
 use Rattle.run_ledger.proofs.Machine.{heap_machine, machine_is_run, task_step_machine}
@@ -30,16 +29,13 @@ use Rattle.task_machine.specs.Fits.{unended}
 use Rattle.ledger_steps.proofs.Split.{steps_last}
 use Rattle.shared_tree.specs.World.{World, accounts}
 use Rattle.shared_tree.specs.Stands.{IsWorld}
-use Rattle.shared_tree.specs.Fits.{Fits, beyond}
+use Rattle.shared_tree.specs.Fits.{beyond}
 use Rattle.ledger_steps.specs.Accounts.{aside}
 use Rattle.core_relation.specs.Whole.{by_end}
 use Rattle.shared_tree.specs.declared.answer.NotEntered.{NotEntered}
 use Rattle.shared_tree.specs.declared.answer.NotEntered.TheVariants.{NoMemory, Refuses}
 use Rattle.shared_tree.specs.Entered.{Enters, IsCaused, refused}
-use Rattle.shared_tree.proofs.Running.{ran_answer}
-use Rattle.shared_tree.proofs.LastSteps.{alone_answer}
-use Rattle.shared_tree.specs.Causes.{first_cause, or_else}
-use Rattle.shared_tree.specs.Alone.{GoesAlone, EndsAlone, alone_event}
+use Rattle.shared_tree.specs.Causes.{first_cause}
 use Rattle.shared_tree.specs.Links.{FitsFirst}
 use Rattle.shared_tree.proofs.Entered.{accounts_then}
 use Rattle.world_core.specs.declared.alone.Finish.TheVariants.{Ended}

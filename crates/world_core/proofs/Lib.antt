@@ -8,3 +8,14 @@ pub mod Turning
 pub mod Pausing
 pub mod Driven
 pub mod Collecting
+pub mod WasHeld
+pub mod Holding
+pub mod HandCauses
+pub mod Standing
+pub mod Together
+pub mod Making
+pub mod BegunPart
+pub mod Applying
+pub mod Replayed
+pub mod MachineEnds
+pub mod LocalRuns

@@ -1,12 +1,10 @@
 -- Why the private steps of the root pause, and what isn't refused then.
-use Rattle.std.proofs.Common.{◌≡◌, ℕ, ◌+◌, ◌-◌, ◌<◌, ◌≤◌, true, false, Bool, Option, Some, None, Result, is_none, is_some, nat_le, refl, ap, ap₂, sym, subst, ◌∙◌, arith}
-use Rattle.std.specs.Result.{IfOk}
+use Rattle.std.proofs.Common.{◌≡◌, ℕ, ◌+◌, ◌<◌, ◌≤◌, true, false, Option, Some, None, is_none, is_some, nat_le, refl, ap, sym, subst, ◌∙◌, arith}
 use Rattle.std.proofs.lemmas.Bool.{false≢true}
 use Rattle.alloc_path.specs.Heap.{place_for, room_of}
 use Rattle.run_trace.specs.declared.entry.Kind.TheVariants.{Ran, Chunk, Begin, PutOff}
 use Rattle.hh_lang.specs.Form.{ProgramText}
 use Rattle.hh_model.specs.Step.{asked}
-use Rattle.run_ledger.specs.declared.data.Refused.{Refused}
 use Rattle.run_ledger.specs.declared.data.Refused.TheVariants.{Collecting, Due as DueCause, NotDue, NotNeeded, PoolEnough, PoolShort}
 use Rattle.run_ledger.specs.Entries.{is_pool_enough, refused_if, refused_unless}
 use Rattle.run_ledger.specs.Steps.{on_asked}
@@ -19,7 +17,6 @@ use Rattle.task_machine.specs.Run.{KeepsRest, PausesBy, Runs}
 use Rattle.task_machine.specs.Steps.{lacks_place}
 use Rattle.shared_tree.specs.World.{World, accounts}
 use Rattle.shared_tree.specs.Stands.{IsWorld}
-use Rattle.shared_tree.specs.Fits.{Fits}
 use Rattle.shared_tree.specs.Links.{FitsFirst}
 use Rattle.shared_tree.specs.Alone.{IsShared, alone_event, machine_after}
 use Rattle.shared_tree.specs.Causes.{first_cause, need_cause, or_else}

@@ -1,5 +1,5 @@
 -- What is left to do in a run of one worker: less of it after each entry, and after each collection.
-use Rattle.std.proofs.Common.{◌≡◌, ℕ, zero, suc, ◌+◌, ◌-◌, ◌*◌, ◌<◌, ◌≤◌, ◌==◌, ◌||◌, not, Bool, true, false, cond, Option, Some, None, [], ◌∷◌, ◌++◌, slice_get, is_some, is_none, nat_le, nat_lt, refl, ap, ap₂, sym, subst, ◌∙◌, arith, eq-eqb}
+use Rattle.std.proofs.Common.{◌≡◌, ℕ, ◌+◌, ◌-◌, ◌<◌, ◌≤◌, ◌==◌, not, Bool, true, false, cond, Option, Some, None, [], ◌∷◌, ◌++◌, slice_get, is_some, is_none, nat_le, nat_lt, refl, ap, ap₂, sym, subst, ◌∙◌, arith, eq-eqb}
 use Rattle.std.proofs.lemmas.Bool.{false≢true}
 use Rattle.hh_lang.specs.Form.{ProgramText}
 use Rattle.run_trace.specs.declared.entry.Kind.TheVariants.{Ran, Chunk, Begin, End, PutOff}

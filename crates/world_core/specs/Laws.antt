@@ -1,5 +1,5 @@
 -- What a reader may ask of runs of one task.
-use Rattle.std.specs.Prelude.{◌≡◌, ◌↔◌, ℕ, true, None, length}
+use Rattle.std.specs.Prelude.{◌≡◌, ◌↔◌, true, None, length}
 use Rattle.run_trace.specs.Entry.{Event}
 use Rattle.run_trace.specs.Settings.{Limits}
 use Rattle.std.specs.Prelude.{List}

@@ -1,4 +1,3 @@
-use Rattle.std.proofs.Common.{◌≡◌}
 use Rattle.world_core.specs.Ready.{IsReady}
 use Rattle.world_core.specs.Alone.{Keeps}
 use Rattle.world_core.proofs.Driven.{Standing, left_for}

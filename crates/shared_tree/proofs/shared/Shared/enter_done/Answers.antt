@@ -1,9 +1,7 @@
-use Rattle.std.proofs.Common.{◌≡◌, ℕ, ◌+◌, ◌-◌, ◌<◌, arith, Option, Some, None, List, [], length, slice_set, ap, sym, subst, ◌∙◌}
-use Rattle.listed.specs.Space.{Space}
-use Rattle.run_trace.specs.Entry.{Event}
+use Rattle.std.proofs.Common.{◌≡◌, ℕ, ◌+◌, ◌-◌, arith, Some, None, [], slice_set, ap, sym, subst, ◌∙◌}
 use Rattle.hh_model.specs.declared.data.End.TheVariants.{Done}
 use Rattle.heap_tree.specs.declared.state.State.TheVariants.{Ended}
-use Rattle.heap_tree.specs.Node.{Node, with_state}
+use Rattle.heap_tree.specs.Node.{with_state}
 use Rattle.run_ledger.specs.declared.data.RunEnd.TheVariants.{Machine}
 use Rattle.task_machine.specs.declared.part.Private.{Private}
 use Rattle.shared_tree.specs.declared.next.Ending.TheVariants.{Returns}

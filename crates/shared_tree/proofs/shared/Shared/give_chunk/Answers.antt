@@ -1,7 +1,6 @@
-use Rattle.std.proofs.Common.{◌≡◌, ℕ, ◌+◌, ◌-◌, ◌<◌, ◌≤◌, arith, None, Some, [], inl, inr, Result, Ok, Err, ap, ap₂, sym, subst, ◌∙◌}
+use Rattle.std.proofs.Common.{◌≡◌, ℕ, ◌+◌, ◌-◌, ◌<◌, ◌≤◌, None, Some, [], inl, inr, Ok, Err, ap, sym, subst, ◌∙◌}
 use Rattle.std.proofs.lemmas.Bool.{cases_lt}
 use Rattle.listed.specs.Space.{Space}
-use Rattle.object_layout.specs.Content.{Content}
 use Rattle.run_trace.specs.Entry.{Event}
 use Rattle.run_trace.specs.declared.entry.Kind.TheVariants.{Chunk}
 use Rattle.run_ledger.specs.declared.data.RunEnd.TheVariants.{Pool as PoolOf}

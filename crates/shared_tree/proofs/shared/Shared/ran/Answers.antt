@@ -1,4 +1,4 @@
-use Rattle.std.proofs.Common.{◌≡◌, None, sym, subst}
+use Rattle.std.proofs.Common.{◌≡◌, None, subst}
 use Rattle.std.specs.Result.{OnErr}
 use Rattle.shared_tree.specs.World.{World}
 use Rattle.shared_tree.specs.Alone.{Answered, IsBeyond, IsShared, alone_event}

@@ -3,11 +3,8 @@ use Rattle.task_machine.specs.declared.part.Private.{Private}
 use Rattle.shared_tree.specs.declared.next.Ending.{Ending}
 use Rattle.shared_tree.specs.declared.next.Ending.TheVariants.{Beyond, Returns}
 use Rattle.shared_tree.specs.World.{World}
-use Rattle.shared_tree.specs.Stands.{IsWorld}
-use Rattle.shared_tree.specs.Fits.{Fits}
-use Rattle.shared_tree.specs.Alone.{IsBeyond, IsShared, Tells, alone_event}
+use Rattle.shared_tree.specs.Alone.{Tells, alone_event}
 use Rattle.shared_tree.specs.Entered.{refused}
-use Rattle.shared_tree.specs.contracts.shared.Shared.{the_view}
 use Rattle.shared_tree.proofs.AloneEntries.{child_beyond, other_beyond}
 use Rattle.shared_tree.proofs.shared.Shared.ran_alone.Goals as goal
 

@@ -1,0 +1,82 @@
+-- What is kept before the first entry, and where no entry is made.
+use Rattle.std.proofs.Common.{◌≡◌, ℕ, zero, suc, ◌+◌, ◌<◌, List, [], ◌∷◌, ◌++◌, length, slice_get, replicate, inl, inr, refl, ap, sym, subst, ◌∙◌, arith, length-append}
+use Rattle.std.proofs.lemmas.Bool.{cases_eq, cases_lt}
+use Rattle.std.proofs.lemmas.Option.{same_Some}
+use Rattle.listed.proofs.Members.{got_back, got_front, got_within}
+use Rattle.run_trace.specs.Settings.{Limits}
+use Rattle.run_ledger.specs.Journals.{ledger_of}
+use Rattle.run_ledger.specs.Pace.{idle, is_paced, pace_at_end, pace_of}
+use Rattle.run_ledger.specs.declared.data.Ledger.{Ledger}
+use Rattle.shared_tree.specs.declared.pace.Pace.{Pace}
+use Rattle.shared_tree.specs.declared.pace.Previous.TheVariants.{Other}
+use Rattle.shared_tree.specs.declared.answer.NotEntered.{NotEntered}
+use Rattle.shared_tree.specs.declared.answer.NotEntered.TheVariants.{NoMemory, Refuses}
+use Rattle.shared_tree.specs.Joins.{IsUnchanged}
+use Rattle.shared_tree.specs.Pace.{KeepsPace, KeepsPrevious}
+use Rattle.shared_tree.specs.World.{World, accounts}
+use Rattle.shared_tree.proofs.PaceKeeps.{keeps_items}
+use Rattle.paced_tree.specs.Owed.{AreIdle, KeepsPaces, NotesAt, SameMarks, noted_of}
+
+-- A LIST OF IDLE PACES
+pub idle_none : AreIdle [] 0
+idle_none = record { many = refl; each = λ k q at. absurd cc }
+
+pub idle_push : (paces : List Pace) (n : ℕ) (q : Pace) → AreIdle paces n → q.previous ≡ Other → q.marks.items ≡ [] → AreIdle (paces ++ q ∷ []) (n + 1)
+idle_push paces n q I p m = record {
+  many = length-append paces (q ∷ []) ∙ ap (λ c. c + 1) I.many;
+  each = λ k x at. elim (cases_lt k (length paces)) [
+    | inl lt ↦ I.each k x (sym (got_front paces (q ∷ []) k lt) ∙ at)
+    | inr ge ↦
+        let within : k < length (paces ++ q ∷ []) = got_within (paces ++ q ∷ []) k x at in
+        let count : length (paces ++ q ∷ []) ≡ length paces + 1 = length-append paces (q ∷ []) in
+        let e : k ≡ length paces + 0 = omega arith in
+        let same : q ≡ x = same_Some q x (sym (got_back paces (q ∷ []) 0) ∙ (ap (slice_get (paces ++ q ∷ [])) (sym e) ∙ at)) in
+        (ap (λ (z : Pace). z.previous) (sym same) ∙ p, ap (λ (z : Pace). z.marks.items) (sym same) ∙ m)
+  ];
+}
+
+idle_of : (n k : ℕ) → pace_of (replicate n idle) k ≡ idle
+idle_of zero k = refl
+idle_of (suc n) zero = refl
+idle_of (suc n) (suc k) = idle_of n k
+
+idle_kept : (l : Ledger) (q : Pace) → q.previous ≡ Other → q.marks.items ≡ [] → KeepsPace l q idle
+idle_kept l q p m = record { previous = subst (λ a. KeepsPrevious l a idle.previous) (sym p) tt; marks = m }
+
+-- BEFORE THE FIRST ENTRY
+pub opening_kept : (w : World) (paces : List Pace) → w.journal.items ≡ [] → AreIdle paces w.settings.workers → KeepsPaces w paces
+opening_kept w paces none I = record {
+  paced = ap (is_paced w.program w.settings) none;
+  workers = I.many;
+  keeps = λ on k q at. subst (λ x. KeepsPace (accounts w) q x) (sym (ap (λ j. pace_of (pace_at_end w.program w.settings j) k) none ∙ idle_of w.settings.workers k)) (idle_kept (accounts w) q (I.each k q at).0 (I.each k q at).1);
+}
+
+-- WITHOUT AN ENTRY
+pub same_kept : (w w' : World) (paces : List Pace) → w'.program ≡ w.program → w'.settings ≡ w.settings → w'.journal.items ≡ w.journal.items → KeepsPaces w paces → KeepsPaces w' paces
+same_kept w w' paces ep es ej K =
+    let ledger : accounts w' ≡ accounts w = ap (λ p. ledger_of p w'.settings w'.journal.items) ep ∙ (ap (λ s. ledger_of w.program s w'.journal.items) es ∙ ap (ledger_of w.program w.settings) ej) in
+    let paces_at : pace_at_end w'.program w'.settings w'.journal.items ≡ pace_at_end w.program w.settings w.journal.items =
+    ap (λ p. pace_at_end p w'.settings w'.journal.items) ep ∙ (ap (λ s. pace_at_end w.program s w'.journal.items) es ∙ ap (pace_at_end w.program w.settings) ej) in
+    record {
+      paced = ap (λ p. is_paced p w'.settings w'.journal.items) ep ∙ (ap (λ s. is_paced w.program s w'.journal.items) es ∙ (ap (is_paced w.program w.settings) ej ∙ K.paced));
+      workers = K.workers ∙ ap (λ (s : Limits). s.workers) (sym es);
+      keeps = λ on k q at.
+          subst (λ l. KeepsPace l q (noted_of w' k)) (sym ledger)
+          (subst (λ ps. KeepsPace (accounts w) q (pace_of ps k)) (sym paces_at) (K.keeps (ap (λ (l : Ledger). l.end) (sym ledger) ∙ on) k q at));
+    }
+
+-- with another place in one of the lists
+pub marks_kept : (w : World) (old new : List Pace) (j : ℕ) → NotesAt old new j SameMarks → KeepsPaces w old → KeepsPaces w new
+marks_kept w old new j N K = record {
+  paced = K.paced;
+  workers = N.many ∙ K.workers;
+  keeps = λ on k q at. elim (cases_eq k j) [
+    | inl e ↦ let o = N.own q (ap (slice_get new) (sym e) ∙ at) in keeps_items (accounts w) o.0 q (noted_of w k) o.2.0 o.2.1 (K.keeps on k o.0 (ap (slice_get old) e ∙ o.1))
+    | inr ne ↦ K.keeps on k q (sym (N.others k ne) ∙ at)
+  ];
+}
+
+-- where an entry is refused, or there was no memory for it
+pub unchanged_kept : (w w' : World) (cause : NotEntered) (paces : List Pace) → IsUnchanged cause w w' → KeepsPaces w paces → KeepsPaces w' paces
+unchanged_kept w w' (Refuses why) paces same K = subst (λ (z : World). KeepsPaces z paces) (sym same) K
+unchanged_kept w w' NoMemory paces S K = same_kept w w' paces (ap (λ (z : World). z.program) S.rest) (ap (λ (z : World). z.settings) S.rest) (ap (λ (z : World). z.journal.items) S.rest) K

@@ -1,0 +1,3 @@
+pub mod Noted
+pub mod MarkNotes
+pub mod Idle

@@ -1,0 +1,31 @@
+use Rattle.std.proofs.Common.{◌≡◌, Some, None, sym, subst, inr}
+use Rattle.run_trace.specs.Entry.{Event}
+use Rattle.run_trace.specs.declared.entry.Kind.TheVariants.{Ran}
+use Rattle.shared_tree.specs.World.{World}
+use Rattle.std.specs.Prelude.{option_map}
+use Rattle.run_ledger.specs.declared.data.Refused.{Refused}
+use Rattle.shared_tree.specs.declared.answer.NotEntered.TheVariants.{Refuses}
+use Rattle.shared_tree.specs.Entered.{refused}
+use Rattle.shared_tree.specs.Fits.{Fits, OthersFit}
+use Rattle.paced_tree.specs.Owed.{Pays}
+use Rattle.paced_tree.proofs.Noted.{paced_then}
+use Rattle.paced_tree.proofs.paced.Paced.ran_private.Goals as goal
+
+pub ran_private-requires-clause-fits : goal.ran_private-requires-clause-fits
+ran_private-requires-clause-fits c = subst (λ (z : World). Fits z c.args.worker c.args.part) (sym c.self.view_is) c.requires.fits
+
+pub invariant_of-self : goal.invariant_of-self
+invariant_of-self c =
+    let e : Event = record { worker = c.args.worker; kind = Ran c.args.part.task c.args.part.fresh } in
+    paced_then c.self.inside.shared c.ran_private.new.self e c.self.inside.paces c.note_ran.new.paces c.stands.ensures c.self.invariant c.in-Ok.ensures.enters c.in-Ok.ensures.refused
+    (inr (subst (λ (z : World). Pays z e) (sym c.self.view_is) c.requires.pays)) c.note_ran.ensures.many (λ on. c.note_ran.ensures.noted on c.args.part.fresh)
+
+pub returns-in-Ok-clause-refused : goal.returns-in-Ok-clause-refused
+returns-in-Ok-clause-refused c = subst (λ (z : World). refused z (record { worker = c.args.worker; kind = Ran c.args.part.task c.args.part.fresh }) ≡ None) c.self.view_is c.in-Ok.ensures.refused
+
+pub returns-in-Ok-clause-others : goal.returns-in-Ok-clause-others
+returns-in-Ok-clause-others c = subst (λ (z : World). OthersFit z c.ran_private.new.self c.args.worker) c.self.view_is c.in-Ok.ensures.others
+
+pub returns-in-Err-clause-refused : goal.returns-in-Err-clause-refused
+returns-in-Err-clause-refused c =
+    subst (λ (z : World). option_map (λ (cause : Refused). Refuses cause) (refused z (record { worker = c.args.worker; kind = Ran c.args.part.task c.args.part.fresh })) ≡ Some c.in-Err.failed.cause) c.self.view_is c.in-Err.ensures.refused

@@ -1,0 +1,89 @@
+// Marking and sweeping the heaps of waiting tasks are entered.
+
+ghost use Rattle.std.specs.Prelude.{◌≡◌, ◌<◌, ◌≤◌, OnErr, OnOk, IfOk, min};
+ghost use Rattle.run_ledger.specs.Heaps.{heap_of, left_in};
+ghost use Rattle.shared_tree.specs.Entered.{cause_of, refused, Answers, Enters, IsCaused};
+ghost use Rattle.shared_tree.specs.Fits.{AllFit};
+ghost use Rattle.shared_tree.specs.World.{accounts};
+ghost use Rattle.paced_tree.specs.Owed.{Pays};
+
+use crate::noting::{note_mark, note_other, reserve_mark};
+use crate::paced::Paced;
+use run_ledger::Refused;
+use run_trace::Kind;
+use shared_tree::{NotEntered, Shared};
+
+// Why the entry that begins a marking isn't made, where there is no memory to note it.
+fn no_place(shared: &Shared, worker: u32, t: u32) -> NotEntered
+    ensures { IsCaused result (refused shared.now (record { worker = worker; kind = Kind.Mark t })) }
+{
+    match shared.mark_refused(worker, t) {
+        Some(cause) => NotEntered::Refuses(cause),
+        None => NotEntered::NoMemory,
+    }
+}
+
+impl Paced {
+    /// The marking of the heap of a waiting task begins.
+    pub fn mark(&mut self, worker: u32, t: u32) -> Result<(), NotEntered>
+        requires room { 0 < self.old.journal.room }
+        requires pays { Pays self.old (record { worker = worker; kind = Kind.Mark t }) }
+        ensures refused { Answers result (refused self.old (record { worker = worker; kind = Kind.Mark t })) }
+        ensures same { OnErr result (self.new ≡ self.old) }
+        ensures enters { OnOk result (Enters self.old self.new (record { worker = worker; kind = Kind.Mark t })) }
+        ensures fits { OnOk result (AllFit self.old self.new) }
+    {
+        self.shared.stands();
+        if reserve_mark(&mut self.paces, worker).is_err() {
+            return Err(no_place(&self.shared, worker, t));
+        }
+        match self.shared.mark(worker, t) {
+            Ok(()) => {
+                note_mark(&self.shared, &mut self.paces, worker, t);
+                Ok(())
+            }
+            Err(cause) => Err(cause),
+        }
+    }
+
+    /// Up to so many objects more are marked: the answer is how many. It takes no memory.
+    pub fn some(&mut self, worker: u32, t: u32, n: u32) -> Result<u32, Refused>
+        requires room { 0 < self.old.journal.room }
+        requires some { 0 < n }
+        requires few { n ≤ 1024 }
+        requires pays { Pays self.old (record { worker = worker; kind = Kind.More t n }) }
+        ensures refused { cause_of result ≡ refused self.old (record { worker = worker; kind = Kind.More t n }) }
+        ensures same { OnErr result (self.new ≡ self.old) }
+        ensures count { IfOk result (λ k. k ≡ min n (left_in (heap_of (accounts self.old) t))) }
+        ensures enters { OnOk result (Enters self.old self.new (record { worker = worker; kind = Kind.More t n })) }
+        ensures fits { OnOk result (AllFit self.old self.new) }
+    {
+        self.shared.stands();
+        match self.shared.some(worker, t, n) {
+            Ok(count) => {
+                note_other(&mut self.paces, worker);
+                Ok(count)
+            }
+            Err(cause) => Err(cause),
+        }
+    }
+
+    /// The heap of a waiting task is swept: what wasn't marked is dropped. It takes no memory.
+    pub fn sweep(&mut self, worker: u32, t: u32, given: u32) -> Result<(), Refused>
+        requires room { 0 < self.old.journal.room }
+        requires pays { Pays self.old (record { worker = worker; kind = Kind.Sweep t given }) }
+        ensures refused { cause_of result ≡ refused self.old (record { worker = worker; kind = Kind.Sweep t given }) }
+        ensures same { OnErr result (self.new ≡ self.old) }
+        ensures enters { OnOk result (Enters self.old self.new (record { worker = worker; kind = Kind.Sweep t given })) }
+        ensures fits { OnOk result (AllFit self.old self.new) }
+    {
+        self.shared.stands();
+        match self.shared.sweep(worker, t, given) {
+            Ok(()) => {
+                note_other(&mut self.paces, worker);
+                Ok(())
+            }
+            Err(cause) => Err(cause),
+        }
+    }
+}

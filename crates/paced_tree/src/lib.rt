@@ -1,0 +1,10 @@
+// The shared value whose journal is paced: no entry is made but what its worker owes.
+#![tactic(auto)]
+
+mod inner;
+mod leaf;
+mod noting;
+mod paced;
+mod steps;
+
+pub use paced::Paced;

@@ -1,0 +1,110 @@
+// What is kept of a worker's entries, noted anew after each.
+
+ghost use Rattle.std.specs.Prelude.{◌≡◌, ◌<◌, ℕ, IfOk, OnOk, None, Some, is_some, length, slice_get, true};
+ghost use Rattle.hh_model.specs.Step.{is_waiting};
+ghost use Rattle.run_ledger.specs.Heaps.{heap_of};
+ghost use Rattle.run_trace.specs.declared.entry.Kind.TheVariants.{Mark, Ran};
+ghost use Rattle.shared_tree.specs.World.{accounts};
+ghost use Rattle.paced_tree.specs.Owed.{AreIdle, HasRoom, KeepsNoted, NotesAt, NotesOther, SameMarks};
+
+use listed::Listed;
+use shared_tree::{Pace, Previous, Shared};
+use std::alloc::{AllocError, Global};
+
+// What is kept of workers without an entry.
+pub(crate) fn idle_paces(alloc: Global, workers: u32) -> Result<Listed<Pace>, AllocError>
+    ensures { IfOk result (λ paces. AreIdle paces workers) }
+{
+    let mut paces = Listed::new(alloc);
+    for i in 0..workers {
+        let _ = i;
+        paces.push(Pace::new(alloc))?;
+    }
+    Ok(paces)
+}
+
+// Makes a place for one marking more of a worker.
+pub(crate) fn reserve_mark(paces: &mut Listed<Pace>, worker: u32) -> Result<(), AllocError>
+    ensures same { NotesAt paces.old paces.new worker SameMarks }
+    ensures room { OnOk result (HasRoom paces.new worker) }
+{
+    if (worker as usize) < paces.len() {
+        paces.at_mut(worker as usize).reserve()
+    } else {
+        Ok(())
+    }
+}
+
+// After an entry that is neither steps nor the beginning of a marking.
+pub(crate) fn note_other(paces: &mut Listed<Pace>, worker: u32)
+    ensures { NotesAt paces.old paces.new worker NotesOther }
+{
+    if (worker as usize) < paces.len() {
+        paces.at_mut(worker as usize).after_other();
+    }
+}
+
+// After steps of a task, of the worker that made them: the child that is guessed is its left one, if it has forked.
+fn after_ran(shared: &Shared, pace: &mut Pace, task: u32, guess: u32)
+    requires { (accounts shared.now).end ≡ None }
+    ensures { (k : ℕ) → KeepsNoted (accounts shared.now) (Ran task k) pace.old pace.new }
+{
+    let fork = shared.fork_of(task, guess);
+    shared.forget(pace);
+    pace.after_steps(fork);
+}
+
+// After steps of a task.
+pub(crate) fn note_ran(
+    shared: &Shared,
+    paces: &mut Listed<Pace>,
+    worker: u32,
+    task: u32,
+    guess: u32,
+)
+    ensures many { length paces.new ≡ length paces.old }
+    ensures noted { (accounts shared.now).end ≡ None → (k : ℕ) → NotesAt paces.old paces.new worker (KeepsNoted (accounts shared.now) (Ran task k)) }
+{
+    if shared.ended().is_some() {
+        return;
+    }
+    if (worker as usize) < paces.len() {
+        after_ran(shared, paces.at_mut(worker as usize), task, guess);
+    }
+}
+
+// The child that a worker's previous entry made, where it forked this task.
+fn child_before(pace: &Pace, task: u32) -> u32 {
+    match pace.previous {
+        Previous::Forked(fork) if fork.task == task => fork.left,
+        _ => 0,
+    }
+}
+
+// After the beginning of the marking of a task's heap, of the worker that began it.
+fn after_mark(shared: &Shared, pace: &mut Pace, task: u32)
+    requires goes { (accounts shared.now).end ≡ None }
+    requires waits { is_waiting (slice_get (accounts shared.now).machine.tasks task) ≡ true }
+    requires marked { is_some (heap_of (accounts shared.now) task).marked ≡ true }
+    requires room { 0 < pace.old.marks.room }
+    ensures { KeepsNoted (accounts shared.now) (Mark task) pace.old pace.new }
+{
+    let Some(fork) = shared.fork_of(task, child_before(pace, task)) else {
+        unreachable!()
+    };
+    shared.forget(pace);
+    pace.after_mark(fork);
+}
+
+// After the beginning of the marking of a task's heap.
+pub(crate) fn note_mark(shared: &Shared, paces: &mut Listed<Pace>, worker: u32, task: u32)
+    requires goes { (accounts shared.now).end ≡ None }
+    requires waits { is_waiting (slice_get (accounts shared.now).machine.tasks task) ≡ true }
+    requires marked { is_some (heap_of (accounts shared.now) task).marked ≡ true }
+    requires room { HasRoom paces.old worker }
+    ensures { NotesAt paces.old paces.new worker (KeepsNoted (accounts shared.now) (Mark task)) }
+{
+    if (worker as usize) < paces.len() {
+        after_mark(shared, paces.at_mut(worker as usize), task);
+    }
+}

@@ -1,0 +1,183 @@
+// The shared value, and what each worker owes.
+
+ghost use Rattle.std.specs.Prelude.{◌≡◌, ◌<◌, [], ℕ, IfOk, OnOk, None, Some, false, true};
+ghost use Rattle.run_ledger.specs.Entries.{is_pool_enough};
+ghost use Rattle.run_ledger.specs.Heaps.{heap_of, in_use, left_in, sweep_number};
+ghost use Rattle.run_ledger.specs.Pace.{is_paced};
+ghost use Rattle.task_machine.specs.declared.part.Private.{Private as Part};
+ghost use Rattle.shared_tree.specs.Causes.{first_cause};
+ghost use Rattle.shared_tree.specs.Due.{IsHeld};
+ghost use Rattle.shared_tree.specs.Fits.{Fits};
+ghost use Rattle.shared_tree.specs.MarkCauses.{marking_cause};
+ghost use Rattle.shared_tree.specs.Stands.{IsWorld};
+ghost use Rattle.shared_tree.specs.World.{accounts, rest_at};
+ghost use Rattle.shared_tree.specs.declared.rest.Rest.{Rest as RestOf};
+ghost use Rattle.paced_tree.specs.Owed.{owed_by};
+
+use crate::noting::idle_paces;
+use hh_lang::Program;
+use listed::Listed;
+use run_ledger::{Owed, Refused, RunEnd};
+use run_trace::{Entry, Settings};
+use shared_tree::{Pace, Shared};
+use std::alloc::{AllocError, Global};
+use std::marker::Model;
+use task_machine::Private;
+
+/// The shared value whose journal is paced: each entry gives what its worker owes to the collections of the heaps of waiting
+/// tasks, or ends the run for spent fuel.
+#[derive(Drop)]
+pub struct Paced {
+    pub(crate) shared: Shared,
+    /// What is kept of each worker's entries.
+    pub(crate) paces: Listed<Pace>,
+}
+
+impl Model for Paced {
+    ghost use Rattle.shared_tree.specs.World.{World};
+    ghost use Rattle.paced_tree.specs.Owed.{KeepsPaces};
+
+    ghost Value = { World };
+
+    ghost view = { λ p. p.shared };
+
+    ghost invariant = { λ p. KeepsPaces p.shared p.paces };
+}
+
+impl Paced {
+    /// Before the first entry.
+    pub fn new(alloc: Global, program: &Program, settings: Settings) -> Result<Paced, AllocError>
+        ensures program { IfOk result (λ s. s.program ≡ program.now) }
+        ensures settings { IfOk result (λ s. s.settings ≡ settings) }
+        ensures journal { IfOk result (λ s. s.journal.items ≡ []) }
+        ensures root { IfOk result (λ s. (r : RestOf) → rest_at s.homes 0 ≡ Some r → r.heap.chunks ≡ []) }
+    {
+        let shared = Shared::new(alloc, program, settings)?;
+        let paces = idle_paces(alloc, settings.workers())?;
+        Ok(Paced { shared, paces })
+    }
+
+    /// The shared value alone.
+    pub fn into_shared(self) -> Shared
+        ensures same { result ≡ self }
+        ensures paced { is_paced result.program result.settings result.journal.items ≡ true }
+    {
+        let Paced { shared, .. } = self;
+        shared
+    }
+
+    /// The shared value, to be read.
+    pub fn shared(&self) -> &Shared
+        ensures { result.now ≡ self.now }
+    {
+        &self.shared
+    }
+
+    /// Its journal is paced.
+    pub fn is_paced(&self)
+        ensures { is_paced self.now.program self.now.settings self.now.journal.items ≡ true }
+    {
+        let _ = &self.shared;
+    }
+
+    /// Makes place for one entry.
+    pub fn reserve(&mut self) -> Result<(), AllocError>
+        ensures same { self.new ≡ record self.old { journal = record { items = self.old.journal.items; room = self.new.journal.room } } }
+        ensures room { OnOk result (0 < self.new.journal.room) }
+        ensures fit { (k : ℕ) (p : Part) → Fits self.old k p → Fits self.new k p }
+    {
+        self.shared.reserve()
+    }
+
+    /// What the worker's next entry has to be.
+    pub fn owed(&self, worker: u32) -> Owed
+        requires worker { worker < self.now.settings.workers }
+        requires goes { (accounts self.now).end ≡ None }
+        ensures { result ≡ owed_by self.now worker }
+    {
+        self.shared.owed(self.paces.at(worker as usize))
+    }
+
+    /// It stands for its journal, which is legal.
+    pub fn stands(&self)
+        ensures { IsWorld self.now }
+    {
+        self.shared.stands();
+    }
+
+    /// The program that is run.
+    pub fn program(&self) -> &Program
+        ensures { result.now ≡ self.now.program }
+    {
+        self.shared.program()
+    }
+
+    /// The limits of the run.
+    pub fn settings(&self) -> Settings
+        ensures { result ≡ self.now.settings }
+    {
+        self.shared.settings()
+    }
+
+    /// How the run has ended, if it has.
+    pub fn ended(&self) -> Option<RunEnd>
+        ensures { result ≡ (accounts self.now).end }
+    {
+        self.shared.ended()
+    }
+
+    /// The entries made so far.
+    pub fn journal(&self) -> &[Entry]
+        ensures { result.now ≡ self.now.journal.items }
+    {
+        self.shared.journal()
+    }
+
+    /// What was written out.
+    pub fn outputs(&self) -> &[i64]
+        ensures { result.now ≡ (accounts self.now).machine.outputs }
+    {
+        self.shared.outputs()
+    }
+
+    /// The steps taken.
+    pub fn steps(&self) -> u64
+        ensures { result ≡ (accounts self.now).steps }
+    {
+        self.shared.steps()
+    }
+
+    /// The chunks in use.
+    pub fn in_use(&self) -> u32
+        ensures { result ≡ in_use (accounts self.now) }
+    {
+        self.shared.in_use()
+    }
+
+    /// Why a worker may make no entry but the end for spent fuel: the run has ended, its fuel is spent, or there is no
+    /// such worker.
+    pub fn refused_first(&self, worker: u32) -> Option<Refused>
+        ensures { result ≡ first_cause self.now.end self.now.steps self.now.settings worker false }
+    {
+        self.shared.refused_first(worker)
+    }
+
+    /// Whether the free chunks are enough for a leaf collection of a part.
+    pub fn pool_enough(&self, part: &Private) -> bool
+        requires held { IsHeld self.now part.now }
+        requires fresh { part.now.fresh ≡ 0 }
+        ensures { result ≡ is_pool_enough self.now.settings (accounts self.now) part.now.task }
+    {
+        self.shared.pool_enough(part)
+    }
+
+    /// How many units of 1,024 words a sweep of a marked heap gives back.
+    pub fn would_give(&self, t: u32) -> u32
+        requires goes { (accounts self.now).end ≡ None }
+        requires marked { marking_cause self.now t ≡ None }
+        requires none_left { left_in (heap_of (accounts self.now) t) ≡ 0 }
+        ensures { result ≡ sweep_number (accounts self.now).machine (heap_of (accounts self.now) t) }
+    {
+        self.shared.would_give(t)
+    }
+}

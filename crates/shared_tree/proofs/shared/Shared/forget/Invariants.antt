@@ -1,0 +1,11 @@
+use Rattle.std.proofs.Common.{◌≤◌}
+use Rattle.run_ledger.specs.declared.data.WorkerPace.{WorkerPace}
+use Rattle.shared_tree.specs.Pace.{KeepsPace}
+use Rattle.shared_tree.specs.World.{accounts}
+use Rattle.shared_tree.proofs.shared.Shared.forget.Given as goal
+
+abbrev pub invariant-loop : goal.invariant-loop
+invariant-loop l = record {
+  keeps : (x : WorkerPace) → KeepsPace (accounts l.self) l.fn.pace x → KeepsPace (accounts l.self) l.pace x;
+  room : l.fn.pace.marks.room ≤ l.pace.marks.room;
+}

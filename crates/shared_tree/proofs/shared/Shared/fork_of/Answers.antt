@@ -1,0 +1,9 @@
+use Rattle.std.proofs.Common.{sym, ◌∙◌}
+use Rattle.shared_tree.proofs.PaceStands.{live_waits, none_waits}
+use Rattle.shared_tree.proofs.shared.Shared.fork_of.Goals as goal
+
+pub returns-then-is_live_child : goal.returns-then-is_live_child
+returns-then-is_live_child c = live_waits c.args.self.now c.stands.ensures c.requires c.args.t c.args.guess (sym c.is_live_child.ensures ∙ c.if-is_live_child.true)
+
+pub returns-in-None : goal.returns-in-None
+returns-in-None c = none_waits c.args.self.now c.stands.ensures c.requires c.args.t c.in-None.ensures

@@ -1,0 +1,12 @@
+use Rattle.std.proofs.Common.{nat_le, ap, ap₂, sym, ◌∙◌}
+use Rattle.run_trace.specs.Settings.{Limits}
+use Rattle.shared_tree.proofs.PaceStands.{begin_stops, begin_counted}
+use Rattle.shared_tree.proofs.shared.Shared.is_to_begin.Goals as goal
+
+pub returns-then-is_going : goal.returns-then-is_going
+returns-then-is_going c =
+    ap₂ nat_le (c.inner-least.ensures.value ∙ ap (λ (s : Limits). s.inner) c.settings.ensures) c.words_at.ensures
+    ∙ sym (begin_counted c.args.self.now c.stands.ensures c.requires c.args.fork (sym c.is_going.ensures ∙ c.if-is_going.true) (sym c.is_marking.ensures ∙ c.if-is_marking.false))
+
+pub returns : goal.returns
+returns c = sym (begin_stops c.args.self.now c.stands.ensures c.requires c.args.fork (sym c.is_going.ensures ∙ c.if-is_going.false))

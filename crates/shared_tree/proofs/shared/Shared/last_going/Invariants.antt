@@ -1,0 +1,8 @@
+use Rattle.std.proofs.Common.{◌≡◌, ◌-◌, ◌≤◌, ℕ, Some, false, length, slice_get}
+use Rattle.shared_tree.specs.declared.pace.Fork.{Fork}
+use Rattle.shared_tree.specs.Pace.{is_going}
+use Rattle.shared_tree.specs.World.{accounts}
+use Rattle.shared_tree.proofs.shared.Shared.last_going.Given as goal
+
+abbrev pub invariant-loop-i : goal.invariant-loop-i
+invariant-loop-i l = (k : ℕ) (f : Fork) → length l.forks - l.i ≤ k → slice_get l.forks k ≡ Some f → is_going (accounts l.self) f ≡ false

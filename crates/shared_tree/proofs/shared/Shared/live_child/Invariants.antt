@@ -1,0 +1,7 @@
+use Rattle.std.proofs.Common.{◌≡◌, ◌<◌, ℕ, false}
+use Rattle.shared_tree.specs.Pace.{is_live_child}
+use Rattle.shared_tree.specs.World.{accounts}
+use Rattle.shared_tree.proofs.shared.Shared.live_child.Given as goal
+
+abbrev pub invariant-loop-child : goal.invariant-loop-child
+invariant-loop-child l = (k : ℕ) → k < l.child → is_live_child (accounts l.self).machine.tasks l.t k ≡ false

@@ -1,0 +1,148 @@
+-- What an entry makes of all hands, from what it makes of its worker's.
+use Rattle.std.proofs.Common.{◌≡◌, ℕ, true, false, Some, Result, Ok, Err, List, [], ◌∷◌, ◌++◌, length, slice_get, slice_set, refl, ap, sym, subst, ◌∙◌}
+use Rattle.std.proofs.lemmas.Bool.{false≢true}
+use Rattle.run_trace.specs.Entry.{Event}
+use Rattle.run_trace.specs.declared.entry.Kind.{Kind}
+use Rattle.run_trace.specs.declared.entry.Kind.TheVariants.{Took, Ran, Chunk, Begin, End, PutOff, Mark, More, Sweep, Fuel}
+use Rattle.run_ledger.specs.declared.data.Refused.{Refused}
+use Rattle.run_ledger.specs.Entries.{is_fuel, kind_refusal}
+use Rattle.shared_tree.specs.declared.answer.NotEntered.{NotEntered}
+use Rattle.shared_tree.specs.declared.answer.NotEntered.TheVariants.{NoMemory, Refuses}
+use Rattle.shared_tree.specs.Causes.{first_cause, or_else}
+use Rattle.shared_tree.specs.Entered.{refused}
+use Rattle.shared_tree.specs.Fits.{AllFit}
+use Rattle.shared_tree.specs.Joins.{IsSameRest, SameButPlaces}
+use Rattle.shared_tree.specs.Stands.{IsWorld}
+use Rattle.shared_tree.specs.World.{World, accounts, rest_at}
+use Rattle.write_barrier.specs.Stored.{content_at}
+use Rattle.shared_tree.proofs.Refusals.{refused_is}
+use Rattle.world_core.specs.declared.held.Held.{Held}
+use Rattle.world_core.specs.Applied.{AnswersAll, AnswersApart, AnswersFor, RefusesAll, SameButReserved, SameButRoomier, WantsAll, is_own}
+use Rattle.world_core.specs.Whole.{AllHold, Holds}
+use Rattle.world_core.proofs.Holding.{all_stop, all_with, carried, copy_of, each_holds, others_hold, places_same, stops, wants}
+
+-- ---- BEFORE WHAT IT SAYS
+
+own_fuel : (kind : Kind) → is_own kind ≡ true → is_fuel kind ≡ false
+own_fuel (Took t) h = refl
+own_fuel (Ran t n) h = refl
+own_fuel (Chunk t) h = refl
+own_fuel (Begin t) h = refl
+own_fuel (End t a g n) h = refl
+own_fuel (PutOff t) h = refl
+own_fuel (Mark t) h = refl
+own_fuel (More t n) h = refl
+own_fuel (Sweep t g) h = refl
+own_fuel Fuel h = absurd (false≢true h)
+
+pub refused_before : (w : World) (k : ℕ) (kind : Kind) (cause : Refused) → IsWorld w → is_own kind ≡ true → first_cause w.end w.steps w.settings k false ≡ Some cause → refused w (record { worker = k; kind = kind }) ≡ Some cause
+refused_before w k kind cause I own first =
+    refused_is w I (record { worker = k; kind = kind })
+    ∙ (ap (λ b. or_else (first_cause w.end w.steps w.settings k b) (kind_refusal w.program w.settings (accounts w) k kind)) (own_fuel kind own)
+    ∙ ap (λ o. or_else o (kind_refusal w.program w.settings (accounts w) k kind)) first)
+
+pub stopped_before : (w : World) (k : ℕ) (kind : Kind) (cause : Refused) (hands : List Held) → IsWorld w → is_own kind ≡ true → first_cause w.end w.steps w.settings k false ≡ Some cause → AllHold w false hands
+    → RefusesAll w w (record { worker = k; kind = kind }) cause hands
+stopped_before w k kind cause hands I own first H = record { cause_is = refused_before w k kind cause I own first; same = refl; holds = all_stop w hands H }
+
+-- ---- WANT OF MEMORY
+
+pub reserved_by : (w after : World) → SameButPlaces w after → SameButReserved w after
+reserved_by w after S = record {
+  journal = ap (λ (z : World). z.journal.items) S.rest;
+  rest = record {
+    rest = ap (λ (z : World). let y : World = record z { journal = w.journal } in y) S.rest;
+    many = S.many;
+    homes = S.homes;
+    many_sets = S.many_sets;
+    sets = S.sets;
+  };
+}
+
+-- ---- AN ENTRY OF A WORKER
+
+module _ (w after : World) (e : Event) (I : IsWorld w) (hands : List Held) (was : Held) (there : slice_get hands e.worker ≡ Some was) (H : AllHold w false hands) (between : Held) where
+  pub made_all : (hand : Held) (r : Result (Unit {0}) NotEntered) → AnswersFor w after e.worker e hand r → AnswersAll w after e (slice_set (slice_set hands e.worker between) e.worker hand) r
+  made_all hand (Ok x) R = record {
+    free = R.free;
+    enters = R.enters;
+    holds = all_with w after false false hands e.worker was between hand there H (λ j ne h K. others_hold w after e R.enters I R.free R.others j ne h K) R.holds;
+  }
+  made_all hand (Err (Refuses cause)) R = record {
+    cause_is = R.cause_is;
+    same = subst (SameButRoomier w) (sym R.same) refl;
+    holds = all_with w after false true hands e.worker was between hand there H (λ j ne h K. subst (λ z. Holds z true j h) (sym R.same) (stops w j h K)) R.holds;
+  }
+  made_all hand (Err NoMemory) R = record {
+    same = reserved_by w after R.same;
+    holds =
+        all_with w after false true hands e.worker was between hand there H
+        (λ j ne h K. wants w after (ap (λ (z : World). accounts z) R.same.rest) R.still j h K) R.holds;
+  }
+
+-- ---- ONE FOR A TASK THAT NO WORKER HOLDS
+
+pub apart_all : (w after : World) (e : Event) (hands : List Held) (r : Result (Unit {0}) NotEntered) → IsWorld w → is_own e.kind ≡ false → AllHold w false hands → AnswersApart w after e r → AnswersAll w after e hands r
+apart_all w after e hands (Ok x) I own H R = record { free = R.free; enters = R.enters; holds = λ k h at. each_holds w after e R.enters I R.free own R.fit k h (H k h at) }
+apart_all w after e hands (Err (Refuses cause)) I own H R = record {
+  cause_is = R.0;
+  same = subst (SameButRoomier w) (sym R.1) refl;
+  holds = subst (λ z. AllHold z true hands) (sym R.1) (all_stop w hands H);
+}
+apart_all w after e hands (Err NoMemory) I own H R = record { same = reserved_by w after (places_same w after R); holds = subst (λ z. AllHold z true hands) (sym R) (all_stop w hands H) }
+
+-- ---- WITH ROOM FOR AN ENTRY
+
+module _ (w mid : World) (roomier : SameButRoomier w mid) (fit : AllFit w mid) where
+  same_accounts : accounts mid ≡ accounts w
+  same_accounts = ap (λ (z : World). accounts z) roomier
+
+  pub all_mid : (hands : List Held) → AllHold w false hands → AllHold mid false hands
+  all_mid hands H = subst (λ z. AllHold z false hands) (sym roomier) (by mid.journal.room (subst (AllFit w) roomier fit))
+    where
+      by : (room : ℕ) → AllFit w (record w { journal = record { items = w.journal.items; room = room } }) → AllHold (record w { journal = record { items = w.journal.items; room = room } }) false hands
+      by room A k h at = carried w (record w { journal = record { items = w.journal.items; room = room } }) false false k (λ q. q)
+          (λ p K. record { fits = A k p K.fits; idle = K.idle; entered = K.entered })
+          (λ p moved K. copy_of w (record w { journal = record { items = w.journal.items; room = room } }) k p moved K (A k K.before K.fits))
+          (λ K goes t q. K goes t q) h (H k h at)
+
+  pub wants_room : (hands : List Held) → AllHold w false hands → WantsAll w mid hands
+  wants_room hands H = record {
+    same = record { journal = ap (λ (z : World). z.journal.items) roomier; rest = places_same w (record mid { journal = w.journal }) (ap (λ (z : World). let y : World = record z { journal = w.journal } in y) roomier) };
+    holds = λ k h at. wants w mid same_accounts fit k h (H k h at);
+  }
+
+  pub from_room : (after : World) (e : Event) (hands : List Held) (r : Result (Unit {0}) NotEntered) → AnswersAll mid after e hands r → AnswersAll w after e hands r
+  from_room after e hands (Ok x) R = record {
+    free = ap (λ (z : World). refused z e) (sym roomier) ∙ R.free;
+    enters = record {
+      journal = R.enters.journal ∙ ap (λ (z : World). let js : List Event = z.journal.items in js ++ e ∷ []) roomier;
+      program = R.enters.program ∙ ap (λ (z : World). z.program) roomier;
+      settings = R.enters.settings ∙ ap (λ (z : World). z.settings) roomier;
+    };
+    holds = R.holds;
+  }
+  from_room after e hands (Err (Refuses cause)) R = record {
+    cause_is = ap (λ (z : World). refused z e) (sym roomier) ∙ R.cause_is;
+    same = R.same ∙ ap (λ (z : World). let y : World = record z { journal = record { items = z.journal.items; room = after.journal.room } } in y) roomier;
+    holds = R.holds;
+  }
+  from_room after e hands (Err NoMemory) R = record {
+    same = record {
+      journal = R.same.journal ∙ ap (λ (z : World). z.journal.items) roomier;
+      rest = by_room (R.same.rest);
+    };
+    holds = R.holds;
+  }
+    where
+      -- places of homes and sets say nothing of the journal
+      by_room : SameButPlaces mid (record after { journal = mid.journal }) → SameButPlaces w (record after { journal = w.journal })
+      by_room S = record {
+        rest =
+            ap (λ (z : World). let y : World = record z { journal = w.journal } in y) S.rest
+            ∙ ap (λ (z : World). let y : World = record z { homes = after.homes; sets = after.sets; journal = w.journal } in y) roomier;
+        many = S.many ∙ ap (λ (z : World). length z.homes) roomier;
+        homes = λ u. subst (λ (z : World). IsSameRest (rest_at z.homes u) (rest_at after.homes u)) roomier (S.homes u);
+        many_sets = S.many_sets ∙ ap (λ (z : World). length z.sets) roomier;
+        sets = λ u. S.sets u ∙ ap (λ (z : World). content_at z.sets u) roomier;
+      }

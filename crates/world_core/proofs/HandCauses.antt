@@ -1,0 +1,184 @@
+-- Why an entry of a worker is refused by what the worker holds.
+use Rattle.std.proofs.Common.{◌≡◌, ◌≢◌, ℕ, ◌==◌, Bool, true, false, cond, min, Option, Some, None, slice_get, is_some, refl, ap, sym, subst, ◌∙◌, eq-eqb}
+use Rattle.std.proofs.lemmas.Bool.{and_from, eqb-true, false≢true}
+use Rattle.std.proofs.lemmas.Option.{same_Some}
+use Rattle.leaf_copy_gc.specs.declared.lists.Moved.{Moved}
+use Rattle.run_trace.specs.declared.entry.Kind.{Kind}
+use Rattle.run_trace.specs.declared.entry.Kind.TheVariants.{Begin, Chunk, End, PutOff, Ran}
+use Rattle.hh_model.specs.Step.{is_running}
+use Rattle.run_ledger.specs.Laws.{HoldsTasks}
+use Rattle.run_ledger.specs.declared.data.Ledger.{Ledger}
+use Rattle.run_ledger.specs.declared.data.Refused.{Refused}
+use Rattle.run_ledger.specs.declared.data.Refused.TheVariants.{Collecting, Count, Due, NotCollecting, NotNeeded, NotOut, PoolEnough, PoolShort}
+use Rattle.run_ledger.specs.Entries.{ends_as, is_fuel, is_held_by, is_out, is_pool_enough, kind_refusal, long_at, on_due, on_running, refused_if, refused_unless}
+use Rattle.run_ledger.specs.Heaps.{end_numbers, heap_of, in_use}
+use Rattle.run_ledger.specs.Steps.{is_due, is_in_need, most_steps, standing}
+use Rattle.run_ledger.proofs.Holders.{tasks_are_held_once}
+use Rattle.task_machine.specs.declared.part.Begun.{Begun}
+use Rattle.task_machine.specs.declared.part.Private.{Private}
+use Rattle.shared_tree.specs.Causes.{first_cause, or_else, task_held}
+use Rattle.shared_tree.specs.Entered.{refused}
+use Rattle.shared_tree.specs.Fits.{Fits}
+use Rattle.shared_tree.specs.LeafEnd.{FitsCopied, end_event}
+use Rattle.shared_tree.specs.Stands.{IsWorld}
+use Rattle.shared_tree.specs.World.{World, accounts}
+use Rattle.shared_tree.proofs.Apart.{apart_cause}
+use Rattle.shared_tree.proofs.Begun.{at_part, begun_is}
+use Rattle.shared_tree.proofs.LeafRefusals.{end_answer}
+use Rattle.shared_tree.proofs.Going.{journal_goes}
+use Rattle.shared_tree.proofs.Refusals.{on_is, refused_is}
+use Rattle.copied_part.specs.Handed.{IsCopying}
+use Rattle.copied_part.proofs.Handing.{copied_fits}
+use Rattle.world_core.specs.declared.held.Held.{Held}
+use Rattle.world_core.specs.declared.held.Held.TheVariants.{Nothing, Part, Copied}
+use Rattle.world_core.specs.Applied.{copied_cause, idle_cause}
+use Rattle.world_core.specs.Whole.{Holds, HoldsCopy, HoldsPart}
+
+-- ---- A COPY fits for the end of its collection
+
+pub copying : (w : World) (k : ℕ) (p : Private) (moved : Moved) → IsWorld w → (H : HoldsCopy w k p moved) → IsCopying w k H.before H.begun H.news
+copying w k p moved I H = record { world = I; fits = H.fits; fresh = H.fresh; begun = H.amid; new = H.new; numbers = H.numbers }
+
+pub copy_fits : (w : World) (k : ℕ) (p : Private) (moved : Moved) → IsWorld w → HoldsCopy w k p moved → FitsCopied w k p moved
+copy_fits w k p moved I H =
+    subst (λ q. FitsCopied w k q moved) (sym H.part) (copied_fits w k H.before H.begun H.news (copying w k p moved I H) p.heap p.frames moved H.copy)
+
+-- ---- TESTS
+
+some_twice : {A : Type 0} (x y : A) → Some x ≡ Some y → x ≡ y
+some_twice x y e = same_Some x y e
+
+unless_true : (b : Bool) (c : Refused) (rest : Option Refused) → b ≡ true → refused_unless b c rest ≡ rest
+unless_true true c rest e = refl
+unless_true false c rest e = absurd (false≢true e)
+
+unless_false : (b : Bool) (c : Refused) (rest : Option Refused) → b ≡ false → refused_unless b c rest ≡ Some c
+unless_false false c rest e = refl
+unless_false true c rest e = absurd (false≢true (sym e))
+
+-- ---- A WORKER THAT MAY MAKE ENTRIES
+
+module _ (w : World) (k : ℕ) (I : IsWorld w) (first : first_cause w.end w.steps w.settings k false ≡ None) where
+  abbrev l : Ledger
+  l = accounts w
+
+  pub on : l.end ≡ None
+  on = on_is w I k false (ap is_some first)
+
+  pub goes : l.machine.end ≡ None
+  goes = journal_goes w.program w.settings w.journal.items on
+
+  holders : HoldsTasks l
+  holders = tasks_are_held_once w.program w.settings w.journal.items I.legal
+
+  -- no cause comes before what it says
+  pub behind : (kind : Kind) → is_fuel kind ≡ false → refused w (record { worker = k; kind = kind }) ≡ kind_refusal w.program w.settings l k kind
+  behind kind h =
+      refused_is w I (record { worker = k; kind = kind })
+      ∙ (ap (λ b. or_else (first_cause w.end w.steps w.settings k b) (kind_refusal w.program w.settings l k kind)) h
+      ∙ ap (λ o. or_else o (kind_refusal w.program w.settings l k kind)) first)
+
+  -- it doesn't hold the task
+  apart : (t : ℕ) (kind : Kind) (cause : Refused) → task_held kind ≡ Some t → Some NotOut ≡ Some cause → (heap_of l t).worker ≢ Some k → refused w (record { worker = k; kind = kind }) ≡ Some cause
+  apart t kind cause held is ne = apart_cause w I k t kind held (λ e. ne) ∙ (ap (λ o. or_else o (Some NotOut)) first ∙ is)
+
+  -- since it holds another
+  other : (t u : ℕ) → (heap_of l u).worker ≡ Some k → (u == t) ≡ false → (heap_of l t).worker ≢ Some k
+  other t u held ne h = false≢true (sym ne ∙ eq-eqb u t (holders.one u t k held h))
+
+  out : (t : ℕ) → (heap_of l t).worker ≡ Some k → is_out l k t ≡ true
+  out t held =
+      and_from (is_running (slice_get l.machine.tasks t)) (is_held_by (heap_of l t).worker k) (holders.runs on t k held) (ap (λ o. is_held_by o k) held ∙ eq-eqb k k refl)
+
+  -- a part that has begun a collection
+  amid : (p : Private) (b : Begun) (rest : Option Refused) → Fits w k p → p.begun ≡ Some b → on_running l k p.task rest ≡ Some Collecting
+  amid p b rest F begun = at_part w k p F on rest ∙ ap (λ o. refused_if (is_some o) Collecting rest) begun
+
+  -- AN ENTRY FOR A TASK WHOSE COLLECTION HASN'T BEGUN
+  module _ (t : ℕ) (kind : Kind) (rest : Option Refused) (cause : Refused) (held : task_held kind ≡ Some t) (not_fuel : is_fuel kind ≡ false) (runs : kind_refusal w.program w.settings l k kind ≡ on_running l k t rest) where
+    by_part : (p : Private) (b : Bool) → (p.task == t) ≡ b → (heap_of l p.task).worker ≡ Some k → cond b None (Some NotOut) ≡ Some cause → refused w (record { worker = k; kind = kind }) ≡ Some cause
+    by_part p true e at is = absurd cc
+    by_part p false e at is = apart t kind cause held is (other t p.task at e)
+
+    by_copy : (p q : Private) (b : Begun) (same : Bool) → (p.task == t) ≡ same → p.task ≡ q.task → Fits w k q → q.begun ≡ Some b → cond same (Some Collecting) (Some NotOut) ≡ Some cause → refused w (record { worker = k; kind = kind }) ≡ Some cause
+    by_copy p q b true e task F begun is =
+        let at : t ≡ q.task = sym (eqb-true p.task t e) ∙ task in
+        behind kind not_fuel ∙ (runs ∙ (ap (λ u. on_running l k u rest) at ∙ (amid q b rest F begun ∙ is)))
+    by_copy p q b false e task F begun is = apart t kind cause held is (other t q.task F.held (ap (λ u. u == t) (sym task) ∙ e))
+
+    by_hand : (h : Held) → Holds w false k h → idle_cause h t ≡ Some cause → refused w (record { worker = k; kind = kind }) ≡ Some cause
+    by_hand Nothing H is = apart t kind cause held is (H goes t)
+    by_hand (Part p) H is = by_part p (p.task == t) refl H.fits.held is
+    by_hand (Copied p moved) H is = by_copy p H.before H.begun (p.task == t) refl (ap (λ (q : Private). q.task) H.part) H.fits H.amid is
+
+  pub idle_refused : (t : ℕ) (h : Held) (cause : Refused) (kind : Kind) (rest : Option Refused) → Holds w false k h → idle_cause h t ≡ Some cause → task_held kind ≡ Some t → is_fuel kind ≡ false → kind_refusal w.program w.settings l k kind ≡ on_running l k t rest
+      → refused w (record { worker = k; kind = kind }) ≡ Some cause
+  idle_refused t h cause kind rest H is held not_fuel runs = by_hand t kind rest cause held not_fuel runs h H is
+
+  -- THE END OF A COLLECTION
+  module _ (t a g n : ℕ) where
+    abbrev rest_of : ℕ → Option Refused
+    rest_of u = ends_as (a, g, n) (end_numbers l.machine (heap_of l u))
+
+    by_other : (p : Private) (b : Bool) (cause : Refused) → (p.task == t) ≡ b → HoldsPart w false k p → cond b (Some NotCollecting) (Some NotOut) ≡ Some cause → refused w (record { worker = k; kind = End t a g n }) ≡ Some cause
+    by_other p true cause e H is =
+        let at : t ≡ p.task = sym (eqb-true p.task t e) in
+        behind (End t a g n) refl
+        ∙ (ap (λ u. refused_unless (is_out l k u) NotOut (refused_unless (is_some (heap_of l u).begun) NotCollecting (rest_of u))) at
+        ∙ (unless_true (is_out l k p.task) NotOut (refused_unless (is_some (heap_of l p.task).begun) NotCollecting (rest_of p.task)) (out p.task H.fits.held)
+        ∙ (unless_false (is_some (heap_of l p.task).begun) NotCollecting (rest_of p.task) (begun_is w k p H.fits on ∙ ap is_some H.idle) ∙ is)))
+    by_other p false cause e H is = apart t (End t a g n) cause refl is (other t p.task H.fits.held e)
+
+    by_same : (p q : Private) (b : Bool) (cause : Refused) → (p.task == t) ≡ b → p.task ≡ q.task → Fits w k q → cond b None (Some NotOut) ≡ Some cause → refused w (record { worker = k; kind = End t a g n }) ≡ Some cause
+    by_same p q true cause e task F is = absurd cc
+    by_same p q false cause e task F is = apart t (End t a g n) cause refl is (other t q.task F.held (ap (λ u. u == t) (sym task) ∙ e))
+
+    pub copied_refused : (h : Held) (cause : Refused) → Holds w false k h → copied_cause h t ≡ Some cause → refused w (record { worker = k; kind = End t a g n }) ≡ Some cause
+    copied_refused Nothing cause H is = apart t (End t a g n) cause refl is (H goes t)
+    copied_refused (Part p) cause H is = by_other p (p.task == t) cause refl H is
+    copied_refused (Copied p moved) cause H is = by_same p H.before (p.task == t) cause refl (ap (λ (q : Private). q.task) H.part) H.fits is
+
+  -- of a copy it is refused for its numbers alone
+  pub said : (p : Private) (moved : Moved) (a g n : ℕ) → FitsCopied w k p moved → refused w (record { worker = k; kind = End p.task a g n }) ≡ ends_as (a, g, n) (moved.taken, moved.given, moved.left)
+  said p moved a g n F =
+      behind (End p.task a g n) refl
+      ∙ (unless_true (is_out l k p.task) NotOut (refused_unless (is_some (heap_of l p.task).begun) NotCollecting (rest_of p.task a g n p.task)) (out p.task F.held)
+      ∙ (unless_true (is_some (heap_of l p.task).begun) NotCollecting (rest_of p.task a g n p.task) F.copy.collects ∙ ap (ends_as (a, g, n)) (sym F.numbers)))
+
+  pub end_free : (p : Private) (moved : Moved) → FitsCopied w k p moved → refused w (end_event k p moved) ≡ None
+  end_free p moved F = end_answer w k p moved I F ∙ first
+
+-- numbers that aren't wrong are those
+module _ (a g n a' g' n' : ℕ) where
+  same_first : (x y : ℕ) (rest : Option Refused) → refused_unless (x == y) (Count x y) rest ≡ None → (x ≡ y) × (rest ≡ None)
+  same_first x y rest h = by (x == y) refl h
+    where
+      by : (b : Bool) → (x == y) ≡ b → refused_unless b (Count x y) rest ≡ None → (x ≡ y) × (rest ≡ None)
+      by true e h = (eqb-true x y e, h)
+      by false e h = absurd cc
+
+  pub same_numbers : ends_as (a, g, n) (a', g', n') ≡ None → (a ≡ a') × (g ≡ g') × (n ≡ n')
+  same_numbers h =
+      let x = same_first a a' _ h in
+      let y = same_first g g' _ x.1 in
+      let z = same_first n n' _ y.1 in
+      (x.0, y.0, z.0)
+
+-- ---- OF EACH KIND
+
+module _ (w : World) (k : ℕ) (I : IsWorld w) (first : first_cause w.end w.steps w.settings k false ≡ None) (t : ℕ) (h : Held) (cause : Refused) (H : Holds w false k h) (is : idle_cause h t ≡ Some cause) where
+  pub ran_apart : (n : ℕ) → refused w (record { worker = k; kind = Ran t n }) ≡ Some cause
+  ran_apart n = idle_refused w k I first t h cause (Ran t n) (long_at n (min most_steps (standing w.settings w.program (accounts w) t n))) H is refl refl refl
+
+  pub chunk_apart : refused w (record { worker = k; kind = Chunk t }) ≡ Some cause
+  chunk_apart =
+      idle_refused w k I first t h cause (Chunk t)
+      (refused_if (is_due w.settings w.program (accounts w) t) (Due (heap_of (accounts w) t).since) (refused_unless (is_in_need w.program (accounts w) t) (NotNeeded (heap_of (accounts w) t).room) None)) H is refl refl refl
+
+  pub begin_apart : refused w (record { worker = k; kind = Begin t }) ≡ Some cause
+  begin_apart =
+      idle_refused w k I first t h cause (Begin t) (on_due w.settings w.program (accounts w) t (refused_unless (is_pool_enough w.settings (accounts w) t) (PoolShort (in_use (accounts w))) None)) H is refl refl refl
+
+  pub put_off_apart : refused w (record { worker = k; kind = PutOff t }) ≡ Some cause
+  put_off_apart =
+      idle_refused w k I first t h cause (PutOff t) (on_due w.settings w.program (accounts w) t (refused_if (is_pool_enough w.settings (accounts w) t) (PoolEnough (in_use (accounts w))) None)) H is refl refl refl

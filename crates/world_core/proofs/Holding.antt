@@ -1,0 +1,108 @@
+-- What workers hold stays so: what others hold at an entry, and what each holds where the world stops.
+use Rattle.std.proofs.Common.{◌≡◌, ◌≢◌, ℕ, Bool, true, false, Some, None, List, slice_get, slice_set, inl, inr, ap, sym, subst, ◌∙◌}
+use Rattle.std.proofs.lemmas.Bool.{cases_eq, false≢true}
+use Rattle.std.proofs.lemmas.Option.{same_Some}
+use Rattle.listed.proofs.Members.{got_other, got_same}
+use Rattle.leaf_copy_gc.specs.declared.lists.Moved.{Moved}
+use Rattle.hh_lang.specs.Form.{ProgramText}
+use Rattle.run_trace.specs.Entry.{Event}
+use Rattle.run_trace.specs.Settings.{Limits}
+use Rattle.run_ledger.specs.declared.data.Ledger.{Ledger}
+use Rattle.run_ledger.specs.Entries.{after}
+use Rattle.run_ledger.specs.Heaps.{heap_of}
+use Rattle.run_ledger.specs.Journals.{ledger_of}
+use Rattle.task_machine.specs.declared.part.Private.{Private}
+use Rattle.shared_tree.specs.Entered.{Enters, refused}
+use Rattle.shared_tree.specs.Fits.{AllFit, Fits, OthersFit}
+use Rattle.shared_tree.specs.Hands.{HoldsNone}
+use Rattle.shared_tree.specs.Joins.{SameButPlaces}
+use Rattle.shared_tree.specs.Stands.{IsWorld}
+use Rattle.shared_tree.specs.World.{World, accounts}
+use Rattle.shared_tree.proofs.Entered.{accounts_then}
+use Rattle.shared_tree.proofs.Entering.{entry_on}
+use Rattle.shared_tree.proofs.JoinPlaces.{same_world}
+use Rattle.shared_tree.proofs.Going.{journal_goes}
+use Rattle.world_core.specs.declared.held.Held.{Held}
+use Rattle.world_core.specs.declared.held.Held.TheVariants.{Nothing, Part, Copied}
+use Rattle.world_core.specs.Applied.{is_own}
+use Rattle.world_core.specs.Whole.{AllHold, Holds, HoldsCopy, HoldsPart}
+use Rattle.world_core.proofs.WasHeld.{apart_held, kind_held}
+
+-- ---- A HAND, with the part that it holds fitting another value
+
+-- a copy of a part that fits another value
+pub copy_of : (w w' : World) (k : ℕ) (p : Private) (moved : Moved) → (H : HoldsCopy w k p moved) → Fits w' k H.before → HoldsCopy w' k p moved
+copy_of w w' k p moved H F = record { before = H.before; begun = H.begun; news = H.news; fits = F; fresh = H.fresh; amid = H.amid; new = H.new; numbers = H.numbers; copy = H.copy; part = H.part }
+
+-- where each part of the worker fits, and it holds nothing still where it did
+pub carried : (w w' : World) (stopped stops : Bool) (k : ℕ) → (stops ≡ false → stopped ≡ false) → ((p : Private) → HoldsPart w stopped k p → HoldsPart w' stops k p) → ((p : Private) (moved : Moved) → HoldsCopy w k p moved → HoldsCopy w' k p moved)
+    → (((accounts w).machine.end ≡ None → HoldsNone w k) → (accounts w').machine.end ≡ None → HoldsNone w' k) → (h : Held) → Holds w stopped k h → Holds w' stops k h
+carried w w' stopped stops k on part copy none Nothing H = none H
+carried w w' stopped stops k on part copy none (Part p) H = part p H
+carried w w' stopped stops k on part copy none (Copied p moved) H = copy p moved H
+
+module _ (w w' : World) (e : Event) (E : Enters w w' e) where
+  -- the accounts after it
+  pub then_accounts : accounts w' ≡ after w.program w.settings (accounts w) e
+  then_accounts =
+      ap (λ (p : ProgramText). ledger_of p w'.settings w'.journal.items) E.program
+      ∙ (ap (λ (s : Limits). ledger_of w.program s w'.journal.items) E.settings
+      ∙ (ap (ledger_of w.program w.settings) E.journal ∙ accounts_then w.program w.settings w.journal.items e))
+
+  module _ (I : IsWorld w) (free : refused w e ≡ None) where
+    went : (accounts w).machine.end ≡ None
+    went = journal_goes w.program w.settings w.journal.items (entry_on w e free)
+
+    holder : (t k : ℕ) → (heap_of (accounts w') t).worker ≡ Some k → (heap_of (after w.program w.settings (accounts w) e) t).worker ≡ Some k
+    holder t k h = ap (λ (l : Ledger). (heap_of l t).worker) (sym then_accounts) ∙ h
+
+    -- WHAT OTHERS HOLD, at an entry of a worker
+    pub others_hold : OthersFit w w' e.worker → (k : ℕ) → k ≢ e.worker → (h : Held) → Holds w false k h → Holds w' false k h
+    others_hold O k ne =
+        carried w w' false false k (λ q. q)
+        (λ p H. record { fits = O k p ne H.fits; idle = H.idle; entered = H.entered })
+        (λ p moved H. copy_of w w' k p moved H (O k H.before ne H.fits))
+        (λ H goes t h. H went t (kind_held w.program w.settings (accounts w) e.worker e.kind t k ne (holder t k h)))
+
+    -- WHAT EACH HOLDS, at one for a task that no worker holds
+    pub each_holds : is_own e.kind ≡ false → AllFit w w' → (k : ℕ) (h : Held) → Holds w false k h → Holds w' false k h
+    each_holds apart A k =
+        carried w w' false false k (λ q. q)
+        (λ p H. record { fits = A k p H.fits; idle = H.idle; entered = H.entered })
+        (λ p moved H. copy_of w w' k p moved H (A k H.before H.fits))
+        (λ H goes t h. H went t (apart_held w.program w.settings (accounts w) e.worker e.kind apart t k (holder t k h)))
+
+-- ---- WHERE THE WORLD STOPS
+
+-- what hasn't changed is the same but for places
+pub places_same : (w after : World) → after ≡ w → SameButPlaces w after
+places_same w after same = subst (SameButPlaces w) (sym same) (same_world w)
+
+pub part_stops : (w : World) (k : ℕ) (p : Private) → HoldsPart w false k p → HoldsPart w true k p
+part_stops w k p H = record { fits = H.fits; idle = H.idle; entered = λ q. absurd (false≢true (sym q)) }
+
+pub stops : (w : World) (k : ℕ) (h : Held) → Holds w false k h → Holds w true k h
+stops w k = carried w w false true k (λ q. absurd (false≢true (sym q))) (λ p H. part_stops w k p H) (λ p moved H. H) (λ H. H)
+
+pub all_stop : (w : World) (hands : List Held) → AllHold w false hands → AllHold w true hands
+all_stop w hands H k h e = stops w k h (H k h e)
+
+-- for want of memory: the accounts are as they were
+pub wants : (w w' : World) → accounts w' ≡ accounts w → AllFit w w' → (k : ℕ) (h : Held) → Holds w false k h → Holds w' true k h
+wants w w' same A k =
+    carried w w' false true k (λ q. absurd (false≢true (sym q)))
+    (λ p H. record { fits = A k p H.fits; idle = H.idle; entered = λ q. absurd (false≢true (sym q)) })
+    (λ p moved H. copy_of w w' k p moved H (A k H.before H.fits))
+    (λ H goes t h. H (ap (λ (l : Ledger). l.machine.end) (sym same) ∙ goes) t (ap (λ (l : Ledger). (heap_of l t).worker) (sym same) ∙ h))
+
+-- ---- ALL HANDS, one of them another
+
+pub all_with : (w w' : World) (stopped stops : Bool) (hands : List Held) (k : ℕ) (was old new : Held) → slice_get hands k ≡ Some was → AllHold w stopped hands → ((j : ℕ) → j ≢ k → (h : Held) → Holds w stopped j h → Holds w' stops j h) → Holds w' stops k new
+    → AllHold w' stops (slice_set (slice_set hands k old) k new)
+all_with w w' stopped stops hands k was old new there H others own j h e = elim (cases_eq j k) [
+  | inl q ↦
+      let at : slice_get (slice_set (slice_set hands k old) k new) k ≡ Some h = ap (slice_get (slice_set (slice_set hands k old) k new)) (sym q) ∙ e in
+      let is : new ≡ h = same_Some new h (sym (got_same (slice_set hands k old) k old new (got_same hands k was old there)) ∙ at) in
+      subst (λ i. Holds w' stops i h) (sym q) (subst (Holds w' stops k) is own)
+  | inr ne ↦ others j ne h (H j h (sym (got_other hands k j old ne) ∙ (sym (got_other (slice_set hands k old) k j new ne) ∙ e)))
+]

@@ -1,0 +1,48 @@
+-- A part after private steps, more of which may be fresh already: it fits again, and what comes next is told of the machine then.
+use Rattle.std.proofs.Common.{◌≡◌, ℕ, ◌+◌, ◌≤◌, None, refl, ap, sym, subst, ◌∙◌}
+use Rattle.hh_lang.specs.Form.{ProgramText}
+use Rattle.hh_model.specs.declared.data.State.{State}
+use Rattle.task_machine.specs.declared.part.Private.{Private}
+use Rattle.task_machine.specs.declared.part.Paused.{Paused}
+use Rattle.task_machine.specs.Accounts.{KeepsAccounts}
+use Rattle.task_machine.specs.Fits.{unended}
+use Rattle.task_machine.specs.Outline.{steps}
+use Rattle.task_machine.specs.Run.{KeepsRest, Pauses, PausesBy, Ran, Runs}
+use Rattle.task_machine.proofs.Behind.{steps_more}
+use Rattle.shared_tree.specs.World.{World, accounts, value_of}
+use Rattle.shared_tree.specs.Stands.{IsWorld}
+use Rattle.shared_tree.specs.Fits.{Fits}
+use Rattle.shared_tree.specs.Links.{FitsFirst, above_of}
+use Rattle.shared_tree.specs.Alone.{machine_after}
+use Rattle.shared_tree.proofs.FitsAgain.{parts_fit_again}
+use Rattle.world_core.specs.Next.{IsNext}
+use Rattle.world_core.proofs.Entries.{beyond_machine}
+
+module _ (w : World) (text : ProgramText) (same : w.program ≡ text) (k : ℕ) (I : IsWorld w) (old new : Private) (fits : Fits w k old) (on : (accounts w).end ≡ None) (F : FitsFirst w old) (idle : old.begun ≡ None) (n : ℕ) (runs : Runs text old n new)
+    (accounts_kept : KeepsAccounts text old n new) (rest : KeepsRest old new) (few : old.fresh + n ≤ 257) where
+  R : Runs w.program old n new
+  R = subst (λ (p : ProgramText). Runs p old n new) (sym same) runs
+
+  kept : KeepsAccounts w.program old n new
+  kept = subst (λ (p : ProgramText). KeepsAccounts p old n new) (sym same) accounts_kept
+
+  ran : Ran w.program old (machine_after w old) (above_of (value_of w) (accounts w) old.task) n new
+  ran = R (machine_after w old) _ F
+
+  pub fits_on : Fits w k new
+  fits_on = parts_fit_again w k old new n I fits on idle R kept rest few
+
+  pub few_more : new.allocations ≤ old.allocations + n
+  few_more = ran.allocations
+
+  abbrev m : State
+  m = unended (accounts w).machine
+
+  behind : steps w.program (machine_after w old) old.task n ≡ machine_after w new
+  behind =
+      ap (λ (z : State). steps w.program z old.task n) (beyond_machine w.program (accounts w) old)
+      ∙ (steps_more w.program m old.task old.fresh n (old.fresh + n) refl
+      ∙ (ap (λ (t : ℕ). steps w.program m t (old.fresh + n)) (sym ran.task) ∙ (ap (steps w.program m new.task) (sym ran.fresh) ∙ sym (beyond_machine w.program (accounts w) new))))
+
+  pub next_on : (why : Paused) → PausesBy text old n new why → IsNext w new why
+  next_on why by = subst (λ (z : State). Pauses w.program new z why) behind (subst (λ (p : ProgramText). PausesBy p old n new why) (sym same) by (machine_after w old) _ F)

@@ -1,0 +1,139 @@
+-- What an entry of a worker comes to, from what a call of the shared value answers.
+use Rattle.std.proofs.Common.{◌≡◌, ℕ, ◌+◌, true, false, Option, Some, None, Result, Ok, Err, is_some, option_map, refl, ap, sym, subst, ◌∙◌}
+use Rattle.std.specs.Result.{OnErr, OnOk}
+use Rattle.std.proofs.lemmas.Bool.{false≢true}
+use Rattle.leaf_copy_gc.specs.declared.lists.Moved.{Moved}
+use Rattle.run_trace.specs.Entry.{Event}
+use Rattle.run_ledger.specs.declared.data.Refused.{Refused}
+use Rattle.run_ledger.specs.declared.data.RunEnd.{RunEnd}
+use Rattle.task_machine.specs.declared.part.Private.{Private}
+use Rattle.shared_tree.specs.declared.answer.NotEntered.{NotEntered}
+use Rattle.shared_tree.specs.declared.answer.NotEntered.TheVariants.{NoMemory, Refuses}
+use Rattle.shared_tree.specs.declared.ran_last.Ran.{Ran}
+use Rattle.shared_tree.specs.declared.ran_last.Ran.TheVariants.{Ended, Forked, Goes, Over}
+use Rattle.shared_tree.specs.Alone.{IsShared, alone_event}
+use Rattle.shared_tree.specs.Causes.{first_cause, or_else}
+use Rattle.run_ledger.specs.declared.data.Refused.TheVariants.{Collecting}
+use Rattle.run_ledger.specs.Entries.{ends_as, refused_if}
+use Rattle.run_trace.specs.declared.entry.Kind.TheVariants.{End}
+use Rattle.shared_tree.proofs.LastSteps.{alone_answer}
+use Rattle.shared_tree.specs.Entered.{Answers, Enters, IsCaused, IsSamePart, refused}
+use Rattle.shared_tree.specs.Fits.{AllFit, Fits, OthersFit}
+use Rattle.shared_tree.specs.Joins.{IsUnchanged}
+use Rattle.shared_tree.specs.LeafEnd.{ended}
+use Rattle.shared_tree.specs.Ran.{RanTo}
+use Rattle.shared_tree.specs.Stands.{IsWorld}
+use Rattle.shared_tree.specs.World.{World, accounts}
+use Rattle.shared_tree.proofs.Joints.{fit_by}
+use Rattle.shared_tree.proofs.Entering.{entry_on}
+use Rattle.world_core.specs.declared.held.Held.{Held}
+use Rattle.world_core.specs.declared.held.Held.TheVariants.{Part, Copied}
+use Rattle.world_core.specs.declared.held.Made.{Made}
+use Rattle.world_core.specs.Applied.{AnswersFor, EntersFor, MakesFor, RefusesFor, hand_of}
+use Rattle.world_core.specs.Whole.{Holds, HoldsCopy, HoldsPart}
+use Rattle.world_core.proofs.HandCauses.{copy_fits, said}
+use Rattle.world_core.proofs.Holding.{part_stops, places_same, stops, then_accounts}
+use Rattle.world_core.proofs.MachineEnds.{GoesWith, steps_go}
+
+none_some : {A : Type 0} {c : Refused} → ◌≡◌ {A = Option Refused} None (Some c) → A
+none_some e = absurd cc
+
+-- ---- REFUSED
+
+-- nothing has changed
+pub refuses_for : (w after : World) (k : ℕ) (e : Event) (cause : Refused) (hand : Held) → after ≡ w → refused w e ≡ Some cause → Holds w false k hand → RefusesFor w after k e cause hand
+refuses_for w after k e cause hand same is H = record { cause_is = is; same = same; holds = subst (λ z. Holds z true k hand) (sym same) (stops w k hand H) }
+
+-- for what the hand holds
+pub apart_made : (w : World) (k : ℕ) (e : Event) (hand back : Held) (cause : Refused) (made : Made) → made ≡ record { hand = back; answer = Err (Refuses cause) } → back ≡ hand → Holds w false k hand → refused w e ≡ Some cause → MakesFor w w k e made
+apart_made w k e hand back cause made is same H why =
+    subst (MakesFor w w k e) (sym is) (refuses_for w w k e cause back refl why (subst (Holds w false k) (sym same) H))
+
+-- ---- THE PART OF A HAND, before and after
+
+pub answers_part : (w after : World) (k : ℕ) (e : Event) (q : Private) (r : Result (Unit {0}) NotEntered) → Answers r (refused w e) → OnErr r (after ≡ w) → OnOk r (Enters w after e) → OnOk r (OthersFit w after k) → HoldsPart after false k q → AnswersFor w after k e (Part q) r
+answers_part w after k e q (Ok x) why same enters others H = record { free = why; enters = enters; others = others; holds = H }
+answers_part w after k e q (Err (Refuses cause)) why same enters others H = record { cause_is = why; same = same; holds = part_stops after k q H }
+answers_part w after k e q (Err NoMemory) why same enters others H = record { same = places_same w after same; still = fit_by w after same; holds = part_stops after k q H }
+
+-- a part with another heap, amid no collection still and with no fresh step still
+pub holds_same : (after w : World) (k : ℕ) (p q : Private) → q.begun ≡ p.begun → q.fresh ≡ p.fresh → HoldsPart w false k p → Fits after k q → HoldsPart after false k q
+holds_same after w k p q begun fresh H F = record { fits = F; idle = begun ∙ H.idle; entered = λ h. fresh ∙ H.entered refl }
+
+pub holds_heap : (after w : World) (k : ℕ) (p q : Private) → q ≡ record p { heap = q.heap } → HoldsPart w false k p → Fits after k q → HoldsPart after false k q
+holds_heap after w k p q is H F = record {
+  fits = F;
+  idle = ap (λ (z : Private). z.begun) is ∙ H.idle;
+  entered = λ h. ap (λ (z : Private). z.fresh) is ∙ H.entered refl;
+}
+
+-- a collection doesn't begin
+pub begin_fails : (w after : World) (k : ℕ) (e : Event) (p q : Private) (cause : NotEntered) → IsCaused cause (refused w e) → after ≡ w → IsSamePart p q → HoldsPart w false k p → Fits after k q → AnswersFor w after k e (Part q) (Err cause)
+begin_fails w after k e p q cause why same back H F =
+    answers_part w after k e q (Err cause) why same tt tt (record { fits = F; idle = ap (λ (z : Private). z.begun) back ∙ H.idle; entered = λ h. ap (λ (z : Private). z.fresh) back ∙ H.entered refl })
+
+-- ---- STEPS
+
+-- the run goes on where the machine does
+machine_goes : (w after : World) (k : ℕ) (p : Private) → refused w (alone_event k p) ≡ None → Enters w after (alone_event k p) → (accounts after).machine.end ≡ None → (accounts after).end ≡ None
+machine_goes w after k p free E =
+    subst GoesWith (sym (then_accounts w after (alone_event k p) E)) (steps_go w.program (p.fresh + 1) (accounts w) p.task (λ m. entry_on w (alone_event k p) free))
+
+some_end : (o : Option RunEnd) → is_some o ≡ true → o ≡ None → ⊥
+some_end None h e = false≢true h
+some_end (Some x) h e = cc
+
+-- a shared step is entered
+pub ran_made : (w after : World) (k : ℕ) (p : Private) (r : Ran) → IsWorld after → p.begun ≡ None → refused w (alone_event k p) ≡ None → RanTo w after k p r → EntersFor w after k (alone_event k p) (hand_of r)
+ran_made w after k p (Goes q) I idle free R = record {
+  free = free;
+  enters = R.enters;
+  others = R.others;
+  holds = record { fits = R.fits; idle = ap (λ (z : Private). z.begun) R.part ∙ idle; entered = λ h. ap (λ (z : Private). z.fresh) R.part };
+}
+ran_made w after k p (Forked left right) I idle free R = record { free = free; enters = R.0.enters; others = R.0.others; holds = λ goes. R.1 }
+ran_made w after k p (Ended resumed) I idle free R = record { free = free; enters = R.0.enters; others = R.0.others; holds = λ goes. R.1 }
+ran_made w after k p Over I idle free R = record { free = free; enters = R.enters; others = R.others; holds = λ goes. absurd (some_end (accounts after).end R.ends (machine_goes w after k p free R.enters goes)) }
+
+-- behind the causes that come first it isn't refused
+pub alone_free : (w : World) (k : ℕ) (p : Private) → IsWorld w → Fits w k p → IsShared w p → p.begun ≡ None → first_cause w.end w.steps w.settings k false ≡ None → refused w (alone_event k p) ≡ None
+alone_free w k p I F shared idle first =
+    alone_answer w k p I F shared ∙ (ap (λ o. or_else o (refused_if (is_some p.begun) Collecting None)) first ∙ ap (λ o. refused_if (is_some o) Collecting None) idle)
+
+-- memory is wanting for it
+pub ran_fails : (w after : World) (k : ℕ) (e : Event) (p q : Private) (cause : NotEntered) → refused w e ≡ None → IsCaused cause (refused w e) → IsUnchanged cause w after → AllFit w after → q ≡ p → p.begun ≡ None → Fits w k p → AnswersFor w after k e (Part q) (Err cause)
+ran_fails w after k e p q (Refuses cause) free why same still back idle F = none_some (sym free ∙ why)
+ran_fails w after k e p q NoMemory free why same still back idle F = record {
+  same = same;
+  still = still;
+  holds = record { fits = subst (Fits after k) (sym back) (still k p F); idle = ap (λ (z : Private). z.begun) back ∙ idle; entered = λ h. absurd (false≢true (sym h)) };
+}
+
+-- private steps aren't refused behind the causes that come first
+pub never : {A : Type 0} (why : Option Refused) (cause : NotEntered) → why ≡ None → option_map (λ (c : Refused). Refuses c) why ≡ Some cause → A
+never why cause free is = by (sym (ap (option_map (λ (c : Refused). Refuses c)) free) ∙ is)
+  where
+    by : {A : Type 0} → ◌≡◌ {A = Option NotEntered} None (Some cause) → A
+    by h = absurd cc
+
+-- a part whose steps aren't entered, once the world stops
+pub stopped_part : (w : World) (k : ℕ) (p : Private) → Fits w k p → p.begun ≡ None → HoldsPart w true k p
+stopped_part w k p F idle = record { fits = F; idle = idle; entered = λ h. absurd (false≢true (sym h)) }
+
+-- ---- A COLLECTION ENDS
+
+pub end_holds : (w after : World) (k : ℕ) (p q : Private) (moved : Moved) → HoldsCopy w k p moved → q ≡ ended p → Fits after k q → HoldsPart after false k q
+end_holds w after k p q moved H is F = record {
+  fits = F;
+  idle = ap (λ (z : Private). z.begun) is;
+  entered = λ h. ap (λ (z : Private). z.fresh) is ∙ (ap (λ (z : Private). z.fresh) H.part ∙ H.fresh);
+}
+
+-- its numbers are wrong
+pub miscounts : (w : World) (k : ℕ) → IsWorld w → first_cause w.end w.steps w.settings k false ≡ None → (t : ℕ) (p : Private) (moved : Moved) (a g n : ℕ) (cause : Refused) → HoldsCopy w k p moved → p.task ≡ t → ends_as (a, g, n) (moved.taken, moved.given, moved.left) ≡ Some cause
+    → RefusesFor w w k (record { worker = k; kind = End t a g n }) cause (Copied p moved)
+miscounts w k I first t p moved a g n cause H task is = record {
+  cause_is = ap (λ u. refused w (record { worker = k; kind = End u a g n })) (sym task) ∙ (said w k I first p moved a g n (copy_fits w k p moved I H) ∙ is);
+  same = refl;
+  holds = H;
+}

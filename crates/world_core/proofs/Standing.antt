@@ -1,0 +1,151 @@
+-- How many of a part's next steps can stand in one entry: its private steps, and one more that isn't.
+use Rattle.std.proofs.Common.{◌≡◌, ◌≢◌, ℕ, zero, suc, ◌+◌, ◌-◌, ◌<◌, ◌≤◌, ◌||◌, Bool, true, false, cond, min, nat_le, Option, Some, None, is_some, inl, inr, refl, ap, ap₂, sym, ◌∙◌, arith}
+use Rattle.std.proofs.lemmas.Bool.{cases_lt, cond-false, cond-true, false≢true}
+use Rattle.hh_lang.specs.Form.{ProgramText}
+use Rattle.hh_model.specs.declared.data.State.{State}
+use Rattle.hh_model.specs.Step.{asked}
+use Rattle.run_trace.specs.declared.entry.Kind.TheVariants.{Ran}
+use Rattle.run_trace.specs.Settings.{Limits}
+use Rattle.run_ledger.specs.declared.data.Ledger.{Ledger}
+use Rattle.run_ledger.specs.declared.data.Refused.TheVariants.{Collecting, Long}
+use Rattle.run_ledger.specs.Entries.{long_at, refused_if}
+use Rattle.run_ledger.specs.Heaps.{heap_of, lacks_room}
+use Rattle.run_ledger.specs.Steps.{is_due, is_in_need, is_private, most_steps, on_asked, standing, task_step, task_steps}
+use Rattle.ledger_steps.specs.Accounts.{ArePrivate}
+use Rattle.core_relation.specs.Fits.{FitsAt}
+use Rattle.task_machine.specs.declared.part.Paused.{Paused}
+use Rattle.task_machine.specs.declared.part.Paused.TheVariants.{Shared, Due, NeedChunk, Spent}
+use Rattle.task_machine.specs.declared.part.Private.{Private}
+use Rattle.task_machine.specs.Steps.{is_part_due, is_part_in_need, lacks_place}
+use Rattle.task_machine.proofs.Counted.{lacks_same}
+use Rattle.core_relation.specs.Fits.{ahead}
+use Rattle.shared_tree.specs.Alone.{IsShared, machine_after}
+use Rattle.shared_tree.specs.Causes.{first_cause}
+use Rattle.shared_tree.specs.Entered.{refused}
+use Rattle.shared_tree.specs.Fits.{Fits, part_of}
+use Rattle.shared_tree.specs.Next.{next_line}
+use Rattle.shared_tree.specs.Stands.{IsWorld}
+use Rattle.shared_tree.specs.World.{World, accounts, value_of}
+use Rattle.shared_tree.proofs.Asking.{asks_is, asks_two, counted_is, since_is}
+use Rattle.shared_tree.proofs.Begun.{at_part}
+use Rattle.shared_tree.proofs.Going.{same_going}
+use Rattle.shared_tree.proofs.LastSteps as last
+use Rattle.shared_tree.proofs.Linked as link
+use Rattle.shared_tree.proofs.Running.{fits_now, goes}
+use Rattle.world_core.specs.Next.{IsNext, standing_by}
+use Rattle.world_core.proofs.HandCauses.{behind, on}
+
+-- ---- BEHIND PRIVATE STEPS
+
+pub standing_then : (p : ProgramText) (s : Limits) (t n x m : ℕ) (l : Ledger) → x ≡ n + m → ArePrivate p s l t n → standing s p l t x ≡ n + standing s p (task_steps p l t n) t m
+standing_then p s t zero x m l e h =
+    let is : x ≡ m = omega (arith, e) in
+    ap (standing s p l t) is ∙ (let z : standing s p l t m ≡ 0 + standing s p l t m = omega arith in z)
+standing_then p s t (suc n) zero m l e h = absurd (omega (arith, e))
+standing_then p s t (suc n) (suc x) m l e h =
+    let k : Ledger = task_step p l t in
+    cond-false (is_due s p l t || is_in_need p l t) 0 (cond (is_private p l.machine t) (suc (standing s p k t x)) 1) (ap₂ (λ a b. a || b) h.0 h.1)
+    ∙ (cond-true (is_private p l.machine t) (suc (standing s p k t x)) 1 h.2
+    ∙ (ap suc (standing_then p s t n x m k (omega (arith, e)) h.3) ∙ (let z : suc (n + standing s p (task_steps p k t n) t m) ≡ suc n + standing s p (task_steps p k t n) t m = omega arith in z)))
+
+-- no step that is due or in need stands in an entry, and one that isn't private stands there as the last
+none_stands : (p : ProgramText) (s : Limits) (t m : ℕ) (l : Ledger) → (is_due s p l t || is_in_need p l t) ≡ true → standing s p l t (suc m) ≡ 0
+none_stands p s t m l e = cond-true (is_due s p l t || is_in_need p l t) 0 (cond (is_private p l.machine t) (suc (standing s p (task_step p l t) t m)) 1) e
+
+one_stands : (p : ProgramText) (s : Limits) (t m : ℕ) (l : Ledger) → is_due s p l t ≡ false → is_in_need p l t ≡ false → is_private p l.machine t ≡ false → standing s p l t (suc m) ≡ 1
+one_stands p s t m l due need shared =
+    cond-false (is_due s p l t || is_in_need p l t) 0 (cond (is_private p l.machine t) (suc (standing s p (task_step p l t) t m)) 1) (ap₂ (λ a b. a || b) due need)
+    ∙ cond-false (is_private p l.machine t) (suc (standing s p (task_step p l t) t m)) 1 shared
+
+or_left : (a b : Bool) → a ≡ true → (a || b) ≡ true
+or_left true b e = refl
+or_left false b e = absurd (false≢true e)
+
+or_right : (a b : Bool) → b ≡ true → (a || b) ≡ true
+or_right true b e = refl
+or_right false b e = e
+
+-- ---- A PART, before the run's end
+
+module _ (w : World) (k : ℕ) (p : Private) (I : IsWorld w) (F : Fits w k p) (going : (accounts w).end ≡ None) where
+  abbrev t : ℕ
+  t = p.task
+
+  abbrev l : Ledger
+  l = accounts w
+
+  abbrev M : Ledger
+  M = task_steps w.program l t p.fresh
+
+  V : FitsAt w.program w.settings (part_of w.settings p) (value_of w) l
+  V = fits_now w k p I F going
+
+  machine_same : machine_after w p ≡ M.machine
+  machine_same = ap (λ (z : Ledger). (ahead w.program (part_of w.settings p) z).machine) (same_going l (goes w k p I F going)) ∙ link.machine_is w k p I F going
+
+  due_by : is_part_due w.program p (machine_after w p) ≡ true → is_due w.settings w.program M t ≡ true
+  due_by h =
+      ap₂ (λ a n. on_asked (asked w.program M.machine t) (λ words. nat_le a n)) (sym F.leaf_limit) (sym (since_is w k p I F going))
+      ∙ (ap (λ (m : State). on_asked (asked w.program m t) (λ words. nat_le p.leaf_limit p.heap.since)) (sym machine_same) ∙ h)
+
+  need_by : is_part_in_need w.program p (machine_after w p) ≡ true → is_in_need w.program M t ≡ true
+  need_by h = by (asked w.program M.machine t) refl (ap (λ (m : State). on_asked (asked w.program m t) (lacks_place p.heap)) (sym machine_same) ∙ h)
+    where
+      by : (o : Option ℕ) → asked w.program M.machine t ≡ o → on_asked (asked w.program M.machine t) (lacks_place p.heap) ≡ true → is_in_need w.program M t ≡ true
+      by None e q = absurd (false≢true (sym (ap (λ z. on_asked z (lacks_place p.heap)) e) ∙ q))
+      by (Some words) e q =
+          ap (λ z. on_asked z (lacks_room (heap_of M t))) e
+          ∙ (sym (lacks_same p.heap (heap_of M t) F.form.shaped (counted_is w k p I F going) words (asks_two p.field_limit p.frames.top (next_line w.program p) words (sym (asks_is w k p I F going) ∙ e)))
+          ∙ (sym (ap (λ z. on_asked z (lacks_place p.heap)) e) ∙ q))
+
+  -- how many of more steps stand
+  stands : (why : Paused) → IsNext w p why → why ≢ Spent → (m : ℕ) → p.fresh ≤ 256 → standing w.settings w.program l t (p.fresh + suc m) ≡ standing_by p why
+  stands why next more m few = standing_then w.program w.settings t p.fresh (p.fresh + suc m) (suc m) l refl V.private ∙ by why next more
+    where
+      by : (why : Paused) → IsNext w p why → why ≢ Spent → p.fresh + standing w.settings w.program M t (suc m) ≡ standing_by p why
+      by Shared next more =
+          let S : IsShared w p = record { last = next; few = few } in
+          ap (λ n. p.fresh + n) (one_stands w.program w.settings t m M (last.not_due w k p I F S going) (last.not_in_need w k p I F S going) (last.shared_now w k p I F S going))
+      by Due next more = ap (λ n. p.fresh + n) (none_stands w.program w.settings t m M (or_left (is_due w.settings w.program M t) (is_in_need w.program M t) (due_by next.1))) ∙ omega arith
+      by NeedChunk next more = ap (λ n. p.fresh + n) (none_stands w.program w.settings t m M (or_right (is_due w.settings w.program M t) (is_in_need w.program M t) (need_by next.2))) ∙ omega arith
+      by Spent next more = absurd (more refl)
+
+-- at most one step more than the private ones stands, and where it does, it comes next
+module _ (p : Private) where
+  standing_most : (why : Paused) → standing_by p why ≤ p.fresh + 1
+  standing_most Shared = omega arith
+  standing_most Due = omega arith
+  standing_most NeedChunk = omega arith
+  standing_most Spent = omega arith
+
+pub last_shared : (w : World) (p : Private) (why : Paused) (n : ℕ) → IsNext w p why → standing_by p why ≡ n → p.fresh ≢ n → n ≤ 257 → IsShared w p × (p.fresh + 1 ≡ n)
+last_shared w p Shared n next is ne le = (record { last = next; few = omega (arith, is, le) }, is)
+last_shared w p Due n next is ne le = absurd (ne is)
+last_shared w p NeedChunk n next is ne le = absurd (ne is)
+last_shared w p Spent n next is ne le = absurd (ne is)
+
+long_by : (n m s : ℕ) → s ≡ m → m < n → n ≤ 257 → long_at n (min most_steps s) ≡ Some (Long m)
+long_by n m s e lt le =
+    let is : min most_steps s ≡ m = omega (arith, e, lt, le) in
+    let over : nat_le n (min most_steps s) ≡ false = (let h : min most_steps s < n = omega (arith, is, lt) in grind (arith, h)) in
+    rw over (ap (λ z. Some (Long z)) is)
+
+less_by : (a b : ℕ) → a ≤ b → a ≢ b → a < b
+less_by a b le ne = elim (cases_lt a b) [ inl lt ↦ lt | inr ge ↦ absurd (ne (omega (arith, le, ge))) ]
+
+-- WHERE FEWER STEPS STAND, the entry is too long
+pub too_long : (w : World) (k : ℕ) (p : Private) (why : Paused) (n : ℕ) → IsWorld w → Fits w k p → p.begun ≡ None → first_cause w.end w.steps w.settings k false ≡ None → IsNext w p why → (why ≡ Spent → p.fresh ≡ n) → p.fresh ≤ n → p.fresh ≢ n → standing_by p why ≢ n → n ≤ 257
+    → refused w (record { worker = k; kind = Ran p.task n }) ≡ Some (Long (standing_by p why))
+too_long w k p why n I F idle first next spent within off not_all few =
+    let l : Ledger = accounts w in
+    let more : why ≢ Spent = (λ e. off (spent e)) in
+    let fresh : p.fresh < n = less_by p.fresh n within off in
+    let most : standing_by p why ≤ p.fresh + 1 = standing_most p why in
+    let less : standing_by p why < n = less_by (standing_by p why) n (omega (arith, most, fresh)) not_all in
+    let going : l.end ≡ None = on w k I first in
+    let m : ℕ = n - (p.fresh + 1) in
+    let is : n ≡ p.fresh + suc m = omega (arith, fresh) in
+    let s : standing w.settings w.program l p.task n ≡ standing_by p why = ap (standing w.settings w.program l p.task) is ∙ stands w k p I F going why next more m (omega (arith, fresh, few)) in
+    behind w k I first (Ran p.task n) refl
+    ∙ (at_part w k p F going (long_at n (min most_steps (standing w.settings w.program l p.task n)))
+    ∙ (ap (λ b. refused_if (is_some b) Collecting (long_at n (min most_steps (standing w.settings w.program l p.task n)))) idle ∙ long_by n (standing_by p why) (standing w.settings w.program l p.task n) s less few))

@@ -1,0 +1,217 @@
+-- The parts that workers hold stand together in the shared value.
+use Rattle.std.proofs.Common.{◌≡◌, ℕ, zero, suc, ◌<◌, Bool, Option, Some, None, List, [], ◌∷◌, length, slice_get, inl, inr, refl, ap, sym, subst, ◌∙◌, arith}
+use Rattle.std.proofs.lemmas.Option.{same_Some}
+use Rattle.listed.proofs.Members.{got_within}
+use Rattle.hh_lang.specs.Form.{ProgramText}
+use Rattle.run_ledger.specs.Heaps.{heap_of, let_go}
+use Rattle.run_ledger.specs.Laws.{HoldsTasks}
+use Rattle.run_ledger.specs.Steps.{task_steps}
+use Rattle.run_ledger.specs.declared.data.Ledger.{Ledger}
+use Rattle.run_ledger.proofs.Holders.{tasks_are_held_once}
+use Rattle.ledger_steps.specs.Accounts.{Rests}
+use Rattle.ledger_steps.proofs.Known.{legal_knows}
+use Rattle.ledger_steps.proofs.Rested.{rested_worker}
+use Rattle.core_relation.specs.Fits.{Part as PartOf, ahead}
+use Rattle.core_relation.specs.Frames.{NotOf, all_ahead}
+use Rattle.core_relation.specs.Value.{In}
+use Rattle.core_relation.specs.Worker.{AllFit, Fits as FitsValue}
+use Rattle.core_relation.proofs.All.{all_fit_together}
+use Rattle.shared_tree.specs.Fits.{part_of}
+use Rattle.shared_tree.specs.Stands.{IsWorld}
+use Rattle.core_relation.specs.Whole.{StandsFor, by_end}
+use Rattle.hh_model.specs.declared.data.End.{End}
+use Rattle.hh_model.specs.declared.data.End.TheVariants.{Done, Entangled, Trapped}
+use Rattle.run_ledger.specs.declared.data.RunEnd.{RunEnd}
+use Rattle.run_ledger.specs.declared.data.RunEnd.TheVariants.{Fuel, Machine, Pool}
+use Rattle.shared_tree.specs.World.{World, accounts, flat, totals_of, value_of}
+use Rattle.world_core.specs.declared.held.Held.{Held}
+use Rattle.world_core.specs.declared.held.Held.TheVariants.{Nothing, Part, Copied}
+use Rattle.world_core.specs.Together.{AreParts, HoldsOneOf, IsPartIn, PartsStand, StandsTogether}
+use Rattle.world_core.specs.Whole.{Holds, IsWhole, Whole}
+use Rattle.world_core.proofs.HandCauses.{copy_fits}
+use Rattle.world_core.proofs.MachineEnds.{journal_told}
+use Rattle.world_core.proofs.WasHeld.{WasHeld, nobody, one_held, steps_held, then_held}
+
+-- ---- THE PARTS
+
+not_of : (t : ℕ) (qs : List PartOf) → ((q : PartOf) → In qs q → t ≡ q.task → ⊥) → NotOf t qs
+not_of t [] h = tt
+not_of t (q ∷ qs) h = (h q (inl refl), not_of t qs (λ r i. h r (inr i)))
+
+-- the parts in some hands, of which the j-th is that of the worker `of j`
+record Found (w : World) (of : ℕ → ℕ) (hands : List Held) : Type 0 where
+  parts : List PartOf
+  fit : AllFit w.program w.settings parts (value_of w) (accounts w)
+  from : (q : PartOf) → In parts q → (j : ℕ) × (h : Held) × (slice_get hands j ≡ Some h) × IsPartIn w (of j) h q × ((heap_of (accounts w) q.task).worker ≡ Some (of j))
+  all : (j : ℕ) (h : Held) → slice_get hands j ≡ Some h → HoldsOneOf w (of j) h parts
+
+one_more : (w : World) (k : ℕ) (h : Held) (qs : List PartOf) (q : PartOf) → HoldsOneOf w k h qs → HoldsOneOf w k h (q ∷ qs)
+one_more w k Nothing qs q H = tt
+one_more w k (Part p) qs q H = (H.0, inr H.1, H.2)
+one_more w k (Copied p moved) qs q H = (H.0, inr H.1, H.2)
+
+here : (w : World) (k : ℕ) (h : Held) (qs : List PartOf) (q : PartOf) → IsPartIn w k h q → HoldsOneOf w k h (q ∷ qs)
+here w k Nothing qs q i = tt
+here w k (Part p) qs q i = (q, inl refl, i)
+here w k (Copied p moved) qs q i = (q, inl refl, i)
+
+module _ (w : World) (holders : HoldsTasks (accounts w)) where
+  -- a hand that holds a part, before others
+  with_part : (of : ℕ → ℕ) → ((i j : ℕ) → of i ≡ of j → i ≡ j) → (h : Held) (hs : List Held) (q : PartOf) → IsPartIn w (of 0) h q → FitsValue w.program w.settings q (value_of w) (accounts w) → (heap_of (accounts w) q.task).worker ≡ Some (of 0)
+      → Found w (λ j. of (suc j)) hs → Found w of (h ∷ hs)
+  with_part of inj h hs q i F held R = record {
+    parts = q ∷ R.parts;
+    fit = (F, not_of q.task R.parts other, R.fit);
+    from = λ r m. from r m;
+    all = all;
+  }
+    where
+      other : (r : PartOf) → In R.parts r → q.task ≡ r.task → ⊥
+      other r m e =
+          let z = R.from r m in
+          let same : of 0 ≡ of (suc z.0) = same_Some (of 0) (of (suc z.0)) (sym held ∙ (ap (λ t. (heap_of (accounts w) t).worker) e ∙ z.4)) in
+          let no : 0 ≡ suc z.0 = inj 0 (suc z.0) same in
+          absurd (omega (arith, no))
+
+      from : (r : PartOf) → In (q ∷ R.parts) r → (j : ℕ) × (g : Held) × (slice_get (h ∷ hs) j ≡ Some g) × IsPartIn w (of j) g r × ((heap_of (accounts w) r.task).worker ≡ Some (of j))
+      from r (inl e) = (0, h, refl, subst (IsPartIn w (of 0) h) e i, ap (λ (z : PartOf). (heap_of (accounts w) z.task).worker) (sym e) ∙ held)
+      from r (inr m) = let z = R.from r m in (suc z.0, z.1, z.2, z.3, z.4)
+
+      all : (j : ℕ) (g : Held) → slice_get (h ∷ hs) j ≡ Some g → HoldsOneOf w (of j) g (q ∷ R.parts)
+      all zero g e = subst (λ z. HoldsOneOf w (of 0) z (q ∷ R.parts)) (same_Some h g e) (here w (of 0) h R.parts q i)
+      all (suc j) g e = one_more w (of (suc j)) g R.parts q (R.all j g e)
+
+  -- one that holds nothing
+  with_none : (of : ℕ → ℕ) (hs : List Held) → Found w (λ j. of (suc j)) hs → Found w of (Nothing ∷ hs)
+  with_none of hs R = record {
+    parts = R.parts;
+    fit = R.fit;
+    from = λ r m. (let z = R.from r m in (suc z.0, z.1, z.2, z.3, z.4));
+    all = all;
+  }
+    where
+      all : (j : ℕ) (g : Held) → slice_get (Nothing ∷ hs) j ≡ Some g → HoldsOneOf w (of j) g R.parts
+      all zero g e = subst (λ z. HoldsOneOf w (of 0) z R.parts) (same_Some Nothing g e) tt
+      all (suc j) g e = R.all j g e
+
+  found : (stopped : Bool) (of : ℕ → ℕ) → ((i j : ℕ) → of i ≡ of j → i ≡ j) → (hs : List Held) → ((j : ℕ) (h : Held) → slice_get hs j ≡ Some h → Holds w stopped (of j) h) → Found w of hs
+  found stopped of inj [] H = record { parts = []; fit = tt; from = λ q m. absurd m; all = λ j h e. absurd cc }
+  found stopped of inj (h ∷ hs) H =
+      let R : Found w (λ j. of (suc j)) hs = found stopped (λ j. of (suc j)) (λ i j e. (let z : suc i ≡ suc j = inj (suc i) (suc j) e in omega (arith, z))) hs (λ j g e. H (suc j) g e) in
+      by h (H 0 h refl) R
+    where
+      by : (h : Held) → Holds w stopped (of 0) h → Found w (λ j. of (suc j)) hs → Found w of (h ∷ hs)
+      by Nothing K R = with_none of hs R
+      by (Part p) K R = with_part of inj (Part p) hs (part_of w.settings p) refl K.fits.fits K.fits.held R
+      by (Copied p moved) K R = with_part of inj (Copied p moved) hs (part_of w.settings K.before) (K, refl) K.fits.fits K.fits.held R
+
+-- ---- NO TASK IS HELD in the accounts with all parts at rest
+
+ahead_held : (p : ProgramText) (q : PartOf) (l : Ledger) → WasHeld l (ahead p q l)
+ahead_held p q l =
+    let m : Ledger = task_steps p l q.task q.fresh in
+    then_held l m (ahead p q l) (steps_held p q.fresh l q.task) (one_held m q.task let_go (λ h k e. nobody e))
+
+all_ahead_held : (p : ProgramText) (qs : List PartOf) (l : Ledger) → WasHeld l (all_ahead p qs l)
+all_ahead_held p [] l = λ u k e. e
+all_ahead_held p (q ∷ qs) l = then_held l (ahead p q l) (all_ahead p qs (ahead p q l)) (ahead_held p q l) (all_ahead_held p qs (ahead p q l))
+
+still_free : (l l' : Ledger) (t : ℕ) → WasHeld l l' → Rests l t → Rests l' t
+still_free l l' t W free = by (heap_of l' t).worker refl
+  where
+    by : (o : Option ℕ) → (heap_of l' t).worker ≡ o → o ≡ None
+    by None e = refl
+    by (Some k) e = nobody (sym free ∙ W t k e)
+
+freed : (p : ProgramText) (qs : List PartOf) (l : Ledger) (t : ℕ) (q : PartOf) → In qs q → q.task ≡ t → Rests (all_ahead p qs l) t
+freed p [] l t q m e = absurd m
+freed p (r ∷ qs) l t q (inl same) e =
+    let at : r.task ≡ t = ap (λ (z : PartOf). z.task) same ∙ e in
+    still_free (ahead p r l) (all_ahead p qs (ahead p r l)) t (all_ahead_held p qs (ahead p r l)) (subst (Rests (ahead p r l)) at (rested_worker (task_steps p l r.task r.fresh) r.task))
+freed p (r ∷ qs) l t q (inr m) e = freed p qs (ahead p r l) t q m e
+
+-- ---- TOGETHER
+
+some_flat : {A : Type 0} (o : Option (Option A)) (x : A) → flat o ≡ Some x → o ≡ Some (Some x)
+some_flat None x e = absurd cc
+some_flat (Some o) x e = ap Some e
+
+there : {A : Type 0} (xs : List A) (k : ℕ) → k < length xs → (x : A) × (slice_get xs k ≡ Some x)
+there [] k lt = absurd (omega (arith, lt))
+there (x ∷ xs) zero lt = (x, refl)
+there (x ∷ xs) (suc k) lt = there xs k (omega (arith, lt))
+
+module _ (x : Whole) (I : IsWorld x.shared) (W : IsWhole x) where
+  abbrev w : World
+  w = x.shared
+
+  holds_tasks : HoldsTasks (accounts w)
+  holds_tasks = tasks_are_held_once w.program w.settings w.journal.items I.legal
+
+  module _ (on : (accounts w).machine.end ≡ None) where
+    abbrev l : Ledger
+    l = accounts w
+
+    -- the root isn't handed back
+    not_done : (o : Option RunEnd) → l.end ≡ o → by_end l o ≡ l
+    not_done None e = refl
+    not_done (Some (Fuel n)) e = refl
+    not_done (Some (Pool n)) e = refl
+    not_done (Some (Machine Done)) e = never (sym on ∙ journal_told w.program w.settings w.journal.items Done e)
+      where
+        never : {A : Type 0} → ◌≡◌ {A = Option End} None (Some Done) → A
+        never q = absurd cc
+    not_done (Some (Machine (Trapped kind t line))) e = refl
+    not_done (Some (Machine (Entangled t u))) e = refl
+
+    stands_at : StandsFor (value_of w) (totals_of w) l
+    stands_at = subst (StandsFor (value_of w) (totals_of w)) (not_done l.end refl) I.stands
+
+    R : Found w (λ j. j) x.hands
+    R = found w holds_tasks x.stopped (λ j. j) (λ i j e. e) x.hands W.hands
+
+    parts_are : AreParts x R.parts
+    parts_are = record {
+      each = λ q m. (let z = R.from q m in (z.0, record { hand = z.1; is = z.2; part = z.3 }));
+      all = R.all;
+    }
+
+    -- who holds a task holds its part
+    out : (t k : ℕ) → (heap_of l t).worker ≡ Some k → Rests (all_ahead w.program R.parts l) t
+    out t k e = by hand.0 (W.hands k hand.0 hand.1) (R.all k hand.0 hand.1)
+      where
+        listed : slice_get w.hands k ≡ Some (Some t)
+        listed = some_flat (slice_get w.hands k) t ((stands_at.totals.hand k t).1 e)
+
+        hand : (h : Held) × (slice_get x.hands k ≡ Some h)
+        hand = there x.hands k (let a = got_within w.hands k (Some t) listed in let b = I.workers in let c = W.count in omega (arith, a, b, c))
+
+        at : (q : PartOf) (u : ℕ) → q.task ≡ u → In R.parts q → (heap_of l u).worker ≡ Some k → Rests (all_ahead w.program R.parts l) t
+        at q u is m held = freed w.program R.parts l t q m (is ∙ holds_tasks.one u t k held e)
+
+        by : (h : Held) → Holds w x.stopped k h → HoldsOneOf w k h R.parts → Rests (all_ahead w.program R.parts l) t
+        by Nothing H O = absurd (H on t e)
+        by (Part p) H O = at O.0 p.task (ap (λ (z : PartOf). z.task) O.2) O.1 H.fits.held
+        by (Copied p moved) H O = at O.0 O.2.0.before.task (ap (λ (z : PartOf). z.task) O.2.1) O.1 O.2.0.fits.held
+
+    rest : (t : ℕ) → Rests (all_ahead w.program R.parts l) t
+    rest t = by (heap_of l t).worker refl
+      where
+        by : (o : Option ℕ) → (heap_of l t).worker ≡ o → Rests (all_ahead w.program R.parts l) t
+        by None e = still_free l (all_ahead w.program R.parts l) t (all_ahead_held w.program R.parts l) e
+        by (Some k) e = out t k e
+
+    parts_stand : PartsStand x
+    parts_stand = record {
+      parts = R.parts;
+      are = parts_are;
+      stands =
+          all_fit_together w.program w.settings R.parts (value_of w) l (legal_knows w.program w.settings w.journal.items I.legal) on stands_at.homes R.fit;
+      rest = rest;
+    }
+
+  pub stands_together : StandsTogether x
+  stands_together = record {
+    parts = λ on. parts_stand on;
+    copies = λ k p moved e. copy_fits w k p moved I (W.hands k (Copied p moved) e);
+  }

@@ -1,0 +1,16 @@
+use Rattle.std.proofs.Common.{Err, arith, subst}
+use Rattle.world_core.specs.Applied.{AppliesTo}
+use Rattle.world_core.proofs.Replayed.{came_more, come_to}
+use Rattle.world_core.proofs.replaying.replay.Goals as goal
+
+pub returns-in-Err-NoMemory-clause-stopped : goal.returns-in-Err-NoMemory-clause-stopped
+returns-in-Err-NoMemory-clause-stopped c =
+    come_to c.args.program.now c.args.settings c.args.entries.now c.loop-entry.entry-index c.loop-entry.index c.entry-item.result c.loop-entry-test.true c.entry-item.is c.loop-entry.world c.apply.new.self c.loop-entry.invariant.came c.stands.ensures.shared
+    (subst (λ z. AppliesTo c.loop-entry.world c.apply.new.self c.entry-item.result (Err z)) c.in-Err-NoMemory.field-0-is c.in-Err-NoMemory.ensures)
+
+pub loop-entry-preserved : goal.loop-entry-preserved
+loop-entry-preserved c = record {
+  came =
+      came_more c.args.program.now c.args.settings c.args.entries.now c.loop-entry.entry-index c.loop-entry.index c.entry-item.result c.loop-entry-test.true c.entry-item.is c.loop-entry.world c.apply.new.self c.loop-entry.invariant.came c.in-Ok-apply.ensures;
+  count = omega arith;
+}

@@ -1,0 +1,50 @@
+-- All parts together: with the home of each part that a worker holds put into the shared value, that stands for the accounts.
+use Rattle.std.specs.Prelude.{◌≡◌, ℕ, Some, None, List, slice_get}
+use Rattle.leaf_copy_gc.specs.declared.lists.Moved.{Moved}
+use Rattle.ledger_steps.specs.Accounts.{Rests}
+use Rattle.task_machine.specs.declared.part.Private.{Private}
+use Rattle.core_relation.specs.Fits.{Part as PartOf}
+use Rattle.core_relation.specs.Frames.{all_ahead, with_homes}
+use Rattle.core_relation.specs.Stands.{Stands}
+use Rattle.core_relation.specs.Value.{In}
+use Rattle.shared_tree.specs.Fits.{part_of}
+use Rattle.shared_tree.specs.LeafEnd.{FitsCopied}
+use Rattle.shared_tree.specs.World.{World, accounts, value_of}
+use Rattle.world_core.specs.declared.held.Held.{Held}
+use Rattle.world_core.specs.declared.held.Held.TheVariants.{Nothing, Part, Copied}
+use Rattle.world_core.specs.Whole.{HoldsCopy, Whole}
+
+-- the part that a worker holds; of one that was copied, what it was before
+abbrev pub IsPartIn : World → ℕ → Held → PartOf → Type 0
+IsPartIn w k Nothing q = ⊥
+IsPartIn w k (Part p) q = q ≡ part_of w.settings p
+IsPartIn w k (Copied p moved) q = (H : HoldsCopy w k p moved) × (q ≡ part_of w.settings H.before)
+
+-- a worker holds it
+pub record IsHeldBy (x : Whole) (k : ℕ) (q : PartOf) : Type 0 where
+  pub hand : Held
+  pub is : slice_get x.hands k ≡ Some hand
+  pub part : IsPartIn x.shared k hand q
+
+-- a worker that holds something holds one of these
+abbrev pub HoldsOneOf : World → ℕ → Held → List PartOf → Type 0
+HoldsOneOf w k Nothing qs = Unit {0}
+HoldsOneOf w k h qs = (q : PartOf) × In qs q × IsPartIn w k h q
+
+-- these are the parts that workers hold
+pub record AreParts (x : Whole) (qs : List PartOf) : Type 0 where
+  pub each : (q : PartOf) → In qs q → (k : ℕ) × IsHeldBy x k q
+  pub all : (k : ℕ) (h : Held) → slice_get x.hands k ≡ Some h → HoldsOneOf x.shared k h qs
+
+pub record PartsStand (x : Whole) : Type 0 where
+  pub parts : List PartOf
+  pub are : AreParts x parts
+  -- with all their homes and the fresh steps of all
+  pub stands : Stands (with_homes (value_of x.shared) parts) (all_ahead x.shared.program parts (accounts x.shared))
+  -- then no heap and no frame is missing
+  pub rest : (t : ℕ) → Rests (all_ahead x.shared.program parts (accounts x.shared)) t
+
+-- the parts stand together until the machine ends, and the copy of each heap between the begin and the end of its collection is one
+pub record StandsTogether (x : Whole) : Type 0 where
+  pub parts : (accounts x.shared).machine.end ≡ None → PartsStand x
+  pub copies : (k : ℕ) (p : Private) (moved : Moved) → slice_get x.hands k ≡ Some (Copied p moved) → FitsCopied x.shared k p moved

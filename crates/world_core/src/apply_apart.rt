@@ -1,0 +1,66 @@
+// Entries for a task that no worker holds: its heap is marked and swept; and the end for spent fuel.
+
+ghost use Rattle.std.specs.Prelude.{◌≡◌, ◌<◌, false};
+ghost use Rattle.run_trace.specs.Entry.{IsKind};
+ghost use Rattle.world_core.specs.Applied.{is_own, AnswersApart};
+
+use run_trace::Kind;
+use shared_tree::{NotEntered, Shared};
+
+// Up to so many objects more of a heap are marked.
+fn mark_more(shared: &mut Shared, worker: u32, t: u32, n: u32) -> Result<(), NotEntered>
+    requires room { 0 < shared.old.journal.room }
+    requires kind { IsKind (Kind.More t n) }
+    ensures { AnswersApart shared.old shared.new (record { worker = worker; kind = Kind.More t n }) result }
+{
+    match shared.some(worker, t, n) {
+        Ok(_) => Ok(()),
+        Err(cause) => Err(NotEntered::Refuses(cause)),
+    }
+}
+
+// A heap is swept.
+fn sweep(shared: &mut Shared, worker: u32, t: u32, given: u32) -> Result<(), NotEntered>
+    requires room { 0 < shared.old.journal.room }
+    ensures { AnswersApart shared.old shared.new (record { worker = worker; kind = Kind.Sweep t given }) result }
+{
+    match shared.sweep(worker, t, given) {
+        Ok(()) => Ok(()),
+        Err(cause) => Err(NotEntered::Refuses(cause)),
+    }
+}
+
+// The run ends for spent fuel.
+fn end_for_fuel(shared: &mut Shared, worker: u32) -> Result<(), NotEntered>
+    requires room { 0 < shared.old.journal.room }
+    ensures { AnswersApart shared.old shared.new (record { worker = worker; kind = Kind.Fuel }) result }
+{
+    match shared.fuel(worker) {
+        Ok(()) => Ok(()),
+        Err(cause) => Err(NotEntered::Refuses(cause)),
+    }
+}
+
+// The marking of a heap begins.
+fn mark(shared: &mut Shared, worker: u32, t: u32) -> Result<(), NotEntered>
+    requires room { 0 < shared.old.journal.room }
+    ensures { AnswersApart shared.old shared.new (record { worker = worker; kind = Kind.Mark t }) result }
+{
+    shared.mark(worker, t)
+}
+
+/// Makes an entry for a task that no worker holds, or ends the run for spent fuel.
+pub(crate) fn apply_apart(shared: &mut Shared, worker: u32, kind: Kind) -> Result<(), NotEntered>
+    requires room { 0 < shared.old.journal.room }
+    requires kind { IsKind kind }
+    requires apart { is_own kind ≡ false }
+    ensures { AnswersApart shared.old shared.new (record { worker = worker; kind = kind }) result }
+{
+    match kind {
+        Kind::Mark(t) => mark(shared, worker, t),
+        Kind::More(t, n) => mark_more(shared, worker, t, n),
+        Kind::Sweep(t, given) => sweep(shared, worker, t, given),
+        Kind::Fuel => end_for_fuel(shared, worker),
+        _ => unreachable!(),
+    }
+}

@@ -1,0 +1,81 @@
+// A leaf collection of a task begins.
+
+ghost use Rattle.std.specs.Prelude.{◌≡◌, ◌<◌, None, false};
+ghost use Rattle.shared_tree.specs.Causes.{first_cause};
+ghost use Rattle.shared_tree.specs.LeafBegin.{HasBegun};
+ghost use Rattle.shared_tree.specs.Fits.{Fits};
+ghost use Rattle.shared_tree.specs.World.{accounts};
+ghost use Rattle.task_machine.specs.declared.part.Private.{Private as PartOf};
+ghost use Rattle.world_core.specs.Applied.{MakesFor};
+ghost use Rattle.world_core.specs.Whole.{Holds, HoldsCopy, HoldsPart};
+
+use crate::held::{Held, Made, idle_part};
+use leaf_copy_gc::{Moved, ToChunks, copy};
+use object_layout::Addr;
+use outside_io::EmptyGate;
+use run_trace::Kind;
+use shared_tree::Shared;
+use task_machine::Private;
+
+// Copies the heap of a part whose collection has begun.
+fn copy_begun(
+    shared: &Shared,
+    worker: u32,
+    part: &mut Private,
+    roots: &[Addr],
+    to_chunks: ToChunks,
+) -> Moved
+    requires goes { (accounts shared.now).end ≡ None }
+    requires fits { Fits shared.now worker part.old }
+    requires fresh { part.old.fresh ≡ 0 }
+    requires begun { (before : PartOf) × HasBegun before part.old roots.now to_chunks }
+    ensures { HoldsCopy shared.now worker part.new result }
+{
+    shared.stands();
+    let task = part.task;
+    copy(
+        &mut part.heap,
+        &mut part.frames,
+        roots,
+        to_chunks,
+        &EmptyGate,
+        worker,
+        task,
+    )
+}
+
+// That of the part begins, and its heap is copied.
+fn begin(shared: &mut Shared, worker: u32, part: Private) -> Made
+    requires room { 0 < shared.old.journal.room }
+    requires holds { HoldsPart shared.old false worker part }
+    ensures { MakesFor shared.old shared.new worker (record { worker = worker; kind = Kind.Begin part.task }) result }
+{
+    let mut part = part;
+    match shared.leaf_begin(worker, &mut part) {
+        Ok((roots, to_chunks)) => {
+            let moved = copy_begun(shared, worker, &mut part, &roots, to_chunks);
+            Made {
+                hand: Held::Copied(part, moved),
+                answer: Ok(()),
+            }
+        }
+        Err(cause) => Made {
+            hand: Held::Part(part),
+            answer: Err(cause),
+        },
+    }
+}
+
+/// A due leaf collection of a task begins: its heap is copied, which takes no memory.
+pub(crate) fn apply_begin(shared: &mut Shared, worker: u32, hand: Held, t: u32) -> Made
+    requires room { 0 < shared.old.journal.room }
+    requires first { first_cause shared.old.end shared.old.steps shared.old.settings worker false ≡ None }
+    requires holds { Holds shared.old false worker hand }
+    ensures { MakesFor shared.old shared.new worker (record { worker = worker; kind = Kind.Begin t }) result }
+{
+    shared.stands();
+    match idle_part(hand, t) {
+        Ok(part) => begin(shared, worker, part),
+        Err(apart) => apart.made(),
+    }
+}

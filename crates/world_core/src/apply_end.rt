@@ -1,0 +1,76 @@
+// The leaf collection of a task ends.
+
+ghost use Rattle.std.specs.Prelude.{◌≡◌, ◌<◌, None, false};
+ghost use Rattle.run_ledger.specs.Entries.{ends_as};
+ghost use Rattle.shared_tree.specs.Causes.{first_cause};
+ghost use Rattle.world_core.specs.Applied.{MakesFor};
+ghost use Rattle.world_core.specs.Whole.{Holds, HoldsCopy};
+
+use crate::held::{Held, Made, copied_part};
+use leaf_copy_gc::Moved;
+use run_ledger::Refused;
+use run_trace::Kind;
+use shared_tree::{NotEntered, Shared};
+use task_machine::Private;
+
+// The first of the three numbers that is wrong.
+fn miscounted(moved: &Moved, taken: u32, given: u32, left: u32) -> Option<Refused>
+    ensures { result ≡ ends_as (taken, given, left) (moved.now.taken, moved.now.given, moved.now.left) }
+{
+    if taken != moved.taken {
+        return Some(Refused::Count(taken, moved.taken));
+    }
+    if given != moved.given {
+        return Some(Refused::Count(given, moved.given));
+    }
+    if left != moved.left {
+        return Some(Refused::Count(left, moved.left));
+    }
+    None
+}
+
+// That of the part ends, with the numbers that copying came to.
+fn end(shared: &mut Shared, worker: u32, part: Private, moved: Moved) -> Made
+    requires room { 0 < shared.old.journal.room }
+    requires first { first_cause shared.old.end shared.old.steps shared.old.settings worker false ≡ None }
+    requires holds { HoldsCopy shared.old worker part moved }
+    ensures { MakesFor shared.old shared.new worker (record { worker = worker; kind = Kind.End part.task moved.taken moved.given moved.left }) result }
+{
+    shared.stands();
+    let mut part = part;
+    match shared.leaf_end(worker, &mut part, moved) {
+        Ok(()) => Made {
+            hand: Held::Part(part),
+            answer: Ok(()),
+        },
+        Err(_) => unreachable!(),
+    }
+}
+
+/// The leaf collection of a task ends, which an entry tells by the chunks taken, those given back and the words left.
+pub(crate) fn apply_end(
+    shared: &mut Shared,
+    worker: u32,
+    hand: Held,
+    t: u32,
+    taken: u32,
+    given: u32,
+    left: u32,
+) -> Made
+    requires room { 0 < shared.old.journal.room }
+    requires first { first_cause shared.old.end shared.old.steps shared.old.settings worker false ≡ None }
+    requires holds { Holds shared.old false worker hand }
+    ensures { MakesFor shared.old shared.new worker (record { worker = worker; kind = Kind.End t taken given left }) result }
+{
+    shared.stands();
+    match copied_part(hand, t) {
+        Ok((part, moved)) => match miscounted(&moved, taken, given, left) {
+            None => end(shared, worker, part, moved),
+            Some(cause) => Made {
+                hand: Held::Copied(part, moved),
+                answer: Err(NotEntered::Refuses(cause)),
+            },
+        },
+        Err(apart) => apart.made(),
+    }
+}

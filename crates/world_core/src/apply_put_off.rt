@@ -1,0 +1,44 @@
+// A due leaf collection of a task is put off.
+
+ghost use Rattle.std.specs.Prelude.{◌≡◌, ◌<◌, None, false};
+ghost use Rattle.shared_tree.specs.Causes.{first_cause};
+ghost use Rattle.world_core.specs.Applied.{MakesFor};
+ghost use Rattle.world_core.specs.Whole.{Holds, HoldsPart};
+
+use crate::held::{Held, Made, idle_part};
+use run_trace::Kind;
+use shared_tree::{NotEntered, Shared};
+use task_machine::Private;
+
+// That of the part is.
+fn put_off(shared: &mut Shared, worker: u32, part: Private) -> Made
+    requires room { 0 < shared.old.journal.room }
+    requires holds { HoldsPart shared.old false worker part }
+    ensures { MakesFor shared.old shared.new worker (record { worker = worker; kind = Kind.PutOff part.task }) result }
+{
+    let mut part = part;
+    match shared.put_off(worker, &mut part) {
+        Ok(()) => Made {
+            hand: Held::Part(part),
+            answer: Ok(()),
+        },
+        Err(cause) => Made {
+            hand: Held::Part(part),
+            answer: Err(NotEntered::Refuses(cause)),
+        },
+    }
+}
+
+/// A due leaf collection of a task is put off for want of chunks.
+pub(crate) fn apply_put_off(shared: &mut Shared, worker: u32, hand: Held, t: u32) -> Made
+    requires room { 0 < shared.old.journal.room }
+    requires first { first_cause shared.old.end shared.old.steps shared.old.settings worker false ≡ None }
+    requires holds { Holds shared.old false worker hand }
+    ensures { MakesFor shared.old shared.new worker (record { worker = worker; kind = Kind.PutOff t }) result }
+{
+    shared.stands();
+    match idle_part(hand, t) {
+        Ok(part) => put_off(shared, worker, part),
+        Err(apart) => apart.made(),
+    }
+}

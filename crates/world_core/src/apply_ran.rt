@@ -1,0 +1,204 @@
+// A task takes steps.
+
+ghost use Rattle.std.specs.Prelude.{◌≡◌, ◌<◌, ◌≤◌, ◌+◌, ◌^◌, IfOk, None, false};
+ghost use Rattle.shared_tree.specs.Alone.{alone_event, IsShared};
+ghost use Rattle.shared_tree.specs.Causes.{first_cause};
+ghost use Rattle.shared_tree.specs.Fits.{Fits};
+ghost use Rattle.world_core.specs.Applied.{hand_of, MakesFor};
+ghost use Rattle.world_core.specs.Next.{standing_by, IsNext};
+ghost use Rattle.world_core.specs.Whole.{Holds, HoldsPart};
+
+use crate::held::{Held, Made, idle_part};
+use outside_io::EmptyGate;
+use run_ledger::Refused;
+use run_trace::Kind;
+use shared_tree::{NotEntered, Ran, Shared};
+use std::alloc::AllocError;
+use task_machine::{Paused, Private, run_local};
+
+/// The most private steps that a part takes in a row.
+const BUDGET: u32 = 256;
+
+// Takes more private steps, as many as the budget or as come before one that isn't, and says what comes next.
+fn run_more(
+    shared: &Shared,
+    worker: u32,
+    part: &mut Private,
+    budget: u32,
+) -> Result<Paused, AllocError>
+    requires first { first_cause shared.now.end shared.now.steps shared.now.settings worker false ≡ None }
+    requires fits { Fits shared.now worker part.old }
+    requires idle { part.old.begun ≡ None }
+    requires few { part.old.fresh + budget ≤ 257 }
+    requires counted { part.old.allocations + budget < 2 ^ 32 }
+    ensures fits { Fits shared.now worker part.new }
+    ensures idle { part.new.begun ≡ None }
+    ensures task { part.new.task ≡ part.old.task }
+    ensures within { part.new.fresh ≤ part.old.fresh + budget }
+    ensures counted { part.new.allocations ≤ part.old.allocations + budget }
+    ensures next { IfOk result (IsNext shared.now part.new) }
+    ensures spent { IfOk result (λ why. why ≡ Paused.Spent → part.new.fresh ≡ part.old.fresh + budget) }
+{
+    shared.stands();
+    shared.may_run(worker, part);
+    run_local(part, shared.program(), budget, &EmptyGate, worker)
+}
+
+// Takes so many private steps, or as many as come before one that isn't, and says what comes next.
+fn run_part(
+    shared: &Shared,
+    worker: u32,
+    part: &mut Private,
+    steps: u32,
+) -> Result<Paused, AllocError>
+    requires first { first_cause shared.now.end shared.now.steps shared.now.settings worker false ≡ None }
+    requires holds { HoldsPart shared.now false worker part.old }
+    requires few { steps ≤ 257 }
+    ensures fits { Fits shared.now worker part.new }
+    ensures idle { part.new.begun ≡ None }
+    ensures task { part.new.task ≡ part.old.task }
+    ensures within { part.new.fresh ≤ steps }
+    ensures next { IfOk result (IsNext shared.now part.new) }
+    ensures spent { IfOk result (λ why. why ≡ Paused.Spent → part.new.fresh ≡ steps) }
+{
+    shared.stands();
+    shared.may_run(worker, part);
+    if steps <= BUDGET {
+        return run_more(shared, worker, part, steps);
+    }
+    match run_more(shared, worker, part, BUDGET)? {
+        Paused::Spent => run_more(shared, worker, part, 1),
+        why => Ok(why),
+    }
+}
+
+// Enters the fresh steps of the part.
+fn enter_private(shared: &mut Shared, worker: u32, part: Private) -> Made
+    requires room { 0 < shared.old.journal.room }
+    requires first { first_cause shared.old.end shared.old.steps shared.old.settings worker false ≡ None }
+    requires fits { Fits shared.old worker part }
+    requires idle { part.begun ≡ None }
+    requires some { 0 < part.fresh }
+    ensures { MakesFor shared.old shared.new worker (record { worker = worker; kind = Kind.Ran part.task part.fresh }) result }
+{
+    shared.stands();
+    match shared.ran_private(worker, part) {
+        Ok(part) => Made {
+            hand: Held::Part(part),
+            answer: Ok(()),
+        },
+        Err(failed) => Made {
+            hand: Held::Part(failed.part),
+            answer: Err(failed.cause),
+        },
+    }
+}
+
+// What a worker holds once a shared step is entered.
+fn hand_of(ran: Ran) -> Held
+    ensures { result ≡ hand_of ran }
+{
+    match ran {
+        Ran::Goes(part) => Held::Part(part),
+        Ran::Forked { left, right } => Held::Nothing,
+        Ran::Ended { resumed } => Held::Nothing,
+        Ran::Over => Held::Nothing,
+    }
+}
+
+// Enters the fresh steps of the part and the shared one that comes next.
+fn enter_last(shared: &mut Shared, worker: u32, part: Private) -> Made
+    requires room { 0 < shared.old.journal.room }
+    requires first { first_cause shared.old.end shared.old.steps shared.old.settings worker false ≡ None }
+    requires fits { Fits shared.old worker part }
+    requires idle { part.begun ≡ None }
+    requires shared { IsShared shared.old part }
+    ensures { MakesFor shared.old shared.new worker (alone_event worker part) result }
+{
+    shared.stands();
+    let ran = shared.ran(worker, part);
+    shared.stands();
+    match ran {
+        Ok(ran) => Made {
+            hand: hand_of(ran),
+            answer: Ok(()),
+        },
+        Err(failed) => Made {
+            hand: Held::Part(failed.part),
+            answer: Err(failed.cause),
+        },
+    }
+}
+
+// How many steps can stand in one entry: the private ones, and one more that isn't.
+fn standing(part: &Private, paused: Paused) -> u32
+    requires { part.now.fresh ≤ 257 }
+    ensures { result ≡ standing_by part.now paused }
+{
+    match paused {
+        Paused::Shared => part.fresh + 1,
+        _ => part.fresh,
+    }
+}
+
+// Enters so many steps of the part, where they can stand in one entry.
+fn enter(shared: &mut Shared, worker: u32, part: Private, paused: Paused, steps: u32) -> Made
+    requires room { 0 < shared.old.journal.room }
+    requires first { first_cause shared.old.end shared.old.steps shared.old.settings worker false ≡ None }
+    requires fits { Fits shared.old worker part }
+    requires idle { part.begun ≡ None }
+    requires some { 0 < steps }
+    requires few { steps ≤ 257 }
+    requires within { part.fresh ≤ steps }
+    requires next { IsNext shared.old part paused }
+    requires spent { paused ≡ Paused.Spent → part.fresh ≡ steps }
+    ensures { MakesFor shared.old shared.new worker (record { worker = worker; kind = Kind.Ran part.task steps }) result }
+{
+    if part.fresh == steps {
+        return enter_private(shared, worker, part);
+    }
+    let most = standing(&part, paused);
+    if most == steps {
+        return enter_last(shared, worker, part);
+    }
+    shared.stands();
+    Made {
+        hand: Held::Part(part),
+        answer: Err(NotEntered::Refuses(Refused::Long(most))),
+    }
+}
+
+// The part takes so many steps, which are entered.
+fn ran(shared: &mut Shared, worker: u32, part: Private, steps: u32) -> Made
+    requires room { 0 < shared.old.journal.room }
+    requires first { first_cause shared.old.end shared.old.steps shared.old.settings worker false ≡ None }
+    requires holds { HoldsPart shared.old false worker part }
+    requires some { 0 < steps }
+    requires few { steps ≤ 257 }
+    ensures { MakesFor shared.old shared.new worker (record { worker = worker; kind = Kind.Ran part.task steps }) result }
+{
+    let mut part = part;
+    match run_part(shared, worker, &mut part, steps) {
+        Ok(paused) => enter(shared, worker, part, paused, steps),
+        Err(AllocError) => Made {
+            hand: Held::Part(part),
+            answer: Err(NotEntered::NoMemory),
+        },
+    }
+}
+
+/// A task takes so many steps: all but the last have to be private.
+pub(crate) fn apply_ran(shared: &mut Shared, worker: u32, hand: Held, t: u32, steps: u32) -> Made
+    requires room { 0 < shared.old.journal.room }
+    requires first { first_cause shared.old.end shared.old.steps shared.old.settings worker false ≡ None }
+    requires holds { Holds shared.old false worker hand }
+    requires some { 0 < steps }
+    requires few { steps ≤ 257 }
+    ensures { MakesFor shared.old shared.new worker (record { worker = worker; kind = Kind.Ran t steps }) result }
+{
+    shared.stands();
+    match idle_part(hand, t) {
+        Ok(part) => ran(shared, worker, part, steps),
+        Err(apart) => apart.made(),
+    }
+}

@@ -1,0 +1,30 @@
+// A worker takes a task.
+
+ghost use Rattle.std.specs.Prelude.{◌≡◌, ◌<◌, None, false};
+ghost use Rattle.shared_tree.specs.Causes.{first_cause};
+ghost use Rattle.world_core.specs.Applied.{MakesFor};
+ghost use Rattle.world_core.specs.Whole.{Holds};
+
+use crate::held::{Held, Made};
+use run_trace::Kind;
+use shared_tree::{NotEntered, Shared};
+
+/// A worker takes a task, and holds its part then.
+pub(crate) fn apply_took(shared: &mut Shared, worker: u32, hand: Held, t: u32) -> Made
+    requires room { 0 < shared.old.journal.room }
+    requires first { first_cause shared.old.end shared.old.steps shared.old.settings worker false ≡ None }
+    requires holds { Holds shared.old false worker hand }
+    ensures { MakesFor shared.old shared.new worker (record { worker = worker; kind = Kind.Took t }) result }
+{
+    shared.stands();
+    match shared.took(worker, t) {
+        Ok(part) => Made {
+            hand: Held::Part(part),
+            answer: Ok(()),
+        },
+        Err(cause) => Made {
+            hand,
+            answer: Err(NotEntered::Refuses(cause)),
+        },
+    }
+}

@@ -1,0 +1,160 @@
+// The whole as one value: the shared value and what every worker holds, to which entries are applied one by one.
+
+ghost use Rattle.std.specs.Prelude.{◌≡◌, [], IfOk, false, replicate};
+ghost use Rattle.run_ledger.specs.Heaps.{in_use};
+ghost use Rattle.shared_tree.specs.Stands.{IsWorld};
+ghost use Rattle.shared_tree.specs.World.{accounts};
+ghost use Rattle.world_core.specs.Applied.{AppliesTo};
+ghost use Rattle.world_core.specs.Together.{StandsTogether};
+ghost use Rattle.world_core.specs.Whole.{IsWhole};
+
+use crate::apply::make_entry;
+use crate::held::Held;
+use hh_lang::Program;
+use listed::Listed;
+use run_ledger::{Refused, RunEnd};
+use run_trace::{Entry, Settings};
+use shared_tree::{NotEntered, Shared};
+use std::alloc::{AllocError, Global};
+use std::marker::Model;
+
+/// Why an entry wasn't applied. The world has stopped then.
+#[derive(Clone, Copy, PartialEq, Eq, Debug)]
+pub enum NotApplied {
+    /// The world had stopped: an earlier entry was refused, or found no memory.
+    Stopped,
+    /// The entry is refused.
+    Refuses(Refused),
+    /// There was no memory for what it takes.
+    NoMemory,
+}
+
+/// The shared value and what every worker holds, all in one hand: entries are applied one by one.
+#[derive(Drop)]
+pub struct World {
+    shared: Shared,
+    hands: Listed<Held>,
+    stopped: bool,
+}
+
+impl Model for World {
+    ghost use Rattle.world_core.specs.Whole.{IsWhole, Whole};
+
+    ghost Value = { Whole };
+
+    ghost view = { λ s. record { shared = s.shared; hands = s.hands; stopped = s.stopped } };
+
+    ghost invariant = { λ s. IsWhole (record { shared = s.shared; hands = s.hands; stopped = s.stopped }) };
+}
+
+// Hands that hold nothing.
+fn empty_hands(alloc: Global, workers: u32) -> Result<Listed<Held>, AllocError>
+    ensures { IfOk result (λ hands. hands ≡ replicate workers Held.Nothing) }
+{
+    let mut hands = Listed::new(alloc);
+    for i in 0..workers {
+        let _ = i;
+        hands.push(Held::Nothing)?;
+    }
+    Ok(hands)
+}
+
+impl World {
+    /// Before the first entry.
+    pub fn start(alloc: Global, program: &Program, settings: Settings) -> Result<World, AllocError>
+        ensures program { IfOk result (λ x. x.shared.program ≡ program.now) }
+        ensures settings { IfOk result (λ x. x.shared.settings ≡ settings) }
+        ensures journal { IfOk result (λ x. x.shared.journal.items ≡ []) }
+        ensures goes { IfOk result (λ x. x.stopped ≡ false) }
+    {
+        let shared = Shared::new(alloc, program, settings)?;
+        shared.stands();
+        let hands = empty_hands(alloc, settings.workers())?;
+        Ok(World {
+            shared,
+            hands,
+            stopped: false,
+        })
+    }
+
+    /// Applies an entry. Once one is refused or finds no memory the world has stopped, and applies no other.
+    pub fn apply(&mut self, entry: Entry) -> Result<(), NotApplied>
+        ensures { AppliesTo self.old self.new entry result }
+    {
+        if self.stopped {
+            return Err(NotApplied::Stopped);
+        }
+        match make_entry(&mut self.shared, &mut self.hands, entry) {
+            Ok(()) => Ok(()),
+            Err(NotEntered::Refuses(cause)) => {
+                self.stopped = true;
+                Err(NotApplied::Refuses(cause))
+            }
+            Err(NotEntered::NoMemory) => {
+                self.stopped = true;
+                Err(NotApplied::NoMemory)
+            }
+        }
+    }
+
+    /// What every world keeps: the shared value stands for its journal, which is legal, and what each worker holds fits it;
+    /// with the homes of all parts put in it stands for its accounts.
+    pub fn stands(&self)
+        ensures shared { IsWorld self.now.shared }
+        ensures whole { IsWhole self.now }
+        ensures together { StandsTogether self.now }
+    {
+        self.shared.stands();
+        let _ = self.stopped;
+    }
+
+    /// The shared value alone. What the workers hold is let go of.
+    pub fn into_shared(self) -> Shared
+        ensures { result ≡ self.shared }
+    {
+        let World { shared, .. } = self;
+        shared
+    }
+
+    /// Whether an entry was refused, or found no memory.
+    pub fn has_stopped(&self) -> bool
+        ensures { result ≡ self.now.stopped }
+    {
+        self.stopped
+    }
+
+    /// The entries made so far.
+    pub fn journal(&self) -> &[Entry]
+        ensures { result.now ≡ self.now.shared.journal.items }
+    {
+        self.shared.journal()
+    }
+
+    /// How the run has ended, if it has.
+    pub fn ended(&self) -> Option<RunEnd>
+        ensures { result ≡ (accounts self.now.shared).end }
+    {
+        self.shared.ended()
+    }
+
+    /// What was written out.
+    pub fn outputs(&self) -> &[i64]
+        ensures { result.now ≡ (accounts self.now.shared).machine.outputs }
+    {
+        self.shared.outputs()
+    }
+
+    /// The steps taken.
+    pub fn steps(&self) -> u64
+        ensures { result ≡ (accounts self.now.shared).steps }
+    {
+        self.shared.steps()
+    }
+
+    /// The chunks in use.
+    pub fn in_use(&self) -> u32
+        ensures { result ≡ in_use (accounts self.now.shared) }
+    {
+        self.shared.in_use()
+    }
+}
