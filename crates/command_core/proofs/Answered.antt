@@ -4,32 +4,33 @@ use Rattle.std.specs.Prelude.{Option, Some, None, Result, Ok, Err, length, nat_l
 use Rattle.hh_lang.specs.Form.{ProgramText}
 use Rattle.hh_model.specs.declared.data.End.{End}
 use Rattle.hh_model.specs.declared.data.End.TheVariants.{Done, Trapped, Entangled}
+use Rattle.run_trace.specs.Entry.{Event}
 use Rattle.run_trace.specs.Settings.{Limits}
 use Rattle.run_ledger.specs.declared.data.RunEnd.{RunEnd}
 use Rattle.run_ledger.specs.declared.data.RunEnd.TheVariants.{Machine, Fuel, Pool}
 use Rattle.run_ledger.specs.declared.data.RefusedAt.{RefusedAt}
-use Rattle.run_ledger.specs.Journals.{end_of, refused_as_run}
+use Rattle.run_ledger.specs.Journals.{refused_as_run}
 use Rattle.program_reader.specs.declared.cause.Refused.{Refused}
 use Rattle.program_reader.specs.Program.{reading_of}
-use Rattle.world_core.specs.Ready.{first_unready}
+use Rattle.program_make.specs.Text.{made_text}
 use Rattle.trace_input.specs.declared.input.InputFault.{InputFault}
 use Rattle.trace_input.specs.declared.input.InputFault.TheVariants.{Source, BadLine}
 use Rattle.trace_input.specs.declared.input.TraceInput.{TraceInput}
 use Rattle.trace_input.specs.Input.{input_fault}
+use Rattle.race_report.specs.declared.data.Race.{Race}
+use Rattle.image_check.specs.declared.cause.Fault.{Fault}
+use Rattle.image_check.specs.Fault.{image_fault, objects_in}
 use Rattle.command_line.specs.declared.line.Options.{Options}
 use Rattle.command_line.specs.declared.line.CommandLine.{CommandLine}
-use Rattle.command_line.specs.declared.line.CommandLine.TheVariants.{Check, Run, Model, Races, Make, Verify}
+use Rattle.command_line.specs.declared.line.CommandLine.TheVariants.{Check, Run, Replay, Model, Races, Make, Verify}
 use Rattle.command_core.specs.declared.answer.Status.{Status}
 use Rattle.command_core.specs.declared.answer.Status.TheVariants.{ReadFault}
 use Rattle.command_core.specs.declared.answer.Answer.{Answer}
 use Rattle.command_core.specs.declared.answer.Ran.{Ran}
 use Rattle.command_core.specs.Status.{status_of_end}
 use Rattle.command_core.specs.Input.{program_limit, trace_limit}
-use Rattle.run_trace.specs.Entry.{Event}
-use Rattle.race_report.specs.declared.data.Race.{Race}
-use Rattle.image_check.specs.declared.cause.Fault.{Fault}
-use Rattle.image_check.specs.Fault.{image_fault, objects_in}
-use Rattle.command_core.specs.Answers.{IsText, WhereWithin, AnswersReading, AnswersProgram, AnswersProgramRead, AnswersEnded, AnswersJournal, AnswersTraceInput, AnswersLine, limits_for, races_status, races_limits, AnswersRacesOf, AnswersRacesInput, AnswersImage}
+use Rattle.command_core.specs.Runs.{IsWholeRun}
+use Rattle.command_core.specs.Answers.{IsText, WhereWithin, WhereProgram, AnswersText, AnswersProgram, AnswersRun, AnswersFault, WhereWhole, AnswersTrace, WhereTraced, AnswersTraced, IsReplay, IsModelled, IsRaceAnswer, limits_for, races_status, AnswersImage, AnswersMake, AnswersLine}
 use Rattle.command_core.specs.Delivery.{IsAnswered, Delivered}
 
 text : (named : Status) (bytes : List ℕ) (a : Answer) → IsAnswered named → IsText named bytes a → IsAnswered a.status
@@ -49,54 +50,57 @@ within : (b : Bool) (P : Answer → Type 0) (a : Answer) → (P a → IsAnswered
 within true P a f h = f h
 within false P a f h = text _ _ a tt h
 
-reading : (r : Result ProgramText Refused) (a : Answer) → AnswersReading r a → IsAnswered a.status
-reading (Ok p) a h = text _ _ a tt h
-reading (Err r) a h = text _ _ a tt h
+read_text : (P : ProgramText → Answer → Type 0) (r : Result ProgramText Refused) (a : Answer) → ((p : ProgramText) → P p a → IsAnswered a.status) → WhereProgram P r a → IsAnswered a.status
+read_text P (Ok p) a f h = f p h
+read_text P (Err r) a f h = text _ _ a tt h
 
-program : (p : ProgramText) (at : Option ℕ) (a : Answer) → AnswersProgram p at a → IsAnswered a.status
-program p None a h = subst IsAnswered (sym h.status) (end h.end)
-program p (Some at) a h = text _ _ a tt h
+of_text : (P : ProgramText → Answer → Type 0) (input : List ℕ) (a : Answer) → ((p : ProgramText) → P p a → IsAnswered a.status) → AnswersText P input a → IsAnswered a.status
+of_text P input a f h = within (nat_le (length input) program_limit) (WhereProgram P (reading_of input)) a (read_text P (reading_of input) a f) h
 
-program_read : (r : Result ProgramText Refused) (a : Answer) → AnswersProgramRead r a → IsAnswered a.status
-program_read (Ok p) a h = program p (first_unready p) a h
-program_read (Err r) a h = text _ _ a tt h
+whole : (p : ProgramText) (s : Limits) (report trace : Bool) (a : Answer) → IsWholeRun p s report trace a → IsAnswered a.status
+whole p s report trace a h = subst IsAnswered (sym h.status) (end h.end)
 
-ended : (p : ProgramText) (s : Limits) (o : Options) (t : TraceInput) (e : Option RunEnd) (a : Answer) → AnswersEnded p s o t e a → IsAnswered a.status
-ended p s o t None a h = absurd h
-ended p s o t (Some e) a h = text _ _ a (end e) h
+of_run : (o : Options) (input : List ℕ) (a : Answer) → AnswersRun o input a → IsAnswered a.status
+of_run o input a h = of_text (AnswersProgram o) input a (λ p k. whole p o.settings o.report o.trace a k.0) h
 
-journal : (p : ProgramText) (s : Limits) (o : Options) (t : TraceInput) (r : Option RefusedAt) (a : Answer) → AnswersJournal p s o t r a → IsAnswered a.status
-journal p s o t (Some r) a h = text _ _ a tt h
-journal p s o t None a h = ended p s o t (end_of p s t.trace.entries) a h
+fault : (f : InputFault) (a : Answer) → AnswersFault f a → IsAnswered a.status
+fault (Source r) a h = text _ _ a tt h
+fault (BadLine n) a h = text _ _ a tt h
 
-trace_input : (o : Options) (input : List ℕ) (f : Option InputFault) (a : Answer) → AnswersTraceInput o input f a → IsAnswered a.status
-trace_input o input (Some (Source r)) a h = text _ _ a tt h
-trace_input o input (Some (BadLine n)) a h = text _ _ a tt h
-trace_input o input None a h = let t = h.0 in journal t.program (limits_for o t) o t (refused_as_run t.program (limits_for o t) t.trace.entries) a h.2
+where_whole : (P : Answer → Type 0) (r : Option RefusedAt) (a : Answer) → (P a → IsAnswered a.status) → WhereWhole P r a → IsAnswered a.status
+where_whole P None a f h = f h
+where_whole P (Some r) a f h = text _ _ a tt h
+
+traced : (P : TraceInput → Answer → Type 0) (input : List ℕ) (f : Option InputFault) (a : Answer) → ((t : TraceInput) → P t a → IsAnswered a.status) → WhereTraced P input f a → IsAnswered a.status
+traced P input None a g h = g h.0 h.2
+traced P input (Some f) a g h = fault f a h
+
+of_trace : (P : ProgramText → Limits → List Event → Answer → Type 0) (s : Limits) (input : List ℕ) (a : Answer)
+    → ((p : ProgramText) (l : Limits) (entries : List Event) → P p l entries a → IsAnswered a.status) → AnswersTraced P s input a → IsAnswered a.status
+of_trace P s input a f h =
+    within (nat_le (length input) trace_limit) (WhereTraced (AnswersTrace P s) input (input_fault input)) a
+    (traced (AnswersTrace P s) input (input_fault input) a
+    (λ t. where_whole (P t.program (limits_for s t) t.trace.entries) (refused_as_run t.program (limits_for s t) t.trace.entries) a (f t.program (limits_for s t) t.trace.entries))) h
 
 races_are : (races : List Race) → IsAnswered (races_status races)
 races_are [] = tt
 races_are (r ∷ rs) = tt
 
-races_of : (p : ProgramText) (s : Limits) (js : List Event) (r : Option RefusedAt) (a : Answer) → AnswersRacesOf p s js r a → IsAnswered a.status
-races_of p s js (Some r) a h = text _ _ a tt h
-races_of p s js None a h = text _ _ a (races_are h.races) h.text
-
-races_input : (s : Limits) (input : List ℕ) (f : Option InputFault) (a : Answer) → AnswersRacesInput s input f a → IsAnswered a.status
-races_input s input (Some (Source r)) a h = text _ _ a tt h
-races_input s input (Some (BadLine n)) a h = text _ _ a tt h
-races_input s input None a h = let t = h.0 in races_of t.program (races_limits s t) t.trace.entries (refused_as_run t.program (races_limits s t) t.trace.entries) a h.2
-
 image : (f : Option Fault) (objects : ℕ) (a : Answer) → AnswersImage f objects a → IsAnswered a.status
 image (Some f) objects a h = text _ _ a tt h
 image None objects a h = text _ _ a tt h
 
+of_make : (seed size : ℕ) (run : Bool) (a : Answer) → AnswersMake seed size run a → IsAnswered a.status
+of_make seed size false a h = text _ _ a tt h
+of_make seed size true a h = of_run _ (made_text seed size) a h
+
 pub answered : (line : CommandLine) (input : List ℕ) (a : Answer) → AnswersLine line input a → IsAnswered a.status
-answered (Check file) input a h = within (nat_le (length input) program_limit) (AnswersReading (reading_of input)) a (reading (reading_of input) a) h
-answered (Run file) input a h = within (nat_le (length input) program_limit) (AnswersProgramRead (reading_of input)) a (program_read (reading_of input) a) h
-answered (Model file o) input a h = within (nat_le (length input) trace_limit) (AnswersTraceInput o input (input_fault input)) a (trace_input o input (input_fault input) a) h
-answered (Races file s) input a h = within (nat_le (length input) trace_limit) (AnswersRacesInput s input (input_fault input)) a (races_input s input (input_fault input) a) h
-answered (Make seed size) input a h = text _ _ a tt h
+answered (Check file) input a h = of_text _ input a (λ p k. text _ _ a tt k) h
+answered (Run file o) input a h = of_run o input a h
+answered (Replay file o) input a h = of_trace (IsReplay o) o.settings input a (λ p s entries k. whole p s o.report o.trace a k.0) h
+answered (Model file o) input a h = of_trace (IsModelled o) o.settings input a (λ p s entries k. text _ _ a (end k.end) k.text) h
+answered (Races file s) input a h = of_trace IsRaceAnswer s input a (λ p l entries k. text _ _ a (races_are k.races) k.text) h
+answered (Make seed size run) input a h = of_make seed size run a h
 answered (Verify file) input a h = image (image_fault input) (objects_in input) a h
 
 -- what was written isn't told as a read fault

@@ -1,6 +1,8 @@
 pub mod Inputs
 pub mod Texts
 pub mod Runs
-pub mod RacesTold
+pub mod Traces
+pub mod ImagesTold
 pub mod Answered
 pub mod Deliveries
+pub mod Given

@@ -1,67 +1,174 @@
 -- What is answered of runs.
-use Rattle.std.proofs.Common.{◌∙◌, ◌≡◌, ℕ, List, ◌++◌, ap, sym, subst, [], append-nil}
-use Rattle.std.specs.Prelude.{Some, None, false}
+use Rattle.std.proofs.Common.{◌∙◌, ◌≡◌, ◌+◌, ◌++◌, ℕ, Bool, List, [], true, true≢false, ap, ap₂, refl, sym, subst, append-nil, length}
+use Rattle.std.specs.Prelude.{Option, Some, None, false}
 use Rattle.hh_model.specs.declared.data.State.{State}
 use Rattle.hh_lang.specs.Form.{ProgramText}
 use Rattle.run_trace.specs.Entry.{Event}
-use Rattle.run_trace.specs.Settings.{Limits, usual_limits}
+use Rattle.run_trace.specs.Settings.{Limits}
 use Rattle.run_ledger.specs.declared.data.RunEnd.{RunEnd}
 use Rattle.run_ledger.specs.declared.data.RefusedAt.{RefusedAt}
-use Rattle.run_ledger.specs.Journals.{end_of, ledger_of, machine_of, refused_as_run}
-use Rattle.run_ledger.specs.Text.{out_text, output_lines, end_line_of, refused_line}
-use Rattle.run_ledger.specs.declared.data.Ledger.{Ledger}
+use Rattle.run_ledger.specs.Journals.{IsPrefix, end_of, first_refused, is_legal, machine_of, or_short, refused_as_run}
+use Rattle.run_ledger.specs.Pace.{is_paced}
+use Rattle.run_ledger.specs.Text.{end_line, end_line_of, end_words, out_text, output_lines, refused_line}
+use Rattle.run_ledger.proofs.Cuts.{first_refused_is_first}
 use Rattle.run_ledger.proofs.Machine.{machine_is_run}
-use Rattle.shared_tree.specs.World.{World, accounts}
+use Rattle.run_report.specs.Written.{trace_part}
+use Rattle.shared_tree.specs.World.{World, accounts, without_journal}
 use Rattle.shared_tree.specs.Stands.{IsWorld}
-use Rattle.world_core.specs.Alone.{IsRun}
 use Rattle.trace_input.specs.declared.input.TraceInput.{TraceInput}
 use Rattle.command_line.specs.declared.line.Options.{Options}
-use Rattle.command_core.specs.declared.answer.Status.{Status}
-use Rattle.command_core.specs.declared.answer.Status.TheVariants.{Trace}
+use Rattle.worker_run.specs.declared.end.Finish.{Finish}
+use Rattle.worker_run.specs.declared.end.Finish.TheVariants.{Ended, NoMemory}
+use Rattle.worker_run.specs.Outcomes.{IsRun, finish_of}
 use Rattle.command_core.specs.declared.answer.Answer.{Answer}
+use Rattle.command_core.specs.declared.answer.Status.TheVariants.{Trace}
+use Rattle.command_core.specs.declared.wanted.Wanted.{Wanted}
+use Rattle.command_core.specs.declared.wanted.Wanted.TheVariants.{Amid}
 use Rattle.command_core.specs.Status.{status_of_end}
-use Rattle.command_core.specs.Answers.{IsText, IsAnswerOf, IsWholeRun, AnswersEnded, AnswersJournal, AnswersTrace, limits_for}
+use Rattle.command_core.specs.Answers.{AnswersTrace, IsReplay, IsText, WhereWhole, limits_for, short_of}
+use Rattle.command_core.specs.Delivery.{IsWanted}
+use Rattle.command_core.specs.Runs.{HandsBack, IsReplayedRun, IsWorkersRun, LeavesPaced, LeavesPrefix}
+use Rattle.command_core.proofs.Traces.{trace_told}
 
--- where neither the report nor the trace is asked for, what is written of a journal are its outputs and its end
-outputs_are_written : (p : ProgramText) (s : Limits) (journal : List Event) → out_text p s false false journal ≡ output_lines (machine_of p s journal).outputs ++ end_line_of (end_of p s journal)
-outputs_are_written p s journal =
-    let lines = output_lines (machine_of p s journal).outputs in
-    ap (λ xs. xs ++ end_line_of (end_of p s journal)) (append-nil (lines ++ []) ∙ append-nil lines)
+-- a legal journal with an end is one of a whole run
+pub whole_journal : (p : ProgramText) (s : Limits) (journal : List Event) (end : RunEnd) → is_legal p s journal ≡ true → end_of p s journal ≡ Some end → refused_as_run p s journal ≡ None
+whole_journal p s journal end legal ended =
+    ap₂ (λ (r : Option RefusedAt) (e : Option RunEnd). or_short r e (length journal + 1)) ((first_refused_is_first p s journal).none.1 legal) ended
 
--- a run, and the answer made of what it left
-pub whole_run : (p : ProgramText) (held : World) (end : RunEnd) (a : Answer) → IsWorld held → IsRun p usual_limits held end → IsAnswerOf held end a → IsWholeRun p a
-whole_run p held end a stands run answer =
-    let journal : List Event = held.journal.items in
-    let same : accounts held ≡ ledger_of p usual_limits journal =
-    ap (λ (q : ProgramText). ledger_of q held.settings journal) run.keeps.program ∙ ap (λ (t : Limits). ledger_of p t journal) run.keeps.settings in
-    let outputs : (accounts held).machine.outputs ≡ (machine_of p usual_limits journal).outputs =
-    ap (λ (l : Ledger). l.machine.outputs) same ∙ ap (λ (m : State). m.outputs) (machine_is_run p usual_limits journal) in
-    record {
-      held = held;
-      stands = stands;
-      end = end;
-      run = run;
-      status = answer.status;
-      bytes = answer.bytes ∙ (ap (λ xs. output_lines xs ++ end_line_of (Some end)) outputs ∙ (ap (λ e. output_lines (machine_of p usual_limits journal).outputs ++ end_line_of e) (sym run.ended) ∙ sym (outputs_are_written p usual_limits journal)));
-      journal = answer.journal;
-      shared = answer.shared;
-    }
+-- and one without an end is refused as short
+pub short_journal : (p : ProgramText) (s : Limits) (journal : List Event) → is_legal p s journal ≡ true → end_of p s journal ≡ None
+    → refused_as_run p s journal ≡ Some (short_of journal)
+short_journal p s journal legal none =
+    ap₂ (λ (r : Option RefusedAt) (e : Option RunEnd). or_short r e (length journal + 1)) ((first_refused_is_first p s journal).none.1 legal) none
 
--- a journal of a whole run
-pub answers_ended : (o : Options) (t : TraceInput) (s : Limits) (journal : List Event) (end : RunEnd) (named : Status) (bytes : List ℕ) (a : Answer)
-    → s ≡ limits_for o t → journal ≡ t.trace.entries → refused_as_run t.program s journal ≡ None → end_of t.program s journal ≡ Some end
-    → named ≡ status_of_end end → bytes ≡ out_text t.program s o.report o.trace journal → IsText named bytes a → AnswersTrace o t a
-answers_ended o t s journal end named bytes a settings entries none e status text h =
-    let none' = subst (λ x. refused_as_run t.program x t.trace.entries ≡ None) settings (subst (λ j. refused_as_run t.program s j ≡ None) entries none) in
-    let e' = subst (λ x. end_of t.program x t.trace.entries ≡ Some end) settings (subst (λ j. end_of t.program s j ≡ Some end) entries e) in
-    let text' = subst (λ x. bytes ≡ out_text t.program x o.report o.trace t.trace.entries) settings (subst (λ j. bytes ≡ out_text t.program s o.report o.trace j) entries text) in
-    subst (λ r. AnswersJournal t.program (limits_for o t) o t r a) (sym none')
-    (subst (λ x. AnswersEnded t.program (limits_for o t) o t x a) (sym e')
-    (subst (λ n. IsText n (out_text t.program (limits_for o t) o.report o.trace t.trace.entries) a) status (subst (λ x. IsText named x a) text' h)))
+pub whole_shared : (w : World) (p : ProgramText) (s : Limits) (journal : List Event) (end : RunEnd) → IsWorld w → (accounts w).end ≡ Some end
+    → p ≡ w.program → s ≡ w.settings → journal ≡ w.journal.items → refused_as_run p s journal ≡ None
+whole_shared w p s journal end stands ended program settings is =
+    subst (λ q. refused_as_run q s journal ≡ None) (sym program) (subst (λ l. refused_as_run w.program l journal ≡ None) (sym settings)
+    (subst (λ j. refused_as_run w.program w.settings j ≡ None) (sym is) (whole_journal w.program w.settings w.journal.items end stands.legal ended)))
 
--- a journal that is refused
-pub answers_refused : (o : Options) (t : TraceInput) (s : Limits) (journal : List Event) (r : RefusedAt) (bytes : List ℕ) (a : Answer)
-    → s ≡ limits_for o t → journal ≡ t.trace.entries → refused_as_run t.program s journal ≡ Some r → bytes ≡ refused_line r → IsText Trace bytes a → AnswersTrace o t a
-answers_refused o t s journal r bytes a settings entries e text h =
-    let e' = subst (λ x. refused_as_run t.program x t.trace.entries ≡ Some r) settings (subst (λ j. refused_as_run t.program s j ≡ Some r) entries e) in
-    subst (λ x. AnswersJournal t.program (limits_for o t) o t x a) (sym e') (subst (λ x. IsText Trace x a) text h)
+-- what is written of it with the report
+pub reported : (w : World) (p : ProgramText) (s : Limits) (journal : List Event) (asked trace : Bool) (bytes : List ℕ) → asked ≡ true → p ≡ w.program → s ≡ w.settings → journal ≡ w.journal.items
+    → bytes ≡ out_text p s true trace journal → bytes ≡ out_text w.program w.settings asked trace w.journal.items
+reported w p s journal asked trace bytes wants program settings is e =
+    subst (λ b. bytes ≡ out_text w.program w.settings b trace w.journal.items) (sym wants)
+    (subst (λ j. bytes ≡ out_text w.program w.settings true trace j) is
+    (subst (λ l. bytes ≡ out_text w.program l true trace journal) settings
+    (subst (λ q. bytes ≡ out_text q s true trace journal) program e)))
+
+-- a journal with a refused entry is refused for that
+pub refused_first : (p : ProgramText) (s : Limits) (journal : List Event) (r : RefusedAt) → first_refused p s journal ≡ Some r → refused_as_run p s journal ≡ Some r
+refused_first p s journal r is = ap (λ (o : Option RefusedAt). or_short o (end_of p s journal) (length journal + 1)) is
+
+-- without a report all that is written is what the shared value has
+pub brief_text : (w : World) (end : RunEnd) (trace : Bool) → (accounts w).end ≡ Some end
+    → output_lines (accounts w).machine.outputs ++ trace_part trace w.settings.version w.journal.items ++ end_line (end_words end) ≡ out_text w.program w.settings false trace w.journal.items
+brief_text w end trace ended =
+    let lines = output_lines (machine_of w.program w.settings w.journal.items).outputs in
+    ap₂ (λ (m : State) (e : Option RunEnd). output_lines m.outputs ++ trace_part trace w.settings.version w.journal.items ++ end_line_of e) (machine_is_run w.program w.settings w.journal.items) (sym ended)
+    ∙ ap (λ xs. xs ++ trace_part trace w.settings.version w.journal.items ++ end_line_of (end_of w.program w.settings w.journal.items)) (sym (append-nil lines))
+
+pub unreported : (w : World) (end : RunEnd) (asked trace : Bool) (bytes : List ℕ) → asked ≡ false → (accounts w).end ≡ Some end
+    → bytes ≡ output_lines (accounts w).machine.outputs ++ trace_part trace w.settings.version w.journal.items ++ end_line (end_words end)
+    → bytes ≡ out_text w.program w.settings asked trace w.journal.items
+unreported w end asked trace bytes wants ended e =
+    subst (λ b. bytes ≡ out_text w.program w.settings b trace w.journal.items) (sym wants) (e ∙ brief_text w end trace ended)
+
+-- what is handed back of a shared value
+pub handed : (p : ProgramText) (s : Limits) (w : World) (journal : List Event) (shared : Option World) → IsWorld w → w.program ≡ p → w.settings ≡ s
+    → journal ≡ w.journal.items → shared ≡ Some (without_journal w) → HandsBack p s journal shared
+handed p s w journal shared stands program settings moved left = record {
+  held = w;
+  stands = stands;
+  program = program;
+  settings = settings;
+  legal = subst (λ j. is_legal p s j ≡ true) (sym moved) (subst (λ l. is_legal p l w.journal.items ≡ true) settings (subst (λ q. is_legal q w.settings w.journal.items ≡ true) program stands.legal));
+  moved = moved;
+  left = left;
+}
+
+-- the answer of a run that has ended so
+pub ended_run : (w : World) (end : RunEnd) (report trace : Bool) (a : Answer) → IsWorld w → (accounts w).end ≡ Some end
+    → a.status ≡ status_of_end end → a.bytes ≡ out_text w.program w.settings report trace w.journal.items → a.journal ≡ w.journal.items → a.shared ≡ Some (without_journal w)
+    → IsReplayedRun w.program w.settings report trace w.journal.items a
+ended_run w end report trace a stands ended status bytes journal shared = (
+  record {
+    back = handed w.program w.settings w a.journal a.shared stands refl refl journal shared;
+    end = end;
+    ended = subst (λ j. end_of w.program w.settings j ≡ Some end) (sym journal) ended;
+    status = status;
+    bytes = subst (λ j. a.bytes ≡ out_text w.program w.settings report trace j) (sym journal) bytes;
+  },
+  journal,
+)
+
+-- WORKERS
+
+-- a run by workers has ended so
+pub workers_run : (p : ProgramText) (s : Limits) (report trace : Bool) (w : World) (a : Answer) → IsRun p s w → IsReplayedRun w.program w.settings report trace w.journal.items a
+    → IsWorkersRun p s report trace a
+workers_run p s report trace w a run h =
+    let at : IsReplayedRun p s report trace w.journal.items a =
+    subst (λ l. IsReplayedRun p l report trace w.journal.items a) run.settings (subst (λ q. IsReplayedRun q w.settings report trace w.journal.items a) run.program h) in
+    (at.0, subst (λ j. is_paced p s j ≡ true) (sym at.1) run.paced)
+
+-- memory was wanting amid it
+pub workers_left : (p : ProgramText) (s : Limits) (w : World) (found : Wanted) → IsRun p s w → found ≡ Amid w.journal.items (without_journal w) → IsWanted (LeavesPaced p s) found
+workers_left p s w found run is =
+    subst (IsWanted (LeavesPaced p s)) (sym is) (handed p s w w.journal.items (Some (without_journal w)) run.stands run.program run.settings refl refl, run.paced)
+
+-- the end that workers tell is that of their journal
+pub told_end : (p : ProgramText) (s : Limits) (w : World) (end : RunEnd) → IsRun p s w → Ended end ≡ finish_of (end_of p s w.journal.items) → (accounts w).end ≡ Some end
+told_end p s w end run is =
+    let at : end_of p s w.journal.items ≡ Some end = of_finish (end_of p s w.journal.items) is in
+    subst (λ q. end_of q w.settings w.journal.items ≡ Some end) (sym run.program) (subst (λ l. end_of p l w.journal.items ≡ Some end) (sym run.settings) at)
+  where
+    end_in : Finish → RunEnd → RunEnd
+    end_in (Ended e) other = e
+    end_in NoMemory other = other
+
+    is_ended : Finish → Bool
+    is_ended (Ended e) = true
+    is_ended NoMemory = false
+
+    of_finish : (o : Option RunEnd) → Ended end ≡ finish_of o → o ≡ Some end
+    of_finish (Some e) h = ap (λ f. Some (end_in f end)) (sym h)
+    of_finish None h = absurd (true≢false (ap is_ended h))
+
+-- ENTRIES
+
+abbrev pub OfShared : World → Bool → Bool → Answer → Type 0
+OfShared w report trace = WhereWhole (IsReplayedRun w.program w.settings report trace w.journal.items) (refused_as_run w.program w.settings w.journal.items)
+
+-- all are made, and the run has ended so, or not
+pub made_ended : (w : World) (end : RunEnd) (report trace : Bool) (a : Answer) → IsWorld w → (accounts w).end ≡ Some end → IsReplayedRun w.program w.settings report trace w.journal.items a → OfShared w report trace a
+made_ended w end report trace a stands ended h =
+    subst (λ (r : Option RefusedAt). WhereWhole (IsReplayedRun w.program w.settings report trace w.journal.items) r a)
+    (sym (whole_journal w.program w.settings w.journal.items end stands.legal ended)) h
+
+pub made_short : (w : World) (report trace : Bool) (a : Answer) → IsWorld w → (accounts w).end ≡ None → IsText Trace (refused_line (short_of w.journal.items)) a → OfShared w report trace a
+made_short w report trace a stands none h =
+    subst (λ (r : Option RefusedAt). WhereWhole (IsReplayedRun w.program w.settings report trace w.journal.items) r a)
+    (sym (short_journal w.program w.settings w.journal.items stands.legal none)) h
+
+-- where all entries are made
+pub made_told : (o : Options) (t : TraceInput) (s : Limits) (entries : List Event) (w : World) (a : Answer) → s ≡ limits_for o.settings t → entries ≡ t.trace.entries
+    → w.program ≡ t.program → w.settings ≡ s → w.journal.items ≡ entries
+    → WhereWhole (IsReplayedRun w.program w.settings o.report o.trace w.journal.items) (refused_as_run w.program w.settings w.journal.items) a → AnswersTrace (IsReplay o) o.settings t a
+made_told o t s entries w a limits is program settings journal h =
+    trace_told (IsReplay o) o.settings t s entries (refused_as_run t.program s entries) a limits is refl
+    (subst (λ j. WhereWhole (IsReplayedRun t.program s o.report o.trace j) (refused_as_run t.program s j) a) journal
+    (subst (λ l. WhereWhole (IsReplayedRun t.program l o.report o.trace w.journal.items) (refused_as_run t.program l w.journal.items) a) settings
+    (subst (λ q. WhereWhole (IsReplayedRun q w.settings o.report o.trace w.journal.items) (refused_as_run q w.settings w.journal.items) a) program h)))
+
+-- memory was wanting amid them
+pub entries_left : (o : Options) (t : TraceInput) (s : Limits) (entries : List Event) (w : World) (found : Wanted) → s ≡ limits_for o.settings t → entries ≡ t.trace.entries
+    → IsWorld w → w.program ≡ t.program → w.settings ≡ s → IsPrefix w.journal.items entries → found ≡ Amid w.journal.items (without_journal w)
+    → IsWanted (LeavesPrefix t.program (limits_for o.settings t) t.trace.entries) found
+entries_left o t s entries w found limits is stands program settings prefix found_is =
+    subst (IsWanted (LeavesPrefix t.program (limits_for o.settings t) t.trace.entries)) (sym found_is)
+    (handed t.program (limits_for o.settings t) w w.journal.items (Some (without_journal w)) stands program (settings ∙ limits) refl refl, subst (IsPrefix w.journal.items) is prefix)
+
+-- all of them are a first part
+pub all_prefix : (journal entries : List Event) → journal ≡ entries → IsPrefix journal entries
+all_prefix journal entries is = ([], sym is ∙ sym (append-nil journal))

@@ -1,14 +1,15 @@
 -- What each command answers to its input: the bytes, the status, and what is handed back.
-use Rattle.std.specs.Prelude.{◌≡◌, ℕ, true, false, Bool, Option, Some, None, List, [], ◌∷◌, ◌++◌, Result, Ok, Err, length, nat_le, codes}
+use Rattle.std.specs.Prelude.{◌≡◌, ◌+◌, ℕ, true, false, Bool, Option, Some, None, List, [], ◌∷◌, Result, Ok, Err, length, nat_le, codes}
 use Rattle.std.specs.Fmt.{decimal}
 use Rattle.hh_lang.specs.Form.{ProgramText}
 use Rattle.run_trace.specs.Settings.{Limits, field_limit, usual_limits}
-use Rattle.run_ledger.specs.declared.data.RunEnd.{RunEnd}
-use Rattle.run_ledger.specs.declared.data.RefusedAt.{RefusedAt}
 use Rattle.run_trace.specs.Entry.{Event}
+use Rattle.run_ledger.specs.declared.data.RunEnd.{RunEnd}
+use Rattle.run_ledger.specs.declared.data.Refused.TheVariants.{Short}
+use Rattle.run_ledger.specs.declared.data.RefusedAt.{RefusedAt}
 use Rattle.run_ledger.specs.Journals.{end_of, refused_as_run, machine_of, tasks_of}
-use Rattle.run_ledger.specs.Text.{end_line, end_words, out_text, output_lines, refused_line}
-use Rattle.program_reader.specs.declared.cause.Cause.TheVariants.{TooLong, Word}
+use Rattle.run_ledger.specs.Text.{end_line, out_text, refused_line}
+use Rattle.program_reader.specs.declared.cause.Cause.TheVariants.{TooLong}
 use Rattle.program_reader.specs.declared.cause.Refused.{Refused}
 use Rattle.program_reader.specs.Cause.{text_of_cause}
 use Rattle.program_reader.specs.Program.{reading_of}
@@ -17,10 +18,7 @@ use Rattle.trace_input.specs.declared.input.InputFault.{InputFault}
 use Rattle.trace_input.specs.declared.input.InputFault.TheVariants.{Source as SourceFault, BadLine}
 use Rattle.trace_input.specs.declared.input.TraceInput.{TraceInput}
 use Rattle.trace_input.specs.Input.{input_fault, IsInput}
-use Rattle.shared_tree.specs.World.{World, accounts, without_journal}
-use Rattle.shared_tree.specs.Stands.{IsWorld}
-use Rattle.world_core.specs.Ready.{first_unready}
-use Rattle.world_core.specs.Alone.{IsRun}
+use Rattle.shared_tree.specs.World.{World}
 use Rattle.race_report.specs.declared.data.Race.{Race}
 use Rattle.race_report.specs.Accesses.{accesses}
 use Rattle.race_report.specs.Report.{IsReport}
@@ -30,12 +28,13 @@ use Rattle.image_check.specs.Cause.{text_of_cause as text_of_fault}
 use Rattle.image_check.specs.Fault.{image_fault, objects_in}
 use Rattle.command_line.specs.declared.line.Options.{Options}
 use Rattle.command_line.specs.declared.line.CommandLine.{CommandLine}
-use Rattle.command_line.specs.declared.line.CommandLine.TheVariants.{Check, Run, Model, Races, Make, Verify}
+use Rattle.command_line.specs.declared.line.CommandLine.TheVariants.{Check, Run, Replay, Model, Races, Make, Verify}
 use Rattle.command_core.specs.declared.answer.Status.{Status}
 use Rattle.command_core.specs.declared.answer.Status.TheVariants.{Done, Words, Source, Trace, Races as RacesFound, Image}
 use Rattle.command_core.specs.declared.answer.Answer.{Answer}
 use Rattle.command_core.specs.Status.{status_of_end}
 use Rattle.command_core.specs.Input.{program_limit, trace_limit}
+use Rattle.command_core.specs.Runs.{IsReplayedRun, IsWorkersRun, LeavesPaced, LeavesPrefix}
 
 -- bytes alone; nothing of a run is handed back
 pub record IsText (named : Status) (bytes : List ℕ) (a : Answer) : Type 0 where
@@ -61,81 +60,84 @@ AnswersRefused r = IsText Source (source_line r)
 abbrev pub too_long : Refused
 too_long = record { line = 0; cause = TooLong }
 
--- CHECK
-
-abbrev pub AnswersReading : Result ProgramText Refused → Answer → Type 0
-AnswersReading (Ok p) = IsText Done (end_line (codes "accepted" ∷ []))
-AnswersReading (Err r) = AnswersRefused r
+-- INPUTS
 
 -- an input within the limit is answered so, and any other is too long
 abbrev pub WhereWithin : Bool → (Answer → Type 0) → Answer → Type 0
 WhereWithin true P = P
 WhereWithin false P = AnswersRefused too_long
 
+-- a text that is a program is answered so, and any other by its first fault
+abbrev pub WhereProgram : (ProgramText → Answer → Type 0) → Result ProgramText Refused → Answer → Type 0
+WhereProgram P (Ok p) = P p
+WhereProgram P (Err r) = AnswersRefused r
+
+abbrev pub AnswersText : (ProgramText → Answer → Type 0) → List ℕ → Answer → Type 0
+AnswersText P input = WhereWithin (nat_le (length input) program_limit) (WhereProgram P (reading_of input))
+
+-- CHECK
+
 abbrev pub AnswersCheck : List ℕ → Answer → Type 0
-AnswersCheck input = WhereWithin (nat_le (length input) program_limit) (AnswersReading (reading_of input))
+AnswersCheck = AnswersText (λ p. IsText Done (end_line (codes "accepted" ∷ [])))
 
 -- RUN
 
--- a run of the usual limits: its journal is legal and paced and has an end, and the shared value stands for it; the bytes and the
--- status are those of the journal, by the definitions alone; the journal is handed back, moved out of the shared value
-pub record IsWholeRun (p : ProgramText) (a : Answer) : Type 0 where
-  pub held : World
-  pub stands : IsWorld held
-  pub end : RunEnd
-  pub run : IsRun p usual_limits held end
-  pub status : a.status ≡ status_of_end end
-  pub bytes : a.bytes ≡ out_text p usual_limits false false held.journal.items
-  pub journal : a.journal ≡ held.journal.items
-  pub shared : a.shared ≡ Some (without_journal held)
+abbrev pub AnswersProgram : Options → ProgramText → Answer → Type 0
+AnswersProgram o p = IsWorkersRun p o.settings o.report o.trace
 
--- the same by what was run: its outputs and the end line
-pub record IsAnswerOf (held : World) (end : RunEnd) (a : Answer) : Type 0 where
-  pub status : a.status ≡ status_of_end end
-  pub bytes : a.bytes ≡ output_lines (accounts held).machine.outputs ++ end_line (end_words end)
-  pub journal : a.journal ≡ held.journal.items
-  pub shared : a.shared ≡ Some (without_journal held)
+abbrev pub AnswersRun : Options → List ℕ → Answer → Type 0
+AnswersRun o = AnswersText (AnswersProgram o)
 
--- a program is run where each of its instructions is one that runs; else the first other one is refused as a word
-abbrev pub AnswersProgram : ProgramText → Option ℕ → Answer → Type 0
-AnswersProgram p None = IsWholeRun p
-AnswersProgram p (Some at) = AnswersRefused (record { line = at; cause = Word })
-
-abbrev pub AnswersProgramRead : Result ProgramText Refused → Answer → Type 0
-AnswersProgramRead (Ok p) = AnswersProgram p (first_unready p)
-AnswersProgramRead (Err r) = AnswersRefused r
-
-abbrev pub AnswersRun : List ℕ → Answer → Type 0
-AnswersRun input = WhereWithin (nat_le (length input) program_limit) (AnswersProgramRead (reading_of input))
-
--- MODEL
+-- PROGRAMS WITH A TRACE
 
 -- a bad line of a trace
 abbrev pub bad_line : ℕ → List ℕ
 bad_line n = end_line (codes "trace refused line" ∷ decimal n ∷ [])
 
-abbrev pub AnswersEnded : ProgramText → Limits → Options → TraceInput → Option RunEnd → Answer → Type 0
-AnswersEnded p s o t None a = ⊥
-AnswersEnded p s o t (Some end) a = IsText (status_of_end end) (out_text p s o.report o.trace t.trace.entries) a
+abbrev pub AnswersFault : InputFault → Answer → Type 0
+AnswersFault (SourceFault r) = AnswersRefused r
+AnswersFault (BadLine n) = IsText Trace (bad_line n)
 
--- a journal that is refused, or that is one of a whole run
-abbrev pub AnswersJournal : ProgramText → Limits → Options → TraceInput → Option RefusedAt → Answer → Type 0
-AnswersJournal p s o t (Some r) a = IsText Trace (refused_line r) a
-AnswersJournal p s o t None a = AnswersEnded p s o t (end_of p s t.trace.entries) a
+-- a journal that isn't refused, but has no end, is short
+abbrev pub short_of : List Event → RefusedAt
+short_of journal = record { index = length journal + 1; cause = Short }
 
-abbrev pub limits_for : Options → TraceInput → Limits
-limits_for o t = record o.settings { version = t.trace.version }
+-- a journal of a whole run is answered so, and any other by its first refused entry, or as short
+abbrev pub WhereWhole : (Answer → Type 0) → Option RefusedAt → Answer → Type 0
+WhereWhole P None = P
+WhereWhole P (Some r) = IsText Trace (refused_line r)
 
-abbrev pub AnswersTrace : Options → TraceInput → Answer → Type 0
-AnswersTrace o t a = AnswersJournal t.program (limits_for o t) o t (refused_as_run t.program (limits_for o t) t.trace.entries) a
+-- the limits, with the version that the trace names
+abbrev pub limits_for : Limits → TraceInput → Limits
+limits_for s t = record s { version = t.trace.version }
 
-abbrev pub AnswersTraceInput : Options → List ℕ → Option InputFault → Answer → Type 0
-AnswersTraceInput o input (Some (SourceFault r)) a = AnswersRefused r a
-AnswersTraceInput o input (Some (BadLine n)) a = IsText Trace (bad_line n) a
-AnswersTraceInput o input None a = (t : TraceInput) × IsInput input t × AnswersTrace o t a
+abbrev pub AnswersTrace : (ProgramText → Limits → List Event → Answer → Type 0) → Limits → TraceInput → Answer → Type 0
+AnswersTrace P s t = WhereWhole (P t.program (limits_for s t) t.trace.entries) (refused_as_run t.program (limits_for s t) t.trace.entries)
+
+abbrev pub WhereTraced : (TraceInput → Answer → Type 0) → List ℕ → Option InputFault → Answer → Type 0
+WhereTraced P input None a = (t : TraceInput) × IsInput input t × P t a
+WhereTraced P input (Some f) a = AnswersFault f a
+
+abbrev pub AnswersTraced : (ProgramText → Limits → List Event → Answer → Type 0) → Limits → List ℕ → Answer → Type 0
+AnswersTraced P s input = WhereWithin (nat_le (length input) trace_limit) (WhereTraced (AnswersTrace P s) input (input_fault input))
+
+-- REPLAY
+
+abbrev pub IsReplay : Options → ProgramText → Limits → List Event → Answer → Type 0
+IsReplay o p s entries = IsReplayedRun p s o.report o.trace entries
+
+abbrev pub AnswersReplay : Options → List ℕ → Answer → Type 0
+AnswersReplay o = AnswersTraced (IsReplay o) o.settings
+
+-- MODEL writes the same, and hands back nothing
+
+pub record IsModelled (o : Options) (p : ProgramText) (s : Limits) (entries : List Event) (a : Answer) : Type 0 where
+  pub end : RunEnd
+  pub ended : end_of p s entries ≡ Some end
+  pub text : IsText (status_of_end end) (out_text p s o.report o.trace entries) a
 
 abbrev pub AnswersModel : Options → List ℕ → Answer → Type 0
-AnswersModel o input = WhereWithin (nat_le (length input) trace_limit) (AnswersTraceInput o input (input_fault input))
+AnswersModel o = AnswersTraced (IsModelled o) o.settings
 
 -- RACES
 
@@ -149,23 +151,8 @@ pub record IsRaceAnswer (p : ProgramText) (s : Limits) (journal : List Event) (a
   pub report : IsReport (machine_of p s journal).edges (accesses p (field_limit s.version) (tasks_of journal)) races
   pub text : IsText (races_status races) (races_text races) a
 
-abbrev pub AnswersRacesOf : ProgramText → Limits → List Event → Option RefusedAt → Answer → Type 0
-AnswersRacesOf p s journal (Some r) = IsText Trace (refused_line r)
-AnswersRacesOf p s journal None = IsRaceAnswer p s journal
-
-abbrev pub races_limits : Limits → TraceInput → Limits
-races_limits s t = record s { version = t.trace.version }
-
-abbrev pub AnswersRacesTrace : Limits → TraceInput → Answer → Type 0
-AnswersRacesTrace s t = AnswersRacesOf t.program (races_limits s t) t.trace.entries (refused_as_run t.program (races_limits s t) t.trace.entries)
-
-abbrev pub AnswersRacesInput : Limits → List ℕ → Option InputFault → Answer → Type 0
-AnswersRacesInput s input (Some (SourceFault r)) a = AnswersRefused r a
-AnswersRacesInput s input (Some (BadLine n)) a = IsText Trace (bad_line n) a
-AnswersRacesInput s input None a = (t : TraceInput) × IsInput input t × AnswersRacesTrace s t a
-
 abbrev pub AnswersRaces : Limits → List ℕ → Answer → Type 0
-AnswersRaces s input = WhereWithin (nat_le (length input) trace_limit) (AnswersRacesInput s input (input_fault input))
+AnswersRaces = AnswersTraced IsRaceAnswer
 
 -- VERIFY
 
@@ -182,15 +169,54 @@ AnswersVerify input = AnswersImage (image_fault input) (objects_in input)
 
 -- MAKE
 
-abbrev pub AnswersMake : ℕ → ℕ → Answer → Type 0
-AnswersMake seed size = IsText Done (made_text seed size)
+-- the report is asked for, with the usual limits
+abbrev pub summary : Options
+summary = record { settings = usual_limits; report = true; trace = false }
+
+abbrev pub AnswersMake : ℕ → ℕ → Bool → Answer → Type 0
+AnswersMake seed size false = IsText Done (made_text seed size)
+AnswersMake seed size true = AnswersRun summary (made_text seed size)
 
 -- EACH COMMAND
 
 abbrev pub AnswersLine : CommandLine → List ℕ → Answer → Type 0
 AnswersLine (Check file) input = AnswersCheck input
-AnswersLine (Run file) input = AnswersRun input
+AnswersLine (Run file options) input = AnswersRun options input
+AnswersLine (Replay file options) input = AnswersReplay options input
 AnswersLine (Model file options) input = AnswersModel options input
 AnswersLine (Races file limits) input = AnswersRaces limits input
-AnswersLine (Make seed size) input = AnswersMake seed size
+AnswersLine (Make seed size run) input = AnswersMake seed size run
 AnswersLine (Verify file) input = AnswersVerify input
+
+-- WANT OF MEMORY AMID A RUN: what is handed back of it
+
+-- the text of this program, within the limit
+pub record IsProgramInput (input : List ℕ) (p : ProgramText) : Type 0 where
+  pub within : nat_le (length input) program_limit ≡ true
+  pub reads : reading_of input ≡ Ok p
+
+-- the text of this program with this trace, within the limit
+pub record IsTracedInput (input : List ℕ) (t : TraceInput) : Type 0 where
+  pub within : nat_le (length input) trace_limit ≡ true
+  pub reads : IsInput input t
+
+abbrev pub LeavesRun : Options → List ℕ → List Event → Option World → Type 0
+LeavesRun o input journal shared = (p : ProgramText) × IsProgramInput input p × LeavesPaced p o.settings journal shared
+
+abbrev pub LeavesReplay : Options → List ℕ → List Event → Option World → Type 0
+LeavesReplay o input journal shared =
+    (t : TraceInput) × IsTracedInput input t × LeavesPrefix t.program (limits_for o.settings t) t.trace.entries journal shared
+
+-- nothing is left by what doesn't run a program
+abbrev pub LeavesNone : List Event → Option World → Type 0
+LeavesNone journal shared = ⊥
+
+abbrev pub LeavesMake : ℕ → ℕ → Bool → List Event → Option World → Type 0
+LeavesMake seed size false = LeavesNone
+LeavesMake seed size true = LeavesRun summary (made_text seed size)
+
+abbrev pub LeavesLine : CommandLine → List ℕ → List Event → Option World → Type 0
+LeavesLine (Run file options) input = LeavesRun options input
+LeavesLine (Replay file options) input = LeavesReplay options input
+LeavesLine (Make seed size run) input = LeavesMake seed size run
+LeavesLine _ input = LeavesNone

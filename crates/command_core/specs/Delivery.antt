@@ -1,10 +1,16 @@
 -- How an answer reaches the sink, and what a call hands back.
-use Rattle.std.specs.Prelude.{◌≡◌, ◌⊎◌, ℕ, Option, None, List, [], take}
+use Rattle.std.specs.Prelude.{◌≡◌, ◌⊎◌, ℕ, Option, Some, None, List, [], take}
+use Rattle.run_trace.specs.Entry.{Event}
+use Rattle.shared_tree.specs.World.{World}
+use Rattle.command_line.specs.declared.line.CommandLine.{CommandLine}
 use Rattle.outside_io.specs.Told.{with_more}
 use Rattle.command_core.specs.declared.answer.Status.{Status}
 use Rattle.command_core.specs.declared.answer.Status.TheVariants.{ReadFault, WriteFault, NoMemory}
 use Rattle.command_core.specs.declared.answer.Answer.{Answer}
 use Rattle.command_core.specs.declared.answer.Ran.{Ran}
+use Rattle.command_core.specs.declared.wanted.Wanted.{Wanted}
+use Rattle.command_core.specs.declared.wanted.Wanted.TheVariants.{Before, Amid}
+use Rattle.command_core.specs.Answers.{AnswersLine, AnswersWords, LeavesLine, LeavesNone}
 use Rattle.command_core.specs.Input.{WroteSome}
 
 -- nothing was written, and nothing is handed back
@@ -12,17 +18,26 @@ abbrev pub DeliversNothing : Ran → Option (List ℕ) → Option (List ℕ) →
 DeliversNothing r before after = (r.journal ≡ []) × (r.shared ≡ None) × (after ≡ before)
 
 -- an answer was given: all its bytes were written; or the sink failed, and a first part of them was; or, before the first
--- byte, the source failed or memory did, and nothing was written or handed back
-abbrev pub DeliversBy : Status → (Answer → Type 0) → Ran → Option (List ℕ) → Option (List ℕ) → Type 0
-DeliversBy ReadFault P r before after = DeliversNothing r before after
-DeliversBy NoMemory P r before after = DeliversNothing r before after
-DeliversBy WriteFault P r before after =
+-- byte, the source failed or memory did, and nothing was written. Nothing is handed back then, unless memory was wanting amid
+-- a run: then what it leaves is
+abbrev pub DeliversBy : Status → (Answer → Type 0) → (List Event → Option World → Type 0) → Ran → Option (List ℕ) → Option (List ℕ) → Type 0
+DeliversBy ReadFault P L r before after = DeliversNothing r before after
+DeliversBy NoMemory P L r before after = DeliversNothing r before after ⊎ (L r.journal r.shared × (after ≡ before))
+DeliversBy WriteFault P L r before after =
     (a : Answer) × (n : ℕ) × P a × (r.journal ≡ a.journal) × (r.shared ≡ a.shared) × (after ≡ with_more before (take n a.bytes))
-DeliversBy status P r before after =
+DeliversBy status P L r before after =
     (a : Answer) × P a × (a.status ≡ status) × (r.journal ≡ a.journal) × (r.shared ≡ a.shared) × (after ≡ with_more before a.bytes)
 
-abbrev pub Delivers : (Answer → Type 0) → Ran → Option (List ℕ) → Option (List ℕ) → Type 0
-Delivers P r before after = DeliversBy r.status P r before after
+-- by an answer of which P is so, or what L says is left of a run
+abbrev pub Delivers : (Answer → Type 0) → (List Event → Option World → Type 0) → Ran → Option (List ℕ) → Option (List ℕ) → Type 0
+Delivers P L r before after = DeliversBy r.status P L r before after
+
+abbrev pub DeliversLine : CommandLine → List ℕ → Ran → Option (List ℕ) → Option (List ℕ) → Type 0
+DeliversLine line input = Delivers (AnswersLine line input) (LeavesLine line input)
+
+-- words that are no command line
+abbrev pub DeliversWords : Ran → Option (List ℕ) → Option (List ℕ) → Type 0
+DeliversWords = Delivers AnswersWords LeavesNone
 
 -- the statuses of answers, which are written
 abbrev pub IsAnswered : Status → Type 0
@@ -42,3 +57,19 @@ pub record HandsNothing (named : Status) (r : Ran) : Type 0 where
   pub status : r.status ≡ named
   pub journal : r.journal ≡ []
   pub shared : r.shared ≡ None
+
+-- WANT OF MEMORY in the making of an answer
+
+-- before a run began, or amid it, where this is left of it
+abbrev pub IsWanted : (List Event → Option World → Type 0) → Wanted → Type 0
+IsWanted L Before = Unit {0}
+IsWanted L (Amid journal left) = L journal (Some left)
+
+-- and what is handed back then
+abbrev pub HandsWanted : Wanted → Ran → Type 0
+HandsWanted Before r = (r.journal ≡ []) × (r.shared ≡ None)
+HandsWanted (Amid journal left) r = (r.journal ≡ journal) × (r.shared ≡ Some left)
+
+pub record Gives (w : Wanted) (r : Ran) : Type 0 where
+  pub status : r.status ≡ NoMemory
+  pub hands : HandsWanted w r

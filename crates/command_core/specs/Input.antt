@@ -3,7 +3,7 @@ use Rattle.std.specs.Prelude.{◌≡◌, ℕ, ◌+◌, Bool, true, false, List, 
 use Rattle.outside_io.specs.Told.{Gives, with_more}
 use Rattle.image_check.specs.Fault.{image_limit}
 use Rattle.command_line.specs.declared.line.CommandLine.{CommandLine}
-use Rattle.command_line.specs.declared.line.CommandLine.TheVariants.{Check, Run, Model, Races, Make, Verify}
+use Rattle.command_line.specs.declared.line.CommandLine.TheVariants.{Check, Run, Replay, Model, Races, Make, Verify}
 
 -- the most bytes of a program's text, and of a program with a trace
 abbrev pub program_limit : ℕ
@@ -14,15 +14,16 @@ trace_limit = 16777216
 
 abbrev pub limit_of : CommandLine → ℕ
 limit_of (Check file) = program_limit
-limit_of (Run file) = program_limit
+limit_of (Run file options) = program_limit
+limit_of (Replay file options) = trace_limit
 limit_of (Model file options) = trace_limit
 limit_of (Races file limits) = trace_limit
-limit_of (Make seed size) = 0
+limit_of (Make seed size run) = 0
 limit_of (Verify file) = image_limit
 
 -- whether a command reads an input
 abbrev pub is_reading : CommandLine → Bool
-is_reading (Make seed size) = false
+is_reading (Make seed size run) = false
 is_reading _ = true
 
 abbrev pub reads : Option CommandLine → Bool
@@ -37,10 +38,11 @@ told left named (Some file) = named file
 -- the bytes that a source tells for a command; `make` reads none
 abbrev pub told_for : Option (List ℕ) → (List ℕ → Option (List ℕ)) → CommandLine → Option (List ℕ)
 told_for left named (Check file) = told left named file
-told_for left named (Run file) = told left named file
+told_for left named (Run file options) = told left named file
+told_for left named (Replay file options) = told left named file
 told_for left named (Model file options) = told left named file
 told_for left named (Races file limits) = told left named file
-told_for left named (Make seed size) = Some []
+told_for left named (Make seed size run) = Some []
 told_for left named (Verify file) = told left named file
 
 -- the input: all of the bytes, or the first ones as far as one past the limit

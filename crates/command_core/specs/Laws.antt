@@ -1,16 +1,64 @@
 -- What the answers come to.
-use Rattle.std.specs.Prelude.{◌≡◌, ◌≢◌, ◌⊎◌, List, ℕ, Option}
+use Rattle.std.specs.Prelude.{◌≡◌, ◌≢◌, ◌⊎◌, List, ℕ, Option, Some, true, nat_le, length}
 use Rattle.outside_io.specs.Told.{with_more}
+use Rattle.hh_lang.specs.Form.{ProgramText}
+use Rattle.run_ledger.specs.declared.data.RunEnd.{RunEnd}
+use Rattle.program_reader.specs.declared.cause.Refused.{Refused}
+use Rattle.program_make.specs.Text.{made_text}
+use Rattle.trace_input.specs.declared.input.InputFault.TheVariants.{Source}
+use Rattle.trace_input.specs.Input.{input_fault}
+use Rattle.command_line.specs.declared.line.Options.{Options}
 use Rattle.command_line.specs.declared.line.CommandLine.{CommandLine}
-use Rattle.command_core.specs.declared.answer.Status.TheVariants.{ReadFault, WriteFault, NoMemory}
+use Rattle.command_line.specs.declared.line.CommandLine.TheVariants.{Run, Replay, Model, Make}
+use Rattle.command_core.specs.declared.answer.Status.{Status}
+use Rattle.command_core.specs.declared.answer.Status.TheVariants.{ReadFault, WriteFault, NoMemory, Trace}
 use Rattle.command_core.specs.declared.answer.Answer.{Answer}
 use Rattle.command_core.specs.declared.answer.Ran.{Ran}
-use Rattle.command_core.specs.Answers.{AnswersLine}
-use Rattle.command_core.specs.Delivery.{Delivers}
+use Rattle.command_core.specs.Input.{trace_limit}
+use Rattle.command_core.specs.Answers.{AnswersLine, AnswersProgram, IsProgramInput, summary}
+use Rattle.command_core.specs.Delivery.{DeliversLine}
+use Rattle.command_core.specs.Status.{status_of_end}
 
--- a command and its input, and no fault: its answer was given with all its bytes, or memory was wanting
+-- the answer was given with all its bytes, or memory was wanting
+abbrev pub GivesAll : (Answer → Type 0) → Ran → Option (List ℕ) → Option (List ℕ) → Type 0
+GivesAll P r before after =
+    (r.status ≡ NoMemory) ⊎ ((a : Answer) × P a × (r.status ≡ a.status) × (r.journal ≡ a.journal) × (r.shared ≡ a.shared) × (after ≡ with_more before a.bytes))
+
+-- no fault rose
+pub record NoFault (r : Ran) : Type 0 where
+  pub read : r.status ≢ ReadFault
+  pub write : r.status ≢ WriteFault
+
+-- a command and its input, and no fault
 abbrev pub NoFaultGivesAll : Type 0
 NoFaultGivesAll =
-    (line : CommandLine) (input : List ℕ) (r : Ran) (before after : Option (List ℕ)) → Delivers (AnswersLine line input) r before after
-    → r.status ≢ ReadFault → r.status ≢ WriteFault
-    → (r.status ≡ NoMemory) ⊎ ((a : Answer) × AnswersLine line input a × (r.status ≡ a.status) × (r.journal ≡ a.journal) × (r.shared ≡ a.shared) × (after ≡ with_more before a.bytes))
+    (line : CommandLine) (input : List ℕ) (r : Ran) (before after : Option (List ℕ)) → DeliversLine line input r before after → NoFault r
+    → GivesAll (AnswersLine line input) r before after
+
+-- so a program that is to be run is: the answer is that of a whole run
+abbrev pub ProgramsAreRun : Type 0
+ProgramsAreRun =
+    (file : Option (List ℕ)) (o : Options) (input : List ℕ) (p : ProgramText) (r : Ran) (before after : Option (List ℕ)) → IsProgramInput input p
+    → DeliversLine (Run file o) input r before after → NoFault r → GivesAll (AnswersProgram o p) r before after
+
+-- and so is one that was made
+abbrev pub MadeAreRun : Type 0
+MadeAreRun =
+    (seed size : ℕ) (input : List ℕ) (p : ProgramText) (r : Ran) (before after : Option (List ℕ)) → IsProgramInput (made_text seed size) p
+    → DeliversLine (Make seed size true) input r before after → NoFault r → GivesAll (AnswersProgram summary p) r before after
+
+-- the program of a text with a trace has no fault
+pub record HasProgram (input : List ℕ) : Type 0 where
+  pub within : nat_le (length input) trace_limit ≡ true
+  pub faultless : (r : Refused) → input_fault input ≢ Some (Source r)
+
+-- the status is that of an end of a run
+abbrev pub IsEnd : Status → Type 0
+IsEnd status = (e : RunEnd) × (status ≡ status_of_end e)
+
+-- a replay of a program, on the core or on the machine that never collects, tells an end of its run, or refuses the trace
+abbrev pub TracesAreReplayed : Type 0
+TracesAreReplayed =
+    (file : Option (List ℕ)) (o : Options) (input : List ℕ) (r : Ran) (before after : Option (List ℕ)) → HasProgram input
+    → (DeliversLine (Replay file o) input r before after ⊎ DeliversLine (Model file o) input r before after) → NoFault r
+    → (r.status ≡ NoMemory) ⊎ ((r.status ≡ Trace) ⊎ IsEnd r.status)

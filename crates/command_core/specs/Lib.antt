@@ -1,5 +1,6 @@
 pub mod Status
 pub mod Input
+pub mod Runs
 pub mod Answers
 pub mod Delivery
 pub mod Laws

@@ -4,9 +4,10 @@ ghost use Rattle.std.specs.Prelude.{◌≡◌, OnOk, OnErr};
 ghost use Rattle.outside_io.specs.Fault.{HasRisen};
 ghost use Rattle.outside_io.specs.Told.{with_more};
 ghost use Rattle.command_core.specs.Input.{WroteSome};
-ghost use Rattle.command_core.specs.Delivery.{IsAnswered, Delivered, HandsNothing};
+ghost use Rattle.command_core.specs.Delivery.{IsAnswered, Delivered, Gives, HandsNothing};
 
 use crate::answer::{Answer, Ran, Status};
+use crate::wanted::Wanted;
 use listed::Listed;
 use outside_io::{Failed, Sink};
 use std::alloc::Global;
@@ -32,6 +33,20 @@ pub(crate) fn nothing(alloc: Global, status: Status) -> Ran
         status,
         journal: Listed::new(alloc),
         shared: None,
+    }
+}
+
+/// What is handed back for want of memory.
+pub(crate) fn wanted(alloc: Global, wanted: Wanted) -> Ran
+    ensures { Gives wanted result }
+{
+    match wanted {
+        Wanted::Before => nothing(alloc, Status::NoMemory),
+        Wanted::Amid(journal, left) => Ran {
+            status: Status::NoMemory,
+            journal,
+            shared: Some(left),
+        },
     }
 }
 

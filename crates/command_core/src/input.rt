@@ -119,10 +119,15 @@ pub(crate) fn read_input<S: Source>(
 {
     match line {
         CommandLine::Check { file } => read_file(alloc, source, file, PROGRAM_LIMIT),
-        CommandLine::Run { file } => read_file(alloc, source, file, PROGRAM_LIMIT),
+        CommandLine::Run { file, options: _ } => read_file(alloc, source, file, PROGRAM_LIMIT),
+        CommandLine::Replay { file, options: _ } => read_file(alloc, source, file, TRACE_LIMIT),
         CommandLine::Model { file, options: _ } => read_file(alloc, source, file, TRACE_LIMIT),
         CommandLine::Races { file, settings: _ } => read_file(alloc, source, file, TRACE_LIMIT),
-        CommandLine::Make { seed: _, size: _ } => Ok(Vec::new(alloc)),
+        CommandLine::Make {
+            seed: _,
+            size: _,
+            run: _,
+        } => Ok(Vec::new(alloc)),
         CommandLine::Verify { file } => read_file(alloc, source, file, IMAGE_LIMIT),
     }
 }

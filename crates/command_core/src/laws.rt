@@ -1,11 +1,26 @@
 // What the contract of the top call comes to.
 
-ghost use Rattle.command_core.specs.Laws.{NoFaultGivesAll};
+ghost use Rattle.command_core.specs.Laws.{MadeAreRun, NoFaultGivesAll, ProgramsAreRun, TracesAreReplayed};
 ghost use Rattle.command_core.specs.Status.{StatusesOfEnds};
 
 /// A command and its input, and no fault that rose: all bytes and the status of its answer, or want of memory.
 pub fn no_fault_gives_all()
     ensures { NoFaultGivesAll }
+{}
+
+/// `run` with a program, and no fault that rose: the answer of a whole run, or want of memory.
+pub fn programs_are_run()
+    ensures { ProgramsAreRun }
+{}
+
+/// `make` with its run, and no fault that rose: the answer of a whole run of the text, which is a program, or want of memory.
+pub fn made_are_run()
+    ensures { MadeAreRun }
+{}
+
+/// `replay` and `model` with a program and its trace, and no fault that rose: an end of the run or a refused trace, or want of memory.
+pub fn traces_are_replayed()
+    ensures { TracesAreReplayed }
 {}
 
 /// The exit status of a run is that of its end.

@@ -7,10 +7,16 @@ mod deliver;
 mod images;
 mod input;
 mod laws;
+mod model;
 mod races;
 mod refusals;
+mod replay;
+mod run;
 mod top_call;
+mod wanted;
 
 pub use answer::{Answer, Ran, Status};
-pub use laws::{no_fault_gives_all, statuses_of_ends};
+pub use laws::{
+    made_are_run, no_fault_gives_all, programs_are_run, statuses_of_ends, traces_are_replayed,
+};
 pub use top_call::command;

@@ -1,21 +1,18 @@
 // The answer of `races`.
 
 ghost use Rattle.std.specs.Prelude.{◌≡◌, IfOk};
-ghost use Rattle.run_ledger.specs.Text.{refused_line};
 ghost use Rattle.race_report.specs.Text.{races_text};
-ghost use Rattle.command_core.specs.Answers.{IsText, races_status, AnswersRaces, AnswersRacesTrace};
+ghost use Rattle.command_core.specs.Answers.{IsText, IsRaceAnswer, AnswersRaces, AnswersTrace, races_status};
 
 use crate::answer::{Answer, Status};
 use crate::input::TRACE_LIMIT;
-use crate::refusals::{bytes_alone, line_refused, source_refused, text_alone, too_long};
+use crate::refusals::{bytes_alone, entry_refused, input_refused, too_long};
 use listed::Listed;
 use race_report::{Race, races_of_run, races_text};
 use run_journal::ReplayError;
-use run_ledger::RefusedAt;
-use run_report::refused_text;
 use run_trace::Settings;
 use std::alloc::{AllocError, Global};
-use trace_input::{InputError, InputFault, TraceInput, read_trace_input};
+use trace_input::{InputError, TraceInput, read_trace_input};
 
 // The status where these races were found.
 fn status_of(races: &[Race]) -> Status
@@ -36,24 +33,16 @@ fn answer_found(alloc: Global, races: &[Race]) -> Result<Answer, AllocError>
     Ok(bytes_alone(alloc, status, Listed::from_vec(text)))
 }
 
-// The answer to a trace that is refused.
-fn answer_refused(alloc: Global, refused: RefusedAt) -> Result<Answer, AllocError>
-    ensures { IfOk result (IsText Status.Trace (refused_line refused)) }
-{
-    let text = refused_text(alloc, refused)?;
-    Ok(text_alone(alloc, Status::Trace, text))
-}
-
 // Finds the races of a trace.
 fn answer_trace(alloc: Global, settings: Settings, read: &TraceInput) -> Result<Answer, AllocError>
-    ensures { IfOk result (AnswersRacesTrace settings read.now) }
+    ensures { IfOk result (AnswersTrace IsRaceAnswer settings read.now) }
 {
     let TraceInput { program, trace } = read;
     let settings = settings.with_version(trace.version);
     let journal = trace.entries.as_slice();
     match races_of_run(alloc, program, settings, journal) {
         Ok(races) => answer_found(alloc, races.as_slice()),
-        Err(ReplayError::RefusedAt(refused)) => answer_refused(alloc, refused),
+        Err(ReplayError::RefusedAt(refused)) => entry_refused(alloc, refused),
         Err(ReplayError::NoMemory) => Err(AllocError),
     }
 }
@@ -71,8 +60,7 @@ pub(crate) fn answer_races(
     }
     match read_trace_input(alloc, input) {
         Ok(read) => answer_trace(alloc, settings, &read),
-        Err(InputError::Fault(InputFault::Source(refused))) => source_refused(alloc, refused),
-        Err(InputError::Fault(InputFault::BadLine(line))) => line_refused(alloc, line),
+        Err(InputError::Fault(fault)) => input_refused(alloc, fault),
         Err(InputError::NoMemory) => Err(AllocError),
     }
 }

@@ -2,13 +2,16 @@
 
 ghost use Rattle.std.specs.Prelude.{◌≡◌, IfOk};
 ghost use Rattle.std.specs.String.{string_bytes};
-ghost use Rattle.command_core.specs.Answers.{IsText, AnswersWords, AnswersRefused, source_line, bad_line, too_long};
-ghost use Rattle.command_core.specs.Status.{status_of_end};
+ghost use Rattle.run_ledger.specs.Text.{refused_line};
+ghost use Rattle.command_core.specs.Answers.{IsText, AnswersFault, AnswersWords, AnswersRefused, source_line, bad_line, too_long};
 
 use crate::answer::{Answer, Status};
 use listed::Listed;
 use program_reader::{Cause, Refused};
+use run_ledger::RefusedAt;
+use run_report::refused_text;
 use std::alloc::{AllocError, Global};
+use trace_input::InputFault;
 
 /// A text of more bytes than its limit.
 pub(crate) const TOO_LONG: Refused = Refused {
@@ -66,10 +69,28 @@ pub(crate) fn too_long(alloc: Global) -> Result<Answer, AllocError>
     source_refused(alloc, TOO_LONG)
 }
 
-/// The answer to a bad line of a trace.
-pub(crate) fn line_refused(alloc: Global, line: u32) -> Result<Answer, AllocError>
+// The answer to a bad line of a trace.
+fn line_refused(alloc: Global, line: u32) -> Result<Answer, AllocError>
     ensures { IfOk result (IsText Status.Trace (bad_line line)) }
 {
     let text = format!(in alloc; "end: trace refused line {line}\n")?;
+    Ok(text_alone(alloc, Status::Trace, text))
+}
+
+/// The answer to an input that isn't a program with a trace.
+pub(crate) fn input_refused(alloc: Global, fault: InputFault) -> Result<Answer, AllocError>
+    ensures { IfOk result (AnswersFault fault) }
+{
+    match fault {
+        InputFault::Source(refused) => source_refused(alloc, refused),
+        InputFault::BadLine(line) => line_refused(alloc, line),
+    }
+}
+
+/// The answer to a trace that isn't one of a whole run.
+pub(crate) fn entry_refused(alloc: Global, refused: RefusedAt) -> Result<Answer, AllocError>
+    ensures { IfOk result (IsText Status.Trace (refused_line refused)) }
+{
+    let text = refused_text(alloc, refused)?;
     Ok(text_alone(alloc, Status::Trace, text))
 }

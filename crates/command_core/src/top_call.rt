@@ -4,12 +4,11 @@ ghost use Rattle.std.specs.Prelude.{◌≡◌, ◌≢◌, ◌≤◌, ◌+◌, dr
 ghost use Rattle.outside_io.specs.Fault.{HasRisen};
 ghost use Rattle.command_line.specs.CommandLine.{command_line, HasSize};
 ghost use Rattle.command_core.specs.Input.{limit_of, is_reading, told_for, input_of, reads};
-ghost use Rattle.command_core.specs.Answers.{AnswersWords, AnswersLine};
-ghost use Rattle.command_core.specs.Delivery.{Delivers};
+ghost use Rattle.command_core.specs.Delivery.{DeliversLine, DeliversWords};
 
 use crate::answer::{Ran, Status};
 use crate::answers::answer_line;
-use crate::deliver::{deliver, nothing};
+use crate::deliver::{deliver, nothing, wanted};
 use crate::input::{ReadError, read_input};
 use crate::refusals::words_refused;
 use command_line::{CommandLine, read_command_line};
@@ -20,7 +19,7 @@ use std::thread::Threads;
 
 // Answers words that are no command line.
 fn refuse_words<K: Sink>(alloc: Global, sink: &mut K) -> Ran
-    ensures answer { Delivers AnswersWords result (K.written sink.old) (K.written sink.new) }
+    ensures answer { DeliversWords result (K.written sink.old) (K.written sink.new) }
     ensures read { result.status ≢ Status.ReadFault }
     ensures write_fault { result.status ≡ Status.WriteFault → HasRisen (K.faults sink.old) (K.faults sink.new) }
 {
@@ -31,7 +30,8 @@ fn refuse_words<K: Sink>(alloc: Global, sink: &mut K) -> Ran
 }
 
 // Answers an input.
-fn serve<K: Sink, G: Gate>(
+fn serve<R: Threads + Wait + Sync, K: Sink, G: Gate>(
+    rt: &R,
     alloc: Global,
     line: &CommandLine,
     input: &[u8],
@@ -39,13 +39,13 @@ fn serve<K: Sink, G: Gate>(
     gate: &G,
 ) -> Ran
     requires { HasSize (Some line.now) }
-    ensures answer { Delivers (AnswersLine line.now input.now) result (K.written sink.old) (K.written sink.new) }
+    ensures answer { DeliversLine line.now input.now result (K.written sink.old) (K.written sink.new) }
     ensures read { result.status ≢ Status.ReadFault }
     ensures write_fault { result.status ≡ Status.WriteFault → HasRisen (K.faults sink.old) (K.faults sink.new) }
 {
-    match answer_line(alloc, line, input, gate) {
+    match answer_line(rt, alloc, line, input, gate) {
         Ok(answer) => deliver(answer, sink),
-        Err(AllocError) => nothing(alloc, Status::NoMemory),
+        Err(found) => wanted(alloc, found),
     }
 }
 
@@ -53,7 +53,7 @@ fn serve<K: Sink, G: Gate>(
 ///
 /// `words` are those after the program's name. All bytes are built before the first is written.
 pub fn command<R: Threads + Wait + Sync, S: Source, K: Sink, G: Gate>(
-    _rt: &R,
+    rt: &R,
     alloc: Global,
     words: &[String],
     source: &mut S,
@@ -61,13 +61,13 @@ pub fn command<R: Threads + Wait + Sync, S: Source, K: Sink, G: Gate>(
     gate: &G,
 ) -> Ran
     // Other words than a command line are refused.
-    ensures words { command_line (map string_bytes words.now) ≡ None → Delivers AnswersWords result (K.written sink.old) (K.written sink.new) }
+    ensures words { command_line (map string_bytes words.now) ≡ None → DeliversWords result (K.written sink.old) (K.written sink.new) }
 
     // A command answers by its input: the bytes of its file or those that are left, as far as one past its limit.
-    ensures input { (line : CommandLine) (whole : List ℕ) → command_line (map string_bytes words.now) ≡ Some line → told_for (S.left source.old) (S.named source.old) line ≡ Some whole → Delivers (AnswersLine line (input_of (limit_of line) whole)) result (K.written sink.old) (K.written sink.new) }
+    ensures input { (line : CommandLine) (whole : List ℕ) → command_line (map string_bytes words.now) ≡ Some line → told_for (S.left source.old) (S.named source.old) line ≡ Some whole → DeliversLine line (input_of (limit_of line) whole) result (K.written sink.old) (K.written sink.new) }
 
     // Whatever the source tells, a command answers by some input of at most so many bytes.
-    ensures some_input { (line : CommandLine) → command_line (map string_bytes words.now) ≡ Some line → (input : List ℕ) × (length input ≤ limit_of line + 1) × Delivers (AnswersLine line input) result (K.written sink.old) (K.written sink.new) }
+    ensures some_input { (line : CommandLine) → command_line (map string_bytes words.now) ≡ Some line → (input : List ℕ) × (length input ≤ limit_of line + 1) × DeliversLine line input result (K.written sink.old) (K.written sink.new) }
 
     // All of its input was taken. Where no input is read, the source isn't touched.
     ensures taken { (line : CommandLine) (whole : List ℕ) → command_line (map string_bytes words.now) ≡ Some line → is_reading line ≡ true → result.status ≢ Status.ReadFault → result.status ≢ Status.NoMemory → told_for (S.left source.old) (S.named source.old) line ≡ Some whole → S.left source.new ≡ Some (drop (limit_of line + 1) whole) }
@@ -85,6 +85,6 @@ pub fn command<R: Threads + Wait + Sync, S: Source, K: Sink, G: Gate>(
     match read_input(alloc, source, &line) {
         Err(ReadError::Fault) => nothing(alloc, Status::ReadFault),
         Err(ReadError::NoMemory) => nothing(alloc, Status::NoMemory),
-        Ok(input) => serve(alloc, &line, input.as_slice(), sink, gate),
+        Ok(input) => serve(rt, alloc, &line, input.as_slice(), sink, gate),
     }
 }

@@ -1,6 +1,8 @@
+mod LimitsSet
 mod Literal
 mod Numbers
 mod Operands
 mod Ranges
 mod Rows
+mod Shapes
 mod Taken

@@ -6,10 +6,10 @@ use Rattle.std.specs.Str.Parse.{digits_value, without_leading_plus}
 use Rattle.std.proofs.lemmas.Slice.Eq.{bytes_eq-Decides}
 use Rattle.clap.specs.Words.{Row, Text}
 use Rattle.run_trace.specs.Settings.{AreLimits}
-use Rattle.command_line.specs.CommandLine.{HasSize, asked, file_in, number_in, limits_in, options_in}
+use Rattle.command_line.specs.CommandLine.{HasSize, asked, file_in, flag_in, number_in, limits_in, options_in}
 use Rattle.command_line.specs.Values.{FitsCommand, FitsFound, HasLimits, HasNumber}
 use Rattle.command_line.specs.declared.line.CommandLine.{CommandLine}
-use Rattle.command_line.specs.declared.line.CommandLine.TheVariants.{Check, Run, Model, Races, Make, Verify}
+use Rattle.command_line.specs.declared.line.CommandLine.TheVariants.{Check, Run, Replay, Model, Races, Make, Verify}
 
 pub wider : (id : Text) (least most : ℕ) (rows : List Row) → most ≤ 4294967295 → HasNumber id least most rows → HasNumber id 0 4294967295 rows
 wider id least most rows lt h = (h.0, h.1, (h.2.0, h.2.1, omega arith, omega (arith, h.2.3, lt)))
@@ -34,7 +34,7 @@ module _ (name : Text) (rows : List Row) (h : FitsCommand name rows) where
   or_verify = cond (bytes_eq name (codes "verify")) (Some (Verify (file_in rows))) None
 
   abbrev or_make : Option CommandLine
-  or_make = cond (bytes_eq name (codes "make")) (Some (Make (number_in (codes "SEED") rows) (number_in (codes "SIZE") rows))) or_verify
+  or_make = cond (bytes_eq name (codes "make")) (Some (Make (number_in (codes "SEED") rows) (number_in (codes "SIZE") rows) (flag_in (codes "run") rows))) or_verify
 
   abbrev or_races : Option CommandLine
   or_races = cond (bytes_eq name (codes "races")) (Some (Races (file_in rows) (limits_in rows))) or_make
@@ -42,14 +42,17 @@ module _ (name : Text) (rows : List Row) (h : FitsCommand name rows) where
   abbrev or_model : Option CommandLine
   or_model = cond (bytes_eq name (codes "model")) (Some (Model (file_in rows) (options_in rows))) or_races
 
+  abbrev or_replay : Option CommandLine
+  or_replay = cond (bytes_eq name (codes "replay")) (Some (Replay (file_in rows) (options_in rows))) or_model
+
   abbrev or_run : Option CommandLine
-  or_run = cond (bytes_eq name (codes "run")) (Some (Run (file_in rows))) or_model
+  or_run = cond (bytes_eq name (codes "run")) (Some (Run (file_in rows) (options_in rows))) or_replay
 
   by_verify : (b : Bool) → HasSize (cond b (Some (Verify (file_in rows))) None)
   by_verify true = tt
   by_verify false = tt
 
-  by_make : (b : Bool) → bytes_eq name (codes "make") ≡ b → HasSize (cond b (Some (Make (number_in (codes "SEED") rows) (number_in (codes "SIZE") rows))) or_verify)
+  by_make : (b : Bool) → bytes_eq name (codes "make") ≡ b → HasSize (cond b (Some (Make (number_in (codes "SEED") rows) (number_in (codes "SIZE") rows) (flag_in (codes "run") rows))) or_verify)
   by_make true e = in_range (codes "SIZE") 1 1000 rows (h.make ((bytes_eq-Decides name (codes "make")).0 e)).size
   by_make false e = by_verify (bytes_eq name (codes "verify"))
 
@@ -61,9 +64,13 @@ module _ (name : Text) (rows : List Row) (h : FitsCommand name rows) where
   by_model true = tt
   by_model false = by_races (bytes_eq name (codes "races"))
 
-  by_run : (b : Bool) → HasSize (cond b (Some (Run (file_in rows))) or_model)
+  by_replay : (b : Bool) → HasSize (cond b (Some (Replay (file_in rows) (options_in rows))) or_model)
+  by_replay true = tt
+  by_replay false = by_model (bytes_eq name (codes "model"))
+
+  by_run : (b : Bool) → HasSize (cond b (Some (Run (file_in rows) (options_in rows))) or_replay)
   by_run true = tt
-  by_run false = by_model (bytes_eq name (codes "model"))
+  by_run false = by_replay (bytes_eq name (codes "replay"))
 
   by_check : (b : Bool) → HasSize (cond b (Some (Check (file_in rows))) or_run)
   by_check true = tt

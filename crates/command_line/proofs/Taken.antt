@@ -1,11 +1,11 @@
 -- What the words of a command line without a fault have.
-use Rattle.std.proofs.Common.{◌≡◌, ◌∙◌, ◌||◌, ◌⊎◌, ℕ, Bool, cond, codes, true, false, not, refl, sym, ap, inl, inr, List, [], ◌∷◌, length, Option, Some, None, is_some, true≢false, zero, suc}
+use Rattle.std.proofs.Common.{◌≡◌, ◌∙◌, ◌||◌, ◌⊎◌, ℕ, Bool, cond, codes, true, false, not, refl, sym, ap, inl, inr, List, [], ◌∷◌, length, Option, Some, None, is_some, true≢false}
 use Rattle.std.specs.Prelude.{find, option_map, option_and_then}
 use Rattle.std.specs.Option.{option_map_or}
 use Rattle.std.specs.Str.{bytes_eq}
 use Rattle.std.proofs.lemmas.Slice.Eq.{bytes_eq-Decides}
 use Rattle.clap.specs.Walk.{Row, Text, answers_to, finished, is_empty, nothing_held, one_of, has_row, rows_after, settled, stop_after, walk}
-use Rattle.clap.specs.Simple.{App, Shape, built, entered, is_simple, label_of, names_of, rows_at, subcommand_of}
+use Rattle.clap.specs.Simple.{App, Shape, entered, is_simple, label_of, names_of, rows_at, subcommand_of}
 use Rattle.clap.specs.Takes.{is_given}
 use Rattle.clap.specs.Kinds.{IsAmong, Kinds}
 use Rattle.clap.specs.Faults.{check_fault, entered_fault, fault_of, is_simple_and_free, level_fault}
@@ -17,98 +17,15 @@ use Rattle.clap.specs.ValueTests.{accepts}
 use Rattle.command_line.specs.App.{app}
 use Rattle.command_line.specs.CommandLine.{asked, command_line}
 use Rattle.command_line.specs.declared.line.CommandLine.{CommandLine}
-use Rattle.command_line.specs.Values.{FitsCommand, FitsFound, HasFlag, HasNumber}
-use Rattle.command_line.proofs.Rows.{IsPassed, IsPlain, Passes, default_row, each, found, given_row, level_passed, never_zero, text_in, some_kind}
-
-abbrev pub whole : App
-whole = built app
+use Rattle.command_line.specs.Values.{FitsCommand, FitsFound, HasFlag, HasNumber, HasOptions}
+use Rattle.command_line.proofs.Shapes.{check_shape, make_shape, plain_make, plain_races, plain_runner, races_shape, runner_shape, verify_shape, whole}
+use Rattle.command_line.proofs.Rows.{IsPassed, Passes, default_row, each, found, given_row, level_passed, never_zero, text_in, some_kind}
 
 pub is_good : is_simple_and_free app ≡ true
 is_good = refl
 
 pub is_plain_app : is_simple app ≡ true
 is_plain_app = refl
-
--- the built subcommands
-abbrev pub nth : ℕ → List Shape → Shape
-nth n [] = app.top
-nth zero (s ∷ ss) = s
-nth (suc n) (s ∷ ss) = nth n ss
-
-abbrev pub check_shape : Shape
-check_shape = nth 0 whole.subs
-
-abbrev pub run_shape : Shape
-run_shape = nth 1 whole.subs
-
-abbrev pub model_shape : Shape
-model_shape = nth 2 whole.subs
-
-abbrev pub races_shape : Shape
-races_shape = nth 3 whole.subs
-
-abbrev pub make_shape : Shape
-make_shape = nth 4 whole.subs
-
-abbrev pub verify_shape : Shape
-verify_shape = nth 5 whole.subs
-
-abbrev EachPlain : Shape → Type 0
-EachPlain s = each (IsPlain s.rules) s.rules
-
-plain_check : EachPlain check_shape
-plain_check = (record { own = refl; sets = inl refl; reads = refl; filled = refl }, tt)
-
-plain_run : EachPlain run_shape
-plain_run = (record { own = refl; sets = inl refl; reads = refl; filled = refl }, tt)
-
-plain_model : EachPlain model_shape
-plain_model = (
-  record { own = refl; sets = inl refl; reads = refl; filled = refl },
-  (
-    record { own = refl; sets = inl refl; reads = refl; filled = refl },
-    (
-      record { own = refl; sets = inl refl; reads = refl; filled = refl },
-      (
-        record { own = refl; sets = inl refl; reads = refl; filled = refl },
-        (
-          record { own = refl; sets = inl refl; reads = refl; filled = refl },
-          (
-            record { own = refl; sets = inl refl; reads = refl; filled = refl },
-            (
-              record { own = refl; sets = inr refl; reads = refl; filled = refl },
-              (record { own = refl; sets = inr refl; reads = refl; filled = refl }, tt),
-            ),
-          ),
-        ),
-      ),
-    ),
-  ),
-)
-
-plain_races : EachPlain races_shape
-plain_races = (
-  record { own = refl; sets = inl refl; reads = refl; filled = refl },
-  (
-    record { own = refl; sets = inl refl; reads = refl; filled = refl },
-    (
-      record { own = refl; sets = inl refl; reads = refl; filled = refl },
-      (
-        record { own = refl; sets = inl refl; reads = refl; filled = refl },
-        (
-          record { own = refl; sets = inl refl; reads = refl; filled = refl },
-          (record { own = refl; sets = inl refl; reads = refl; filled = refl }, tt),
-        ),
-      ),
-    ),
-  ),
-)
-
-plain_verify : EachPlain verify_shape
-plain_verify = (record { own = refl; sets = inl refl; reads = refl; filled = refl }, tt)
-
-plain_make : EachPlain make_shape
-plain_make = (record { own = refl; sets = inl refl; reads = refl; filled = refl }, (record { own = refl; sets = inl refl; reads = refl; filled = refl }, tt))
 
 -- ---- one level
 
@@ -141,50 +58,60 @@ FitsAll s = (words : List Text) → level_fault s [] nothing_held words false []
 other_name : (a b : Text) → bytes_eq b b ≡ true → bytes_eq a b ≡ false → a ≡ b → ⊥
 other_name a b same other e = true≢false (sym same ∙ ap (λ t. bytes_eq t b) (sym e) ∙ other)
 
+-- neither a command that runs a program nor `races` nor `make`
+record IsOther (name : Text) : Type 0 where
+  run : bytes_eq name (codes "run") ≡ false
+  replay : bytes_eq name (codes "replay") ≡ false
+  model : bytes_eq name (codes "model") ≡ false
+
+fits_alone : (name : Text) (rows : List Row) → IsOther name → bytes_eq name (codes "races") ≡ false → bytes_eq name (codes "make") ≡ false → FitsCommand name rows
+fits_alone name rows other races make = record {
+  run = λ n. absurd (other_name name (codes "run") refl other.run n);
+  replay = λ n. absurd (other_name name (codes "replay") refl other.replay n);
+  model = λ n. absurd (other_name name (codes "model") refl other.model n);
+  races = λ n. absurd (other_name name (codes "races") refl races n);
+  make = λ n. absurd (other_name name (codes "make") refl make n);
+}
+
 fits_check : FitsAll check_shape
 fits_check words e = record {
-  fits = record {
-    model = λ n. absurd (other_name (codes "check") (codes "model") refl refl n);
-    races = λ n. absurd (other_name (codes "check") (codes "races") refl refl n);
-    make = λ n. absurd (other_name (codes "check") (codes "make") refl refl n);
-  };
+  fits = fits_alone (codes "check") (rows_after check_shape.rules [] words) (record { run = refl; replay = refl; model = refl }) refl refl;
   is_asked = refl;
 }
 
-fits_run : FitsAll run_shape
-fits_run words e = record {
-  fits = record {
-    model = λ n. absurd (other_name (codes "run") (codes "model") refl refl n);
-    races = λ n. absurd (other_name (codes "run") (codes "races") refl refl n);
-    make = λ n. absurd (other_name (codes "run") (codes "make") refl refl n);
-  };
-  is_asked = refl;
-}
-
-fits_model : FitsAll model_shape
-fits_model words e =
-    let s = model_shape in
+-- the matches of a command that runs a program
+runner_options : (name : Text) (words : List Text) → level_fault (runner_shape name) [] nothing_held words false [] ≡ [] → HasOptions (rows_after (runner_shape name).rules [] words)
+runner_options name words e =
+    let s = runner_shape name in
     let held = (walk s.rules [] nothing_held words).held in
     let rows = rows_after s.rules [] words in
-    let h = (level_passed s plain_model [] nothing_held words false [] tt e).0 in
+    let h = (level_passed s (plain_runner name) [] nothing_held words false [] tt e).0 in
     let start = (settled s.rules held).rows in
     record {
-      fits = record {
-        model = λ n. record {
-          limits = record {
-            workers = number_has s rows (codes "workers") 1 64 h (λ t p. p _ refl) (default_row (codes "workers") s.rules refl start);
-            fuel = number_has s rows (codes "fuel") 1 1000000000 h (λ t p. p _ refl) (default_row (codes "fuel") s.rules refl start);
-            chunks = number_has s rows (codes "chunks") 2 65536 h (λ t p. p _ refl) (default_row (codes "chunks") s.rules refl start);
-            leaf = number_has s rows (codes "leaf") 16 1000000 h (λ t p. p _ refl) (default_row (codes "leaf") s.rules refl start);
-            inner = number_has s rows (codes "inner") 16 1000000 h (λ t p. p _ refl) (default_row (codes "inner") s.rules refl start);
-          };
-          report = flag_has s rows (codes "report") h (λ t p. p _ refl) (default_row (codes "report") s.rules refl start);
-          trace = flag_has s rows (codes "trace") h (λ t p. p _ refl) (default_row (codes "trace") s.rules refl start);
-        };
-        races = λ n. absurd (other_name (codes "model") (codes "races") refl refl n);
-        make = λ n. absurd (other_name (codes "model") (codes "make") refl refl n);
+      limits = record {
+        workers = number_has s rows (codes "workers") 1 64 h (λ t p. p _ refl) (default_row (codes "workers") s.rules refl start);
+        fuel = number_has s rows (codes "fuel") 1 1000000000 h (λ t p. p _ refl) (default_row (codes "fuel") s.rules refl start);
+        chunks = number_has s rows (codes "chunks") 2 65536 h (λ t p. p _ refl) (default_row (codes "chunks") s.rules refl start);
+        leaf = number_has s rows (codes "leaf") 16 1000000 h (λ t p. p _ refl) (default_row (codes "leaf") s.rules refl start);
+        inner = number_has s rows (codes "inner") 16 1000000 h (λ t p. p _ refl) (default_row (codes "inner") s.rules refl start);
       };
-      is_asked = refl;
+      report = flag_has s rows (codes "report") h (λ t p. p _ refl) (default_row (codes "report") s.rules refl start);
+      trace = flag_has s rows (codes "trace") h (λ t p. p _ refl) (default_row (codes "trace") s.rules refl start);
+    }
+
+fits_runner : (name : Text) → bytes_eq name (codes "races") ≡ false → bytes_eq name (codes "make") ≡ false → ((rows : List Row) → is_some (asked name rows) ≡ true)
+    → FitsAll (runner_shape name)
+fits_runner name races make known words e =
+    let options = runner_options name words e in
+    record {
+      fits = record {
+        run = λ n. options;
+        replay = λ n. options;
+        model = λ n. options;
+        races = λ n. absurd (other_name name (codes "races") refl races n);
+        make = λ n. absurd (other_name name (codes "make") refl make n);
+      };
+      is_asked = known (rows_after (runner_shape name).rules [] words);
     }
 
 fits_races : FitsAll races_shape
@@ -196,6 +123,8 @@ fits_races words e =
     let start = (settled s.rules held).rows in
     record {
       fits = record {
+        run = λ n. absurd (other_name (codes "races") (codes "run") refl refl n);
+        replay = λ n. absurd (other_name (codes "races") (codes "replay") refl refl n);
         model = λ n. absurd (other_name (codes "races") (codes "model") refl refl n);
         races = λ n. record {
           workers = number_has s rows (codes "workers") 1 64 h (λ t p. p _ refl) (default_row (codes "workers") s.rules refl start);
@@ -211,11 +140,7 @@ fits_races words e =
 
 fits_verify : FitsAll verify_shape
 fits_verify words e = record {
-  fits = record {
-    model = λ n. absurd (other_name (codes "verify") (codes "model") refl refl n);
-    races = λ n. absurd (other_name (codes "verify") (codes "races") refl refl n);
-    make = λ n. absurd (other_name (codes "verify") (codes "make") refl refl n);
-  };
+  fits = fits_alone (codes "verify") (rows_after verify_shape.rules [] words) (record { run = refl; replay = refl; model = refl }) refl refl;
   is_asked = refl;
 }
 
@@ -228,16 +153,21 @@ both_given false b e = absurd (some_kind kind.MissingRequiredArgument [] e)
 fits_make : FitsAll make_shape
 fits_make words e =
     let s = make_shape in
+    let held = (walk s.rules [] nothing_held words).held in
     let rows = rows_after s.rules [] words in
     let passed = level_passed s plain_make [] nothing_held words false [] tt e in
     let given = both_given (is_given (codes "SEED") rows) (is_given (codes "SIZE") rows) passed.2 in
+    let start = (settled s.rules held).rows in
     record {
       fits = record {
+        run = λ n. absurd (other_name (codes "make") (codes "run") refl refl n);
+        replay = λ n. absurd (other_name (codes "make") (codes "replay") refl refl n);
         model = λ n. absurd (other_name (codes "make") (codes "model") refl refl n);
         races = λ n. absurd (other_name (codes "make") (codes "races") refl refl n);
         make = λ n. record {
           seed = number_has s rows (codes "SEED") 0 4294967295 passed.0 (λ t p. p _ refl) (given_row (codes "SEED") rows given.0);
           size = number_has s rows (codes "SIZE") 1 1000 passed.0 (λ t p. p _ refl) (given_row (codes "SIZE") rows given.1);
+          run = flag_has s rows (codes "run") passed.0 (λ t p. p _ refl) (default_row (codes "run") s.rules refl start);
         };
       };
       is_asked = refl;
@@ -259,6 +189,18 @@ entered_fits a h (Some p) e = go (find (λ s. answers_to p.0 (label_of s)) a.sub
         let fit = (found FitsAll (λ x. answers_to p.0 (label_of x)) a.subs s h at).0 p.1 f in
         (fit.fits, λ _. fit.is_asked)
 
+each_fits : each FitsAll whole.subs
+each_fits = (
+  fits_check,
+  (
+    fits_runner (codes "run") refl refl (λ rows. refl),
+    (
+      fits_runner (codes "replay") refl refl (λ rows. refl),
+      (fits_runner (codes "model") refl refl (λ rows. refl), (fits_races, (fits_make, (fits_verify, tt)))),
+    ),
+  ),
+)
+
 pub record IsTaken (words : List Text) : Type 0 where
   pub fits : FitsFound (subcommand_of app words)
   pub met : is_some (subcommand_of app words) ≡ true
@@ -268,7 +210,7 @@ pub taken : (words : List Text) → fault_of app words ≡ [] → IsTaken words
 taken words e =
     let stop = stop_after whole.top.rules (names_of whole) words in
     let level = level_passed whole.top tt (names_of whole) nothing_held words (is_some (entered whole stop)) (entered_fault whole stop) tt e in
-    let all = entered_fits whole (fits_check, (fits_run, (fits_model, (fits_races, (fits_make, (fits_verify, tt)))))) stop level.1 in
+    let all = entered_fits whole each_fits stop level.1 in
     let some = check_met (is_some (entered whole stop)) level.2 in
     record { fits = all.0; met = some; is_asked = all.1 some }
   where

@@ -44,11 +44,9 @@ inner = option (codes "inner") 16 1000000 (codes "8192")
 abbrev pub check : Shape
 check = record (new_shape (codes "check")) { rules = file ∷ [] }
 
-abbrev pub run : Shape
-run = record (new_shape (codes "run")) { rules = file ∷ [] }
-
-abbrev pub model : Shape
-model = record (new_shape (codes "model")) {
+-- a command that runs a program: its limits, and what is written beside its outputs
+abbrev pub runner : Text → Shape
+runner name = record (new_shape name) {
   rules = file
       ∷ workers
       ∷ fuel
@@ -59,6 +57,15 @@ model = record (new_shape (codes "model")) {
       ∷ flag (codes "trace")
       ∷ [];
 }
+
+abbrev pub run : Shape
+run = runner (codes "run")
+
+abbrev pub replay : Shape
+replay = runner (codes "replay")
+
+abbrev pub model : Shape
+model = runner (codes "model")
 
 abbrev pub races : Shape
 races = record (new_shape (codes "races")) {
@@ -73,7 +80,7 @@ races = record (new_shape (codes "races")) {
 
 abbrev pub make : Shape
 make = record (new_shape (codes "make")) {
-  rules = number (codes "SEED") 0 4294967295 ∷ number (codes "SIZE") 1 1000 ∷ [];
+  rules = number (codes "SEED") 0 4294967295 ∷ number (codes "SIZE") 1 1000 ∷ flag (codes "run") ∷ [];
 }
 
 abbrev pub verify : Shape
@@ -90,7 +97,7 @@ app = record {
     disable_version_flag = true;
     subcommand_required = true;
   };
-  subs = check ∷ run ∷ model ∷ races ∷ make ∷ verify ∷ [];
+  subs = check ∷ run ∷ replay ∷ model ∷ races ∷ make ∷ verify ∷ [];
 }
 
 -- before its first subcommand

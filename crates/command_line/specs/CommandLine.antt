@@ -12,7 +12,7 @@ use Rattle.run_trace.specs.Settings.{Limits}
 use Rattle.run_trace.specs.declared.settings.Version.TheVariants.{Two}
 use Rattle.command_line.specs.App.{app}
 use Rattle.command_line.specs.declared.line.CommandLine.{CommandLine}
-use Rattle.command_line.specs.declared.line.CommandLine.TheVariants.{Check, Run, Model, Races, Make, Verify}
+use Rattle.command_line.specs.declared.line.CommandLine.TheVariants.{Check, Run, Replay, Model, Races, Make, Verify}
 use Rattle.command_line.specs.declared.line.Options.{Options}
 
 -- the file that is named, if one is
@@ -48,13 +48,14 @@ options_in rows = record {
 abbrev pub asked : Text → List Row → Option CommandLine
 asked name rows =
     if bytes_eq name (codes "check") then Some (Check (file_in rows))
-    else (if bytes_eq name (codes "run") then Some (Run (file_in rows))
+    else (if bytes_eq name (codes "run") then Some (Run (file_in rows) (options_in rows))
+    else (if bytes_eq name (codes "replay") then Some (Replay (file_in rows) (options_in rows))
     else (if bytes_eq name (codes "model") then Some (Model (file_in rows) (options_in rows))
     else (if bytes_eq name (codes "races") then Some (Races (file_in rows) (limits_in rows))
     else (if bytes_eq name (codes "make")
-    then Some (Make (number_in (codes "SEED") rows) (number_in (codes "SIZE") rows))
+    then Some (Make (number_in (codes "SEED") rows) (number_in (codes "SIZE") rows) (flag_in (codes "run") rows))
     else (if bytes_eq name (codes "verify") then Some (Verify (file_in rows))
-    else None)))))
+    else None))))))
 
 -- what the words after the program's name ask for; None where they are no command line
 abbrev pub command_line : List Text → Option CommandLine
@@ -64,5 +65,5 @@ command_line words =
 
 -- the size of a program to be made is 1 to 1,000
 abbrev pub HasSize : Option CommandLine → Type 0
-HasSize (Some (Make seed size)) = (1 ≤ size) × (size ≤ 1000)
+HasSize (Some (Make seed size run)) = (1 ≤ size) × (size ≤ 1000)
 HasSize _ = ⊤

@@ -18,22 +18,25 @@ pub record HasLimits (rows : List Row) : Type 0 where
   pub leaf : HasNumber (codes "leaf") 16 1000000 rows
   pub inner : HasNumber (codes "inner") 16 1000000 rows
 
--- those of `model` have these and both flags
+-- those of a command that runs a program have these and both flags
 pub record HasOptions (rows : List Row) : Type 0 where
   pub limits : HasLimits rows
   pub report : HasFlag (codes "report") rows
   pub trace : HasFlag (codes "trace") rows
 
--- the matches of `make` have both
-pub record HasSeedAndSize (rows : List Row) : Type 0 where
+-- the matches of `make` have both numbers, and its flag
+pub record FitsMake (rows : List Row) : Type 0 where
   pub seed : HasNumber (codes "SEED") 0 4294967295 rows
   pub size : HasNumber (codes "SIZE") 1 1000 rows
+  pub run : HasFlag (codes "run") rows
 
 -- the matches of a command, by its name
 pub record FitsCommand (name : Text) (rows : List Row) : Type 0 where
+  pub run : name ≡ codes "run" → HasOptions rows
+  pub replay : name ≡ codes "replay" → HasOptions rows
   pub model : name ≡ codes "model" → HasOptions rows
   pub races : name ≡ codes "races" → HasLimits rows
-  pub make : name ≡ codes "make" → HasSeedAndSize rows
+  pub make : name ≡ codes "make" → FitsMake rows
 
 -- the same of the command that was met, if one was
 abbrev pub FitsFound : Option (Text × List Row) → Type 0

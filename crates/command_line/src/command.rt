@@ -3,7 +3,7 @@
 ghost use Rattle.std.specs.Prelude.{◌≡◌, IfOk, false};
 ghost use Rattle.clap.specs.Words.{app_of, rule_of};
 ghost use Rattle.command_line.specs.Adds.{IsShaped};
-ghost use Rattle.command_line.specs.App.{app, check, run, model, races, make, verify, bare, file, number, option, flag, workers, fuel, chunks, leaf, inner};
+ghost use Rattle.command_line.specs.App.{app, check, runner, run, replay, model, races, make, verify, bare, file, number, option, flag, workers, fuel, chunks, leaf, inner};
 
 use clap::builder::ValueParser;
 use clap::{Arg, ArgAction, Command};
@@ -92,16 +92,11 @@ fn check<'w>(alloc: Global) -> Result<Command<'w>, AllocError>
     Command::new(alloc, "check").arg(file(alloc))
 }
 
-fn run<'w>(alloc: Global) -> Result<Command<'w>, AllocError>
-    ensures { IfOk result (IsShaped run) }
+// A command that runs a program.
+fn runner<'w>(alloc: Global, name: &'w str) -> Result<Command<'w>, AllocError>
+    ensures { IfOk result (IsShaped (runner name.entry.now)) }
 {
-    Command::new(alloc, "run").arg(file(alloc))
-}
-
-fn model<'w>(alloc: Global) -> Result<Command<'w>, AllocError>
-    ensures { IfOk result (IsShaped model) }
-{
-    Command::new(alloc, "model")
+    Command::new(alloc, name)
         .arg(file(alloc))?
         .arg(workers(alloc))?
         .arg(fuel(alloc))?
@@ -110,6 +105,24 @@ fn model<'w>(alloc: Global) -> Result<Command<'w>, AllocError>
         .arg(inner(alloc))?
         .arg(flag(alloc, "report"))?
         .arg(flag(alloc, "trace"))
+}
+
+fn run<'w>(alloc: Global) -> Result<Command<'w>, AllocError>
+    ensures { IfOk result (IsShaped run) }
+{
+    runner(alloc, "run")
+}
+
+fn replay<'w>(alloc: Global) -> Result<Command<'w>, AllocError>
+    ensures { IfOk result (IsShaped replay) }
+{
+    runner(alloc, "replay")
+}
+
+fn model<'w>(alloc: Global) -> Result<Command<'w>, AllocError>
+    ensures { IfOk result (IsShaped model) }
+{
+    runner(alloc, "model")
 }
 
 fn races<'w>(alloc: Global) -> Result<Command<'w>, AllocError>
@@ -129,7 +142,8 @@ fn make<'w>(alloc: Global) -> Result<Command<'w>, AllocError>
 {
     Command::new(alloc, "make")
         .arg(number(alloc, "SEED", 0, 4_294_967_295))?
-        .arg(number(alloc, "SIZE", 1, 1000))
+        .arg(number(alloc, "SIZE", 1, 1000))?
+        .arg(flag(alloc, "run"))
 }
 
 fn verify<'w>(alloc: Global) -> Result<Command<'w>, AllocError>
@@ -157,6 +171,7 @@ pub(crate) fn command<'w>(alloc: Global) -> Result<Command<'w>, AllocError>
     bare(alloc)
         .subcommand(check(alloc)?)?
         .subcommand(run(alloc)?)?
+        .subcommand(replay(alloc)?)?
         .subcommand(model(alloc)?)?
         .subcommand(races(alloc)?)?
         .subcommand(make(alloc)?)?

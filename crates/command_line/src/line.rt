@@ -53,6 +53,12 @@ pub enum CommandLine<'w> {
     /// Runs a program.
     Run {
         file: Option<FileName<'w>>,
+        options: Options,
+    },
+    /// Runs a program by its trace, entry by entry.
+    Replay {
+        file: Option<FileName<'w>>,
+        options: Options,
     },
     /// Runs a program with its trace on the definitions alone.
     Model {
@@ -64,10 +70,11 @@ pub enum CommandLine<'w> {
         file: Option<FileName<'w>>,
         settings: Settings,
     },
-    /// Writes the program of this seed and this size, which is 1 to 1,000.
+    /// Writes the program of this seed and this size, which is 1 to 1,000; or runs it, and writes what its run writes.
     Make {
         seed: u32,
         size: u32,
+        run: bool,
     },
     /// Checks an image.
     Verify {

@@ -75,6 +75,11 @@ fn asked<'w>(name: &str, matches: &ArgMatches<'w>) -> Option<CommandLine<'w>>
         }),
         "run" => Some(CommandLine::Run {
             file: file(matches),
+            options: options(matches),
+        }),
+        "replay" => Some(CommandLine::Replay {
+            file: file(matches),
+            options: options(matches),
         }),
         "model" => Some(CommandLine::Model {
             file: file(matches),
@@ -87,6 +92,7 @@ fn asked<'w>(name: &str, matches: &ArgMatches<'w>) -> Option<CommandLine<'w>>
         "make" => Some(CommandLine::Make {
             seed: number(matches, "SEED"),
             size: number(matches, "SIZE"),
+            run: flag(matches, "run"),
         }),
         "verify" => Some(CommandLine::Verify {
             file: file(matches),

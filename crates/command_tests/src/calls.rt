@@ -70,10 +70,31 @@ pub(crate) fn said<R: AllocGlobal + Threads + Wait + Sync>(
     line: &str,
     input: &str,
 ) -> Result<(u8, Vec<u8>), Fail> {
-    let mut source = source_of(rt.alloc(), input.as_bytes())?;
+    said_of(rt, line, input.as_bytes())
+}
+
+// The same over any bytes.
+pub(crate) fn said_of<R: AllocGlobal + Threads + Wait + Sync>(
+    rt: &R,
+    line: &str,
+    input: &[u8],
+) -> Result<(u8, Vec<u8>), Fail> {
+    let mut source = source_of(rt.alloc(), input)?;
     let mut sink = sink(rt.alloc());
     let ran = call(rt, line, &mut source, &mut sink)?;
     Ok((ran.status.code(), sink.written().to_vec(rt.alloc())?))
+}
+
+// What a command line hands back, and what it writes.
+pub(crate) fn handed<R: AllocGlobal + Threads + Wait + Sync>(
+    rt: &R,
+    line: &str,
+    input: &[u8],
+) -> Result<(Ran, Vec<u8>), Fail> {
+    let mut source = source_of(rt.alloc(), input)?;
+    let mut sink = sink(rt.alloc());
+    let ran = call(rt, line, &mut source, &mut sink)?;
+    Ok((ran, sink.written().to_vec(rt.alloc())?))
 }
 
 #[test]
@@ -195,16 +216,7 @@ fn programs_run(rt: HostRuntime) -> Result<(), Fail> {
         ("", 3, "end: source refused line 1 nomain\n"),
         ("fn g\nnewm r0 i0 i0\nend\nfn main\nend", 0, "end: done\n"),
         ("fn main\nset i0 1\npack r0 0 1\nend", 0, "end: done\n"),
-        (
-            "fn g\npar g g\nend\nfn main\nend",
-            3,
-            "end: source refused line 2 word\n",
-        ),
-        (
-            "fn main\npar main main\nend",
-            3,
-            "end: source refused line 2 word\n",
-        ),
+        ("fn g\npar g g\nend\nfn main\nend", 0, "end: done\n"),
         (
             "fn g\nadd i0 i1 i1\nend\nfn main\nset i1 21\ncall g\nout i0\nend",
             0,
@@ -428,9 +440,9 @@ fn words_are_refused(rt: HostRuntime) -> Result<(), Fail> {
         "run --workers 65",
         "run --fuel 0",
         "run a b",
-        "replay",
-        "make 1 1 --run",
-        "make 1 0",
+        "replay --leaf 15",
+        "make 1 1 --runs",
+        "make 1 0 --run",
         "model --leaf 15",
         "--help",
     ];

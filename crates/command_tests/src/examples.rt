@@ -28,20 +28,24 @@ const TRAP: &str =
     "# A trap: a division by zero ends the run, with the task and the line.\nfn main\n  set i0 7\n  set i1 0\n  div i2 i0 i1\n  out i2\nend\n";
 
 #[test]
-fn examples_are_accepted(rt: HostRuntime) -> Result<(), Fail> {
-    for text in [
-        CALL,
-        DOWN_POINTER,
-        ENTANGLED,
-        FORK,
-        LOOP,
-        LOOP_SUM,
-        SEVEN,
-        TRAP,
-    ] {
-        let (code, written) = said(&rt, "check", text)?;
-        assert_eq!(rt; code, 0);
-        assert_eq!(rt; written.as_slice(), b"end: accepted\n".as_slice());
+fn examples_are_run(rt: HostRuntime) -> Result<(), Fail> {
+    let cases = [
+        (CALL, 0, "144\n1\nend: done\n"),
+        (DOWN_POINTER, 0, "42\nend: done\n"),
+        (ENTANGLED, 5, "end: entangled reader 2 owner 1\n"),
+        (FORK, 0, "36\nend: done\n"),
+        (LOOP, 0, "55\nend: done\n"),
+        (LOOP_SUM, 0, "385\nend: done\n"),
+        (SEVEN, 0, "7\nend: done\n"),
+        (TRAP, 4, "end: trap div task 0 line 5\n"),
+    ];
+    for (text, status, bytes) in cases {
+        let checked = said(&rt, "check", text)?;
+        assert_eq!(rt; checked.0, 0);
+        assert_eq!(rt; checked.1.as_slice(), b"end: accepted\n".as_slice());
+        let (code, written) = said(&rt, "run", text)?;
+        assert_eq!(rt; code, status);
+        assert_eq!(rt; written.as_slice(), bytes.as_bytes());
     }
     Ok(())
 }

@@ -5,3 +5,7 @@
 mod calls;
 #[cfg(test)]
 mod examples;
+#[cfg(test)]
+mod made;
+#[cfg(test)]
+mod rows;

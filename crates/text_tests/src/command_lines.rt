@@ -1,19 +1,35 @@
-use command_line::{CommandLine, FileName, read_command_line};
+use command_line::{CommandLine, FileName, Options, read_command_line};
 use std::alloc::{AllocError, Global};
 use std::test::Fail;
 
 // Words, with a bar between them, and what they ask for.
-static TAKEN: [(&str, &str); 28] = [
+static TAKEN: [(&str, &str); 32] = [
     ("check", "check None"),
     ("check|a.hh", "check Some(\"a.hh\")"),
     ("check|help", "check Some(\"help\")"),
     ("check|--|--workers", "check Some(\"--workers\")"),
-    ("run", "run None"),
-    ("run|", "run Some(\"\")"),
-    ("run|-", "run Some(\"-\")"),
-    ("make|1|1", "make 1 1"),
-    ("make|0|1000", "make 0 1000"),
-    ("make|4294967295|+007", "make 4294967295 7"),
+    ("run", "run None 1 1000000 4096 4096 8192 false false"),
+    (
+        "run|",
+        "run Some(\"\") 1 1000000 4096 4096 8192 false false",
+    ),
+    (
+        "run|-",
+        "run Some(\"-\") 1 1000000 4096 4096 8192 false false",
+    ),
+    (
+        "run|--workers|4|--report",
+        "run None 4 1000000 4096 4096 8192 true false",
+    ),
+    (
+        "replay|a.hh|--leaf=16",
+        "replay Some(\"a.hh\") 1 1000000 4096 16 8192 false false",
+    ),
+    ("make|1|1", "make 1 1 false"),
+    ("make|0|1000", "make 0 1000 false"),
+    ("make|4294967295|+007", "make 4294967295 7 false"),
+    ("make|1|1|--run", "make 1 1 true"),
+    ("make|--run|1|1", "make 1 1 true"),
     ("model", "model None 1 1000000 4096 4096 8192 false false"),
     (
         "model|a.hh|--report",
@@ -80,7 +96,6 @@ static TAKEN: [(&str, &str); 28] = [
 static REFUSED: [&str; 53] = [
     "",
     "walk",
-    "replay",
     "help",
     "--help",
     "-h",
@@ -96,8 +111,6 @@ static REFUSED: [&str; 53] = [
     "check|--report",
     "run|--workers|65",
     "run|--fuel|0",
-    "run|--workers|2",
-    "run|--report",
     "--|check",
     "--report|model",
     "make",
@@ -107,9 +120,12 @@ static REFUSED: [&str; 53] = [
     "make|1|1001",
     "make|4294967296|1",
     "make|-1|1",
-    "make|1|1|--run",
     "make|x|1",
     "make||1",
+    "make|1|1|--report",
+    "make|1|1|--run|--run",
+    "replay|--workers|0",
+    "run|--run",
     "model|--workers|0",
     "model|--workers|65",
     "model|--fuel|0",
@@ -140,10 +156,32 @@ fn name<'w>(file: &Option<FileName<'w>>) -> Option<&'w str> {
     }
 }
 
+fn run_shown(
+    alloc: Global,
+    command: &str,
+    file: &Option<FileName>,
+    options: Options,
+) -> Result<String, AllocError> {
+    let settings = options.settings;
+    format!(in alloc;
+        "{command} {:?} {} {} {} {} {} {} {}",
+        name(file),
+        settings.workers(),
+        settings.fuel(),
+        settings.chunks(),
+        settings.leaf(),
+        settings.inner(),
+        options.report,
+        options.trace
+    )
+}
+
 fn shown(alloc: Global, line: &CommandLine) -> Result<String, AllocError> {
     match line {
         CommandLine::Check { file } => format!(in alloc; "check {:?}", name(file)),
-        CommandLine::Run { file } => format!(in alloc; "run {:?}", name(file)),
+        CommandLine::Run { file, options } => run_shown(alloc, "run", file, *options),
+        CommandLine::Replay { file, options } => run_shown(alloc, "replay", file, *options),
+        CommandLine::Model { file, options } => run_shown(alloc, "model", file, *options),
         CommandLine::Verify { file } => format!(in alloc; "verify {:?}", name(file)),
         CommandLine::Races { file, settings } => format!(in alloc;
             "races {:?} {} {} {} {} {}",
@@ -154,20 +192,8 @@ fn shown(alloc: Global, line: &CommandLine) -> Result<String, AllocError> {
             settings.leaf(),
             settings.inner()
         ),
-        CommandLine::Make { seed, size } => format!(in alloc; "make {} {}", *seed, *size),
-        CommandLine::Model { file, options } => {
-            let settings = options.settings;
-            format!(in alloc;
-                "model {:?} {} {} {} {} {} {} {}",
-                name(file),
-                settings.workers(),
-                settings.fuel(),
-                settings.chunks(),
-                settings.leaf(),
-                settings.inner(),
-                options.report,
-                options.trace
-            )
+        CommandLine::Make { seed, size, run } => {
+            format!(in alloc; "make {} {} {}", *seed, *size, *run)
         }
     }
 }

@@ -1,5 +1,5 @@
 use Rattle.std.proofs.Common.{rules}
-use Rattle.command_core.proofs.RacesTold.{image_told, image_refused}
+use Rattle.command_core.proofs.ImagesTold.{image_told, image_refused}
 use Rattle.command_core.proofs.images.answer_verify.Goals as goal
 
 pub returns-in_ok-text-in-Ok : goal.returns-in_ok-text-in-Ok

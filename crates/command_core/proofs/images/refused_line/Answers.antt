@@ -1,6 +1,6 @@
 use Rattle.std.proofs.Common.{◌∙◌}
 use Rattle.std.proofs.lemmas.Result.{IfOk-weaker}
-use Rattle.command_core.proofs.RacesTold.{image_is}
+use Rattle.command_core.proofs.ImagesTold.{image_is}
 use Rattle.command_core.proofs.images.refused_line.Goals as goal
 
 pub returns : goal.returns

@@ -13,6 +13,12 @@ returns-in-Run-clause-input g c = rw c.in-Run.is c.read_file-in-Run.ensures.inpu
 pub returns-in-Run-clause-taken : goal.returns-in-Run-clause-taken
 returns-in-Run-clause-taken g c = rw c.in-Run.is (search rules)
 
+pub returns-in-Replay-clause-input : goal.returns-in-Replay-clause-input
+returns-in-Replay-clause-input g c = rw c.in-Replay.is c.read_file-in-Replay.ensures.input
+
+pub returns-in-Replay-clause-taken : goal.returns-in-Replay-clause-taken
+returns-in-Replay-clause-taken g c = rw c.in-Replay.is (search rules)
+
 pub returns-in-Model-clause-input : goal.returns-in-Model-clause-input
 returns-in-Model-clause-input g c = rw c.in-Model.is c.read_file-in-Model.ensures.input
 

@@ -1,5 +1,5 @@
-use Rattle.command_core.proofs.Deliveries as deliveries
+use Rattle.command_core.proofs.Given as given
 use Rattle.command_core.proofs.laws.no_fault_gives_all.Goals as goal
 
 pub returns : goal.returns
-returns c = deliveries.no_fault_gives_all
+returns c = given.no_fault_gives_all

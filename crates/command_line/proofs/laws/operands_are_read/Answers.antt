@@ -1,4 +1,5 @@
-use Rattle.command_line.proofs.Operands.{files_named, numbers_made, options_set}
+use Rattle.command_line.proofs.Operands.{files_named, numbers_made}
+use Rattle.command_line.proofs.LimitsSet.{options_set}
 use Rattle.command_line.proofs.laws.operands_are_read.Goals as goal
 
 pub returns : goal.returns

@@ -1,0 +1,84 @@
+-- What a command gives where no fault rose.
+use Rattle.std.proofs.Common.{◌≡◌, ◌∙◌, ◌⊎◌, ℕ, List, true, subst, inl, inr, refl}
+use Rattle.std.specs.Prelude.{Option, Some, None, Result}
+use Rattle.hh_lang.specs.Form.{ProgramText}
+use Rattle.run_trace.specs.Entry.{Event}
+use Rattle.run_trace.specs.Settings.{Limits}
+use Rattle.run_ledger.specs.declared.data.RefusedAt.{RefusedAt}
+use Rattle.run_ledger.specs.Journals.{refused_as_run}
+use Rattle.program_reader.specs.declared.cause.Refused.{Refused}
+use Rattle.program_reader.specs.Program.{reading_of}
+use Rattle.trace_input.specs.declared.input.InputFault.{InputFault}
+use Rattle.trace_input.specs.declared.input.InputFault.TheVariants.{Source, BadLine}
+use Rattle.trace_input.specs.declared.input.TraceInput.{TraceInput}
+use Rattle.trace_input.specs.Input.{input_fault}
+use Rattle.command_line.specs.declared.line.Options.{Options}
+use Rattle.command_line.specs.declared.line.CommandLine.TheVariants.{Run, Replay, Model, Make}
+use Rattle.command_core.specs.declared.answer.Status.TheVariants.{NoMemory, Trace}
+use Rattle.command_core.specs.declared.answer.Answer.{Answer}
+use Rattle.command_core.specs.declared.answer.Ran.{Ran}
+use Rattle.command_core.specs.Answers.{AnswersLine, AnswersProgram, AnswersRun, AnswersTrace, AnswersTraced, IsModelled, IsProgramInput, IsReplay, LeavesLine, WhereProgram, WhereTraced, WhereWhole, WhereWithin, limits_for, summary}
+use Rattle.command_core.specs.Laws.{GivesAll, HasProgram, IsEnd, MadeAreRun, NoFaultGivesAll, ProgramsAreRun, TracesAreReplayed}
+use Rattle.command_core.proofs.Deliveries.{gives_all}
+
+pub no_fault_gives_all : NoFaultGivesAll
+no_fault_gives_all = λ line input r before after d none. gives_all (AnswersLine line input) (LeavesLine line input) r before after d none
+
+-- the same by what answers come to
+gives_so : (P Q : Answer → Type 0) (r : Ran) (before after : Option (List ℕ)) → ((a : Answer) → P a → Q a) → GivesAll P r before after → GivesAll Q r before after
+gives_so P Q r before after f g = elim g [
+  | inl e ↦ inl e
+  | inr h ↦ inr (h.0, f h.0 h.1, h.2, h.3, h.4, h.5)
+]
+
+-- PROGRAMS
+
+program_run : (o : Options) (input : List ℕ) (p : ProgramText) (a : Answer) → IsProgramInput input p → AnswersRun o input a → AnswersProgram o p a
+program_run o input p a is h =
+    subst (λ (r : Result ProgramText Refused). WhereProgram (AnswersProgram o) r a) is.reads (subst (λ b. WhereWithin b (WhereProgram (AnswersProgram o) (reading_of input)) a) is.within h)
+
+pub programs_are_run : ProgramsAreRun
+programs_are_run = λ file o input p r before after is d none.
+    gives_so _ (AnswersProgram o p) r before after (λ a. program_run o input p a is) (no_fault_gives_all (Run file o) input r before after d none)
+
+pub made_are_run : MadeAreRun
+made_are_run = λ seed size input p r before after is d none.
+    gives_so _ (AnswersProgram summary p) r before after (λ a. program_run summary _ p a is) (no_fault_gives_all (Make seed size true) input r before after d none)
+
+-- TRACES
+
+abbrev EndsOrRefuses : Answer → Type 0
+EndsOrRefuses a = (a.status ≡ Trace) ⊎ IsEnd a.status
+
+whole_end : (P : Answer → Type 0) (r : Option RefusedAt) (a : Answer) → (P a → IsEnd a.status) → WhereWhole P r a → EndsOrRefuses a
+whole_end P None a f h = inr (f h)
+whole_end P (Some r) a f h = inl h.status
+
+input_end : (P : TraceInput → Answer → Type 0) (input : List ℕ) (f : Option InputFault) (a : Answer) → ((t : TraceInput) → P t a → EndsOrRefuses a) → ((r : Refused) → f ≡ Some (Source r) → ⊥)
+    → WhereTraced P input f a → EndsOrRefuses a
+input_end P input None a g none h = g h.0 h.2
+input_end P input (Some (Source r)) a g none h = absurd (none r refl)
+input_end P input (Some (BadLine n)) a g none h = inl h.status
+
+traced_end : (P : ProgramText → Limits → List Event → Answer → Type 0) (s : Limits) (input : List ℕ) (a : Answer)
+    → ((p : ProgramText) (l : Limits) (entries : List Event) → P p l entries a → IsEnd a.status) → HasProgram input → AnswersTraced P s input a → EndsOrRefuses a
+traced_end P s input a f has h =
+    input_end (AnswersTrace P s) input (input_fault input) a
+    (λ t. whole_end (P t.program (limits_for s t) t.trace.entries) (refused_as_run t.program (limits_for s t) t.trace.entries) a (f t.program (limits_for s t) t.trace.entries))
+    has.faultless
+    (subst (λ b. WhereWithin b (WhereTraced (AnswersTrace P s) input (input_fault input)) a) has.within h)
+
+given_end : (P : Answer → Type 0) (r : Ran) (before after : Option (List ℕ)) → ((a : Answer) → P a → EndsOrRefuses a) → GivesAll P r before after → (r.status ≡ NoMemory) ⊎ ((r.status ≡ Trace) ⊎ IsEnd r.status)
+given_end P r before after f g = elim g [
+  | inl e ↦ inl e
+  | inr h ↦ inr (elim (f h.0 h.1) [
+    | inl e ↦ inl (h.2 ∙ e)
+    | inr e ↦ inr (e.0, h.2 ∙ e.1)
+  ])
+]
+
+pub traces_are_replayed : TracesAreReplayed
+traces_are_replayed = λ file o input r before after has d none. elim d [
+  | inl replay ↦ given_end _ r before after (λ a. traced_end (IsReplay o) o.settings input a (λ p s entries h. (h.0.end, h.0.status)) has) (no_fault_gives_all (Replay file o) input r before after replay none)
+  | inr model ↦ given_end _ r before after (λ a. traced_end (IsModelled o) o.settings input a (λ p s entries h. (h.end, h.text.status)) has) (no_fault_gives_all (Model file o) input r before after model none)
+]

@@ -1,0 +1,60 @@
+-- What is answered of texts, and of programs with a trace.
+use Rattle.std.proofs.Common.{◌≡◌, ◌<◌, ◌≤◌, ℕ, List, true, false, length, sym, subst}
+use Rattle.std.specs.Prelude.{Option, Some, Err, nat_le}
+use Rattle.std.proofs.lemmas.Bool.{le-leb, lt-leb}
+use Rattle.hh_lang.specs.Form.{ProgramText}
+use Rattle.run_trace.specs.Entry.{Event}
+use Rattle.run_trace.specs.Settings.{Limits}
+use Rattle.run_ledger.specs.declared.data.RunEnd.{RunEnd}
+use Rattle.run_ledger.specs.declared.data.RefusedAt.{RefusedAt}
+use Rattle.run_ledger.specs.Journals.{end_of, refused_as_run}
+use Rattle.run_ledger.specs.Text.{out_text}
+use Rattle.program_reader.specs.declared.cause.Refused.{Refused}
+use Rattle.program_reader.specs.Program.{reading_of}
+use Rattle.program_make.specs.Text.{made_text}
+use Rattle.trace_input.specs.declared.input.TraceInput.{TraceInput}
+use Rattle.command_line.specs.declared.line.Options.{Options}
+use Rattle.command_core.specs.declared.answer.Status.{Status}
+use Rattle.command_core.specs.declared.answer.Status.TheVariants.{Done}
+use Rattle.command_core.specs.declared.answer.Answer.{Answer}
+use Rattle.command_core.specs.Status.{status_of_end}
+use Rattle.command_core.specs.Input.{program_limit, trace_limit}
+use Rattle.command_core.specs.Answers.{AnswersMake, AnswersRefused, AnswersText, AnswersTrace, AnswersTraced, IsModelled, IsText, WhereProgram, WhereWhole, WhereWithin, limits_for, too_long}
+
+-- what is answered of a journal, which is the trace's, within its limits
+pub trace_told : (P : ProgramText → Limits → List Event → Answer → Type 0) (l : Limits) (t : TraceInput) (s : Limits) (journal : List Event) (r : Option RefusedAt) (a : Answer)
+    → s ≡ limits_for l t → journal ≡ t.trace.entries → refused_as_run t.program s journal ≡ r → WhereWhole (P t.program s journal) r a → AnswersTrace P l t a
+trace_told P l t s journal r a settings entries is h =
+    subst (λ x. WhereWhole (P t.program x t.trace.entries) (refused_as_run t.program x t.trace.entries) a) settings
+    (subst (λ j. WhereWhole (P t.program s j) (refused_as_run t.program s j) a) entries
+    (subst (λ o. WhereWhole (P t.program s journal) o a) (sym is) h))
+
+-- a journal of a whole run on the machine that never collects
+pub modelled : (o : Options) (p : ProgramText) (s : Limits) (journal : List Event) (end : RunEnd) (named : Status) (bytes : List ℕ) (a : Answer) → end_of p s journal ≡ Some end
+    → named ≡ status_of_end end → bytes ≡ out_text p s o.report o.trace journal → IsText named bytes a → IsModelled o p s journal a
+modelled o p s journal end named bytes a ended status text h = record {
+  end = end;
+  ended = ended;
+  text = subst (λ n. IsText n (out_text p s o.report o.trace journal) a) status (subst (λ x. IsText named x a) text h);
+}
+
+-- more bytes than the limit
+pub traced_too_long : (P : ProgramText → Limits → List Event → Answer → Type 0) (s : Limits) (input : List ℕ) (a : Answer) → trace_limit < length input → AnswersRefused too_long a → AnswersTraced P s input a
+traced_too_long P s input a lt h =
+    let e : nat_le (length input) trace_limit ≡ false = lt-leb (length input) trace_limit lt in
+    rw e h
+
+pub text_too_long : (P : ProgramText → Answer → Type 0) (input : List ℕ) (a : Answer) → program_limit < length input → AnswersRefused too_long a → AnswersText P input a
+text_too_long P input a lt h =
+    let e : nat_le (length input) program_limit ≡ false = lt-leb (length input) program_limit lt in
+    rw e h
+
+-- a text that isn't a program
+pub text_refused : (P : ProgramText → Answer → Type 0) (input : List ℕ) (r : Refused) (a : Answer) → length input ≤ program_limit → reading_of input ≡ Err r → AnswersRefused r a → AnswersText P input a
+text_refused P input r a le is h =
+    let e : nat_le (length input) program_limit ≡ true = le-leb (length input) program_limit le in
+    subst (λ b. WhereWithin b (WhereProgram P (reading_of input)) a) (sym e) (subst (λ x. WhereProgram P x a) (sym is) h)
+
+-- a text that was made
+pub text_made : (seed size : ℕ) (bytes : List ℕ) (a : Answer) → bytes ≡ made_text seed size → IsText Done bytes a → AnswersMake seed size false a
+text_made seed size bytes a is h = subst (λ x. IsText Done x a) is h

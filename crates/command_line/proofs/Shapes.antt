@@ -1,0 +1,91 @@
+-- The command as it is built, and its subcommands.
+use Rattle.std.proofs.Common.{refl, inl, inr, ℕ, zero, suc, List, [], ◌∷◌}
+use Rattle.clap.specs.Walk.{Text}
+use Rattle.clap.specs.Simple.{App, Shape, built}
+use Rattle.command_line.specs.App.{app}
+use Rattle.command_line.proofs.Rows.{IsPlain, each}
+
+abbrev pub whole : App
+whole = built app
+
+-- the built subcommands
+abbrev pub nth : ℕ → List Shape → Shape
+nth n [] = app.top
+nth zero (s ∷ ss) = s
+nth (suc n) (s ∷ ss) = nth n ss
+
+abbrev pub check_shape : Shape
+check_shape = nth 0 whole.subs
+
+-- a command that runs a program, by its name
+abbrev pub runner_shape : Text → Shape
+runner_shape name = record (nth 1 whole.subs) { name = name }
+
+abbrev pub races_shape : Shape
+races_shape = nth 4 whole.subs
+
+abbrev pub make_shape : Shape
+make_shape = nth 5 whole.subs
+
+abbrev pub verify_shape : Shape
+verify_shape = nth 6 whole.subs
+
+abbrev pub EachPlain : Shape → Type 0
+EachPlain s = each (IsPlain s.rules) s.rules
+
+pub plain_check : EachPlain check_shape
+plain_check = (record { own = refl; sets = inl refl; reads = refl; filled = refl }, tt)
+
+pub plain_runner : (name : Text) → EachPlain (runner_shape name)
+plain_runner name = (
+  record { own = refl; sets = inl refl; reads = refl; filled = refl },
+  (
+    record { own = refl; sets = inl refl; reads = refl; filled = refl },
+    (
+      record { own = refl; sets = inl refl; reads = refl; filled = refl },
+      (
+        record { own = refl; sets = inl refl; reads = refl; filled = refl },
+        (
+          record { own = refl; sets = inl refl; reads = refl; filled = refl },
+          (
+            record { own = refl; sets = inl refl; reads = refl; filled = refl },
+            (
+              record { own = refl; sets = inr refl; reads = refl; filled = refl },
+              (record { own = refl; sets = inr refl; reads = refl; filled = refl }, tt),
+            ),
+          ),
+        ),
+      ),
+    ),
+  ),
+)
+
+pub plain_races : EachPlain races_shape
+plain_races = (
+  record { own = refl; sets = inl refl; reads = refl; filled = refl },
+  (
+    record { own = refl; sets = inl refl; reads = refl; filled = refl },
+    (
+      record { own = refl; sets = inl refl; reads = refl; filled = refl },
+      (
+        record { own = refl; sets = inl refl; reads = refl; filled = refl },
+        (
+          record { own = refl; sets = inl refl; reads = refl; filled = refl },
+          (record { own = refl; sets = inl refl; reads = refl; filled = refl }, tt),
+        ),
+      ),
+    ),
+  ),
+)
+
+pub plain_verify : EachPlain verify_shape
+plain_verify = (record { own = refl; sets = inl refl; reads = refl; filled = refl }, tt)
+
+pub plain_make : EachPlain make_shape
+plain_make = (
+  record { own = refl; sets = inl refl; reads = refl; filled = refl },
+  (
+    record { own = refl; sets = inl refl; reads = refl; filled = refl },
+    (record { own = refl; sets = inr refl; reads = refl; filled = refl }, tt),
+  ),
+)

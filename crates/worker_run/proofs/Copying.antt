@@ -1,0 +1,52 @@
+-- The copy of a part whose collection has begun.
+use Rattle.std.proofs.Common.{◌≡◌, ℕ, ◌+◌, ◌*◌, ◌/◌, ◌≤◌, All, List, length, map, refl, ap, sym, subst, ◌∙◌}
+use Rattle.object_layout.specs.declared.word.Addr.{Addr}
+use Rattle.object_layout.specs.Content.{Content}
+use Rattle.alloc_path.specs.Heap.{Heap}
+use Rattle.hh_lang.specs.Form.{ProgramText}
+use Rattle.leaf_copy_gc.specs.declared.lists.Moved.{Moved}
+use Rattle.leaf_copy_gc.specs.Laws.{CanTake}
+use Rattle.leaf_copy_gc.specs.Lists.{IsCollected}
+use Rattle.leaf_copy_gc.specs.Survivors.{IsSound, as_reference}
+use Rattle.ledger_steps.specs.Accounts.{aside}
+use Rattle.task_frames.specs.Stack.{Stack}
+use Rattle.task_machine.specs.declared.part.Begun.{Begun}
+use Rattle.task_machine.specs.declared.part.Private.{Private}
+use Rattle.shared_tree.specs.Fits.{Fits}
+use Rattle.shared_tree.specs.LeafBegin.{HasBegun, number_of}
+use Rattle.shared_tree.specs.LeafEnd.{FitsCopied}
+use Rattle.shared_tree.specs.World.{World, accounts, value_of}
+use Rattle.shared_tree.proofs.Running.{status}
+use Rattle.copied_part.specs.Copied.{CanCopy}
+use Rattle.copied_part.specs.Handed.{IsCopying}
+use Rattle.copied_part.proofs.Beginning.{begun_is_copying}
+use Rattle.copied_part.proofs.Handing.{begun, copied_fits}
+use Rattle.copied_part.proofs.Saying.{begun_can_copy}
+use Rattle.worker_run.specs.declared.held.Collecting.{Collecting}
+use Rattle.worker_run.specs.Parts.{GoesOn, MayCopy}
+
+module _ (p : ProgramText) (w : World) (k : ℕ) (c : Collecting) (G : GoesOn p w) (M : MayCopy w k c) where
+  abbrev news : List Content
+  news = c.to_chunks.chunks.items
+
+  abbrev b : Begun
+  b = record { roots = c.roots.items; news = map number_of news }
+
+  copying : IsCopying w k c.part b news
+  copying = begun_is_copying w k M.before c.part c.roots.items c.to_chunks M.begun G.world M.fits M.fresh
+
+  pub takes : CanTake c.part.heap.chunks news
+  takes = copying.new
+
+  pub can_copy : CanCopy c.part.heap c.part.frames c.roots.items
+  can_copy =
+      begun_can_copy w.program w.settings c.part.task c.part.heap c.part.allocations c.part.frames (record { roots = c.roots.items; news = map number_of news }) news (value_of w) (aside (accounts w)) M.fits.fits.task
+      (begun w k c.part b news copying) M.fits.fits.is (status w k c.part G.world M.fits G.goes)
+      (subst (λ ks. All (IsSound ks) (map as_reference c.roots.items)) (sym (ap (λ (q : Private). q.heap.chunks) M.begun.part)) M.begun.sound)
+
+  pub copied : (h' : Heap) (frames' : Stack) (moved : Moved) → IsCollected c.part.heap c.part.frames c.roots.items news h' frames' moved → FitsCopied w k (record c.part { heap = h'; frames = frames' }) moved
+  copied h' frames' moved D = copied_fits w k c.part b news copying h' frames' moved D
+
+-- the same at another value
+pub may_copy_at : (w z : World) (k : ℕ) (c : Collecting) (part : Private) → MayCopy w k c → part ≡ c.part → Fits z k part → MayCopy z k c
+may_copy_at w z k c part M e f = record { fits = subst (Fits z k) e f; fresh = M.fresh; before = M.before; begun = M.begun }

@@ -1,0 +1,165 @@
+-- A desk before and after a turn.
+use Rattle.std.proofs.Common.{◌≡◌, ◌≢◌, ℕ, suc, ◌+◌, ◌^◌, ◌<◌, ◌≤◌, ◌==◌, Bool, true, false, cond, List, [], ◌∷◌, ◌++◌, length, refl, sym, ap, ap₂, ◌∙◌, subst, arith, Option, Some, None, length-append, unwrap_or}
+use Rattle.std.specs.declared.snapshot.Snapshot.{Snapshot}
+use Rattle.atomic_table.specs.Seated.{TableId}
+use Rattle.hh_lang.specs.Form.{ProgramText}
+use Rattle.run_trace.specs.Entry.{Event}
+use Rattle.run_trace.specs.Settings.{Limits}
+use Rattle.shared_tree.specs.Fits.{Fits}
+use Rattle.shared_tree.specs.Stands.{IsWorld}
+use Rattle.shared_tree.specs.World.{World, accounts}
+use Rattle.task_machine.specs.declared.part.Private.{Private}
+use Rattle.turn_lock.specs.Journal.{entries_by}
+use Rattle.turn_lock.specs.Seats.{view, Extends, GaveOne, HasNoTurn, HasTurn, IsAlike, Knows, SameWorker, own_entries, with_given, with_taken}
+use Rattle.turn_lock.proofs.Laws.{own_of_taken}
+use Rattle.worker_run.specs.declared.desk.Desk.{Desk}
+use Rattle.worker_run.specs.declared.held.Collecting.{Collecting}
+use Rattle.worker_run.specs.declared.held.Copied.{Copied}
+use Rattle.worker_run.specs.declared.held.Next.{Next}
+use Rattle.worker_run.specs.declared.held.Next.TheVariants.{Running, Collecting as Collects, Copied as HasCopied, Found as GoesFor, Forked, Resumed, Idle, Waits, Stop}
+use Rattle.worker_run.specs.declared.held.Ready.{Ready}
+use Rattle.worker_run.specs.declared.held.Ready.TheVariants.{Paused as HasPaused, Copied as IsCopied, Found, Wanting}
+use Rattle.worker_run.specs.declared.run.Run.{Run}
+use Rattle.worker_run.specs.declared.run.Setup.{Setup}
+use Rattle.worker_run.specs.Desks.{GivesOne, HasEntry, IsDesk, SameDesk, entries_of}
+use Rattle.worker_run.specs.Parts.{BringsTo, ComesWith, GoesWith, HoldsNone, Keeps, Sight, TakesFrom, WasCopied}
+use Rattle.worker_run.specs.Values.{EntersOne, FitsKept, IsSame, setup_of, worker_of}
+use Rattle.worker_run.proofs.Rows.{journal_of}
+
+some_one : {A : Type 0} (a b : A) → Some a ≡ Some b → a ≡ b
+some_one a b e = ap (λ o. unwrap_or o a) e
+
+-- of a worker's entries there are no more
+own_within : (w : ℕ) (es : List Event) → length (entries_by worker_of w es) ≤ length es
+own_within w [] = omega arith
+own_within w (e ∷ es) = by (worker_of e == w) (own_within w es)
+  where
+    by : (b : Bool) → length (entries_by worker_of w es) ≤ length es → length (cond b (e ∷ entries_by worker_of w es) (entries_by worker_of w es)) ≤ suc (length es)
+    by true h = omega (arith, h)
+    by false h = omega (arith, h)
+
+same_setup : (a b : Run) → b.paced.program ≡ a.paced.program → b.paced.settings ≡ a.paced.settings → setup_of b ≡ setup_of a
+same_setup a b p s = ap₂ (λ (x : ProgramText) (y : Limits). record { program = x; settings = y }) p s
+
+pub same_text : (w : World) (p : ProgramText) (s : Limits) → w.program ≡ p → w.settings ≡ s → ◌≡◌ {A = Setup} (record { program = w.program; settings = w.settings }) (record { program = p; settings = s })
+same_text w p s a b = ap₂ (λ (x : ProgramText) (y : Limits). record { program = x; settings = y }) a b
+
+-- ---- THE TURN IS TAKEN: v is what the seat knew
+module _ (p : ProgramText) (d : Desk) (value : Run) (v : Sight) (K : Knows journal_of worker_of FitsKept setup_of value v) (number : v.worker ≡ d.worker) (under : v.setup ≡ Some (record { program = p; settings = d.settings })) where
+  setup_taken : setup_of value ≡ record { program = p; settings = d.settings }
+  setup_taken = some_one (setup_of value) _ (sym K.setup_is ∙ under)
+
+  pub program_taken : value.paced.program ≡ p
+  program_taken = ap (λ (s : Setup). s.program) setup_taken
+
+  pub settings_taken : value.paced.settings ≡ d.settings
+  settings_taken = ap (λ (s : Setup). s.settings) setup_taken
+
+  pub worker_taken : d.worker < d.settings.workers → d.worker < value.paced.settings.workers
+  worker_taken below = let e : value.paced.settings.workers ≡ d.settings.workers = ap (λ (s : Limits). s.workers) settings_taken in omega (arith, e, below)
+
+  kept_fits : (part : Private) → Keeps v.part part → Fits value.paced d.worker part
+  kept_fits part k = subst (λ (n : ℕ). Fits value.paced n part) number (subst (Fits value.paced v.worker) k.2 (K.part k.0 k.1))
+
+  pub brings : (ready : Ready) → ComesWith p d.worker v ready → BringsTo value.paced d.worker ready
+  brings (HasPaused part why) C = (C.0, kept_fits C.0 C.1, λ w G f. C.2 w (record { world = G.world; program = G.program ∙ program_taken; goes = G.goes }) f)
+  brings (IsCopied c) C = (kept_fits c.begun.value C.0, λ w G f. C.1 w (record { world = G.world; program = G.program ∙ program_taken; goes = G.goes }) f)
+  brings (Found task) C = tt
+  brings Wanting C = tt
+
+-- an entry was made
+pub has_entry : (z : TableId) (p : ProgramText) (d e : Desk) (taken value : Run) → IsDesk z p d → e ≡ record d { seat = e.seat } → HasTurn z e.seat taken → view e.seat ≡ with_taken (view d.seat) taken
+    → Knows journal_of worker_of FitsKept setup_of taken (view d.seat) → EntersOne taken.paced value.paced d.worker → IsWorld value.paced → HasEntry z p e value
+has_entry z p d e taken value D is turn sees K enters world = subst (λ (x : Desk). HasEntry z p x value) (sym is) (record {
+  taken = taken;
+  turn = turn;
+  number = ap (λ (v : Sight). v.worker) sees ∙ D.number;
+  under = ap (λ (v : Sight). v.setup) sees ∙ D.under;
+  below = D.below;
+  few = D.few;
+  gave = D.gave ∙ ap length (sym own);
+  thieves = D.thieves;
+  enters = enters;
+  world = world;
+  program = enters.enters.program ∙ program_taken p d taken (view d.seat) K D.number D.under;
+  within = (let a = own_within (view d.seat).worker (journal_of taken) in let b = ap length (own_of_taken journal_of worker_of FitsKept setup_of taken (view d.seat) K) in let c = ap length own in omega (arith, a, b, c));
+})
+  where
+    own : own_entries worker_of (view e.seat) ≡ own_entries worker_of (view d.seat)
+    own = ap (own_entries worker_of) sees
+
+-- ---- IT IS GIVEN BACK
+
+module _ (z : TableId) (p : ProgramText) (d : Desk) (value : Run) (H : HasEntry z p d value) where
+  pub extends : length (journal_of value) < 2 ^ 63 → Extends journal_of worker_of FitsKept setup_of H.taken value (view d.seat).worker
+  extends short = record {
+    entry = H.enters.event;
+    longer = H.enters.enters.journal;
+    by_worker = H.enters.by_worker ∙ sym H.number;
+    others_fit = λ w s ne f. H.enters.others w s.value (λ e. ne (e ∙ sym H.number)) f;
+    same_setup = same_setup H.taken value H.enters.enters.program H.enters.enters.settings;
+    short = short;
+  }
+
+  pub room_for_one : length (journal_of value) < 2 ^ 63 → d.given + 1 < 2 ^ 64
+  room_for_one short =
+      let a = H.gave in let b = H.within in
+      let c : length (journal_of value) ≡ length (journal_of H.taken) + 1 = ap length H.enters.enters.journal ∙ length-append (journal_of H.taken) (H.enters.event ∷ []) in
+      omega (arith, a, b, c, short)
+
+  module _ (e : Desk) (is : e ≡ record d { seat = e.seat; given = d.given + 1 }) (idle : HasNoTurn z e.seat) (same : SameWorker (view d.seat) (view e.seat)) (G : GaveOne worker_of (journal_of value) (view d.seat) (view e.seat)) where
+    counts : d.given + 1 ≡ length (entries_of e)
+    counts = let a = H.gave in let b : length (entries_of e) ≡ length (entries_of d) + 1 = ap length G.own ∙ length-append (entries_of d) (G.entry ∷ []) in omega (arith, a, b)
+
+    pub desk_given : IsDesk z p e
+    desk_given = subst (IsDesk z p) (sym is) (record { idle = idle; number = same.worker ∙ H.number; under = same.setup ∙ H.under; below = H.below; few = H.few; gave = counts; thieves = H.thieves })
+
+    pub same_given : SameDesk d e
+    same_given = subst (SameDesk d) (sym is) (record { worker = refl; settings = refl; seat = same })
+
+    pub one_given : GivesOne d e
+    one_given = (G.entry, G.own)
+
+  abbrev pub KeepsOf : Next → Snapshot Private → Type 0
+  KeepsOf (Running part) s = s.value ≡ part
+  KeepsOf (Collects c) s = s.value ≡ c.part
+  KeepsOf (HasCopied c) s = s.value ≡ c.begun.value
+  KeepsOf _ s = Unit {0}
+
+  -- what the worker goes on with
+  pub goes : (next : Next) (v : Sight) (s : Snapshot Private) → TakesFrom value.paced d.worker next → v.part ≡ Some s → KeepsOf next s → GoesWith p d.worker v next
+  goes (Running part) v s T e k = ((s, e, k), (value.paced, record { world = H.world; program = H.program; goes = T.0 }, T.1))
+  goes (Collects c) v s T e k = ((s, e, k), (value.paced, record { world = H.world; program = H.program; goes = T.0 }, T.1))
+  goes (HasCopied c) v s T e k = ((s, e, k), λ w G f. T.1 w (record { world = G.world; program = G.program ∙ sym H.program; goes = G.goes }) f)
+  goes (GoesFor t) v s T e k = tt
+  goes (Forked l r) v s T e k = tt
+  goes (Resumed t) v s T e k = tt
+  goes Idle v s T e k = tt
+  goes Waits v s T e k = tt
+  goes Stop v s T e k = tt
+
+-- the value is the same
+pub alike : (taken value : Run) → IsSame taken.paced value.paced → IsAlike journal_of worker_of FitsKept setup_of taken value
+alike taken value S = record { same_journal = S.journal; fit = λ w s f. S.all w s.value f; same_setup = same_setup taken value S.program S.settings }
+
+pub goes_with_none : (p : ProgramText) (k : ℕ) (v : Sight) (next : Next) → HoldsNone next → GoesWith p k v next
+goes_with_none p k v (Running part) h = absurd h
+goes_with_none p k v (Collects c) h = absurd h
+goes_with_none p k v (HasCopied c) h = absurd h
+goes_with_none p k v (GoesFor t) h = tt
+goes_with_none p k v (Forked l r) h = tt
+goes_with_none p k v (Resumed t) h = tt
+goes_with_none p k v Idle h = tt
+goes_with_none p k v Waits h = tt
+goes_with_none p k v Stop h = tt
+
+module _ (z : TableId) (p : ProgramText) (d e : Desk) (D : IsDesk z p d) (is : e ≡ record d { seat = e.seat }) (idle : HasNoTurn z e.seat) (same : SameWorker (view d.seat) (view e.seat)) (own : entries_of e ≡ entries_of d) where
+  pub desk_same : IsDesk z p e
+  desk_same = subst (IsDesk z p) (sym is) (record { idle = idle; number = same.worker ∙ D.number; under = same.setup ∙ D.under; below = D.below; few = D.few; gave = D.gave ∙ ap length (sym own); thieves = D.thieves })
+
+  pub same_same : SameDesk d e
+  same_same = subst (SameDesk d) (sym is) (record { worker = refl; settings = refl; seat = same })
+
+-- what copying comes to
+pub comes_copied : (p : ProgramText) (k : ℕ) (v : Sight) (next : Next) (c : Collecting) (d : Copied) → GoesWith p k v next → next ≡ Collects c → d.begun.value ≡ c.part → WasCopied p k d → ComesWith p k v (IsCopied d)
+comes_copied p k v next c d G is same was = let K : Keeps v.part c.part = (subst (GoesWith p k v) is G).0 in ((K.0, K.1, K.2 ∙ sym same), was)

@@ -1,0 +1,55 @@
+-- Entries that give what is owed.
+use Rattle.std.proofs.Common.{◌≡◌, ◌⊎◌, ℕ, zero, suc, ◌==◌, ◌&&◌, Bool, true, false, Option, Some, None, refl, ap, sym, subst, ◌∙◌, is_some, eq-eqb, arith}
+use Rattle.std.proofs.lemmas.Bool.{false≢true}
+use Rattle.run_trace.specs.declared.entry.Kind.{Kind}
+use Rattle.run_trace.specs.declared.entry.Kind.TheVariants.{Mark, More, Sweep}
+use Rattle.run_trace.specs.Entry.{Event}
+use Rattle.run_ledger.specs.declared.data.Owed.{Owed}
+use Rattle.run_ledger.specs.declared.data.Owed.TheVariants.{Mark as OwesMark, More as OwesMore, Sweep as OwesSweep, Nothing}
+use Rattle.run_ledger.specs.declared.data.Refused.{Refused}
+use Rattle.run_ledger.specs.declared.data.Refused.TheVariants.{Left}
+use Rattle.run_ledger.specs.Cuts.{CanBeGiven}
+use Rattle.run_ledger.specs.Entries.{counted, kind_refusal, refused_unless}
+use Rattle.run_ledger.specs.Heaps.{heap_of, left_in, marked_in, sweep_number}
+use Rattle.run_ledger.specs.Pace.{gives}
+use Rattle.run_ledger.proofs.OwedEntries.{owed_can_be_given}
+use Rattle.shared_tree.specs.Causes.{or_else}
+use Rattle.shared_tree.specs.MarkCauses.{marking_cause}
+use Rattle.shared_tree.specs.Stands.{IsWorld}
+use Rattle.shared_tree.specs.World.{World, accounts}
+use Rattle.shared_tree.proofs.MarkCauses.{marks_refuse}
+use Rattle.paced_tree.specs.Owed.{Pays, owed_by}
+
+module _ (w : World) (k : ℕ) where
+  pub pays_nothing : (kind : Kind) → owed_by w k ≡ Nothing → Pays w (record { worker = k; kind = kind })
+  pays_nothing kind owes = subst (λ o. gives o kind ≡ true) (sym owes) refl
+
+  pub pays_mark : (t : ℕ) → owed_by w k ≡ OwesMark t → Pays w (record { worker = k; kind = Mark t })
+  pays_mark t owes = subst (λ o. gives o (Mark t) ≡ true) (sym owes) (eq-eqb t t refl)
+
+  pub pays_more : (t : ℕ) → owed_by w k ≡ OwesMore t → Pays w (record { worker = k; kind = More t 64 })
+  pays_more t owes = subst (λ o. gives o (More t 64) ≡ true) (sym owes) (ap (λ b. b && (64 == 64)) (eq-eqb t t refl))
+
+  pub pays_sweep : (t given : ℕ) → owed_by w k ≡ OwesSweep t → Pays w (record { worker = k; kind = Sweep t given })
+  pays_sweep t given owes = subst (λ o. gives o (Sweep t given) ≡ true) (sym owes) (eq-eqb t t refl)
+
+-- a heap whose sweep is owed is being marked, and nothing is left of it to mark
+none_first : (o rest : Option Refused) → or_else o rest ≡ None → (o ≡ None) × (rest ≡ None)
+none_first None rest e = (refl, e)
+none_first (Some cause) rest e = absurd cc
+
+none_unless : (n : ℕ) (cause : Refused) (rest : Option Refused) → refused_unless (n == 0) cause rest ≡ None → n ≡ 0
+none_unless n cause rest e = by (n == 0) refl e
+  where
+    by : (b : Bool) → (n == 0) ≡ b → refused_unless b cause rest ≡ None → n ≡ 0
+    by true is e = grind (arith, is)
+    by false is e = absurd cc
+
+pub sweep_is_owed : (w : World) (k t : ℕ) → IsWorld w → (accounts w).end ≡ None → owed_by w k ≡ OwesSweep t → (marking_cause w t ≡ None) × (left_in (heap_of (accounts w) t) ≡ 0)
+sweep_is_owed w k t I on owes =
+    let h = heap_of (accounts w) t in
+    let number = sweep_number (accounts w).machine h in
+    let can : kind_refusal w.program w.settings (accounts w) k (Sweep t number) ≡ None =
+    subst (CanBeGiven w.program w.settings (accounts w) k) owes (owed_can_be_given w.program w.settings w.journal.items k I.legal) in
+    let both = none_first (marking_cause w t) _ (sym ((marks_refuse w k t I on).sweep number) ∙ can) in
+    (both.0, none_unless (left_in h) (Left (marked_in h)) _ both.1)

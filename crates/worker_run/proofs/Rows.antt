@@ -1,0 +1,163 @@
+-- Desks and their seats.
+use Rattle.std.proofs.Common.{◌≡◌, ℕ, zero, suc, ◌<◌, ◌^◌, true, slice_index_or, slice_set, List, [], ◌∷◌, ◌++◌, length, map, take, drop, take_all, drop_of_length-le, option_map, slice_get, get_or, remove, refl, sym, ap, ◌∙◌, subst, arith, Option, Some, None, append_assoc, append-nil, true≢false, is_some, unwrap_or}
+use Rattle.std.proofs.lemmas.Option.{slice_get_within, slice_get-get_or, slice_get-map}
+use Rattle.std.proofs.lemmas.List.{map-append, length-map}
+use Rattle.std.specs.declared.snapshot.Snapshot.{Snapshot}
+use Rattle.atomic_table.specs.Seated.{TableId}
+use Rattle.atomic_table.specs.declared.shared.Seat.{Seat}
+use Rattle.hh_lang.specs.Form.{ProgramText}
+use Rattle.run_trace.specs.Entry.{Event}
+use Rattle.run_trace.specs.Settings.{Limits}
+use Rattle.steal_scheduler.specs.declared.hand.Hand.{Hand}
+use Rattle.steal_scheduler.specs.Hands.{AreNewHands, thefts}
+use Rattle.run_ledger.specs.Journals.{is_legal}
+use Rattle.run_ledger.specs.Pace.{is_paced}
+use Rattle.shared_tree.specs.Stands.{IsWorld}
+use Rattle.shared_tree.specs.World.{World}
+use Rattle.task_machine.specs.declared.part.Private.{Private}
+use Rattle.turn_lock.specs.Journal.{entries_by}
+use Rattle.turn_lock.specs.Seats.{view, HasNoTurn, HasOwnEntries, SameWorker, own_entries, AreNewSeats, AreAllSeats, IsLeftBy}
+use Rattle.turn_lock.proofs.Laws.{new_are_all, kept_are_all}
+use Rattle.worker_run.specs.declared.desk.Desk.{Desk}
+use Rattle.worker_run.specs.declared.run.Run.{Run}
+use Rattle.worker_run.specs.declared.run.Setup.{Setup}
+use Rattle.worker_run.specs.Desks.{AreAllDesks, AreHands, AreNewDesks, HasOfEach, IsDesk, SameDesk, entries_of}
+use Rattle.worker_run.specs.Outcomes.{IsRun}
+use Rattle.worker_run.specs.Parts.{Sight}
+use Rattle.worker_run.specs.Values.{FitsKept, setup_of, worker_of}
+
+abbrev pub Chair : Type 0
+Chair = Seat (Option Run) Sight
+
+some_one : {A : Type 0} (a b : A) → Some a ≡ Some b → a ≡ b
+some_one a b e = ap (λ o. unwrap_or o a) e
+
+some_apart : {A : Type 0} (a : A) → None ≡ Some a → ⊥
+some_apart a e = true≢false (sym (ap is_some e))
+
+first_there : {A : Type 0} (l : List A) → 0 < length l → (a : A) × (slice_get l 0 ≡ Some a)
+first_there [] h = absurd (omega arith)
+first_there (x ∷ xs) h = (x, refl)
+
+pub removed_first : {A : Type 0} (l : List A) (x : A) → 0 < length l → x ≡ get_or l 0 x → x ∷ remove l 0 ≡ l
+removed_first [] x h e = absurd (omega arith)
+removed_first (y ∷ ys) x h e = ap (λ z. z ∷ ys) e
+
+pub first_of : {A : Type 0} (l : List A) (x : A) → 0 < length l → x ≡ get_or l 0 x → slice_get l 0 ≡ Some x
+first_of [] x h e = absurd (omega arith)
+first_of (y ∷ ys) x h e = ap Some (sym e)
+
+pub rest_of : {A : Type 0} (l : List A) (x : A) → 0 < length l → x ≡ get_or l 0 x → (k : ℕ) (y : A) → slice_get (remove l 0) k ≡ Some y → slice_get l (suc k) ≡ Some y
+rest_of [] x h e k y at = absurd (omega arith)
+rest_of (z ∷ zs) x h e k y at = at
+
+pub none_new : (s : Limits) → AreNewDesks s []
+none_new s = λ k d at. absurd (some_apart d at)
+
+-- one more at the end
+pub all_more : {A : Type 0} (P : ℕ → A → Type 0) (xs : List A) (x : A) → ((k : ℕ) (y : A) → slice_get xs k ≡ Some y → P k y) → P (length xs) x → (k : ℕ) (y : A) → slice_get (xs ++ x ∷ []) k ≡ Some y → P k y
+all_more P [] x each last zero y e = subst (P 0) (some_one x y e) last
+all_more P [] x each last (suc k) y e = absurd (some_apart y e)
+all_more P (z ∷ zs) x each last zero y e = each 0 y e
+all_more P (z ∷ zs) x each last (suc k) y e = all_more (λ j. P (suc j)) zs x (λ j w f. each (suc j) w f) last k y e
+
+pub moved_on : {A B : Type 0} (f : A → B) (done : List A) (left : List B) (x : A) (y : B) → f x ≡ y → 0 < length left → y ≡ get_or left 0 y → map f (done ++ x ∷ []) ++ remove left 0 ≡ map f done ++ left
+moved_on f done left x y is some first = ap (λ l. l ++ remove left 0) (map-append f done (x ∷ [])) ∙ (append_assoc (map f done) (f x ∷ []) (remove left 0)
+    ∙ (ap (λ z. map f done ++ z ∷ remove left 0) is ∙ ap (λ l. map f done ++ l) (removed_first left y some first)))
+
+-- what a borrow of the whole leaves
+pub whole_written : {A : Type 0} (len : ℕ) (new old : List A) → length new ≡ length old → len ≡ length old → take len (new ++ drop (length new) old) ≡ new
+whole_written len new old e is = ap (λ l. take len (new ++ l)) (drop_of_length-le old (omega arith)) ∙ (ap (take len) (append-nil new) ∙ take_all len new (omega arith))
+
+from_place : {A B : Type 0} (f : A → B) (xs : List A) (k : ℕ) (y : B) → slice_get (map f xs) k ≡ Some y → (x : A) × (slice_get xs k ≡ Some x) × (f x ≡ y)
+from_place f [] k y e = absurd (some_apart y e)
+from_place f (x ∷ xs) zero y e = (x, refl, some_one (f x) y e)
+from_place f (x ∷ xs) (suc k) y e = from_place f xs k y e
+
+to_place : {A B : Type 0} (f : A → B) (xs : List A) (k : ℕ) (x : A) → slice_get xs k ≡ Some x → slice_get (map f xs) k ≡ Some (f x)
+to_place f xs k x e = slice_get-map f xs k ∙ ap (option_map f) e
+
+abbrev seat_of : Desk → Chair
+seat_of d = d.seat
+
+-- all desks after calls of which each left its desk in order
+pub kept_desks : (z : TableId) (p : ProgramText) (s : Limits) (before after : List Desk) → AreAllDesks z p s before → length after ≡ length before
+    → ((k : ℕ) (d e : Desk) → slice_get before k ≡ Some d → slice_get after k ≡ Some e → IsDesk z p e × SameDesk d e) → AreAllDesks z p s after
+kept_desks z p s before after all long kept = record {
+  seats = kept_are_all z (map seat_of before) (map seat_of after) all.seats (length-map after seat_of ∙ (long ∙ sym (length-map before seat_of)))
+      (λ k x y at to. let d = from_place seat_of before k x at in let e = from_place seat_of after k y to in let one = kept k d.0 e.0 d.1 e.1 in
+      (subst (HasNoTurn z) e.2 one.0.idle, subst (λ (t : Chair). SameWorkerOf x t) e.2 (subst (λ (t : Chair). SameWorkerOf t e.0.seat) d.2 one.1.seat)));
+  each_desk = λ k e at. let h = slice_get_within after k e at in let d = slice_get-get_or before k e (omega arith) in let one = kept k (get_or before k e) e d at in
+      (one.0, one.1.worker ∙ (all.each_desk k (get_or before k e) d).1, one.1.settings ∙ (all.each_desk k (get_or before k e) d).2);
+}
+  where
+    SameWorkerOf : Chair → Chair → Type 0
+    SameWorkerOf x t = SameWorker (view x) (view t)
+
+-- the desks of new seats
+pub new_desks : (z : TableId) (v : Sight) (n : ℕ) (p : ProgramText) (s : Limits) (seats : List Chair) (desks : List Desk) → 0 < n → n ≡ s.workers → s.workers < 2 ^ 32 → v.seen ≡ [] → v.joined ≡ [] → v.setup ≡ Some (record { program = p; settings = s }) → AreNewSeats z v n seats
+    → map (λ d. d.seat) desks ≡ seats → AreNewDesks s desks → AreAllDesks z p s desks
+new_desks z v n p s seats desks some workers few none_seen none_joined under new same fresh = record {
+  seats = subst (AreAllSeats z) (sym same) (new_are_all z v n seats some none_joined new);
+  each_desk = λ k d e. let t = new.1 k d.seat (at k d e) in let f = fresh k d e in (
+    record {
+      idle = t.0;
+      number = ap (λ (u : Sight). u.worker) t.1 ∙ sym f.0;
+      under = ap (λ (u : Sight). u.setup) t.1 ∙ (under ∙ ap (λ (x : Limits). Some (record { program = p; settings = x })) (sym f.1));
+      below = (let h = slice_get_within desks k d e in let m = sym (length-map desks seat_of) ∙ (ap length same ∙ new.0) in let a = f.0 in let b : d.settings.workers ≡ s.workers = ap (λ (x : Limits). x.workers) f.1 in omega (arith, h, m, workers, a, b));
+      few = (let b : d.settings.workers ≡ s.workers = ap (λ (x : Limits). x.workers) f.1 in omega (arith, few, b));
+      gave = f.2 ∙ ap length (sym (nothing k d e));
+      thieves = f.3 ∙ ap (λ (x : Limits). x.workers) (sym f.1);
+    },
+    f.0,
+    f.1,
+  );
+}
+  where
+    at : (k : ℕ) (d : Desk) → slice_get desks k ≡ Some d → slice_get seats k ≡ Some d.seat
+    at k d e = ap (λ l. slice_get l k) (sym same) ∙ to_place seat_of desks k d e
+
+    nothing : (k : ℕ) (d : Desk) → slice_get desks k ≡ Some d → entries_of d ≡ []
+    nothing k d e = ap (λ (l : List Event). entries_by worker_of (view d.seat).worker l) (ap (λ (u : Sight). u.seen) (new.1 k d.seat (at k d e)).1 ∙ none_seen)
+
+-- ---- THE VALUE AT THE END
+
+abbrev pub journal_of : Run → List Event
+journal_of r = r.paced.journal.items
+
+module _ (z : TableId) (p : ProgramText) (s : Limits) (desks : List Desk) (seats : List Chair) (value : Run) (all : AreAllDesks z p s desks) (is : seats ≡ map (λ d. d.seat) desks) where
+  seat_there : (k : ℕ) (d : Desk) → slice_get desks k ≡ Some d → slice_get seats k ≡ Some d.seat
+  seat_there k d e = ap (λ (l : List Chair). slice_get l k) is ∙ to_place seat_of desks k d e
+
+  pub of_each : HasOwnEntries journal_of worker_of FitsKept setup_of value seats → HasOfEach (journal_of value) desks
+  of_each own = λ k d e. let same = own k d.seat (seat_there k d e) in (same, (all.each_desk k d e).0.gave ∙ ap length (sym same))
+
+  setup_at_end : IsLeftBy journal_of worker_of FitsKept setup_of value seats → setup_of value ≡ record { program = p; settings = s }
+  setup_at_end left =
+      let some = all.seats.some_seat in let long = length-map desks seat_of in let d = first_there desks (omega (arith, some, long)) in
+      some_one (setup_of value) _ (sym (left.same_setup d.0.seat (seat_there 0 d.0 d.1)) ∙ ((all.each_desk 0 d.0 d.1).0.under ∙ ap (λ (x : Limits). Some (record { program = p; settings = x })) (all.each_desk 0 d.0 d.1).2))
+
+  pub settings_at_end : IsLeftBy journal_of worker_of FitsKept setup_of value seats → value.paced.settings ≡ s
+  settings_at_end left = ap (λ (x : Setup). x.settings) (setup_at_end left)
+
+  pub program_at_end : IsLeftBy journal_of worker_of FitsKept setup_of value seats → value.paced.program ≡ p
+  program_at_end left = ap (λ (x : Setup). x.program) (setup_at_end left)
+
+-- a run of this program within these limits
+pub is_run : (p : ProgramText) (s : Limits) (w : World) → IsWorld w → w.program ≡ p → w.settings ≡ s → is_paced w.program w.settings w.journal.items ≡ true → IsRun p s w
+is_run p s w I program settings paced = record {
+  program = program;
+  settings = settings;
+  legal = subst (λ (q : ProgramText). is_legal q s w.journal.items ≡ true) program (subst (λ (t : Limits). is_legal w.program t w.journal.items ≡ true) settings I.legal);
+  paced = subst (λ (q : ProgramText). is_paced q s w.journal.items ≡ true) program (subst (λ (t : Limits). is_paced w.program t w.journal.items ≡ true) settings paced);
+  stands = I;
+}
+
+-- hands of which the first was used
+pub set_first : (n : ℕ) (hands : List Hand) (old x : Hand) → 0 < length hands → old ≡ slice_index_or hands 0 old → length (thefts x) ≡ length (thefts old) → AreNewHands n hands → AreHands n (slice_set hands 0 x)
+set_first n [] old x some is same new = absurd (omega arith)
+set_first n (y ∷ ys) old x some is same new = (new.count, each)
+  where
+    each : (k : ℕ) (h : Hand) → slice_get (x ∷ ys) k ≡ Some h → length (thefts h) ≡ n
+    each zero h at = subst (λ (g : Hand). length (thefts g) ≡ n) (some_one x h at) (same ∙ (new.each_hand 0 old (ap Some (sym is))).workers)
+    each (suc k) h at = (new.each_hand (suc k) h at).workers

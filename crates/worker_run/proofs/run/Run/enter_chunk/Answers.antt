@@ -1,0 +1,17 @@
+use Rattle.std.proofs.Common.{refl}
+use Rattle.worker_run.proofs.Free.{chunk_free, only_memory}
+use Rattle.worker_run.proofs.Going.{may_heap}
+use Rattle.worker_run.proofs.Turning.{one, unchanged}
+use Rattle.worker_run.proofs.run.Run.enter_chunk.Goals as goal
+
+pub wanting-requires : goal.wanting-requires
+wanting-requires c =
+    only_memory c.in-Err.cause _ (chunk_free c.args.self.paced c.args.worker c.args.part c.stands.ensures c.requires.free c.requires.paused.may.fits c.requires.paused.may.idle c.requires.fresh c.requires.goes c.requires.paused) c.in-Err.ensures.refused
+
+pub returns-in-Ok : goal.returns-in-Ok
+returns-in-Ok c =
+    c.entered.ensures c.args.self.paced c.args.worker (one c.args.self.paced c.chunk.new.self c.args.worker c.in-Ok.ensures.enters refl c.in-Ok.ensures.others)
+    (λ on. (on, may_heap c.chunk.new.self c.args.worker c.args.part c.chunk.new.part c.chunk.new.part.heap c.chunk.ensures.fits c.requires.paused.may.idle c.requires.fresh c.chunk.ensures.rest))
+
+pub returns-in-Err : goal.returns-in-Err
+returns-in-Err c = c.wanting.ensures c.args.self.paced c.args.worker (unchanged c.args.self.paced c.chunk.new.self c.in-Err.ensures.same)

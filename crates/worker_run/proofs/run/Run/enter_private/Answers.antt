@@ -1,0 +1,13 @@
+use Rattle.std.proofs.Common.{refl}
+use Rattle.worker_run.proofs.Free.{never_refused, private_free}
+use Rattle.worker_run.proofs.Going.{may_cleared}
+use Rattle.worker_run.proofs.Turning.{one}
+use Rattle.worker_run.proofs.run.Run.enter_private.Goals as goal
+
+pub unreachable-requires : goal.unreachable-requires
+unreachable-requires c = never_refused c.in-Err.field-0.cause _ (private_free c.args.self.paced c.args.worker c.args.part c.stands.ensures c.requires.free c.requires.may.fits c.requires.fresh) c.in-Err.ensures.refused
+
+pub returns : goal.returns
+returns c =
+    c.entered.ensures c.args.self.paced c.args.worker (one c.args.self.paced c.ran_private.new.self c.args.worker c.in-Ok.ensures.enters refl c.in-Ok.ensures.others)
+    (λ on. (on, may_cleared c.ran_private.new.self c.args.worker c.args.part c.in-Ok.part c.in-Ok.ensures.fits c.requires.may.idle c.in-Ok.ensures.goes))

@@ -1,0 +1,13 @@
+use Rattle.std.proofs.Common.{refl, ap, sym, ◌∙◌}
+use Rattle.shared_tree.specs.Entered.{cause_of}
+use Rattle.worker_run.proofs.Free.{more_free, not_refused}
+use Rattle.worker_run.proofs.Turning.{one_of_all}
+use Rattle.worker_run.proofs.run.Run.pay_more.Goals as goal
+
+pub unreachable-requires : goal.unreachable-requires
+unreachable-requires c = not_refused _ c.in-Err.field-0 (more_free c.args.self.paced c.args.worker c.args.task c.stands.ensures c.requires.free c.requires.owes) (sym c.some.ensures.refused ∙ ap cause_of c.in-Err.is)
+
+pub returns : goal.returns
+returns c =
+    c.paid.ensures c.args.self.paced c.args.worker c.stands.ensures c.requires.goes c.requires.brings
+    (one_of_all c.args.self.paced c.some.new.self c.args.worker c.in-Ok.ensures.enters refl c.in-Ok.ensures.fits) c.in-Ok.ensures.fits

@@ -1,0 +1,20 @@
+use Rattle.std.proofs.Common.{refl, ap, sym, ◌∙◌}
+use Rattle.shared_tree.specs.Entered.{cause_of}
+use Rattle.worker_run.proofs.Free.{sweep_free, not_refused}
+use Rattle.worker_run.proofs.Paying.{sweep_is_owed}
+use Rattle.worker_run.proofs.Turning.{one_of_all}
+use Rattle.worker_run.proofs.run.Run.pay_sweep.Goals as goal
+
+pub would_give-given-requires-clause-marked : goal.would_give-given-requires-clause-marked
+would_give-given-requires-clause-marked c = (sweep_is_owed c.args.self.paced c.args.worker c.args.task c.stands.ensures c.requires.goes c.requires.owes).0
+
+pub would_give-given-requires-clause-none_left : goal.would_give-given-requires-clause-none_left
+would_give-given-requires-clause-none_left c = (sweep_is_owed c.args.self.paced c.args.worker c.args.task c.stands.ensures c.requires.goes c.requires.owes).1
+
+pub unreachable-requires : goal.unreachable-requires
+unreachable-requires c = not_refused _ c.in-Err.field-0 (sweep_free c.args.self.paced c.args.worker c.args.task c.stands.ensures c.requires.free c.would_give-given.result c.requires.owes c.would_give-given.ensures) (sym c.sweep.ensures.refused ∙ ap cause_of c.in-Err.is)
+
+pub returns : goal.returns
+returns c =
+    c.paid.ensures c.args.self.paced c.args.worker c.stands.ensures c.requires.goes c.requires.brings
+    (one_of_all c.args.self.paced c.sweep.new.self c.args.worker c.in-Ok.ensures.enters refl c.in-Ok.ensures.fits) c.in-Ok.ensures.fits

@@ -1,0 +1,56 @@
+use Rattle.std.proofs.Common.{rules, List, ℕ, suc, ◌≡◌, ◌+◌, ◌<◌, ◌≤◌, ◌++◌, ◌∷◌, [], ap, ◌∙◌, refl, map, length, length-append, subst, slice_get, Some, sym, arith, vec_len, ◌^◌}
+use Rattle.steal_scheduler.specs.declared.hand.Hand.{Hand}
+use Rattle.steal_scheduler.specs.Hands.{thefts}
+use Rattle.worker_run.specs.declared.desk.Desk.{Desk}
+use Rattle.worker_run.specs.Desks.{AreNewDesks}
+use Rattle.worker_run.proofs.Rows.{Chair, all_more, first_of, moved_on, none_new, rest_of}
+use Rattle.worker_run.proofs.workers.desks_of.Goals as goal
+
+pub loop-settings-init : goal.loop-settings-init
+loop-settings-init c = record {
+  seats = ap (λ (l : List Desk). map (λ (d : Desk). d.seat) l ++ c.args.seats.items) c.new-desks.ensures.items;
+  new = subst (AreNewDesks c.args.settings) (sym c.new-desks.ensures.items) (none_new c.args.settings);
+  hands = λ k h at. c.requires.hands.1 k h at ∙ c.requires.workers;
+  worker = sym (ap length c.new-desks.ensures.items);
+  room = (let e = c.requires.hands.0 in search (rules, e));
+  few = search rules;
+}
+
+pub remove-hand-requires : goal.remove-hand-requires
+remove-hand-requires c = let inv = c.loop-settings.invariant in let room = inv.room in let some : 0 < length c.loop-settings.seats.items = search rules in let goal : 0 < vec_len c.loop-settings.hands = search (rules, room, some) in goal
+
+pub overflow_add-worker : goal.overflow_add-worker
+overflow_add-worker c =
+    let inv = c.loop-settings.invariant in
+    let few = inv.few in
+    let some : 0 < length c.loop-settings.seats.items = search rules in
+    let left : vec_len c.loop-settings.seats ≡ length c.loop-settings.seats.items = search rules in
+    let limit = c.requires.few in
+    let goal : c.loop-settings.worker + 1 < 2 ^ 32 = omega (arith, few, some, left, limit) in
+    search (rules, goal)
+
+pub loop-settings-smaller : goal.loop-settings-smaller
+loop-settings-smaller c = search rules
+
+pub loop-settings-preserved : goal.loop-settings-preserved
+loop-settings-preserved c =
+    let inv = c.loop-settings.invariant in
+    let hand : Hand = c.remove-hand.result in
+    let desk : Desk = record { seat = c.remove-seat.result; hand = hand; worker = c.loop-settings.worker; settings = c.args.settings; given = 0; heard = 0 } in
+    let some : 0 < length c.loop-settings.seats.items = search rules in
+    let more : 0 < length c.loop-settings.hands.items = search rules in
+    let made : c.push.new.self.items ≡ c.loop-settings.desks.items ++ desk ∷ [] = c.in_ok-push.ensures.items in
+    record {
+      seats = ap (λ (l : List Desk). map (λ (d : Desk). d.seat) l ++ c.remove-seat.new.self.items) made ∙ (ap (λ (l : List Chair). map (λ (d : Desk). d.seat) (c.loop-settings.desks.items ++ desk ∷ []) ++ l) c.remove-seat.ensures.items
+          ∙ (moved_on (λ (d : Desk). d.seat) c.loop-settings.desks.items c.loop-settings.seats.items desk c.remove-seat.result refl some c.remove-seat.ensures.value ∙ inv.seats));
+      new = subst (AreNewDesks c.args.settings) (sym made)
+          (all_more (λ k (d : Desk). (d.worker ≡ k) × (d.settings ≡ c.args.settings) × (d.given ≡ 0) × (length (thefts d.hand) ≡ c.args.settings.workers)) c.loop-settings.desks.items desk inv.new
+          (inv.worker, refl, refl, inv.hands 0 hand (first_of c.loop-settings.hands.items hand more c.remove-hand.ensures.value)));
+      hands = λ k h at. inv.hands (suc k) h (rest_of c.loop-settings.hands.items hand more c.remove-hand.ensures.value k h (subst (λ (l : List Hand). slice_get l k ≡ Some h) c.remove-hand.ensures.items at));
+      worker = (let a = inv.worker in let b = ap length made in let d = length-append c.loop-settings.desks.items (desk ∷ []) in omega (arith, a, b, d));
+      room = search rules;
+      few = search rules;
+    }
+
+pub returns-clause-new : goal.returns-clause-new
+returns-clause-new c = c.loop-settings.invariant.new

@@ -1,0 +1,82 @@
+-- The desks of the workers.
+use Rattle.std.specs.Prelude.{◌≡◌, ◌⊎◌, ℕ, ◌^◌, ◌<◌, ◌≤◌, List, [], ◌∷◌, ◌++◌, Some, length, map, slice_get}
+use Rattle.atomic_table.specs.Seated.{TableId}
+use Rattle.hh_lang.specs.Form.{ProgramText}
+use Rattle.run_trace.specs.Entry.{Event}
+use Rattle.run_trace.specs.Settings.{Limits}
+use Rattle.steal_scheduler.specs.declared.hand.Hand.{Hand}
+use Rattle.steal_scheduler.specs.Hands.{thefts}
+use Rattle.turn_lock.specs.Journal.{entries_by}
+use Rattle.turn_lock.specs.Seats.{view, own_entries, AreAllSeats, HasNoTurn, HasTurn, SameWorker}
+use Rattle.worker_run.specs.declared.desk.Desk.{Desk}
+use Rattle.shared_tree.specs.Stands.{IsWorld}
+use Rattle.worker_run.specs.declared.run.Run.{Run}
+use Rattle.worker_run.specs.Values.{worker_of, EntersOne}
+
+-- the entries of its own that the desk's seat has seen
+abbrev pub entries_of : Desk → List Event
+entries_of d = own_entries worker_of (view d.seat)
+
+-- a desk without the turn, where a run of this program goes on; it counts the entries that it gave back
+pub record IsDesk (z : TableId) (p : ProgramText) (d : Desk) : Type 0 where
+  pub idle : HasNoTurn z d.seat
+  pub number : (view d.seat).worker ≡ d.worker
+  pub under : (view d.seat).setup ≡ Some (record { program = p; settings = d.settings })
+  pub below : d.worker < d.settings.workers
+  pub few : d.settings.workers < 2 ^ 32
+  pub gave : d.given ≡ length (entries_of d)
+  pub thieves : length (thefts d.hand) ≡ d.settings.workers
+
+-- the same worker's desk
+pub record SameDesk (old new : Desk) : Type 0 where
+  pub worker : new.worker ≡ old.worker
+  pub settings : new.settings ≡ old.settings
+  pub seat : SameWorker (view old.seat) (view new.seat)
+
+-- the desk gave back one entry
+abbrev pub GivesOne : Desk → Desk → Type 0
+GivesOne old new = (e : Event) × (entries_of new ≡ entries_of old ++ e ∷ [])
+
+-- or none
+abbrev pub GivesAtMostOne : Desk → Desk → Type 0
+GivesAtMostOne old new = (entries_of new ≡ entries_of old) ⊎ GivesOne old new
+
+-- the desks of all workers within these limits, in their order
+pub record AreAllDesks (z : TableId) (p : ProgramText) (s : Limits) (desks : List Desk) : Type 0 where
+  pub seats : AreAllSeats z (map (λ d. d.seat) desks)
+  pub each_desk : (k : ℕ) (d : Desk) → slice_get desks k ≡ Some d → IsDesk z p d × (d.worker ≡ k) × (d.settings ≡ s)
+
+-- of each worker the journal has just the entries that its desk gave back, each once
+abbrev pub HasOfEach : List Event → List Desk → Type 0
+HasOfEach journal desks = (k : ℕ) (d : Desk) → slice_get desks k ≡ Some d → (entries_by worker_of k journal ≡ entries_of d) × (d.given ≡ length (entries_by worker_of k journal))
+
+-- the worker has put a task, or looked for one
+pub record ChangesHand (old new : Desk) : Type 0 where
+  pub rest : new ≡ record old { hand = new.hand; heard = new.heard }
+  pub thieves : length (thefts new.hand) ≡ length (thefts old.hand)
+
+abbrev pub FewThefts : Desk → Type 0
+FewThefts d = length (thefts d.hand) < 2 ^ 32
+
+-- a hand for each of n workers, which can steal from each one's deque
+abbrev pub AreHands : ℕ → List Hand → Type 0
+AreHands n hands = (length hands ≡ n) × ((k : ℕ) (h : Hand) → slice_get hands k ≡ Some h → length (thefts h) ≡ n)
+
+-- a desk for each worker within these limits, in their order; nothing was given back yet
+abbrev pub AreNewDesks : Limits → List Desk → Type 0
+AreNewDesks s desks = (k : ℕ) (d : Desk) → slice_get desks k ≡ Some d → (d.worker ≡ k) × (d.settings ≡ s) × (d.given ≡ 0) × (length (thefts d.hand) ≡ s.workers)
+
+-- the desk has the turn, and the value to give back has one entry more than the one taken, which the desk doesn't count yet
+pub record HasEntry (z : TableId) (p : ProgramText) (d : Desk) (value : Run) : Type 0 where
+  pub taken : Run
+  pub turn : HasTurn z d.seat taken
+  pub number : (view d.seat).worker ≡ d.worker
+  pub under : (view d.seat).setup ≡ Some (record { program = p; settings = d.settings })
+  pub below : d.worker < d.settings.workers
+  pub few : d.settings.workers < 2 ^ 32
+  pub gave : d.given ≡ length (entries_of d)
+  pub thieves : length (thefts d.hand) ≡ d.settings.workers
+  pub enters : EntersOne taken.paced value.paced d.worker
+  pub world : IsWorld value.paced
+  pub program : value.paced.program ≡ p
+  pub within : length (entries_of d) ≤ length taken.paced.journal.items

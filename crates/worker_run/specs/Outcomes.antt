@@ -1,0 +1,24 @@
+-- What a run by workers leaves.
+use Rattle.std.specs.Prelude.{◌≡◌, Option, Some, None, true}
+use Rattle.hh_lang.specs.Form.{ProgramText}
+use Rattle.run_trace.specs.Settings.{Limits}
+use Rattle.run_ledger.specs.declared.data.RunEnd.{RunEnd}
+use Rattle.run_ledger.specs.Journals.{end_of, is_legal}
+use Rattle.run_ledger.specs.Pace.{is_paced}
+use Rattle.shared_tree.specs.Stands.{IsWorld}
+use Rattle.shared_tree.specs.World.{World}
+use Rattle.worker_run.specs.declared.end.Finish.{Finish}
+use Rattle.worker_run.specs.declared.end.Finish.TheVariants.{Ended, NoMemory}
+
+-- how a run finished whose journal has this end, or none
+abbrev pub finish_of : Option RunEnd → Finish
+finish_of None = NoMemory
+finish_of (Some end) = Ended end
+
+-- a run of this program within these limits: it stands for its journal, which is legal and paced
+pub record IsRun (p : ProgramText) (s : Limits) (w : World) : Type 0 where
+  pub program : w.program ≡ p
+  pub settings : w.settings ≡ s
+  pub legal : is_legal p s w.journal.items ≡ true
+  pub paced : is_paced p s w.journal.items ≡ true
+  pub stands : IsWorld w

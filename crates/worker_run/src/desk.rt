@@ -1,0 +1,19 @@
+//! The desks of the workers.
+
+use crate::run::Run;
+use run_trace::Settings;
+use steal_scheduler::Hand;
+use turn_lock::Seat;
+
+/// A worker's place at a run: its seat at the turn and its hand at the deques.
+#[derive(Drop)]
+pub struct Desk {
+    pub seat: Seat<Run>,
+    pub hand: Hand,
+    pub worker: u32,
+    pub settings: Settings,
+    /// How many entries it gave back.
+    pub given: u64,
+    /// How often the bell had rung when the worker last looked for a task.
+    pub heard: u64,
+}

@@ -1,0 +1,21 @@
+//! What a run leaves.
+
+use run_ledger::RunEnd;
+use shared_tree::Shared;
+
+/// How a run finished.
+#[derive(Clone, Copy, PartialEq, Eq, Debug)]
+pub enum Finish {
+    /// Its journal ends so.
+    Ended(RunEnd),
+    /// Memory was wanting: the journal has no end.
+    NoMemory,
+}
+
+/// What a run leaves.
+#[derive(Drop)]
+pub struct Outcome {
+    pub finish: Finish,
+    /// The shared value; None only where memory was wanting before the first entry.
+    pub shared: Option<Shared>,
+}

@@ -1,0 +1,94 @@
+//! One turn of a worker.
+ghost use Rattle.std.specs.Prelude.{◌≡◌, IfSome, option_map};
+ghost use Rattle.shared_tree.specs.Fits.{Fits};
+ghost use Rattle.turn_lock.specs.Seats.{view};
+ghost use Rattle.turn_lock.specs.Turn.{identity};
+ghost use Rattle.worker_run.specs.Desks.{GivesAtMostOne, GivesOne, HasEntry, IsDesk, SameDesk};
+ghost use Rattle.worker_run.specs.Parts.{ComesWith, GoesWith, TakesFrom};
+
+use crate::act::Acted;
+use crate::desk::Desk;
+use crate::held::{Next, Ready};
+use crate::run::Run;
+use hh_lang::Program;
+use std::snapshot::Snapshot;
+use std::sync::Wait;
+use task_machine::Private;
+use turn_lock::Turn;
+
+// Gives the value back with the entry that was made; the worker keeps the part.
+fn give_entry(
+    turn: &Turn<Run>,
+    desk: &mut Desk,
+    program: &Program,
+    run: Run,
+    kept: Option<&Snapshot<Private>>,
+)
+    requires entry { HasEntry (identity turn.now) program.now desk.old run }
+    requires kept { IfSome kept (λ s. Fits run.paced desk.old.worker s.now.value) }
+    ensures desk { IsDesk (identity turn.now) program.now desk.new }
+    ensures same { SameDesk desk.old desk.new }
+    ensures part { (view desk.new.seat).part ≡ option_map (λ s. s.now) kept.entry }
+    ensures one { GivesOne desk.old desk.new }
+{
+    let _ = program;
+    run.is_short();
+    desk.given += 1;
+    turn.give_back(&mut desk.seat, run, kept);
+}
+
+// Gives the value back with the entry that was made, and goes on with what comes next.
+fn give(turn: &Turn<Run>, desk: &mut Desk, program: &Program, run: Run, next: Next) -> Next
+    requires entry { HasEntry (identity turn.now) program.now desk.old run }
+    requires takes { TakesFrom run.paced desk.old.worker next }
+    ensures desk { IsDesk (identity turn.now) program.now desk.new }
+    ensures same { SameDesk desk.old desk.new }
+    ensures next { GoesWith program.now desk.old.worker (view desk.new.seat) result }
+    ensures one { GivesOne desk.old desk.new }
+{
+    match next {
+        Next::Running(part) => {
+            let kept = Snapshot::of(&part);
+            give_entry(turn, desk, program, run, Some(&kept));
+            Next::Running(part)
+        }
+        Next::Collecting(collecting) => {
+            let kept = Snapshot::of(&collecting.part);
+            give_entry(turn, desk, program, run, Some(&kept));
+            Next::Collecting(collecting)
+        }
+        Next::Copied(copied) => {
+            give_entry(turn, desk, program, run, Some(&copied.begun));
+            Next::Copied(copied)
+        }
+        next => {
+            give_entry(turn, desk, program, run, None);
+            next
+        }
+    }
+}
+
+/// Takes the turn with what the worker comes with, and makes at most one entry.
+pub fn take_turn<R: Wait>(
+    rt: &R,
+    turn: &Turn<Run>,
+    desk: &mut Desk,
+    program: &Program,
+    ready: Ready,
+) -> Next
+    requires desk { IsDesk (identity turn.now) program.now desk.old }
+    requires comes { ComesWith program.now desk.old.worker (view desk.old.seat) ready }
+    ensures desk { IsDesk (identity turn.now) program.now desk.new }
+    ensures same { SameDesk desk.old desk.new }
+    ensures next { GoesWith program.now desk.old.worker (view desk.new.seat) result }
+    ensures entries { GivesAtMostOne desk.old desk.new }
+{
+    let run = turn.take(rt, &mut desk.seat);
+    match run.act(desk.worker, ready) {
+        Acted::Entered(run, next) => give(turn, desk, program, run, next),
+        Acted::Same(run, next) => {
+            turn.give_same(&mut desk.seat, run);
+            next
+        }
+    }
+}

@@ -1,0 +1,200 @@
+//! The workers in threads.
+ghost use Rattle.std.specs.Prelude.{◌≡◌, ◌<◌, ◌≤◌, ◌^◌, [], map, IfNone, IfOk, IfSome, vec_len, vec_capacity};
+ghost use Rattle.run_ledger.specs.Journals.{end_of};
+ghost use Rattle.turn_lock.specs.Turn.{identity};
+ghost use Rattle.worker_run.specs.Desks.{AreAllDesks, AreHands, AreNewDesks, HasOfEach, IsDesk, SameDesk};
+ghost use Rattle.worker_run.specs.Outcomes.{finish_of, IsRun};
+
+use crate::bell::Bell;
+use crate::desk::Desk;
+use crate::end::{Finish, Outcome};
+use crate::run::Run;
+use crate::working::work;
+use hh_lang::Program;
+use outside_io::Gate;
+use paced_tree::Paced;
+use run_trace::Settings;
+use shared_tree::Shared;
+use std::alloc::{AllocError, Global};
+use std::sync::Wait;
+use std::thread;
+use std::thread::Threads;
+use steal_scheduler::{Deques, Hand};
+use turn_lock::{Seat, Turn};
+
+/// Each worker works at its desk in a thread of its own.
+pub fn all_work<R: Threads + Wait + Sync, G: Gate>(
+    rt: &R,
+    turn: &Turn<Run>,
+    bell: &Bell,
+    gate: &G,
+    program: &Program,
+    settings: Settings,
+    desks: &mut [Desk],
+)
+    requires { AreAllDesks (identity turn.now) program.now settings desks.old }
+    ensures { AreAllDesks (identity turn.now) program.now settings desks.new }
+{
+    let _ = settings;
+    let threads = desks.len();
+    if threads == 0 {
+        return;
+    }
+    thread::for_each_mut(
+        rt,
+        desks,
+        threads,
+        &|_: usize, desk: &mut Desk|
+            requires { IsDesk (identity turn.now) program.now desk.now }
+            ensures { IsDesk (identity turn.entry.now) program.entry.now desk.exit.now × SameDesk desk.entry.now desk.exit.now }
+        { work(rt, turn, bell, gate, program, desk) },
+    );
+}
+
+// A desk for each seat and hand.
+fn desks_of(
+    alloc: Global,
+    settings: Settings,
+    mut seats: Vec<Seat<Run>>,
+    mut hands: Vec<Hand>,
+) -> Result<Vec<Desk>, AllocError>
+    requires hands { AreHands (vec_len seats) hands.items }
+    requires workers { vec_len seats ≡ settings.workers }
+    requires few { settings.workers < 2 ^ 32 }
+    ensures seats { IfOk result (λ v. map (λ d. d.seat) v.items ≡ seats.items) }
+    ensures new { IfOk result (λ v. AreNewDesks settings v.items) }
+{
+    let mut desks = Vec::new(alloc);
+    let mut worker = 0;
+    while !seats.is_empty() {
+        let seat = seats.remove(0);
+        let hand = hands.remove(0);
+        desks.push(Desk {
+            seat,
+            hand,
+            worker,
+            settings,
+            given: 0,
+            heard: 0,
+        })?;
+        worker += 1;
+    }
+    Ok(desks)
+}
+
+// The seats of the desks.
+fn seats_of(mut desks: Vec<Desk>, mut seats: Vec<Seat<Run>>) -> Vec<Seat<Run>>
+    requires none { seats.items ≡ [] }
+    requires room { vec_len desks ≤ vec_capacity seats }
+    ensures { result.items ≡ map (λ d. d.seat) desks.items }
+{
+    while !desks.is_empty() {
+        let Desk { seat, .. } = desks.remove(0);
+        seats.push_reserved(seat);
+    }
+    seats
+}
+
+/// Ends the turn: its value has of each worker just the entries that its desk gave back. `seats` has room for all.
+pub fn close(
+    turn: Turn<Run>,
+    desks: Vec<Desk>,
+    seats: Vec<Seat<Run>>,
+    program: &Program,
+    settings: Settings,
+) -> Paced
+    requires all { AreAllDesks (identity turn) program.now settings desks.items }
+    requires none { seats.items ≡ [] }
+    requires room { vec_len desks ≤ vec_capacity seats }
+    ensures of_each { HasOfEach result.journal.items desks.items }
+    ensures program { result.program ≡ program.now }
+    ensures settings { result.settings ≡ settings }
+{
+    let _ = program;
+    let _ = settings;
+    let Run { paced, .. } = turn.close(seats_of(desks, seats));
+    paced
+}
+
+// The hands of so many workers. The root is put with the first.
+fn new_hands(alloc: Global, workers: u32) -> Result<Vec<Hand>, AllocError>
+    requires { 0 < workers }
+    ensures { IfOk result (λ hands. AreHands workers hands.items) }
+{
+    let mut hands = Deques::new(alloc, workers)?;
+    match hands[0].put(0) {
+        Ok(()) => Ok(hands),
+        Err(_) => Err(AllocError),
+    }
+}
+
+// The turn of the value before its first entry, and the desks of all workers.
+fn opened(
+    alloc: Global,
+    program: &Program,
+    settings: Settings,
+) -> Result<(Turn<Run>, Vec<Desk>), AllocError>
+    ensures { IfOk result (λ t. AreAllDesks (identity t.0) program.now settings t.1.items) }
+{
+    let paced = Paced::new(alloc, program, settings)?;
+    let workers = settings.workers();
+    let (turn, seats) = Turn::new(alloc, Run::new(paced), workers)?;
+    let hands = new_hands(alloc, workers)?;
+    let desks = desks_of(alloc, settings, seats, hands)?;
+    Ok((turn, desks))
+}
+
+// The shared value that the workers leave.
+fn run_all<R: Threads + Wait + Sync, G: Gate>(
+    rt: &R,
+    alloc: Global,
+    program: &Program,
+    settings: Settings,
+    gate: &G,
+) -> Result<Shared, AllocError>
+    ensures { IfOk result (IsRun program.now settings) }
+{
+    let (turn, mut desks) = opened(alloc, program, settings)?;
+    let seats = Vec::with_capacity(alloc, desks.len())?;
+    let bell = Bell::new();
+    all_work(
+        rt,
+        &turn,
+        &bell,
+        gate,
+        program,
+        settings,
+        desks.as_mut_slice(),
+    );
+    let shared = close(turn, desks, seats, program, settings).into_shared();
+    shared.stands();
+    Ok(shared)
+}
+
+/// Runs a program with workers in threads: its journal is legal and paced, and its order is that of the turns.
+pub fn run_on_workers<R: Threads + Wait + Sync, G: Gate>(
+    rt: &R,
+    alloc: Global,
+    program: &Program,
+    settings: Settings,
+    gate: &G,
+) -> Outcome
+    ensures run { IfSome result.shared (IsRun program.now settings) }
+    ensures finish { IfSome result.shared (λ w. result.finish ≡ finish_of (end_of program.now settings w.journal.items)) }
+    ensures none { IfNone result.shared (result.finish ≡ Finish.NoMemory) }
+{
+    let Ok(shared) = run_all(rt, alloc, program, settings, gate) else {
+        return Outcome {
+            finish: Finish::NoMemory,
+            shared: None,
+        };
+    };
+    let finish = match shared.ended() {
+        Some(end) => Finish::Ended(end),
+        None => Finish::NoMemory,
+    };
+    Outcome {
+        finish,
+        shared: Some(shared),
+    }
+}

@@ -1,0 +1,120 @@
+//! What a worker does until the run is over.
+ghost use Rattle.std.specs.Prelude.{◌≡◌, IfSome};
+ghost use Rattle.turn_lock.specs.Seats.{view};
+ghost use Rattle.turn_lock.specs.Turn.{identity};
+ghost use Rattle.worker_run.specs.Desks.{ChangesHand, FewThefts, IsDesk, SameDesk};
+ghost use Rattle.worker_run.specs.Parts.{BringsNothing, ComesWith, GoesWith};
+
+use crate::bell::Bell;
+use crate::desk::Desk;
+use crate::held::{Next, Ready};
+use crate::local::{copy_part, run_part};
+use crate::run::Run;
+use crate::tasks::{find, put, put_both};
+use crate::turn::take_turn;
+use hh_lang::Program;
+use outside_io::{Gate, Point};
+use std::sync::Wait;
+use turn_lock::Turn;
+
+// The worker looks for a task.
+fn look<R: Wait>(rt: &R, bell: &Bell, desk: &mut Desk) -> Ready
+    requires { FewThefts desk.old }
+    ensures hand { ChangesHand desk.old desk.new }
+    ensures found { BringsNothing result }
+{
+    desk.heard = bell.rings(rt);
+    Ready::Found(find(rt, &mut desk.hand, desk.worker))
+}
+
+// The worker puts a task where others find it, and looks for one.
+fn share<R: Wait>(rt: &R, bell: &Bell, desk: &mut Desk, next: Next) -> Ready
+    requires { FewThefts desk.old }
+    ensures hand { ChangesHand desk.old desk.new }
+    ensures found { BringsNothing result }
+{
+    let put = match next {
+        Next::Forked { left, right } => put_both(&mut desk.hand, left, right),
+        Next::Resumed(task) => put(&mut desk.hand, task),
+        _ => Ok(()),
+    };
+    match put {
+        Ok(()) => {
+            bell.ring(rt);
+            look(rt, bell, desk)
+        }
+        Err(_) => Ready::Wanting,
+    }
+}
+
+// What the worker comes for its next turn with; None where it stops.
+fn prepare<R: Wait, G: Gate>(
+    rt: &R,
+    bell: &Bell,
+    gate: &G,
+    program: &Program,
+    desk: &mut Desk,
+    next: Next,
+) -> Option<Ready>
+    requires goes { GoesWith program.now desk.old.worker (view desk.old.seat) next }
+    requires few { FewThefts desk.old }
+    ensures hand { ChangesHand desk.old desk.new }
+    ensures comes { IfSome result (ComesWith program.now desk.old.worker (view desk.old.seat)) }
+{
+    match next {
+        Next::Running(part) => Some(run_part(part, program, gate, desk.worker)),
+        Next::Collecting(collecting) => Some(Ready::Copied(copy_part(
+            collecting,
+            gate,
+            desk.worker,
+        ))),
+        Next::Copied(copied) => Some(Ready::Copied(copied)),
+        Next::Found(task) => Some(Ready::Found(Some(task))),
+        Next::Idle => Some(look(rt, bell, desk)),
+        Next::Waits => {
+            bell.wait_past(rt, desk.heard);
+            Some(look(rt, bell, desk))
+        }
+        Next::Stop => {
+            bell.ring(rt);
+            None
+        }
+        next => Some(share(rt, bell, desk, next)),
+    }
+}
+
+// The task that the gate is told of.
+fn task_of(ready: &Ready) -> u32 {
+    match ready {
+        Ready::Paused(part, _) => part.task,
+        Ready::Copied(copied) => copied.part.task,
+        Ready::Found(Some(task)) => *task,
+        _ => 0,
+    }
+}
+
+/// Works until the run is over.
+pub fn work<R: Wait, G: Gate>(
+    rt: &R,
+    turn: &Turn<Run>,
+    bell: &Bell,
+    gate: &G,
+    program: &Program,
+    desk: &mut Desk,
+)
+    requires desk { IsDesk (identity turn.now) program.now desk.old }
+    ensures desk { IsDesk (identity turn.now) program.now desk.new }
+    ensures same { SameDesk desk.old desk.new }
+{
+    let mut next = Next::Idle;
+    for _ in rt.forever() {
+        let Some(ready) = prepare(rt, bell, gate, program, desk, next) else {
+            return;
+        };
+        let task = task_of(&ready);
+        gate.pass(desk.worker, task, Point::BeforeTurn);
+        next = take_turn(rt, turn, desk, program, ready);
+        gate.pass(desk.worker, task, Point::AfterTurn);
+    }
+    unreachable!()
+}
