@@ -1,13 +1,4 @@
-pub mod Unready
-pub mod Lone
-pub mod Calm
 pub mod Entries
-pub mod Joint
-pub mod PartRuns
-pub mod Turning
-pub mod Pausing
-pub mod Driven
-pub mod Collecting
 pub mod WasHeld
 pub mod Holding
 pub mod HandCauses

@@ -1,6 +1,3 @@
-pub mod Ready
-pub mod Alone
-pub mod Laws
 pub mod Next
 pub mod Whole
 pub mod Applied

@@ -3,7 +3,7 @@ use Rattle.task_machine.specs.Run.{PausesBy}
 use Rattle.world_core.specs.Next.{IsNext}
 use Rattle.world_core.proofs.HandCauses.{on}
 use Rattle.world_core.proofs.LocalRuns.{few_more, fits_on, next_on}
-use Rattle.world_core.proofs.PartRuns.{if_ok, ok_is}
+use Rattle.world_core.proofs.Entries.{if_ok, ok_is}
 use Rattle.world_core.proofs.apply_ran.run_more.Goals as goal
 
 pub returns-clause-fits : goal.returns-clause-fits
