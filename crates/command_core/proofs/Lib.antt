@@ -6,3 +6,4 @@ pub mod ImagesTold
 pub mod Answered
 pub mod Deliveries
 pub mod Given
+pub mod Alike

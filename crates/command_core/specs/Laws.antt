@@ -15,7 +15,7 @@ use Rattle.command_core.specs.declared.answer.Status.TheVariants.{ReadFault, Wri
 use Rattle.command_core.specs.declared.answer.Answer.{Answer}
 use Rattle.command_core.specs.declared.answer.Ran.{Ran}
 use Rattle.command_core.specs.Input.{trace_limit}
-use Rattle.command_core.specs.Answers.{AnswersLine, AnswersProgram, IsProgramInput, summary}
+use Rattle.command_core.specs.Answers.{AnswersLine, AnswersModel, AnswersProgram, AnswersReplay, IsProgramInput, summary}
 use Rattle.command_core.specs.Delivery.{DeliversLine}
 use Rattle.command_core.specs.Status.{status_of_end}
 
@@ -62,3 +62,12 @@ TracesAreReplayed =
     (file : Option (List ℕ)) (o : Options) (input : List ℕ) (r : Ran) (before after : Option (List ℕ)) → HasProgram input
     → (DeliversLine (Replay file o) input r before after ⊎ DeliversLine (Model file o) input r before after) → NoFault r
     → (r.status ≡ NoMemory) ⊎ ((r.status ≡ Trace) ⊎ IsEnd r.status)
+
+-- two answers write the same, with the same status
+pub record AreAlike (a b : Answer) : Type 0 where
+  pub status : a.status ≡ b.status
+  pub bytes : a.bytes ≡ b.bytes
+
+-- `model` writes what `replay` writes
+abbrev pub ModelWritesTheSame : Type 0
+ModelWritesTheSame = (o : Options) (input : List ℕ) (a b : Answer) → AnswersReplay o input a → AnswersModel o input b → AreAlike a b

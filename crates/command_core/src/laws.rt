@@ -1,6 +1,6 @@
 // What the contract of the top call comes to.
 
-ghost use Rattle.command_core.specs.Laws.{MadeAreRun, NoFaultGivesAll, ProgramsAreRun, TracesAreReplayed};
+ghost use Rattle.command_core.specs.Laws.{MadeAreRun, ModelWritesTheSame, NoFaultGivesAll, ProgramsAreRun, TracesAreReplayed};
 ghost use Rattle.command_core.specs.Status.{StatusesOfEnds};
 
 /// A command and its input, and no fault that rose: all bytes and the status of its answer, or want of memory.
@@ -21,6 +21,11 @@ pub fn made_are_run()
 /// `replay` and `model` with a program and its trace, and no fault that rose: an end of the run or a refused trace, or want of memory.
 pub fn traces_are_replayed()
     ensures { TracesAreReplayed }
+{}
+
+/// `model` writes what `replay` writes, with its status.
+pub fn model_writes_the_same()
+    ensures { ModelWritesTheSame }
 {}
 
 /// The exit status of a run is that of its end.

@@ -17,6 +17,7 @@ mod wanted;
 
 pub use answer::{Answer, Ran, Status};
 pub use laws::{
-    made_are_run, no_fault_gives_all, programs_are_run, statuses_of_ends, traces_are_replayed,
+    made_are_run, model_writes_the_same, no_fault_gives_all, programs_are_run, statuses_of_ends,
+    traces_are_replayed,
 };
 pub use top_call::command;

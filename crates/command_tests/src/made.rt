@@ -6,6 +6,7 @@ use run_trace::{Version, trace_text};
 use std::test::Fail;
 
 // A number drawn by the generator's rule.
+#[derive(Drop)]
 struct Draws {
     x: u32,
 }

@@ -1,12 +1,13 @@
 // Whole runs and replays by their texts: outputs, reports, traces and end lines.
 
 use crate::calls::{said, said_of};
+use std::process::Abort;
 use std::sync::Wait;
 use std::test::Fail;
 use std::thread::Threads;
 
 // Checks the status and the bytes of calls.
-fn check_calls<R: AllocGlobal + Threads + Wait + Sync>(
+fn check_calls<R: Abort + AllocGlobal + Threads + Wait + Sync>(
     rt: &R,
     cases: &[(&str, &str, u8, &str)],
 ) -> Result<(), Fail> {
@@ -439,7 +440,7 @@ const MARKED: &str =
     "fn left\nset i0 0\ngetr r1 r0 i0\nnil r2\nputr r0 i0 r2\ngeti i0 r1 i0\nret\nend\nfn right\nret\nend\nfn main\nset i0 1\nset i1 0\nnewm r0 i0 i1\nset i0 0\nset i1 14\nnewm r1 i0 i1\nset i2 5\nputi r1 i0 i2\nputr r0 i0 r1\nnil r1\npar left right\nout i0\nret\nend\ntrace 1\n0 took 0\n0 ran 0 2\n0 chunk 0\n0 ran 0 9\n0 took 1\n0 ran 1 2\n0 ran 1 2\n0 mark 0\n0 some 0 64\n0 sweep 0 0\n0 ran 1 1\n0 ran 1 1\n0 took 2\n0 ran 2 1\n0 took 0\n0 ran 0 1\n0 ran 0 1\n";
 
 // Checks that a replay by the core writes what one on the definitions alone does.
-fn check_alike<R: AllocGlobal + Threads + Wait + Sync>(
+fn check_alike<R: Abort + AllocGlobal + Threads + Wait + Sync>(
     rt: &R,
     options: &str,
     text: &[u8],
