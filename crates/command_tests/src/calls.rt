@@ -2,7 +2,7 @@
 
 use command_core::{Ran, Status, command};
 use hh_model::End;
-use outside_io::{EmptyGate, MemSink, MemSource};
+use outside_io::{EmptyGate, Gate, MemSink, MemSource};
 use run_ledger::RunEnd;
 use run_trace::{Entry, Kind};
 use std::alloc::Global;
@@ -54,14 +54,25 @@ fn sink(alloc: Global) -> MemSink {
     MemSink::new(alloc, 65536, Vec::new(alloc))
 }
 
+// A command line whose workers pass a gate.
+fn call_through<R: AllocGlobal + Threads + Wait + Sync, G: Gate>(
+    rt: &R,
+    line: &str,
+    source: &mut MemSource,
+    sink: &mut MemSink,
+    gate: &G,
+) -> Result<Ran, Fail> {
+    let words = words_of(rt.alloc(), line)?;
+    Ok(command(rt, rt.alloc(), words.as_slice(), source, sink, gate))
+}
+
 fn call<R: AllocGlobal + Threads + Wait + Sync>(
     rt: &R,
     line: &str,
     source: &mut MemSource,
     sink: &mut MemSink,
 ) -> Result<Ran, Fail> {
-    let words = words_of(rt.alloc(), line)?;
-    Ok(command(rt, rt.alloc(), words.as_slice(), source, sink, &EmptyGate))
+    call_through(rt, line, source, sink, &EmptyGate)
 }
 
 // The exit status of a command line, and what it writes.
@@ -91,9 +102,19 @@ pub(crate) fn handed<R: AllocGlobal + Threads + Wait + Sync>(
     line: &str,
     input: &[u8],
 ) -> Result<(Ran, Vec<u8>), Fail> {
+    handed_through(rt, line, input, &EmptyGate)
+}
+
+// The same where the workers pass a gate.
+pub(crate) fn handed_through<R: AllocGlobal + Threads + Wait + Sync, G: Gate>(
+    rt: &R,
+    line: &str,
+    input: &[u8],
+    gate: &G,
+) -> Result<(Ran, Vec<u8>), Fail> {
     let mut source = source_of(rt.alloc(), input)?;
     let mut sink = sink(rt.alloc());
-    let ran = call(rt, line, &mut source, &mut sink)?;
+    let ran = call_through(rt, line, &mut source, &mut sink, gate)?;
     Ok((ran, sink.written().to_vec(rt.alloc())?))
 }
 

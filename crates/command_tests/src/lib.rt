@@ -6,6 +6,8 @@ mod calls;
 #[cfg(test)]
 mod examples;
 #[cfg(test)]
+mod gates;
+#[cfg(test)]
 mod made;
 #[cfg(test)]
 mod rows;
