@@ -12,7 +12,7 @@ use std::alloc::{AllocError, Global};
 
 /// Where a line belongs: kinds in their order, and in a kind by numbers.
 #[derive(Clone, Copy, PartialEq, Eq, Debug)]
-pub(crate) struct Position {
+pub struct Position {
     pub kind: u64,
     pub first: u64,
     pub second: u64,
@@ -21,14 +21,14 @@ pub(crate) struct Position {
 
 /// Where an object ends in its chunk.
 #[derive(Clone, Copy, PartialEq, Eq, Debug)]
-pub(crate) struct Extent {
+pub struct Extent {
     pub chunk: u64,
     pub past: u64,
 }
 
 /// What was read.
 #[derive(Drop)]
-pub(crate) struct Read {
+pub struct Read {
     /// Where the last line belongs.
     pub last: Option<Position>,
     pub tasks: Tasks,

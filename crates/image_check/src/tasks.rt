@@ -13,7 +13,7 @@ use std::marker::Model;
 
 /// How one task stands to another.
 #[derive(Clone, Copy, PartialEq, Eq, Debug)]
-pub(crate) enum Relation {
+pub enum Relation {
     /// It is the other one.
     Own,
     /// It is a proper ancestor.
@@ -26,7 +26,7 @@ pub(crate) enum Relation {
 
 /// Tasks under their numbers, each behind its parent.
 #[derive(Drop)]
-pub(crate) struct Tasks {
+pub struct Tasks {
     table: IndexMap<u64, Task>,
     links: Vec<Link>,
 }

@@ -6,6 +6,8 @@ mod command_lines;
 #[cfg(test)]
 mod faults;
 #[cfg(test)]
+mod images;
+#[cfg(test)]
 mod instructions;
 #[cfg(test)]
 mod lists;

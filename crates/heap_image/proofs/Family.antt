@@ -1,0 +1,122 @@
+-- The tasks of a sound picture, as the verifier keeps them.
+use Rattle.std.proofs.Common.{◌≡◌, ◌<◌, ℕ, zero, suc, Bool, true, false, List, refl, ap, sym, ◌∙◌, inl, inr, arith}
+use Rattle.std.specs.Prelude.{Option, Some, None, slice_get, is_some}
+use Rattle.listed.specs.Members.{In}
+use Rattle.listed.proofs.Members.{got_in}
+use Rattle.image_check.specs.declared.line.State.{State}
+use Rattle.image_check.specs.declared.line.State.TheVariants.{Running, Waiting, Ended}
+use Rattle.image_check.specs.declared.line.Task.{Task}
+use Rattle.image_check.specs.declared.tasks.Relation.TheVariants.{Own, Above, Below}
+use Rattle.image_check.specs.Table.{found, has}
+use Rattle.image_check.specs.Tasks.{Tasks, parent_in, parent_of, is_above, relation_of, runs, is_running, is_running_state}
+use Rattle.image_check.specs.Tasks.{LinksLead as TableLeads, IsAncestor as IsTableAncestor}
+use Rattle.image_check.specs.Links.{StandsAt}
+use Rattle.image_check.proofs.Paths.{AreOrdered, met_ancestor, related}
+use Rattle.heap_image.specs.declared.picture.Picture.{Picture}
+use Rattle.heap_image.specs.Picture.{TaskBefore, IsParent, LinksLead, IsAncestor, HasTask, IsRunning, KeepsToPath, IsSoundPicture}
+use Rattle.heap_image.proofs.Splits.{place_of, comes_first, one_place, same_item}
+use Rattle.heap_image.proofs.Tables.{table, mapped_at, got_mapped, found_in, found_from}
+
+abbrev pub number_of : Task → ℕ
+number_of t = t.number
+
+abbrev pub itself : Task → Task
+itself t = t
+
+abbrev pub task_table : List Task → Tasks
+task_table ts = table number_of itself ts
+
+pub earlier : (t u : Task) → TaskBefore t u → t.number < u.number
+earlier t u h = h
+
+module _ (p : Picture) (s : IsSoundPicture p) where
+  abbrev es : Tasks
+  es = task_table p.tasks
+
+  same_task : (t u : Task) → In p.tasks t → In p.tasks u → t.number ≡ u.number → t ≡ u
+  same_task t u a b e = same_item TaskBefore number_of earlier p.tasks s.tasks_rise t u a b e
+
+  pub task_found : (t : Task) → In p.tasks t → found es t.number ≡ Some t
+  task_found t h = found_in number_of itself p.tasks t (λ u i e. same_task u t i h e) h
+
+  pub there : (t : ℕ) → HasTask p t → has es t ≡ true
+  there t h = ap (has es) (sym h.2) ∙ ap is_some (task_found h.0 h.1)
+
+  -- PATHS
+
+  parent_stands : (i q : ℕ) (t k : Task) → slice_get p.tasks i ≡ Some t → In p.tasks k → k.number ≡ q → q < t.number → (j : ℕ) × (j < i) × StandsAt es j q
+  parent_stands i q t k got there e lt =
+      let j = place_of p.tasks k there in (
+        j.0,
+        comes_first TaskBefore number_of earlier p.tasks s.tasks_rise j.0 i k t j.1 got (let l : q < t.number = lt in omega (arith, l, e)),
+        ((k.number, k), mapped_at (λ (x : Task). (x.number, x)) p.tasks j.0 k j.1, e),
+      )
+
+  pub ordered : AreOrdered es
+  ordered = record {
+    apart = λ i j e f g h same.
+        let x = got_mapped (λ (t : Task). (t.number, t)) p.tasks i e g in
+        let y = got_mapped (λ (t : Task). (t.number, t)) p.tasks j f h in
+        one_place TaskBefore number_of earlier p.tasks s.tasks_rise i j x.0 y.0 x.1 y.1
+        (ap (λ (z : ℕ × Task). z.0) x.2 ∙ same ∙ sym (ap (λ (z : ℕ × Task). z.0) y.2));
+    behind = λ i e q g h.
+        let x = got_mapped (λ (t : Task). (t.number, t)) p.tasks i e g in
+        let up = s.parents x.0 q (got_in p.tasks i x.0 x.1) (ap (λ (z : ℕ × Task). z.1.parent) x.2 ∙ h) in
+        parent_stands i q x.0 up.0.0 x.1 up.0.1 up.0.2 up.1;
+  }
+
+  parent_found : (t q : ℕ) → IsParent p.tasks t q → parent_of es t ≡ Some q
+  parent_found t q h = ap parent_in (ap (found es) (sym h.2) ∙ task_found h.0 h.1) ∙ h.3
+
+  leads_up : (n t a : ℕ) → LinksLead n p.tasks t a → TableLeads n es t a
+  leads_up zero t a h = parent_found t a h
+  leads_up (suc n) t a h = (h.0, parent_found t h.0 h.1, leads_up n h.0 a h.2)
+
+  in_table : (a t : ℕ) → IsAncestor p.tasks a t → IsTableAncestor es a t
+  in_table a t h = (h.0, leads_up h.0 t a h.1)
+
+  pub ancestor_met : (a t : ℕ) → IsAncestor p.tasks a t → is_above es a t ≡ true
+  ancestor_met a t h = met_ancestor es ordered a t (in_table a t h)
+
+  first_task : (n t a : ℕ) → LinksLead n p.tasks t a → HasTask p t
+  first_task zero t a h = (h.0, h.1, h.2)
+  first_task (suc n) t a h = (h.1.0, h.1.1, h.1.2)
+
+  -- who has an ancestor is a task of the picture
+  pub has_ancestor : (a t : ℕ) → IsAncestor p.tasks a t → HasTask p t
+  has_ancestor a t h = first_task h.0 t a h.1
+
+  -- how the owner of what a field leads to stands to the object's own
+  pub data Stands (a k t u : ℕ) : Type 0 where
+    own : relation_of es t u ≡ Own → Stands a k t u
+    up : relation_of es t u ≡ Above → Stands a k t u
+    down : relation_of es t u ≡ Below → In p.fields (record { task = u; address = a; place = k }) → Stands a k t u
+
+  pub stands : (a k t u : ℕ) → KeepsToPath p a k t u → Stands a k t u
+  stands a k t u (inl e) = own ((related es ordered t u).own.1 e)
+  stands a k t u (inr (inl h)) = up ((related es ordered t u).above.1 (in_table u t h))
+  stands a k t u (inr (inr h)) = down ((related es ordered t u).below.1 (in_table t u h.0)) h.1
+
+  -- STATES
+
+  state_runs : (t : Task) → is_running_state t.state ≡ true → t.state ≡ Running
+  state_runs t h = by t.state refl
+    where
+      by : (x : State) → t.state ≡ x → t.state ≡ Running
+      by Running e = e
+      by Waiting e = absurd (let f : is_running_state Waiting ≡ true = ap is_running_state (sym e) ∙ h in cc)
+      by Ended e = absurd (let f : is_running_state Ended ≡ true = ap is_running_state (sym e) ∙ h in cc)
+
+  pub running : (t : ℕ) → IsRunning p t → is_running es t ≡ true
+  running t h = ap runs (ap (found es) (sym h.2) ∙ task_found h.0 h.1) ∙ ap is_running_state h.3
+
+  pub resting : (t : ℕ) → (IsRunning p t → ⊥) → is_running es t ≡ false
+  resting t rests = by (found es t) refl
+    where
+      by_state : (k : Task) (b : Bool) → found es t ≡ Some k → is_running_state k.state ≡ b → is_running es t ≡ false
+      by_state k true e f = absurd (let r = found_from number_of itself p.tasks t k e in rests (r.0, r.1, r.2, (ap (λ (z : Task). z.state) r.3 ∙ state_runs k f)))
+      by_state k false e f = ap runs e ∙ f
+
+      by : (m : Option Task) → found es t ≡ m → is_running es t ≡ false
+      by None e = ap runs e
+      by (Some k) e = by_state k (is_running_state k.state) e refl

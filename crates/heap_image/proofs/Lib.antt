@@ -1,0 +1,16 @@
+pub mod Spaced
+pub mod Words
+pub mod Lines
+pub mod Told
+pub mod Splits
+pub mod Tables
+pub mod Passes
+pub mod Family
+pub mod States
+pub mod Owners
+pub mod Placed
+pub mod Leads
+pub mod Steps
+pub mod Had
+pub mod Faultless
+pub mod Sample

@@ -1,0 +1,156 @@
+-- A sound picture: an object of a waiting task leads into the heap of its child, which runs and remembers the field.
+use Rattle.std.proofs.Common.{◌≡◌, ◌<◌, ℕ, zero, suc, true, [], ◌∷◌, refl, ap, sym, subst, ◌∙◌, inl, inr, arith}
+use Rattle.std.specs.Prelude.{Some, None, slice_get}
+use Rattle.listed.specs.Members.{In}
+use Rattle.image_check.specs.declared.line.State.TheVariants.{Running, Waiting}
+use Rattle.image_check.specs.declared.line.Task.{Task}
+use Rattle.image_check.specs.declared.line.Chunk.{Chunk}
+use Rattle.image_check.specs.declared.line.Remembered.{Remembered}
+use Rattle.image_check.specs.Place.{chunk_number}
+use Rattle.heap_image.specs.declared.picture.Picked.{Picked}
+use Rattle.heap_image.specs.declared.picture.Picture.{Picture}
+use Rattle.heap_image.specs.Form.{IsTaskForm, IsChunkForm, IsObjectForm, IsFieldForm, IsInForm}
+use Rattle.heap_image.specs.Picture.{Rises, TaskBefore, ChunkBefore, ObjectBefore, FieldBefore, IsAncestor, HasTask, IsRunning, IsOwned, IsPlaced, LeadsSomewhere, KeepsToPath, IsFit, IsSoundPicture}
+use Rattle.heap_image.specs.Told.{SomePictureIsSound}
+
+-- LISTS OF ONE AND OF TWO
+
+one_rises : {A : Type 0} (before : A → A → Type 0) (a : A) → Rises before (a ∷ [])
+one_rises before a zero zero x y lt g h = absurd (omega (arith, lt))
+one_rises before a zero (suc j) x y lt g h = absurd cc
+one_rises before a (suc i) j x y lt g h = absurd cc
+
+two_rise : {A : Type 0} (before : A → A → Type 0) (a b : A) → before a b → Rises before (a ∷ b ∷ [])
+two_rise before a b r zero zero x y lt g h = absurd (omega (arith, lt))
+two_rise before a b r zero (suc zero) x y lt g h = let e : a ≡ x = cc in let f : b ≡ y = cc in subst (λ z. before z y) e (subst (before a) f r)
+two_rise before a b r zero (suc (suc j)) x y lt g h = absurd cc
+two_rise before a b r (suc zero) zero x y lt g h = absurd (omega (arith, lt))
+two_rise before a b r (suc zero) (suc zero) x y lt g h = absurd (omega (arith, lt))
+two_rise before a b r (suc zero) (suc (suc j)) x y lt g h = absurd cc
+two_rise before a b r (suc (suc i)) j x y lt g h = absurd cc
+
+only : {A : Type 0} (a x : A) → In (a ∷ []) x → a ≡ x
+only a x (inl e) = e
+only a x (inr h) = absurd h
+
+each_one : {A : Type 0} (P : A → Type 0) (a : A) → P a → (x : A) → In (a ∷ []) x → P x
+each_one P a h x i = subst P (only a x i) h
+
+each_two : {A : Type 0} (P : A → Type 0) (a b : A) → P a → P b → (x : A) → In (a ∷ b ∷ []) x → P x
+each_two P a b h g x (inl e) = subst P e h
+each_two P a b h g x (inr i) = each_one P b g x i
+
+-- THE PICTURE
+
+abbrev parent : Task
+parent = record { number = 0; parent = None; state = Waiting }
+
+abbrev child : Task
+child = record { number = 1; parent = Some 0; state = Running }
+
+abbrev upper : Chunk
+upper = record { number = 0; owner = 0; words = 1024 }
+
+abbrev lower : Chunk
+lower = record { number = 1; owner = 1; words = 1024 }
+
+abbrev object : Picked
+object = record { address = 1; birth = record { task = 0; count = 0 }; mutable = true; references = 1025 ∷ []; numbers = [] }
+
+abbrev field : Remembered
+field = record { task = 1; address = 1; place = 0 }
+
+abbrev sample : Picture
+sample = record { tasks = parent ∷ child ∷ []; chunks = upper ∷ lower ∷ []; objects = object ∷ []; fields = field ∷ [] }
+
+in_form : IsInForm sample
+in_form = record {
+  tasks = each_two IsTaskForm parent child (record { number = omega arith; parent = refl }) (record { number = omega arith; parent = (omega arith, omega arith) });
+  chunks = each_two IsChunkForm upper lower
+      (record { number = omega arith; owner = omega arith; whole = refl; least = omega arith; most = omega arith })
+      (record { number = omega arith; owner = omega arith; whole = refl; least = omega arith; most = omega arith });
+  objects = each_one IsObjectForm object (record {
+    address = omega arith;
+    task = omega arith;
+    count = omega arith;
+    sized = omega arith;
+    references = each_one (λ v. v < 18446744073709551616) 1025 (omega arith);
+    numbers = λ n i. absurd i;
+  });
+  fields = each_one IsFieldForm field (record { task = omega arith; address = omega arith; place = omega arith });
+}
+
+has_parent : HasTask sample 0
+has_parent = (parent, inl refl, refl)
+
+has_child : HasTask sample 1
+has_child = (child, inr (inl refl), refl)
+
+above : IsAncestor sample.tasks 0 1
+above = (0, (child, inr (inl refl), refl, refl))
+
+parent_rests : IsRunning sample 0 → ⊥
+parent_rests h = by h.0 h.1 h.2 h.3
+  where
+    by : (k : Task) → In sample.tasks k → k.number ≡ 0 → k.state ≡ Running → ⊥
+    by k (inl e) n r = let f : Waiting ≡ Running = ap (λ (t : Task). t.state) e ∙ r in cc
+    by k (inr (inl e)) n r = let f : 1 ≡ 0 = ap (λ (t : Task). t.number) e ∙ n in cc
+    by k (inr (inr i)) n r = absurd i
+
+parents_known : (t : Task) (q : ℕ) → In sample.tasks t → t.parent ≡ Some q → HasTask sample q × (q < t.number)
+parents_known t q (inl e) h = absurd (let f : None ≡ Some q = ap (λ (k : Task). k.parent) e ∙ h in cc)
+parents_known t q (inr (inl e)) h =
+    let f : Some 0 ≡ Some q = ap (λ (k : Task). k.parent) e ∙ h in
+    let z : 0 ≡ q = cc in
+    (subst (HasTask sample) z has_parent, (let n : 1 ≡ t.number = ap (λ (k : Task). k.number) e in omega (arith, z, n)))
+parents_known t q (inr (inr i)) h = absurd i
+
+-- who owns an address goes by its chunk's number
+owner_is : (c : Chunk) → In sample.chunks c → c.owner ≡ c.number
+owner_is = each_two (λ c. c.owner ≡ c.number) upper lower refl refl
+
+owned_by : (a t : ℕ) → IsOwned sample a t → t ≡ chunk_number a
+owned_by a t h = sym h.2 ∙ owner_is h.0 h.1.0 ∙ sym h.1.2
+
+first_is : (k v : ℕ) → slice_get object.references k ≡ Some v → (k ≡ 0) × (1025 ≡ v)
+first_is zero v e = (refl, cc)
+first_is (suc k) v e = absurd cc
+
+keeps : (k v t u : ℕ) → slice_get object.references k ≡ Some v → IsOwned sample 1 t → IsOwned sample v u → KeepsToPath sample 1 k t u
+keeps k v t u got a b =
+    let f = first_is k v got in
+    let at_t : t ≡ 0 = owned_by 1 t a in
+    let at_u : u ≡ 1 = owned_by v u b ∙ ap chunk_number (sym f.1) in
+    let there : KeepsToPath sample 1 0 0 1 = inr (inr (above, inl refl)) in
+    subst (λ i. KeepsToPath sample 1 i t u) (sym f.0) (subst (λ x. KeepsToPath sample 1 0 x u) (sym at_t) (subst (λ x. KeepsToPath sample 1 0 0 x) (sym at_u) there))
+
+leads : LeadsSomewhere sample 1025
+leads = inr (inr (1, (lower, (inr (inl refl), omega arith, refl), refl), (child, inr (inl refl), refl, refl)))
+
+is_sound : IsSoundPicture sample
+is_sound = record {
+  form = in_form;
+  tasks_rise = two_rise TaskBefore parent child (omega arith);
+  parents = parents_known;
+  chunks_rise = two_rise ChunkBefore upper lower (omega arith);
+  owners = each_two (λ c. HasTask sample c.owner) upper lower has_parent has_child;
+  objects_rise = one_rises ObjectBefore object;
+  births = λ o q i j e. ap (λ (x : Picked). x.address) (sym (only object o i) ∙ only object q j);
+  places = each_one (IsPlaced sample) object (record { chunk = upper; lies = (inl refl, omega arith, refl); inside = omega arith; rests = parent_rests });
+  apart = λ o q i j lt e. absurd (let f : o.address ≡ q.address = ap (λ (x : Picked). x.address) (sym (only object o i) ∙ only object q j) in omega (arith, lt, f));
+  leads = λ o v i j. each_one (λ (x : Picked). In x.references v → LeadsSomewhere sample v) object (λ h. each_one (LeadsSomewhere sample) 1025 leads v h) o i j;
+  keeps = λ o k v t u i. each_one (λ (x : Picked). slice_get x.references k ≡ Some v → IsOwned sample x.address t → IsOwned sample v u → KeepsToPath sample x.address k t u) object (keeps k v t u) o i;
+  fields_rise = one_rises FieldBefore field;
+  fields_fit = each_one (IsFit sample) field (record {
+    object = object;
+    drawn = inl refl;
+    address = refl;
+    place = omega arith;
+    owner = 0;
+    owned = (upper, (inl refl, omega arith, refl), refl);
+    above = above;
+  });
+}
+
+pub some_picture_is_sound : SomePictureIsSound
+some_picture_is_sound = (sample, is_sound, omega arith, omega arith)

@@ -1,0 +1,88 @@
+-- How lines are put together.
+use Rattle.std.proofs.Common.{◌≡◌, ◌<◌, ◌+◌, ℕ, ℤ, List, [], ◌∷◌, ◌++◌, length, take, get_or, map, ap, sym, ◌∙◌, append_assoc, append-nil}
+use Rattle.std.specs.Prelude.{codes, Result, Ok, Err, OnOk, if◌then◌else◌, Option, Some, None}
+use Rattle.std.specs.Result.{is_ok}
+use Rattle.std.specs.List.{flat_map}
+use Rattle.std.specs.Fmt.{decimal, signed_decimal}
+use Rattle.std.proofs.lemmas.Grind.{flat_map-append}
+use Rattle.std.proofs.lemmas.List.{take_more, flat_map_more}
+use Rattle.std.proofs.lemmas.List.Folds.{flat_map-map}
+use Rattle.run_trace.specs.Line.{spaced}
+use Rattle.heap_image.specs.declared.picture.Picked.{Picked}
+use Rattle.image_check.specs.declared.line.Task.{Task}
+use Rattle.image_check.specs.declared.line.State.{State}
+use Rattle.heap_image.specs.Text.{line, kind_word, parent_word, state_word, task_line, object_line, head_words, object_words, reference_text, number_text}
+
+-- a word behind a space
+abbrev behind_space : List ℕ → List ℕ
+behind_space w = 32 ∷ w
+
+first_spaced : (w : List ℕ) (vs : List (List ℕ)) → spaced (w ∷ vs) ≡ w ++ flat_map behind_space vs
+first_spaced w [] = sym (append-nil w)
+first_spaced w (v ∷ vs) = ap (λ x. w ++ 32 ∷ x) (first_spaced v vs)
+
+-- words behind others
+spaced_more : (w : List ℕ) (ws vs : List (List ℕ)) → spaced ((w ∷ ws) ++ vs) ≡ spaced (w ∷ ws) ++ flat_map behind_space vs
+spaced_more w [] vs = first_spaced w vs
+spaced_more w (u ∷ us) vs = ap (λ x. w ++ 32 ∷ x) (spaced_more u us vs) ∙ sym (append_assoc w (32 ∷ spaced (u ∷ us)) (flat_map behind_space vs))
+
+fields_spaced : (rs : List ℕ) (ns : List ℤ) → flat_map behind_space (map decimal rs ++ map signed_decimal ns) ≡ flat_map reference_text rs ++ flat_map number_text ns
+fields_spaced rs ns =
+    flat_map-append behind_space (map decimal rs) (map signed_decimal ns)
+    ∙ ap (λ x. x ++ flat_map behind_space (map signed_decimal ns)) (flat_map-map behind_space decimal rs)
+    ∙ ap (λ x. flat_map reference_text rs ++ x) (flat_map-map behind_space signed_decimal ns)
+
+-- an object's words behind the first, in front of its fields
+abbrev more_head : Picked → List (List ℕ)
+more_head o = decimal o.address ∷ decimal o.birth.task ∷ decimal o.birth.count ∷ kind_word o.mutable ∷ decimal (length o.references) ∷ decimal (length o.numbers) ∷ []
+
+pub object_spaced : (o : Picked) → spaced (object_words o) ≡ spaced (head_words o) ++ (flat_map reference_text o.references ++ flat_map number_text o.numbers)
+object_spaced o =
+    ap spaced (append_assoc (head_words o) (map decimal o.references) (map signed_decimal o.numbers))
+    ∙ spaced_more (codes "object") (more_head o) (map decimal o.references ++ map signed_decimal o.numbers)
+    ∙ ap (λ x. spaced (head_words o) ++ x) (fields_spaced o.references o.numbers)
+
+-- TASKS
+
+four_spaced : (n p w : List ℕ) → codes "task " ++ (n ++ 32 ∷ (p ++ 32 ∷ (w ++ 10 ∷ []))) ≡ line (codes "task" ∷ n ∷ p ∷ w ∷ [])
+four_spaced n p w = simp append_assoc
+
+task_by : (n : ℕ) (m p : Option ℕ) (s : State) (w : List ℕ) → m ≡ p → w ≡ state_word s
+    → codes "task " ++ (decimal n ++ 32 ∷ (parent_word p ++ 32 ∷ (w ++ 10 ∷ []))) ≡ line (codes "task" ∷ decimal n ∷ parent_word m ∷ state_word s ∷ [])
+task_by n m p s w e f =
+    four_spaced (decimal n) (parent_word p) w
+    ∙ ap (λ x. line (codes "task" ∷ decimal n ∷ parent_word x ∷ w ∷ [])) (sym e)
+    ∙ ap (λ x. line (codes "task" ∷ decimal n ∷ parent_word m ∷ x ∷ [])) f
+
+pub rooted_line : (t : Task) (w : List ℕ) → t.parent ≡ None → w ≡ state_word t.state → codes "task " ++ (decimal t.number ++ (codes " - " ++ (w ++ 10 ∷ []))) ≡ task_line t
+rooted_line t w e f = task_by t.number t.parent None t.state w e f
+
+pub child_line : (t : Task) (p : ℕ) (w : List ℕ) → t.parent ≡ Some p → w ≡ state_word t.state → codes "task " ++ (decimal t.number ++ 32 ∷ (decimal p ++ 32 ∷ (w ++ 10 ∷ []))) ≡ task_line t
+child_line t p w e f = task_by t.number t.parent (Some p) t.state w e f
+
+-- LINES
+
+-- a line more behind the lines of the items before
+pub lines_more : {X : Type 0} (f : X → List ℕ) (xs : List X) (i : ℕ) (d : X) (before now later : List ℕ) → i < length xs
+    → now ≡ before ++ flat_map f (take i xs) → later ≡ now ++ f (get_or xs i d) → later ≡ before ++ flat_map f (take (i + 1) xs)
+lines_more f xs i d before now later lt e g =
+    g ∙ ap (λ x. x ++ f (get_or xs i d)) e
+    ∙ flat_map_more f before (take i xs) (get_or xs i d)
+    ∙ ap (λ ys. before ++ flat_map f ys) (sym (take_more xs i d lt))
+
+-- a head and the fields behind it make the line of an object
+pub object_made : (o : Picked) (before head bytes begun first more : List ℕ) (rs : List ℕ) (ns : List ℤ) → head ≡ spaced (head_words o) → bytes ≡ head → begun ≡ before ++ bytes
+    → rs ≡ o.references → ns ≡ o.numbers → first ≡ begun ++ flat_map reference_text rs → more ≡ first ++ flat_map number_text ns → more ++ 10 ∷ [] ≡ before ++ object_line o
+object_made o before head bytes begun first more rs ns eh eb es er en ef em =
+    ap (λ x. x ++ 10 ∷ []) (em ∙ ap (λ x. x ++ flat_map number_text ns) (ef ∙ ap (λ x. x ++ flat_map reference_text rs) (es ∙ ap (λ x. before ++ x) (eb ∙ eh))))
+    ∙ (λ j. (((before ++ spaced (head_words o)) ++ flat_map reference_text (er j)) ++ flat_map number_text (en j)) ++ 10 ∷ [])
+    ∙ four_joined before (spaced (head_words o)) (flat_map reference_text o.references) (flat_map number_text o.numbers)
+    ∙ ap (λ x. before ++ (x ++ 10 ∷ [])) (sym (object_spaced o))
+  where
+    four_joined : (a b c d : List ℕ) → (((a ++ b) ++ c) ++ d) ++ 10 ∷ [] ≡ a ++ ((b ++ (c ++ d)) ++ 10 ∷ [])
+    four_joined a b c d = simp append_assoc
+
+-- what is written where it succeeds
+pub on_ok : {E : Type 0} {Q : Type 0} (r : Result (Unit {0}) E) (new old more : List ℕ) → new ≡ (if is_ok r then old ++ more else old) → (new ≡ old ++ more → Q) → OnOk r Q
+on_ok (Ok u) new old more e f = f e
+on_ok (Err x) new old more e f = tt

@@ -1,0 +1,7 @@
+use Rattle.std.proofs.Common.{◌≡◌, ◌++◌, take}
+use Rattle.std.specs.List.{flat_map}
+use Rattle.heap_image.specs.Text.{field_line}
+use Rattle.heap_image.proofs.text.add_fields.Given as goal
+
+abbrev pub invariant-loop-field : goal.invariant-loop-field
+invariant-loop-field l = l.text.items ≡ l.fn.text.items ++ flat_map field_line (take l.field-index l.fields)

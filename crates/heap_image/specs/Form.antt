@@ -1,0 +1,54 @@
+-- What the lines of an image can say: numbers in their ranges.
+use Rattle.std.specs.Prelude.{◌≡◌, ◌<◌, ◌≤◌, ◌+◌, ◌^◌, ◌%◌, ℕ, ℤ, true, Option, Some, None, length}
+use Rattle.hh_lang.specs.Number.{fits_i64}
+use Rattle.listed.specs.Members.{In}
+use Rattle.image_check.specs.declared.line.Task.{Task}
+use Rattle.image_check.specs.declared.line.Chunk.{Chunk}
+use Rattle.image_check.specs.declared.line.Remembered.{Remembered}
+use Rattle.heap_image.specs.declared.picture.Picked.{Picked}
+use Rattle.heap_image.specs.declared.picture.Picture.{Picture}
+
+-- tasks, chunks and births have numbers of 32 bits
+abbrev pub IsShort : ℕ → Type 0
+IsShort n = n < 2 ^ 32
+
+abbrev pub IsLong : ℕ → Type 0
+IsLong n = n < 2 ^ 64
+
+-- task 0 alone has no parent
+abbrev pub HasFitParent : ℕ → Option ℕ → Type 0
+HasFitParent t None = t ≡ 0
+HasFitParent t (Some p) = (0 < t) × IsShort p
+
+pub record IsTaskForm (t : Task) : Type 0 where
+  pub number : IsShort t.number
+  pub parent : HasFitParent t.number t.parent
+
+-- a chunk's words are a multiple of 1,024, up to 65,536 times as many
+pub record IsChunkForm (c : Chunk) : Type 0 where
+  pub number : IsShort c.number
+  pub owner : IsShort c.owner
+  pub whole : c.words % 1024 ≡ 0
+  pub least : 1024 ≤ c.words
+  pub most : c.words ≤ 67108864
+
+-- an object has at most a million fields
+pub record IsObjectForm (o : Picked) : Type 0 where
+  pub address : IsLong o.address
+  pub task : IsShort o.birth.task
+  pub count : IsShort o.birth.count
+  pub sized : length o.references + length o.numbers ≤ 1000000
+  pub references : (v : ℕ) → In o.references v → IsLong v
+  pub numbers : (n : ℤ) → In o.numbers n → fits_i64 n ≡ true
+
+pub record IsFieldForm (f : Remembered) : Type 0 where
+  pub task : IsShort f.task
+  pub address : IsLong f.address
+  pub place : IsLong f.place
+
+-- all numbers of a picture are in their ranges
+pub record IsInForm (p : Picture) : Type 0 where
+  pub tasks : (t : Task) → In p.tasks t → IsTaskForm t
+  pub chunks : (c : Chunk) → In p.chunks c → IsChunkForm c
+  pub objects : (o : Picked) → In p.objects o → IsObjectForm o
+  pub fields : (f : Remembered) → In p.fields f → IsFieldForm f

@@ -1,0 +1,4 @@
+pub mod Form
+pub mod Picture
+pub mod Text
+pub mod Told

@@ -1,0 +1,125 @@
+-- Pictures in which everything fits together.
+use Rattle.std.specs.Prelude.{◌≡◌, ◌<◌, ◌≤◌, ◌+◌, ◌⊎◌, ℕ, zero, suc, Some, List, length, slice_get}
+use Rattle.listed.specs.Members.{In}
+use Rattle.image_check.specs.declared.line.State.TheVariants.{Running}
+use Rattle.image_check.specs.declared.line.Task.{Task}
+use Rattle.image_check.specs.declared.line.Chunk.{Chunk}
+use Rattle.image_check.specs.declared.line.Remembered.{Remembered}
+use Rattle.image_check.specs.Place.{chunk_number, offset}
+use Rattle.heap_image.specs.declared.picture.Picked.{Picked}
+use Rattle.heap_image.specs.declared.picture.Picture.{Picture}
+use Rattle.heap_image.specs.Form.{IsInForm}
+
+-- ORDER
+
+-- each item stands before all behind it
+abbrev pub Rises : {A : Type 0} → (A → A → Type 0) → List A → Type 0
+Rises {A} before xs = (i j : ℕ) (x y : A) → i < j → slice_get xs i ≡ Some x → slice_get xs j ≡ Some y → before x y
+
+abbrev pub TaskBefore : Task → Task → Type 0
+TaskBefore t u = t.number < u.number
+
+abbrev pub ChunkBefore : Chunk → Chunk → Type 0
+ChunkBefore c d = c.number < d.number
+
+abbrev pub ObjectBefore : Picked → Picked → Type 0
+ObjectBefore o q = o.address < q.address
+
+-- by task, address and place
+abbrev pub FieldBefore : Remembered → Remembered → Type 0
+FieldBefore f g =
+    (f.task < g.task)
+    ⊎ ((f.task ≡ g.task) × (f.address < g.address)
+    ⊎ (f.task ≡ g.task) × (f.address ≡ g.address) × (f.place < g.place))
+
+-- TASKS
+
+-- the task t has the parent p
+abbrev pub IsParent : List Task → ℕ → ℕ → Type 0
+IsParent tasks t p = (k : Task) × In tasks k × (k.number ≡ t) × (k.parent ≡ Some p)
+
+-- links from a task to its parent lead to a: one, and so many more
+abbrev pub LinksLead : ℕ → List Task → ℕ → ℕ → Type 0
+LinksLead zero tasks t a = IsParent tasks t a
+LinksLead (suc n) tasks t a = (p : ℕ) × IsParent tasks t p × LinksLead n tasks p a
+
+-- a is a proper ancestor of t
+abbrev pub IsAncestor : List Task → ℕ → ℕ → Type 0
+IsAncestor tasks a t = (n : ℕ) × LinksLead n tasks t a
+
+abbrev pub HasTask : Picture → ℕ → Type 0
+HasTask p t = (k : Task) × In p.tasks k × (k.number ≡ t)
+
+abbrev pub IsRunning : Picture → ℕ → Type 0
+IsRunning p t = (k : Task) × In p.tasks k × (k.number ≡ t) × (k.state ≡ Running)
+
+-- PLACES
+
+-- the chunk that an address lies in; 0 is nil
+abbrev pub LiesIn : Picture → ℕ → Chunk → Type 0
+LiesIn p a c = In p.chunks c × (0 < a) × (chunk_number a ≡ c.number)
+
+-- the task that owns what lies at an address
+abbrev pub IsOwned : Picture → ℕ → ℕ → Type 0
+IsOwned p a t = (c : Chunk) × LiesIn p a c × (c.owner ≡ t)
+
+-- where an object ends in its chunk, behind its header, its birth and its fields
+abbrev pub end_of : Picked → ℕ
+end_of o = offset o.address + 2 + length o.references + length o.numbers
+
+-- an object lies inside a chunk, whose owner isn't running
+pub record IsPlaced (p : Picture) (o : Picked) : Type 0 where
+  pub chunk : Chunk
+  pub lies : LiesIn p o.address chunk
+  pub inside : end_of o ≤ chunk.words
+  pub rests : IsRunning p chunk.owner → ⊥
+
+-- of two objects in one chunk the first ends before the second begins
+abbrev pub AreApart : Picked → Picked → Type 0
+AreApart o q = o.address < q.address → chunk_number o.address ≡ chunk_number q.address → end_of o ≤ offset q.address
+
+-- REFERENCES
+
+abbrev pub HasObject : Picture → ℕ → Type 0
+HasObject p a = (o : Picked) × In p.objects o × (o.address ≡ a)
+
+-- nil, at an object, or in a running task's chunk
+abbrev pub LeadsSomewhere : Picture → ℕ → Type 0
+LeadsSomewhere p v = (v ≡ 0) ⊎ (HasObject p v ⊎ ((u : ℕ) × IsOwned p v u × IsRunning p u))
+
+-- from the field k of an object of heap t at a to heap u: it stays inside, goes up, or is remembered
+abbrev pub KeepsToPath : Picture → ℕ → ℕ → ℕ → ℕ → Type 0
+KeepsToPath p a k t u =
+    (u ≡ t)
+    ⊎ (IsAncestor p.tasks u t
+    ⊎ (IsAncestor p.tasks t u × In p.fields (record { task = u; address = a; place = k })))
+
+-- REMEMBERED FIELDS
+
+-- a reference of an object, whose owner is above the heap that remembers it
+pub record IsFit (p : Picture) (f : Remembered) : Type 0 where
+  pub object : Picked
+  pub drawn : In p.objects object
+  pub address : object.address ≡ f.address
+  pub place : f.place < length object.references
+  pub owner : ℕ
+  pub owned : IsOwned p f.address owner
+  pub above : IsAncestor p.tasks owner f.task
+
+-- THE WHOLE
+
+-- a picture in which everything fits together
+pub record IsSoundPicture (p : Picture) : Type 0 where
+  pub form : IsInForm p
+  pub tasks_rise : Rises TaskBefore p.tasks
+  pub parents : (t : Task) (q : ℕ) → In p.tasks t → t.parent ≡ Some q → HasTask p q × (q < t.number)
+  pub chunks_rise : Rises ChunkBefore p.chunks
+  pub owners : (c : Chunk) → In p.chunks c → HasTask p c.owner
+  pub objects_rise : Rises ObjectBefore p.objects
+  pub births : (o q : Picked) → In p.objects o → In p.objects q → o.birth ≡ q.birth → o.address ≡ q.address
+  pub places : (o : Picked) → In p.objects o → IsPlaced p o
+  pub apart : (o q : Picked) → In p.objects o → In p.objects q → AreApart o q
+  pub leads : (o : Picked) (v : ℕ) → In p.objects o → In o.references v → LeadsSomewhere p v
+  pub keeps : (o : Picked) (k v t u : ℕ) → In p.objects o → slice_get o.references k ≡ Some v → IsOwned p o.address t → IsOwned p v u → KeepsToPath p o.address k t u
+  pub fields_rise : Rises FieldBefore p.fields
+  pub fields_fit : (f : Remembered) → In p.fields f → IsFit p f

@@ -1,0 +1,47 @@
+-- What the text of a picture says, and what the verifier says of it.
+use Rattle.std.specs.Prelude.{◌≡◌, ◌<◌, ◌≤◌, Some, None, List, [], ◌∷◌, ◌++◌, length, map}
+use Rattle.text_lines.specs.Lines.{lines_of}
+use Rattle.image_check.specs.declared.line.Object.{Object}
+use Rattle.image_check.specs.declared.line.Said.{Said}
+use Rattle.image_check.specs.declared.line.Said.TheVariants.{Nothing, Title, OfTask, OfChunk, OfObject, OfRemembered, OfEnd}
+use Rattle.image_check.specs.Line.{said_by}
+use Rattle.image_check.specs.Fault.{image_fault, image_limit, too_long, objects_in}
+use Rattle.heap_image.specs.declared.picture.Picked.{Picked}
+use Rattle.heap_image.specs.declared.picture.Picture.{Picture}
+use Rattle.heap_image.specs.Form.{IsLong, IsInForm}
+use Rattle.heap_image.specs.Picture.{IsSoundPicture}
+use Rattle.heap_image.specs.Text.{text_of}
+
+-- an object as its line is read: its references, and how many numbers it has
+abbrev pub as_read : Picked → Object
+as_read o = record { address = o.address; birth = o.birth; references = o.references; numbers = length o.numbers }
+
+abbrev pub object_told : Picked → Said
+object_told o = OfObject (as_read o)
+
+-- all that a picture has, line by line
+abbrev pub told_by : Picture → List Said
+told_by p =
+    (Title ∷ [])
+    ++ map OfTask p.tasks
+    ++ map OfChunk p.chunks
+    ++ map object_told p.objects
+    ++ map OfRemembered p.fields
+    ++ OfEnd (length p.objects) ∷ []
+
+-- the lines of its text say all that a picture has, in order, and nothing else; behind the last line feed is nothing
+abbrev pub PicturesAreRead : Type 0
+PicturesAreRead = (p : Picture) → IsInForm p → IsLong (length p.objects) → map said_by (lines_of (text_of p)) ≡ told_by p ++ Nothing ∷ []
+
+-- the verifier finds no fault in the text of a picture, but that it may be too long, and counts its objects
+pub record IsFaultless (p : Picture) : Type 0 where
+  pub fits : length (text_of p) ≤ image_limit → image_fault (text_of p) ≡ None
+  pub long : image_limit < length (text_of p) → image_fault (text_of p) ≡ Some too_long
+  pub counted : objects_in (text_of p) ≡ length p.objects
+
+abbrev pub SoundIsFaultless : Type 0
+SoundIsFaultless = (p : Picture) → IsSoundPicture p → IsFaultless p
+
+-- there are sound pictures, with objects and remembered fields
+abbrev pub SomePictureIsSound : Type 0
+SomePictureIsSound = (p : Picture) × IsSoundPicture p × (0 < length p.objects) × (0 < length p.fields)
