@@ -26,7 +26,7 @@ use Rattle.shared_tree.specs.Pace.{IsForkOf, KeepsPace, previous_of}
 use Rattle.shared_tree.proofs.PaceKeeps.{mark_kept, steps_kept}
 use Rattle.task_machine.specs.declared.part.Private.{Private}
 use Rattle.shared_tree.specs.declared.ran_last.Ran.{Ran as RanOf}
-use Rattle.shared_tree.specs.declared.ran_last.Ran.TheVariants.{Goes as GoesOn, Forked as ForksInto, Ended as EndsWith, Over as IsOver}
+use Rattle.shared_tree.specs.declared.ran_last.Ran.TheVariants.{Goes as GoesOn, Forked as ForksInto, Ended as EndsWith, Over as IsOver, Done as IsDone}
 use Rattle.shared_tree.specs.Alone.{alone_event}
 use Rattle.shared_tree.specs.Ran.{RanTo}
 use Rattle.shared_tree.specs.Stands.{IsWorld}
@@ -170,4 +170,5 @@ pub ran_enters : (w w' : World) (k : ℕ) (p : Private) (r : RanOf) → RanTo w 
 ran_enters w w' k p (GoesOn q) a = a.enters
 ran_enters w w' k p (ForksInto left right) a = a.0.enters
 ran_enters w w' k p (EndsWith resumed) a = a.0.enters
-ran_enters w w' k p IsOver a = a.enters
+ran_enters w w' k p (IsOver q) a = a.enters
+ran_enters w w' k p IsDone a = a.enters

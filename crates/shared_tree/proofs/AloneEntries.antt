@@ -6,17 +6,20 @@ use Rattle.hh_lang.specs.declared.instr.Instr.TheVariants.{Ret}
 use Rattle.hh_lang.specs.declared.program.Line.{Line}
 use Rattle.run_trace.specs.declared.entry.Kind.TheVariants.{Ran}
 use Rattle.run_trace.specs.Entry.{Event}
+use Rattle.hh_model.specs.declared.data.End.{End}
 use Rattle.hh_model.specs.declared.data.End.TheVariants.{Done, Trapped}
 use Rattle.hh_model.specs.declared.data.State.{State as MachineState}
 use Rattle.hh_model.specs.declared.data.Task.{Task}
 use Rattle.hh_model.specs.declared.data.Trap.{Trap}
-use Rattle.hh_model.specs.Step.{fetched}
+use Rattle.hh_model.specs.Step.{ended_by, fetched, step}
 use Rattle.heap_tree.specs.declared.state.State.TheVariants.{Ended}
 use Rattle.heap_tree.specs.Node.{with_state}
 use Rattle.run_ledger.specs.declared.data.RunEnd.TheVariants.{Machine}
 use Rattle.run_ledger.specs.Steps.{has_no_caller, owns, touched}
 use Rattle.run_ledger.proofs.Bounds.{ran_tells}
 use Rattle.task_frames.specs.Stack.{with_next}
+use Rattle.ledger_steps.specs.Accounts.{Rests}
+use Rattle.core_relation.specs.Whole.{handed}
 use Rattle.task_machine.specs.declared.part.Private.{Private}
 use Rattle.task_machine.specs.Ready.{FitsSome, IsSafe}
 use Rattle.task_machine.proofs.Agreement.{some_next, some_safe}
@@ -25,15 +28,19 @@ use Rattle.shared_tree.specs.World.{World, accounts}
 use Rattle.shared_tree.specs.Stands.{IsWorld}
 use Rattle.shared_tree.specs.Fits.{Fits, OthersFit}
 use Rattle.shared_tree.specs.Next.{is_beyond, is_beyond_by, is_beyond_line, is_joint}
-use Rattle.shared_tree.specs.Alone.{EndsAlone, GoesAlone, IsShared, Tells, alone_event, ended_rest, machine_after}
+use Rattle.shared_tree.specs.Alone.{FinishesAlone, GoesAlone, HaltsAlone, IsShared, Tells, alone_event, ended_rest, machine_after, then_accounts}
 use Rattle.shared_tree.specs.Entered.{refused}
-use Rattle.shared_tree.proofs.Finished.{done_ends, done_others, done_world, has_home, has_node}
-use Rattle.shared_tree.proofs.Halted.{trap_ends, trap_others, trap_world}
+use Rattle.shared_tree.proofs.Finished.{done_ends, done_others, done_rests, done_world, has_home, has_node}
+use Rattle.shared_tree.proofs.Halted.{halted_ends, halted_others, halted_part, halted_world}
 use Rattle.shared_tree.proofs.LastEntry as last
 use Rattle.shared_tree.proofs.LastEntry.{last_event}
 use Rattle.shared_tree.proofs.LastSteps.{event_is, fits_machine, machine_same}
 use Rattle.shared_tree.proofs.Now.{steps_now}
 use Rattle.shared_tree.proofs.Printed.{output_goes, output_others, output_part, output_world}
+
+-- a step that can't be done ends the run so
+pub trap_is : (w : World) (p : Private) (kind : Trap) (number : ℕ) → Tells w p (Traps kind) number → step w.program (then_accounts w p).machine p.task ≡ ended_by (then_accounts w p).machine (Trapped kind p.task number)
+trap_is w p kind number T = T.says ∙ ap (λ n. ended_by (then_accounts w p).machine (Trapped kind p.task n)) T.number_is
 
 module _ (w : World) (k : ℕ) (p : Private) (I : IsWorld w) (F : Fits w k p) (shared : IsShared w p) (free : refused w (alone_event k p) ≡ None) where
   pub last_free : refused w (last_event k p) ≡ None
@@ -84,23 +91,25 @@ module _ (w : World) (k : ℕ) (p : Private) (I : IsWorld w) (F : Fits w k p) (s
       others = subst (λ (z : World). OthersFit w z k) printed_is (output_others w k p I F shared last_free value line T j);
     }
 
-  -- A TRAP
-  module _ (kind : Trap) (line : ℕ) (T : Tells w p (Traps kind) line) (j : Space Event) where
-    abbrev trapped : World
-    trapped = record w { steps = w.steps + (p.fresh + 1); journal = record { items = w.journal.items ++ alone_event k p ∷ []; room = j.room }; end = Some (Machine (Trapped kind p.task line)) }
+  -- THE RUN ENDS, and all else is as it was
+  module _ (x : End) (other : x ≡ Done → ⊥) (is : step w.program (then_accounts w p).machine p.task ≡ ended_by (then_accounts w p).machine x) (j : Space Event) where
+    abbrev halted : World
+    halted = record w { steps = w.steps + (p.fresh + 1); journal = record { items = w.journal.items ++ alone_event k p ∷ []; room = j.room }; end = Some (Machine x) }
 
-    trapped_is : record w { steps = w.steps + suc p.fresh; journal = record { items = w.journal.items ++ last_event k p ∷ []; room = j.room }; end = Some (Machine (Trapped kind p.task line)) } ≡ trapped
-    trapped_is =
-        ap (λ n. let z : World = record w { steps = w.steps + n; journal = record { items = w.journal.items ++ record { worker = k; kind = Ran p.task n } ∷ []; room = j.room }; end = Some (Machine (Trapped kind p.task line)) } in z) more
+    halted_is : record w { steps = w.steps + suc p.fresh; journal = record { items = w.journal.items ++ last_event k p ∷ []; room = j.room }; end = Some (Machine x) } ≡ halted
+    halted_is =
+        ap (λ n. let z : World = record w { steps = w.steps + n; journal = record { items = w.journal.items ++ record { worker = k; kind = Ran p.task n } ∷ []; room = j.room }; end = Some (Machine x) } in z) more
 
-    pub trapped_world : IsWorld trapped
-    trapped_world = subst IsWorld trapped_is (trap_world w k p I F shared last_free kind line T j)
+    pub halt_world : IsWorld halted
+    halt_world = subst IsWorld halted_is (halted_world w k p I F shared last_free x other is j)
 
-    pub trapped_ends : EndsAlone w trapped k p
-    trapped_ends = record {
+    pub halts_alone : HaltsAlone w halted k p (record p { fresh = 0 })
+    halts_alone = record {
       enters = record { journal = refl; program = refl; settings = refl };
-      ends = subst (λ (z : World). is_some (accounts z).end ≡ true) trapped_is (ap is_some (trap_ends w k p I F shared last_free kind line T j));
-      others = subst (λ (z : World). OthersFit w z k) trapped_is (trap_others w k p I F shared last_free kind line T j);
+      halts = (x, subst (λ (z : World). (accounts z).end ≡ Some (Machine x)) halted_is (halted_ends w k p I F shared last_free x other is j), other);
+      fits = subst (λ (z : World). Fits z k (record p { fresh = 0 })) halted_is (halted_part w k p I F shared last_free x other is j);
+      part = refl;
+      others = subst (λ (z : World). OthersFit w z k) halted_is (halted_others w k p I F shared last_free x other is j);
     }
 
   -- THE ROOT'S END
@@ -142,10 +151,11 @@ module _ (w : World) (k : ℕ) (p : Private) (I : IsWorld w) (F : Fits w k p) (s
     pub finished_world : IsWorld finished
     finished_world = subst IsWorld finished_is (done_world w k p I F shared last_free line T root j)
 
-    pub finished_ends : EndsAlone w finished k p
-    finished_ends = record {
+    pub finishes_alone : FinishesAlone w finished k p
+    finishes_alone = record {
       enters = record { journal = refl; program = refl; settings = refl };
-      ends = subst (λ (z : World). is_some (accounts z).end ≡ true) finished_is (ap is_some (done_ends w k p I F shared last_free line T root j));
+      done = subst (λ (z : World). (accounts z).end ≡ Some (Machine Done)) finished_is (done_ends w k p I F shared last_free line T root j);
+      rest = λ u. subst (λ (z : World). Rests (handed (accounts z)) u) finished_is (done_rests w k p I F shared last_free line T root j u);
       others = subst (λ (z : World). OthersFit w z k) finished_is (done_others w k p I F shared last_free line T root j);
     }
 

@@ -24,7 +24,7 @@ and_false : (a b : Bool) → b ≡ false → (a && b) ≡ false
 and_false true b h = h
 and_false false b h = refl
 
-unless_false : (b : Bool) (c : Refused) (rest : Option Refused) → b ≡ false → refused_unless b c rest ≡ Some c
+pub unless_false : (b : Bool) (c : Refused) (rest : Option Refused) → b ≡ false → refused_unless b c rest ≡ Some c
 unless_false false c rest e = refl
 unless_false true c rest e = absurd cc
 

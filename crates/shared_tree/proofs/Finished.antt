@@ -20,14 +20,16 @@ use Rattle.run_ledger.specs.declared.data.RunEnd.TheVariants.{Machine}
 use Rattle.run_ledger.specs.Heaps.{heap_of}
 use Rattle.run_ledger.specs.Steps.{task_steps}
 use Rattle.task_machine.specs.declared.part.Private.{Private}
+use Rattle.ledger_steps.specs.Accounts.{Rests}
 use Rattle.ledger_steps.specs.Last.{EndsDone, Finishing, Runs, Splits}
 use Rattle.core_relation.specs.Value.{Home, Value}
 use Rattle.core_relation.specs.Changes.{EndsHome}
 use Rattle.core_relation.specs.Fits.{part_for, with_home}
 use Rattle.core_relation.specs.RanCounts.{RanCounts}
 use Rattle.core_relation.specs.Since.{OthersNotes}
-use Rattle.core_relation.specs.Whole.{StandsFor}
+use Rattle.core_relation.specs.Whole.{StandsFor, handed}
 use Rattle.core_relation.specs.Worker.{Fits as FitsValue}
+use Rattle.core_relation.proofs.DoneHands.{done_hands_all}
 use Rattle.core_relation.proofs.RanWhole.{ran_stands_for}
 use Rattle.core_relation.proofs.With.{at_home, off_home}
 use Rattle.core_relation.proofs.Workers.{ran_leaves}
@@ -39,7 +41,7 @@ use Rattle.shared_tree.specs.Stands.{HeapForm, IsWorld}
 use Rattle.shared_tree.specs.Fits.{Fits, OthersFit, home_of_part, part_of}
 use Rattle.shared_tree.specs.Alone.{IsShared, Tells, ended_rest}
 use Rattle.shared_tree.specs.Entered.{refused}
-use Rattle.shared_tree.proofs.Entering.{entered, entered_world, hand_is, held_apart, part_fits, unheld_before}
+use Rattle.shared_tree.proofs.Entering.{accounts_are, entered, entered_world, hand_is, held_apart, part_fits, unheld_before}
 use Rattle.shared_tree.proofs.LastKinds.{done}
 use Rattle.shared_tree.proofs.LastEntry as last
 use Rattle.shared_tree.proofs.LastEntry.{last_event}
@@ -206,6 +208,12 @@ module _ (w : World) (k : ℕ) (p : Private) (I : IsWorld w) (F : Fits w k p) (s
 
     pub done_ends : (accounts w').end ≡ Some (Machine Done)
     done_ends = sym (end_now w' done_world)
+
+    -- every heap is handed back
+    pub done_rests : (u : ℕ) → Rests (handed (accounts w')) u
+    done_rests u =
+        subst (λ (z : Ledger). Rests (handed z) u) (sym (accounts_are w (last_event k p) I free tree w.pool homes w.sets hands w.outputs steps (Some (Machine Done)) j.room))
+        (done_hands_all w.program w.settings l L t k p.fresh E D.ended u)
 
     -- THE PARTS OF OTHERS
     pub done_others : OthersFit w w' k

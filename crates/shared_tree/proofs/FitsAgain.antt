@@ -30,6 +30,7 @@ use Rattle.core_relation.proofs.Members.{in_chunk, in_map}
 use Rattle.core_relation.proofs.Own.{stepped}
 use Rattle.core_relation.specs.Whole.{BegunBy}
 use Rattle.core_relation.proofs.With.{at_home, off_home}
+use Rattle.core_relation.proofs.Quiet.{aside_is}
 use Rattle.shared_tree.specs.Again.{KeepsPlaces}
 use Rattle.shared_tree.specs.Objects.{chunk_of}
 use Rattle.shared_tree.specs.World.{World, accounts, begun_of, value_of}
@@ -42,7 +43,6 @@ use Rattle.shared_tree.proofs.Cells.{object_seen, seen_object}
 use Rattle.shared_tree.proofs.Counts.{chunk_there}
 use Rattle.shared_tree.proofs.Formed.{Formed, formed_tidy}
 use Rattle.shared_tree.proofs.FormOutline.{run_formed}
-use Rattle.shared_tree.proofs.Going.{same_going}
 use Rattle.shared_tree.proofs.HomeRead.{home_read}
 use Rattle.shared_tree.proofs.Begun.{steady}
 use Rattle.shared_tree.proofs.LaidFrom.{place_there}
@@ -198,7 +198,7 @@ module _ (w : World) (k : ℕ) (p q : Private) (n : ℕ) (I : IsWorld w) (F : Fi
       is = F.fits.is;
       runs = F.fits.runs;
       steady = inr (steady w k p F on idle);
-      part = subst (PartFits w.program w.settings (part_of w.settings Q) v) (sym (same_going l (link.goes w k p I F on)))
+      part = subst (PartFits w.program w.settings (part_of w.settings Q) v) (sym (aside_is l (link.goes w k p I F on)))
           (record { fits = record { worker = k; out = F.held; few = few; private = run.private_then w k p q n I F on idle R C; stands = stands_then }; begun = subst (λ o. BegunBy after L' t (begun_of o)) (sym idle) (run.begun_then w k p q n I F on idle R C) });
       leaf = refl;
       fields = refl;

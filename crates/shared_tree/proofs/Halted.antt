@@ -1,13 +1,12 @@
--- The run ends, since the next step can't be done.
+-- The run ends by a step that can't be done, or by a read that is stopped.
 use Rattle.std.proofs.Common.{◌≡◌, ℕ, suc, ◌+◌, Some, None, refl, ap, sym, ◌∙◌}
 use Rattle.std.proofs.lemmas.Option.{same_Some}
 use Rattle.listed.specs.Space.{Space}
 use Rattle.run_trace.specs.Entry.{Event}
 use Rattle.hh_model.specs.declared.data.End.{End}
-use Rattle.hh_model.specs.declared.data.End.TheVariants.{Trapped}
+use Rattle.hh_model.specs.declared.data.End.TheVariants.{Done}
 use Rattle.hh_model.specs.declared.data.State.{State}
-use Rattle.hh_model.specs.declared.data.Trap.{Trap}
-use Rattle.hh_model.specs.Step.{ended_by}
+use Rattle.hh_model.specs.Step.{ended_by, step}
 use Rattle.run_ledger.specs.declared.data.Ledger.{Ledger}
 use Rattle.run_ledger.specs.declared.data.RunEnd.TheVariants.{Machine}
 use Rattle.run_ledger.specs.Steps.{task_steps}
@@ -17,21 +16,21 @@ use Rattle.core_relation.specs.Value.{Home, Value}
 use Rattle.core_relation.specs.Fits.{part_for}
 use Rattle.core_relation.specs.RanCounts.{RanCounts}
 use Rattle.core_relation.specs.Worker.{Fits as FitsValue}
+use Rattle.core_relation.proofs.RanFits.{ran_fits_then}
 use Rattle.core_relation.proofs.RanWhole.{ran_stands_for}
 use Rattle.core_relation.proofs.Workers.{ran_leaves}
-use Rattle.shared_tree.specs.declared.next.Ending.TheVariants.{Traps}
 use Rattle.shared_tree.specs.World.{World, accounts, totals_of, value_of}
 use Rattle.shared_tree.specs.Stands.{IsWorld}
 use Rattle.shared_tree.specs.Fits.{Fits, OthersFit, home_of_part, part_of}
-use Rattle.shared_tree.specs.Alone.{IsShared, Tells}
+use Rattle.shared_tree.specs.Alone.{IsShared}
 use Rattle.shared_tree.specs.Entered.{refused}
 use Rattle.shared_tree.proofs.Entering.{entered, entered_world, held_apart, part_fits}
-use Rattle.shared_tree.proofs.LastKinds.{halts}
 use Rattle.shared_tree.proofs.LastEntry as last
 use Rattle.shared_tree.proofs.LastEntry.{last_event}
 use Rattle.shared_tree.proofs.Now.{end_now}
+use Rattle.shared_tree.proofs.OtherKinds.{halts_by}
 
-module _ (w : World) (k : ℕ) (p : Private) (I : IsWorld w) (F : Fits w k p) (shared : IsShared w p) (free : refused w (last_event k p) ≡ None) (kind : Trap) (number : ℕ) (T : Tells w p (Traps kind) number) where
+module _ (w : World) (k : ℕ) (p : Private) (I : IsWorld w) (F : Fits w k p) (shared : IsShared w p) (free : refused w (last_event k p) ≡ None) (x : End) (other : x ≡ Done → ⊥) (is : step w.program (task_steps w.program (accounts w) p.task p.fresh).machine p.task ≡ ended_by (task_steps w.program (accounts w) p.task p.fresh).machine x) where
   abbrev t : ℕ
   t = p.task
 
@@ -53,16 +52,11 @@ module _ (w : World) (k : ℕ) (p : Private) (I : IsWorld w) (F : Fits w k p) (s
   abbrev S : Splits w.program w.settings l L t p.fresh
   S = last.S w k p I F shared free
 
-  abbrev x : End
-  x = Trapped kind t number
-
   machine_is : L.machine ≡ ended_by M.machine x
-  machine_is =
-      let s = last.said w k p I F shared free (Traps kind) number T in
-      last.machine_then w k p I F shared free ∙ (s.1 ∙ ap (λ n. ended_by M.machine (Trapped kind t n)) s.0)
+  machine_is = last.machine_then w k p I F shared free ∙ is
 
   H : Halts M L
-  H = halts w.program M L t S.task S.line (last.is_not_private w k p I F shared free) kind number machine_is S.kind S.last S.on
+  H = halts_by w.program M L t S.task S.line (last.is_not_private w k p I F shared free) x other machine_is S.kind S.last S.on
 
   -- how the entry splits
   abbrev E : Runs w.program w.settings l L t k p.fresh
@@ -84,17 +78,23 @@ module _ (w : World) (k : ℕ) (p : Private) (I : IsWorld w) (F : Fits w k p) (s
     counts : RanCounts w.program (totals_of w) (totals_of w') M L t k p.fresh S.task S.line Halting H
     counts = record { tree = λ u. refl; hand = λ u. refl; outputs = refl; end = ap (λ y. Some (Machine y)) end_same; used = refl; steps = refl }
 
-    pub trap_world : IsWorld w'
-    trap_world =
+    pub halted_world : IsWorld w'
+    halted_world =
         entered_world w (last_event k p) I free w.tree w.pool w.homes w.sets w.hands w.outputs steps (Some (Machine x)) j.room I.made I.noted refl refl
         (ran_stands_for w.program w.settings w.journal.items I.form I.legal v v (totals_of w) (totals_of w') k t p.fresh h free E I.stands own refl tt counts)
         I.heaps I.measured
 
-    pub trap_ends : (accounts w').end ≡ Some (Machine x)
-    trap_ends = sym (end_now w' trap_world)
+    pub halted_ends : (accounts w').end ≡ Some (Machine x)
+    halted_ends = sym (end_now w' halted_world)
+
+    -- THE PART, which is as before the step, without fresh steps
+    pub halted_part : Fits w' k (record p { fresh = 0 })
+    halted_part =
+        part_fits w (last_event k p) I free w.tree w.pool w.homes w.sets w.hands w.outputs steps (Some (Machine x)) j.room halted_world k p (record p { fresh = 0 }) refl F refl refl refl F.form F.measured
+        (ran_fits_then w.program w.settings v v l L t k p.fresh h h E own refl refl)
 
     -- THE PARTS OF OTHERS
-    pub trap_others : OthersFit w w' k
-    trap_others u r ne G =
-        part_fits w (last_event k p) I free w.tree w.pool w.homes w.sets w.hands w.outputs steps (Some (Machine x)) j.room trap_world u r r refl G refl refl refl G.form G.measured
+    pub halted_others : OthersFit w w' k
+    halted_others u r ne G =
+        part_fits w (last_event k p) I free w.tree w.pool w.homes w.sets w.hands w.outputs steps (Some (Machine x)) j.room halted_world u r r refl G refl refl refl G.form G.measured
         (ran_leaves w.program w.settings v v l L t k p.fresh h E own refl (part_of w.settings r) (held_apart w k u p r F G ne) G.fits)

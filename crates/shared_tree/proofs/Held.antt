@@ -30,7 +30,7 @@ use Rattle.core_relation.proofs.Rooted.{root_same}
 use Rattle.core_relation.proofs.Same.{source_same}
 use Rattle.core_relation.proofs.With.{at_home, off_home}
 use Rattle.ledger_steps.specs.Accounts.{StepsAlone}
-use Rattle.shared_tree.proofs.Going.{same_going}
+use Rattle.core_relation.proofs.Quiet.{aside_is}
 
 -- the same value, with other homes of the tasks that workers hold
 module _ (v : Value) (hs : ℕ → Home) (l : Ledger) (same : (u : ℕ) → Rests l u → hs u ≡ v.homes u) where
@@ -117,8 +117,8 @@ module _ (v : Value) (hs : ℕ → Home) (l : Ledger) (same : (u : ℕ) → Rest
 
   pub fits_held : l.machine.end ≡ None → FitsValue p s q v l → FitsValue p s q w l
   fits_held going F =
-      let P : PartFits p s q v l = subst (PartFits p s q v) (same_going l going) F.part in
+      let P : PartFits p s q v l = subst (PartFits p s q v) (aside_is l going) F.part in
       let A : StepsAlone l K t = ahead_alone p s q l S F.steady P.fits.private in
       let fits : FitsAt p s q w l = record { worker = P.fits.worker; out = P.fits.out; few = P.fits.few; private = P.fits.private; stands = stands_part A P.fits.stands } in
       let Q : PartFits p s q w l = record { fits = fits; begun = begun_part A P.begun } in
-      record { task = F.task; is = F.is; runs = F.runs; steady = F.steady; part = subst (PartFits p s q w) (sym (same_going l going)) Q; leaf = F.leaf; fields = F.fields }
+      record { task = F.task; is = F.is; runs = F.runs; steady = F.steady; part = subst (PartFits p s q w) (sym (aside_is l going)) Q; leaf = F.leaf; fields = F.fields }

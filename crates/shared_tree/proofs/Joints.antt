@@ -13,7 +13,6 @@ use Rattle.task_machine.specs.declared.part.Private.{Private}
 use Rattle.task_machine.specs.Fits.{FitsNow as FitsMachine}
 use Rattle.task_machine.specs.Place.{Places}
 use Rattle.task_machine.proofs.Agreement.{same_line}
-use Rattle.core_relation.proofs.Hands.{none_held}
 use Rattle.write_barrier.specs.declared.sets.SetOf.{SetOf}
 use Rattle.write_barrier.specs.Stored.{content_of}
 use Rattle.shared_tree.specs.World.{World, accounts, flat, rest_at, value_of}
@@ -39,7 +38,6 @@ use Rattle.shared_tree.proofs.AloneEntries.{runs_on}
 use Rattle.shared_tree.proofs.ForkSteps.{same_length}
 use Rattle.shared_tree.proofs.JoinPlaces.{same_itself, same_world}
 use Rattle.shared_tree.proofs.LastSteps.{fits_machine, machine_same}
-use Rattle.shared_tree.proofs.Now.{hand_now}
 use Rattle.shared_tree.proofs.Taking.{put_there, worker_there}
 
 or_false : (a : Bool) → (a || false) ≡ true → a ≡ true
@@ -104,9 +102,12 @@ module _ (w : World) (k : ℕ) (p : Private) (I : IsWorld w) (F : Fits w k p) (s
 
 -- ---- WHO HOLDS NOTHING
 
-pub holds_none : (w after : World) (k : ℕ) (p : Private) → IsWorld w → IsWorld after → refused w (alone_event k p) ≡ None → (accounts after).end ≡ None → after.hands ≡ slice_set w.hands k None → HoldsNone after k
-holds_none w after k p I I' free goes hand =
-    none_held (accounts after) k (sym (hand_now after I' goes k) ∙ (ap (λ hs. flat (slice_get hs k)) hand ∙ ap flat (put_there w.hands k None (worker_there w (alone_event k p) I free))))
+pub holds_none : (w after : World) (k : ℕ) (p : Private) → IsWorld w → IsWorld after → refused w (alone_event k p) ≡ None → after.hands ≡ slice_set w.hands k None → HoldsNone after k
+holds_none w after k p I I' free hand t held =
+    no_task (sym (ap (λ hs. flat (slice_get hs k)) hand ∙ ap flat (put_there w.hands k None (worker_there w (alone_event k p) I free))) ∙ (I'.stands.totals.hand k t).1 held)
+  where
+    no_task : ◌≡◌ {A = Option ℕ} None (Some t) → ⊥
+    no_task e = cc
 
 -- ---- WANT OF MEMORY
 
@@ -140,8 +141,8 @@ results_unchanged w after (Err e) why S = room_unchanged w after e.cause why S
 -- ---- WHAT IT COMES TO
 
 pub forks_to : (w after : World) (k : ℕ) (p : Private) → IsWorld w → IsWorld after → refused w (alone_event k p) ≡ None → (f : Forking) → ForkAnswered w after k p f → LeavesHand w.hands after.hands k f → RanTo w after k p (ran_by f)
-forks_to w after k p I I' free (Forked left right) on hand = (on, holds_none w after k p I I' free on.goes hand)
-forks_to w after k p I I' free Over over hand = over
+forks_to w after k p I I' free (Forked left right) on hand = (on, holds_none w after k p I I' free hand)
+forks_to w after k p I I' free (Over q) over hand = over
 
 pub beyond_same : (w after : World) (p q : Private) → IsBeyond w after p q → (G : World → Private → Type 0) → G w p → G after q
 beyond_same w after p q B G g = subst (λ (z : World). G z q) (sym B.same) (subst (G w) (sym B.part) g)

@@ -6,17 +6,16 @@ use Rattle.hh_lang.specs.declared.instr.Instr.TheVariants.{Out, Par}
 use Rattle.hh_lang.specs.declared.program.Line.{Line}
 use Rattle.hh_lang.specs.Form.{ProgramText}
 use Rattle.hh_model.specs.declared.data.End.{End}
-use Rattle.hh_model.specs.declared.data.End.TheVariants.{Done, Trapped}
+use Rattle.hh_model.specs.declared.data.End.TheVariants.{Done}
 use Rattle.hh_model.specs.declared.data.Name.{Name}
 use Rattle.hh_model.specs.declared.data.State.{State}
 use Rattle.hh_model.specs.declared.data.Status.{Status}
 use Rattle.hh_model.specs.declared.data.Status.TheVariants.{Running, Waiting, Ended, Joined}
 use Rattle.hh_model.specs.declared.data.Task.{Task}
-use Rattle.hh_model.specs.declared.data.Trap.{Trap}
-use Rattle.hh_model.specs.Step.{ended_by, is_joined, is_over, runs}
+use Rattle.hh_model.specs.Step.{is_joined, is_over, runs}
 use Rattle.run_ledger.specs.declared.data.Ledger.{Ledger}
 use Rattle.run_ledger.specs.Steps.{is_private, touched}
-use Rattle.ledger_steps.specs.Last.{EndsDone, EndsLast, GoesOn, Halts, IsOfKind, LastKind, Prints}
+use Rattle.ledger_steps.specs.Last.{EndsDone, EndsLast, GoesOn, IsOfKind, LastKind, Prints}
 use Rattle.ledger_steps.specs.Last.{Private, Reading, Writing, Printing, Forking, Ending, Joining, Finishing, Halting}
 
 none_end : {A : Type 0} {e : End} → ◌≡◌ {A = Option End} None (Some e) → A
@@ -24,9 +23,6 @@ none_end e = absurd cc
 
 none_name : {A : Type 0} {n : Name} → ◌≡◌ {A = Option Name} None (Some n) → A
 none_name e = absurd cc
-
-two_ends : {A : Type 0} {kind : Trap} {t n : ℕ} → Some Done ≡ Some (Trapped kind t n) → A
-two_ends e = absurd cc
 
 forks_not : {A : Type 0} {g h a : ℕ} → Par g h ≡ Out a → A
 forks_not e = absurd cc
@@ -65,18 +61,6 @@ module _ (p : ProgramText) (m l' : Ledger) (t : ℕ) (x : Task) (line : Line) (s
     prints Joining j = joined_not j
     prints Finishing d = none_end (sym goes ∙ d.ended)
     prints Halting h = none_end (sym goes ∙ ap (λ (z : State). z.end) h.machine)
-
-  -- it can't be done
-  pub halts : (kind : Trap) (n : ℕ) → l'.machine ≡ ended_by m.machine (Trapped kind t n) → (of : LastKind) → Last of → (GoesOn of → l'.machine.end ≡ None) → Halts m l'
-  halts kind n e Private private on = absurd (both_ways (is_private p m.machine t) shared private)
-  halts kind n e Reading r on = none_end (sym (on tt) ∙ ap (λ (z : State). z.end) e)
-  halts kind n e Writing r on = none_end (sym (on tt) ∙ ap (λ (z : State). z.end) e)
-  halts kind n e Printing q on = none_end (sym (on tt) ∙ ap (λ (z : State). z.end) e)
-  halts kind n e Forking f on = none_end (sym (on tt) ∙ ap (λ (z : State). z.end) e)
-  halts kind n e Ending f on = none_end (sym (on tt) ∙ ap (λ (z : State). z.end) e)
-  halts kind n e Joining j on = none_end (sym (on tt) ∙ ap (λ (z : State). z.end) e)
-  halts kind n e Finishing d on = two_ends (sym d.ended ∙ ap (λ (z : State). z.end) e)
-  halts kind n e Halting h on = h
 
   -- the run is done, and the task has ended
   module _ (ended : l'.machine.end ≡ Some Done) (y : Task) (is' : slice_get l'.machine.tasks t ≡ Some y) (over : runs y.status ≡ false) (is : slice_get m.machine.tasks t ≡ Some x) (run : runs x.status ≡ true) where

@@ -20,6 +20,7 @@ use Rattle.task_machine.specs.Fits.{FitsNow as FitsMachine}
 use Rattle.task_machine.specs.Place.{Places}
 use Rattle.task_machine.proofs.Agreement.{has_line, same_line}
 use Rattle.core_relation.specs.Fits.{FitsAt as FitsValue, ahead}
+use Rattle.core_relation.proofs.Quiet.{aside_is}
 use Rattle.shared_tree.specs.World.{World, accounts, value_of}
 use Rattle.shared_tree.specs.Stands.{IsWorld}
 use Rattle.shared_tree.specs.Fits.{Fits, part_of}
@@ -30,7 +31,6 @@ use Rattle.shared_tree.specs.Causes.{first_cause, or_else}
 use Rattle.shared_tree.specs.Entered.{refused}
 use Rattle.shared_tree.proofs.Asking.{asks_is}
 use Rattle.shared_tree.proofs.Endings.{asks_none, ending_tells}
-use Rattle.shared_tree.proofs.Going.{same_going}
 use Rattle.shared_tree.proofs.Linked as link
 use Rattle.shared_tree.proofs.Begun.{at_part}
 use Rattle.shared_tree.proofs.Now.{end_now}
@@ -68,7 +68,7 @@ module _ (w : World) (k : ℕ) (p : Private) (I : IsWorld w) (F : Fits w k p) (s
 
   -- the machine that the contracts speak of
   pub machine_same : machine_after w p ≡ M.machine
-  machine_same = ap (λ (z : Ledger). (ahead w.program (part_of w.settings p) z).machine) (same_going l (goes w k p I F on)) ∙ link.machine_is w k p I F on
+  machine_same = ap (λ (z : Ledger). (ahead w.program (part_of w.settings p) z).machine) (aside_is l (goes w k p I F on)) ∙ link.machine_is w k p I F on
 
   pub shared_now : is_private w.program M.machine t ≡ false
   shared_now = ap (λ (m : State). is_private w.program m t) (sym machine_same) ∙ shared.last

@@ -50,6 +50,8 @@ use Rattle.core_relation.proofs.EntriesWhole.{ends_stand_for}
 use Rattle.core_relation.proofs.Members.{in_map, map_in}
 use Rattle.core_relation.proofs.OwnFits.{ends_fit_then}
 use Rattle.core_relation.proofs.WorkersPast.{ends_leave}
+use Rattle.run_ledger.proofs.Going.{machine_goes_on}
+use Rattle.core_relation.proofs.Quiet.{aside_is}
 use Rattle.shared_tree.specs.declared.heaps.Heaps.{Heaps}
 use Rattle.shared_tree.specs.declared.rest.Rest.{Rest}
 use Rattle.shared_tree.specs.Objects.{chunk_of, chunks_of}
@@ -65,7 +67,6 @@ use Rattle.shared_tree.proofs.Cells.{fresh_off, seen_object}
 use Rattle.shared_tree.proofs.Entering.{accounts_are, entered, entered_world, entry_on, held_on, part_fits, unheld_at_rest, unheld_rests}
 use Rattle.shared_tree.proofs.Entered.{legal_then}
 use Rattle.shared_tree.proofs.FreeChunks.{refs_long}
-use Rattle.shared_tree.proofs.Going.{journal_goes, same_going}
 use Rattle.shared_tree.proofs.Held.{fits_held, stands_for_held}
 use Rattle.shared_tree.proofs.LeafSources.{all_at, all_rec, are_once, fresh_by, noted_sources, owner_none}
 use Rattle.shared_tree.proofs.Leading.{AreFormed, Led, SourceThere, home_chunks, lead_all}
@@ -92,10 +93,10 @@ module _ (w : World) (k : ℕ) (p : Private) (moved : Moved) (I : IsWorld w) (F 
   on = entry_on w e free
 
   going : l.machine.end ≡ None
-  going = journal_goes w.program w.settings w.journal.items on
+  going = machine_goes_on w.program w.settings w.journal.items on
 
   C : CopyFits w.program w.settings t F.home (home_of_part (ended p)) (new_address moved.moved.items) v l
-  C = subst (CopyFits w.program w.settings t F.home (home_of_part (ended p)) (new_address moved.moved.items) v) (same_going l going) F.copy
+  C = subst (CopyFits w.program w.settings t F.home (home_of_part (ended p)) (new_address moved.moved.items) v) (aside_is l going) F.copy
 
   S : StandsFor v (totals_of w) l
   S = stands_now w I on

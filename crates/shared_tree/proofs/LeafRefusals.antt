@@ -20,7 +20,7 @@ use Rattle.shared_tree.proofs.Needs.{first_answer}
 use Rattle.shared_tree.proofs.Refusals.{on_is, refused_is}
 
 -- WHY IT IS REFUSED
-unless_true : (b : Bool) (c : Refused) (rest : Option Refused) → b ≡ true → refused_unless b c rest ≡ rest
+pub unless_true : (b : Bool) (c : Refused) (rest : Option Refused) → b ≡ true → refused_unless b c rest ≡ rest
 unless_true true c rest e = refl
 unless_true false c rest e = absurd (false≢true e)
 

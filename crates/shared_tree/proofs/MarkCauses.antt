@@ -58,7 +58,7 @@ waits_by (Some m) None o e = absurd cc
 waits_by (Some m) (Some x) o e = by_state m.state ∙ (ap (λ y. seen_waits y.state) (same_Some (node_of m) (told o x) e) ∙ by_status x.status o)
 
 -- WHAT IS MARKED
-marked_by : (v : Value) (l : Ledger) (t : ℕ) (o : Option Marks) → MarkedBy v l t o → is_some (heap_of l t).marked ≡ is_some o
+pub marked_by : (v : Value) (l : Ledger) (t : ℕ) (o : Option Marks) → MarkedBy v l t o → is_some (heap_of l t).marked ≡ is_some o
 marked_by v l t None M = ap is_some M
 marked_by v l t (Some m) M = ap is_some M.0.count
 

@@ -18,11 +18,11 @@ use Rattle.core_relation.specs.Frames.{IsOut}
 use Rattle.core_relation.specs.Whole.{StandsFor, by_end, handed}
 use Rattle.core_relation.proofs.Hands.{hands_are_held}
 use Rattle.core_relation.proofs.Workers as workers
+use Rattle.run_ledger.proofs.Going.{machine_goes_on}
 use Rattle.shared_tree.specs.World.{World, accounts, flat, totals_of, value_of}
 use Rattle.shared_tree.specs.Stands.{IsWorld}
 use Rattle.shared_tree.specs.Fits.{Fits, part_of}
 use Rattle.shared_tree.proofs.Fold.{sum_put}
-use Rattle.shared_tree.proofs.Going.{journal_goes}
 
 -- a task that is let go of changes nothing else
 pub record LetsGo (l l' : Ledger) : Type 0 where
@@ -75,7 +75,7 @@ module _ (w : World) (I : IsWorld w) where
 -- A PART THAT FITS, before the run's end
 module _ (w : World) (k : ℕ) (p : Private) (F : Fits w k p) (on : (accounts w).end ≡ None) where
   pub alive : (accounts w).machine.end ≡ None
-  alive = journal_goes w.program w.settings w.journal.items on
+  alive = machine_goes_on w.program w.settings w.journal.items on
 
   pub part_now : PartFits w.program w.settings (part_of w.settings p) (value_of w) (accounts w)
   part_now = workers.part_now w.program w.settings (part_of w.settings p) (value_of w) (accounts w) alive F.fits

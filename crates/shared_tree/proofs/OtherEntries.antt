@@ -1,21 +1,17 @@
 -- Entries of a part's fresh steps and one that works on an object of another task, as the calls have them.
-use Rattle.std.proofs.Common.{◌≡◌, ℕ, ℤ, suc, ◌+◌, ◌++◌, arith, true, Option, Some, None, ◌∷◌, [], is_some, refl, ap, sym, subst, ◌∙◌}
+use Rattle.std.proofs.Common.{◌≡◌, ℕ, ℤ, suc, ◌+◌, ◌++◌, arith, Option, Some, None, ◌∷◌, [], refl, ap, sym, subst, ◌∙◌}
 use Rattle.std.proofs.lemmas.Option.{same_Some}
 use Rattle.listed.specs.Space.{Space}
 use Rattle.object_layout.specs.declared.word.Addr.{Addr}
 use Rattle.hh_lang.specs.declared.program.Line.{Line}
 use Rattle.run_trace.specs.declared.entry.Kind.TheVariants.{Ran}
 use Rattle.run_trace.specs.Entry.{Event}
-use Rattle.hh_model.specs.declared.data.End.{End}
-use Rattle.hh_model.specs.declared.data.End.TheVariants.{Done, Entangled, Trapped}
 use Rattle.hh_model.specs.declared.data.Frame.{Frame as ModelFrame}
 use Rattle.hh_model.specs.declared.data.Name.{Name}
 use Rattle.hh_model.specs.declared.data.Task.{Task}
-use Rattle.hh_model.specs.declared.data.Trap.{Trap}
 use Rattle.hh_model.specs.Effect.{onward, with_int, with_ref}
-use Rattle.hh_model.specs.Step.{ended_by, fetched, step}
+use Rattle.hh_model.specs.Step.{fetched}
 use Rattle.run_ledger.specs.declared.data.Ledger.{Ledger}
-use Rattle.run_ledger.specs.declared.data.RunEnd.TheVariants.{Machine}
 use Rattle.run_ledger.specs.Steps.{task_steps}
 use Rattle.task_frames.specs.declared.frames.Frame.{Frame}
 use Rattle.task_frames.specs.Stack.{with_int as with_number, with_next, with_reference}
@@ -25,17 +21,16 @@ use Rattle.core_relation.specs.Reads.{FrameIsRead}
 use Rattle.core_relation.proofs.Carry.{all_set}
 use Rattle.core_relation.proofs.Store.{goes_on}
 use Rattle.shared_tree.specs.declared.other.OtherStep.{OtherStep}
-use Rattle.shared_tree.specs.declared.other.OtherStep.TheVariants.{SetsNumber, SetsReference, Stops, Traps}
+use Rattle.shared_tree.specs.declared.other.OtherStep.TheVariants.{SetsNumber, SetsReference}
 use Rattle.shared_tree.specs.World.{World, accounts, frame_of}
 use Rattle.shared_tree.specs.Stands.{IsWorld}
 use Rattle.shared_tree.specs.Fits.{Fits, OthersFit}
-use Rattle.shared_tree.specs.Alone.{EndsAlone, GoesAlone, IsShared, alone_event}
+use Rattle.shared_tree.specs.Alone.{GoesAlone, IsShared, alone_event}
 use Rattle.shared_tree.specs.Entered.{refused}
 use Rattle.shared_tree.specs.Other.{ReadsTo, SaysOther, TellsOther, then_places}
 use Rattle.shared_tree.proofs.AloneEntries.{last_free}
 use Rattle.shared_tree.proofs.LastEntry as last
 use Rattle.shared_tree.proofs.LastEntry.{last_event}
-use Rattle.shared_tree.proofs.OtherEnds.{halted_ends, halted_others, halted_world}
 use Rattle.shared_tree.proofs.OtherReads.{read_goes, read_others, read_part, read_world}
 
 module _ (w : World) (k : ℕ) (p : Private) (I : IsWorld w) (F : Fits w k p) (shared : IsShared w p) (free : refused w (alone_event k p) ≡ None) where
@@ -130,36 +125,3 @@ module _ (w : World) (k : ℕ) (p : Private) (I : IsWorld w) (F : Fits w k p) (s
 
     pub reference_goes : GoesAlone w reference_after k p reference_part
     reference_goes = read_goes_so (onward (with_ref S.task.top d name)) (said (SetsReference d r) line T).1.1 (with_next (with_reference p.frames d r) (p.frames.top.next + 1)).top reference_read j
-
-  -- THE RUN ENDS
-  module _ (x : End) (other : x ≡ Done → ⊥) (is : step w.program M.machine t ≡ ended_by M.machine x) (j : Space Event) where
-    abbrev end_entered : World
-    end_entered = record w { steps = w.steps + (p.fresh + 1); journal = record { items = w.journal.items ++ alone_event k p ∷ []; room = j.room }; end = Some (Machine x) }
-
-    end_is : record w { steps = w.steps + suc p.fresh; journal = record { items = w.journal.items ++ last_event k p ∷ []; room = j.room }; end = Some (Machine x) } ≡ end_entered
-    end_is =
-        ap (λ n. let z : World = record w { steps = w.steps + n; journal = record { items = w.journal.items ++ record { worker = k; kind = Ran p.task n } ∷ []; room = j.room }; end = Some (Machine x) } in z) more
-
-    pub end_world : IsWorld end_entered
-    end_world = subst IsWorld end_is (halted_world w k p I F shared free_so x other is j)
-
-    pub end_ends : EndsAlone w end_entered k p
-    end_ends = record {
-      enters = record { journal = refl; program = refl; settings = refl };
-      ends = subst (λ (z : World). is_some (accounts z).end ≡ true) end_is (ap is_some (halted_ends w k p I F shared free_so x other is j));
-      others = subst (λ (z : World). OthersFit w z k) end_is (halted_others w k p I F shared free_so x other is j);
-    }
-
-  -- a read is stopped
-  pub stop_other : (u : ℕ) → Entangled t u ≡ Done → ⊥
-  stop_other u e = absurd cc
-
-  pub stop_is : (u line : ℕ) → TellsOther w p (Stops u) line → step w.program M.machine t ≡ ended_by M.machine (Entangled t u)
-  stop_is u line T = (said (Stops u) line T).1
-
-  -- the step can't be done
-  pub trap_other : (kind : Trap) (line : ℕ) → Trapped kind t line ≡ Done → ⊥
-  trap_other kind line e = absurd cc
-
-  pub trap_is : (kind : Trap) (line : ℕ) → TellsOther w p (Traps kind) line → step w.program M.machine t ≡ ended_by M.machine (Trapped kind t line)
-  trap_is kind line T = let s = said (Traps kind) line T in s.1 ∙ ap (λ n. ended_by M.machine (Trapped kind t n)) s.0

@@ -24,9 +24,6 @@ use Rattle.run_ledger.proofs.Journals.{legal_sound}
 use Rattle.heap_tree.specs.declared.state.State.{State}
 use Rattle.heap_tree.specs.declared.state.State.TheVariants.{Ready, Out, Waiting as Waits', Ended as Ended', Joined as Joined'}
 use Rattle.heap_tree.specs.Node.{Node, parent_in, parent_of, state_of as state_in}
-use Rattle.inner_mark_gc.specs.Marks.{Marks}
-use Rattle.core_relation.specs.Marking.{MarkedBy}
-use Rattle.core_relation.specs.Value.{Value}
 use Rattle.core_relation.specs.Whole.{Node as SeenNode, StandsFor, State as SeenState, state_by}
 use Rattle.core_relation.specs.Whole.{Ready as IsReady, Out as IsOut, Waits, HasEnded, HasJoined}
 use Rattle.shared_tree.specs.declared.pace.Fork.{Fork}
@@ -38,7 +35,7 @@ use Rattle.shared_tree.specs.Stands.{IsWorld}
 use Rattle.shared_tree.specs.World.{World, accounts, marks_at, node_of, noted_in, state_of, totals_of, value_of}
 use Rattle.shared_tree.proofs.Entered.{accounts_then}
 use Rattle.shared_tree.proofs.LedgerMoves.{entry_moves}
-use Rattle.shared_tree.proofs.MarkCauses.{waits_by}
+use Rattle.shared_tree.proofs.MarkCauses.{marked_by, waits_by}
 use Rattle.shared_tree.proofs.Now.{stands_now}
 use Rattle.shared_tree.proofs.PaceKeeps.{child_from, child_tells, fork_from, keeps_moves}
 use Rattle.shared_tree.proofs.TreeMoves.{runs_have_live}
@@ -93,10 +90,6 @@ free_by true k s e = is_free k ∙ e
 none_is : (o : Option Refused) → is_none o ≡ true → o ≡ None
 none_is None h = refl
 none_is (Some c) h = absurd (false≢true h)
-
-marked_by : (v : Value) (l : Ledger) (t : ℕ) (o : Option Marks) → MarkedBy v l t o → is_some (heap_of l t).marked ≡ is_some o
-marked_by v l t None M = ap is_some M
-marked_by v l t (Some m) M = ap is_some M.0.count
 
 counted_le : (a n : ℕ) → a < 2 ^ 32 → nat_le a (counted n) ≡ nat_le a n
 counted_le a n few = elim (cases_lt n (2 ^ 64 - 1)) [

@@ -9,11 +9,11 @@ use Rattle.run_ledger.specs.declared.data.Ledger.{Ledger}
 use Rattle.run_ledger.specs.Journals.{ledger_of}
 use Rattle.run_ledger.specs.Steps.{task_step, task_steps}
 use Rattle.run_ledger.proofs.Machine.{task_step_machine}
+use Rattle.run_ledger.proofs.Going.{machine_goes_on}
 use Rattle.shared_tree.specs.OtherLaws.{StoppedReadsWriteNothing}
 use Rattle.shared_tree.specs.World.{accounts}
 use Rattle.shared_tree.specs.Alone.{alone_event, machine_after}
 use Rattle.shared_tree.proofs.Entered.{accounts_then}
-use Rattle.shared_tree.proofs.Going.{journal_goes}
 use Rattle.shared_tree.proofs.LastSteps.{machine_same}
 
 steps_last : (p : ProgramText) (t i : ℕ) (l : Ledger) → task_steps p l t (suc i) ≡ task_step p (task_steps p l t i) t
@@ -35,4 +35,4 @@ stopped_reads w v k p q I F shared on G reader owner stop =
     let machine : (accounts v).machine ≡ step w.program (machine_after w p) p.task =
     ap (λ (z : Ledger). z.machine) then_
     ∙ (task_step_machine w.program (task_steps w.program l p.task p.fresh) p.task ∙ ap (λ (m : State). step w.program m p.task) (sym (machine_same w k p I F shared on))) in
-    no_end (sym (journal_goes v.program v.settings v.journal.items G.goes) ∙ (ap (λ (m : State). m.end) machine ∙ stop))
+    no_end (sym (machine_goes_on v.program v.settings v.journal.items G.goes) ∙ (ap (λ (m : State). m.end) machine ∙ stop))

@@ -1,19 +1,25 @@
 -- An entry of a part's fresh steps and its next one, which isn't private.
-use Rattle.std.specs.Prelude.{◌≤◌, ◌≡◌, ℕ, ◌+◌, ◌||◌, not, true, false, Some, None, [], slice_get, is_some}
+use Rattle.std.specs.Prelude.{◌≤◌, ◌≡◌, ◌≢◌, ℕ, ◌+◌, ◌||◌, not, true, false, Option, Some, None, [], slice_get}
 use Rattle.hh_lang.specs.declared.instr.Instr.TheVariants.{Out, Ret}
 use Rattle.hh_lang.specs.declared.program.Line.{Line}
 use Rattle.hh_lang.specs.Form.{ProgramText}
 use Rattle.run_trace.specs.declared.entry.Kind.TheVariants.{Ran}
 use Rattle.run_trace.specs.Entry.{Event}
-use Rattle.hh_model.specs.declared.data.End.TheVariants.{Trapped}
+use Rattle.hh_model.specs.declared.data.End.{End}
+use Rattle.hh_model.specs.declared.data.End.TheVariants.{Done, Trapped}
 use Rattle.hh_model.specs.declared.data.State.{State}
 use Rattle.hh_model.specs.declared.data.Task.{Task}
 use Rattle.hh_model.specs.Effect.{int_in}
 use Rattle.hh_model.specs.Step.{ended_by, fetched, step}
+use Rattle.run_ledger.specs.declared.data.Ledger.{Ledger}
+use Rattle.run_ledger.specs.declared.data.RunEnd.{RunEnd}
+use Rattle.run_ledger.specs.declared.data.RunEnd.TheVariants.{Machine}
 use Rattle.run_ledger.specs.Steps.{is_private, owns, task_steps, touched}
+use Rattle.ledger_steps.specs.Accounts.{Rests}
+use Rattle.core_relation.specs.Whole.{handed}
 use Rattle.task_machine.specs.declared.part.Private.{Private}
 use Rattle.shared_tree.specs.declared.ran.Alone.{Alone}
-use Rattle.shared_tree.specs.declared.ran.Alone.TheVariants.{Goes, Over, Beyond as BeyondAlone}
+use Rattle.shared_tree.specs.declared.ran.Alone.TheVariants.{Goes, Over, Done as IsDone, Beyond as BeyondAlone}
 use Rattle.shared_tree.specs.declared.next.Ending.{Ending}
 use Rattle.shared_tree.specs.declared.next.Ending.TheVariants.{Prints, Returns, Traps, Beyond}
 use Rattle.task_machine.specs.Plan.{int_of, ref_of}
@@ -32,6 +38,10 @@ alone_event worker p = record { worker = worker; kind = Ran p.task (p.fresh + 1)
 abbrev pub machine_after : World → Private → State
 machine_after w p = (beyond w.program (accounts w) p).machine
 
+-- the accounts then
+abbrev pub then_accounts : World → Private → Ledger
+then_accounts w p = task_steps w.program (accounts w) p.task p.fresh
+
 -- the part's next step isn't private, and stands in one entry with its fresh ones
 pub record IsShared (w : World) (p : Private) : Type 0 where
   pub last : is_private w.program (machine_after w p) p.task ≡ false
@@ -46,10 +56,25 @@ pub record GoesAlone (w after : World) (k : ℕ) (p q : Private) : Type 0 where
   pub part : q ≡ record p { frames = q.frames; fresh = 0 }
   pub others : OthersFit w after k
 
--- the steps are entered, and the run has ended
-pub record EndsAlone (w after : World) (k : ℕ) (p : Private) : Type 0 where
+-- a step has ended the run that can't be done, or is a read that is stopped
+abbrev pub HasHalted : Option RunEnd → Type 0
+HasHalted end = (e : End) × (end ≡ Some (Machine e)) × (e ≢ Done)
+
+-- the steps are entered, and the last of them ended the run and left all else as it was: the part is as before it
+pub record HaltsAlone (w after : World) (k : ℕ) (p q : Private) : Type 0 where
   pub enters : Enters w after (alone_event k p)
-  pub ends : is_some (accounts after).end ≡ true
+  pub halts : HasHalted (accounts after).end
+  pub fits : Fits after k q
+  -- no step is fresh
+  pub part : q ≡ record p { fresh = 0 }
+  pub others : OthersFit w after k
+
+-- the steps are entered, the last of them is the root's last return, and the run is done
+pub record FinishesAlone (w after : World) (k : ℕ) (p : Private) : Type 0 where
+  pub enters : Enters w after (alone_event k p)
+  pub done : (accounts after).end ≡ Some (Machine Done)
+  -- every heap is handed back
+  pub rest : (t : ℕ) → Rests (handed (accounts after)) t
   pub others : OthersFit w after k
 
 -- nothing is entered, since other tasks have part in the next step
@@ -60,7 +85,8 @@ pub record IsBeyond (w after : World) (p q : Private) : Type 0 where
 
 abbrev pub Answered : World → World → ℕ → Private → Alone → Type 0
 Answered w after k p (Goes q) = GoesAlone w after k p q
-Answered w after k p Over = EndsAlone w after k p
+Answered w after k p (Over q) = HaltsAlone w after k p q
+Answered w after k p IsDone = FinishesAlone w after k p
 Answered w after k p (BeyondAlone q) = IsBeyond w after p q
 
 -- what goes with a task whose last frame returned
@@ -83,4 +109,4 @@ pub record TellsOf (p : ProgramText) (m : State) (t : ℕ) (ending : Ending) (nu
   pub says : SaysOf p m t task line ending
 
 abbrev pub Tells : World → Private → Ending → ℕ → Type 0
-Tells w p ending number = TellsOf w.program (task_steps w.program (accounts w) p.task p.fresh).machine p.task ending number
+Tells w p ending number = TellsOf w.program (then_accounts w p).machine p.task ending number

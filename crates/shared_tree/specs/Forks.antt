@@ -19,7 +19,7 @@ use Rattle.shared_tree.specs.declared.rest.Rest.{Rest}
 use Rattle.shared_tree.specs.declared.rest.Work.TheVariants.{Calls}
 use Rattle.shared_tree.specs.World.{World, accounts, rest_at}
 use Rattle.shared_tree.specs.Fits.{OthersFit}
-use Rattle.shared_tree.specs.Alone.{EndsAlone, alone_event, machine_after}
+use Rattle.shared_tree.specs.Alone.{HaltsAlone, alone_event, machine_after}
 use Rattle.shared_tree.specs.Entered.{Enters}
 
 -- ---- WHEN IT COMES
@@ -62,7 +62,7 @@ pub record ForksOn (w after : World) (k : ℕ) (p : Private) (left right : ℕ) 
 
 abbrev pub ForkAnswered : World → World → ℕ → Private → Forking → Type 0
 ForkAnswered w after k p (Forked left right) = ForksOn w after k p left right
-ForkAnswered w after k p Over = EndsAlone w after k p
+ForkAnswered w after k p (Over q) = HaltsAlone w after k p q
 
 -- ---- HOMES AND SETS
 

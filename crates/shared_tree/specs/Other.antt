@@ -23,8 +23,7 @@ use Rattle.hh_model.specs.declared.data.Task.{Task}
 use Rattle.hh_model.specs.declared.data.Trap.TheVariants.{Nil as NilTrap, Range, Frozen as FrozenTrap}
 use Rattle.hh_model.specs.Effect.{Goes, effect, flat, int_in, object_at, onward, place_in, ref_in, same_name, with_int, with_ref}
 use Rattle.hh_model.specs.Step.{ended_by, fetched, setting, step}
-use Rattle.run_ledger.specs.declared.data.Ledger.{Ledger}
-use Rattle.run_ledger.specs.Steps.{owns, task_steps, touched}
+use Rattle.run_ledger.specs.Steps.{owns, touched}
 use Rattle.ledger_steps.specs.Accounts.{rested}
 use Rattle.ledger_steps.specs.Last.{JustReads}
 use Rattle.task_machine.specs.declared.part.Private.{Private}
@@ -33,13 +32,13 @@ use Rattle.core_relation.specs.Fits.{with_home}
 use Rattle.core_relation.specs.Reads.{Reads}
 use Rattle.core_relation.specs.Stands.{Place}
 use Rattle.shared_tree.specs.declared.ran.Alone.{Alone}
-use Rattle.shared_tree.specs.declared.ran.Alone.TheVariants.{Goes as GoesOn, Over, Beyond}
+use Rattle.shared_tree.specs.declared.ran.Alone.TheVariants.{Goes as GoesOn, Over, Done, Beyond}
 use Rattle.shared_tree.specs.declared.other.OtherStep.{OtherStep}
 use Rattle.shared_tree.specs.declared.other.OtherStep.TheVariants.{SetsNumber, SetsReference, Stops, Traps, StoresReference, Swaps, StoresNumber}
 use Rattle.shared_tree.specs.declared.rest.Rest.{Rest}
-use Rattle.shared_tree.specs.World.{World, accounts, rest_at, value_of}
+use Rattle.shared_tree.specs.World.{World, rest_at, value_of}
 use Rattle.shared_tree.specs.Fits.{Fits, home_of_part}
-use Rattle.shared_tree.specs.Alone.{EndsAlone, GoesAlone, machine_after}
+use Rattle.shared_tree.specs.Alone.{GoesAlone, HaltsAlone, machine_after, then_accounts}
 
 -- ---- WHETHER IT WORKS ON ONE
 
@@ -170,10 +169,7 @@ pub record TellsOtherOf (p : ProgramText) (at : Name → Addr → Type 0) (part 
   pub number_is : line.number ≡ number
   pub says : SaysOther p at part m t task line does
 
--- the accounts after the part's fresh steps, and where names lie then
-abbrev pub then_accounts : World → Private → Ledger
-then_accounts w p = task_steps w.program (accounts w) p.task p.fresh
-
+-- where names lie after the part's fresh steps
 abbrev pub then_places : World → Private → Name → Addr → Type 0
 then_places w p = Place (with_home (value_of w) p.task (home_of_part p)) (rested (then_accounts w p) p.task)
 
@@ -185,7 +181,8 @@ TellsOther w p does number = TellsOtherOf w.program (then_places w p) p (then_ac
 -- the steps are entered: the part goes on, or the run has ended
 abbrev pub OtherAnswered : World → World → ℕ → Private → Alone → Type 0
 OtherAnswered w after k p (GoesOn q) = GoesAlone w after k p q
-OtherAnswered w after k p Over = EndsAlone w after k p
+OtherAnswered w after k p (Over q) = HaltsAlone w after k p q
+OtherAnswered w after k p Done = ⊥
 OtherAnswered w after k p (Beyond q) = ⊥
 
 -- ---- WRITES

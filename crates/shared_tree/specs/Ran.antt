@@ -6,9 +6,9 @@ use Rattle.shared_tree.specs.declared.fork.Forking.TheVariants.{Forked as ForksI
 use Rattle.shared_tree.specs.declared.ran_last.Joint.{Joint}
 use Rattle.shared_tree.specs.declared.ran_last.Joint.TheVariants.{Forks, Returns, Works}
 use Rattle.shared_tree.specs.declared.ran_last.Ran.{Ran}
-use Rattle.shared_tree.specs.declared.ran_last.Ran.TheVariants.{Goes, Forked, Ended, Over}
+use Rattle.shared_tree.specs.declared.ran_last.Ran.TheVariants.{Goes, Forked, Ended, Over, Done}
 use Rattle.shared_tree.specs.World.{World}
-use Rattle.shared_tree.specs.Alone.{EndsAlone, GoesAlone, machine_after}
+use Rattle.shared_tree.specs.Alone.{FinishesAlone, GoesAlone, HaltsAlone, machine_after}
 use Rattle.shared_tree.specs.ChildEnds.{EndsChild, IsAtEnd}
 use Rattle.shared_tree.specs.Forks.{ForksOn, IsAtFork}
 use Rattle.shared_tree.specs.Hands.{HoldsNone}
@@ -28,11 +28,12 @@ ComesTo w p Works = IsOther w p
 -- a fork
 abbrev pub ran_by : Forking → Ran
 ran_by (ForksInto left right) = Forked left right
-ran_by TooDeep = Over
+ran_by (TooDeep q) = Over q
 
 -- what the worker's task has come to: where it forks or ends, the worker holds nothing
 abbrev pub RanTo : World → World → ℕ → Private → Ran → Type 0
 RanTo w after k p (Goes q) = GoesAlone w after k p q
 RanTo w after k p (Forked left right) = ForksOn w after k p left right × HoldsNone after k
 RanTo w after k p (Ended resumed) = EndsChild w after k p resumed × HoldsNone after k
-RanTo w after k p Over = EndsAlone w after k p
+RanTo w after k p (Over q) = HaltsAlone w after k p q
+RanTo w after k p Done = FinishesAlone w after k p

@@ -3,7 +3,7 @@
 ghost use Rattle.std.specs.Prelude.{◌≡◌, ◌<◌, ◌≤◌, ◌+◌, ◌-◌, ◌^◌, ◌++◌, ◌∷◌, [], OnErr, OnOk, IfErr, IfOk, None, Some, true, length, slice_set, vec_len, vec_capacity};
 ghost use Rattle.fork_join.specs.Forked.{new_child};
 ghost use Rattle.heap_tree.specs.Node.{depth_of, forked, state_of};
-ghost use Rattle.shared_tree.specs.Alone.{alone_event, EndsAlone};
+ghost use Rattle.shared_tree.specs.Alone.{alone_event};
 ghost use Rattle.shared_tree.specs.Entered.{refused, RanAnswers};
 ghost use Rattle.shared_tree.specs.Fits.{Fits};
 ghost use Rattle.shared_tree.specs.Hands.{LeavesHand};
@@ -19,7 +19,7 @@ use hh_lang::Instr;
 use hh_model::{End, Trap};
 use inner_mark_gc::Marking;
 use listed::Listed;
-use run_ledger::{Refused, RunEnd};
+use run_ledger::Refused;
 use run_trace::{Entry, Kind};
 use std::alloc::{AllocError, Global};
 use task_machine::Private;
@@ -29,12 +29,12 @@ use write_barrier::SetOf;
 const DEPTH_LIMIT: u32 = 1000;
 
 /// What a part comes to whose next step is a fork.
-#[derive(Clone, Copy, PartialEq, Eq, Debug)]
+#[derive(Drop)]
 pub enum Forking {
     /// Its task waits for two children of these numbers, which are ready.
     Forked { left: u32, right: u32 },
-    /// Too many forks are above it: the run has ended.
-    Over,
+    /// Too many forks are above it: the run has ended, the task stands before the fork, and the worker still holds the part.
+    Over(Private),
 }
 
 // What goes with a task that has forked.
@@ -173,23 +173,6 @@ impl Shared {
         }
     }
 
-    // Enters a fork of a task that has too many above it.
-    fn enter_too_deep(&mut self, worker: u32, part: &Private, left: u32, right: u32, line: u32)
-        requires room { 0 < self.old.journal.room }
-        requires fits { Fits self.old worker part.now }
-        requires forks { IsAtFork self.old part.now }
-        requires free { refused self.old (alone_event worker part.now) ≡ None }
-        requires by { ForksTo self.old part.now left right line }
-        requires deep { 1000 ≤ depth_of self.old.tree part.now.task }
-        ensures { EndsAlone self.old self.new worker part.now }
-    {
-        let _ = (left, right);
-        self.steps += part.fresh as u64 + 1;
-        self.journal
-            .push_reserved(Entry::new(worker, Kind::Ran(part.task, part.fresh + 1)));
-        self.end = Some(RunEnd::Machine(End::Trapped(Trap::Depth, part.task, line)));
-    }
-
     // Enters a fork.
     fn enter_fork(
         &mut self,
@@ -260,8 +243,10 @@ impl Shared {
         if self.tree.depth(part.task) < DEPTH_LIMIT {
             self.enter_fork(worker, part, left, right, line)
         } else {
-            self.enter_too_deep(worker, &part, left, right, line);
-            Ok(Forking::Over)
+            let mut part = part;
+            let end = End::Trapped(Trap::Depth, part.task, line);
+            self.enter_halt(worker, &mut part, end);
+            Ok(Forking::Over(part))
         }
     }
 }

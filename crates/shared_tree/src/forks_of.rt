@@ -2,10 +2,10 @@
 
 ghost use Rattle.std.specs.Prelude.{◌≡◌, None, length, slice_get};
 ghost use Rattle.hh_model.specs.Step.{is_waiting, joined, parents};
-ghost use Rattle.shared_tree.specs.MarkCauses.{is_state_waiting};
 ghost use Rattle.shared_tree.specs.Pace.{is_going, is_live_child, is_parent, is_state_joined, is_to_begin, IsForkOf, IsLiveChild};
 ghost use Rattle.shared_tree.specs.World.{accounts};
 
+use crate::mark_causes::is_waiting;
 use crate::pace::Fork;
 use crate::shared::Shared;
 use heap_tree::State;
@@ -15,15 +15,6 @@ fn is_joined(state: Option<State>) -> bool
 {
     match state {
         Some(State::Joined) => true,
-        _ => false,
-    }
-}
-
-fn is_waiting(state: Option<State>) -> bool
-    ensures { result ≡ is_state_waiting state }
-{
-    match state {
-        Some(State::Waiting) => true,
         _ => false,
     }
 }

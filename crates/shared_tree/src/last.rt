@@ -1,7 +1,8 @@
 // A part's steps are entered with one that isn't private, and in which no other task has part.
 
-ghost use Rattle.std.specs.Prelude.{◌≡◌, ◌<◌, ◌+◌, OnErr, OnOk, IfErr, IfOk, None};
-ghost use Rattle.shared_tree.specs.Alone.{alone_event, ended_rest, Answered, EndsAlone, GoesAlone, IsShared, Tells};
+ghost use Rattle.std.specs.Prelude.{◌≡◌, ◌≢◌, ◌<◌, ◌+◌, OnErr, OnOk, IfErr, IfOk, None};
+ghost use Rattle.hh_model.specs.Step.{ended_by, step};
+ghost use Rattle.shared_tree.specs.Alone.{alone_event, ended_rest, then_accounts, Answered, FinishesAlone, GoesAlone, HaltsAlone, IsShared, Tells};
 ghost use Rattle.shared_tree.specs.Entered.{refused, RanAnswers};
 ghost use Rattle.shared_tree.specs.Fits.{Fits};
 
@@ -12,7 +13,7 @@ use crate::ran::{Alone, NotRan};
 use crate::rest::{Rest, Work};
 use crate::shared::Shared;
 use heap_tree::State;
-use hh_model::{End, Trap};
+use hh_model::End;
 use run_ledger::{Refused, RunEnd};
 use run_trace::{Entry, Kind};
 use std::alloc::AllocError;
@@ -89,19 +90,21 @@ impl Shared {
         Ok(())
     }
 
-    // Enters a step that can't be done.
-    fn enter_trap(&mut self, worker: u32, part: &Private, kind: Trap, line: u32)
+    // Enters a step that ends the run and leaves all else as it was: it can't be done, or is a read that is stopped.
+    pub(crate) fn enter_halt(&mut self, worker: u32, part: &mut Private, end: End)
         requires room { 0 < self.old.journal.room }
-        requires fits { Fits self.old worker part.now }
-        requires shared { IsShared self.old part.now }
-        requires free { refused self.old (alone_event worker part.now) ≡ None }
-        requires traps { Tells self.old part.now (Ending.Traps kind) line }
-        ensures { EndsAlone self.old self.new worker part.now }
+        requires fits { Fits self.old worker part.old }
+        requires shared { IsShared self.old part.old }
+        requires free { refused self.old (alone_event worker part.old) ≡ None }
+        requires other { end ≢ End.Done }
+        requires ends { step self.old.program (then_accounts self.old part.old).machine part.old.task ≡ ended_by (then_accounts self.old part.old).machine end }
+        ensures { HaltsAlone self.old self.new worker part.old part.new }
     {
         self.steps += part.fresh as u64 + 1;
         self.journal
             .push_reserved(Entry::new(worker, Kind::Ran(part.task, part.fresh + 1)));
-        self.end = Some(RunEnd::Machine(End::Trapped(kind, part.task, line)));
+        self.end = Some(RunEnd::Machine(end));
+        part.fresh = 0;
     }
 
     // Enters the last return of the root.
@@ -112,7 +115,7 @@ impl Shared {
         requires free { refused self.old (alone_event worker part) ≡ None }
         requires returns { Tells self.old part Ending.Returns line }
         requires root { part.task ≡ 0 }
-        ensures { EndsAlone self.old self.new worker part }
+        ensures { FinishesAlone self.old self.new worker part }
     {
         let _ = line;
         let task = part.task;
@@ -155,13 +158,15 @@ impl Shared {
                 }
             }
             Ending::Traps(kind) => {
-                self.enter_trap(worker, &part, kind, line);
-                Ok(Alone::Over)
+                let mut part = part;
+                let end = End::Trapped(kind, part.task, line);
+                self.enter_halt(worker, &mut part, end);
+                Ok(Alone::Over(part))
             }
             Ending::Returns => {
                 if part.task == 0 {
                     self.enter_done(worker, part, line);
-                    Ok(Alone::Over)
+                    Ok(Alone::Done)
                 } else {
                     Ok(Alone::Beyond(part))
                 }

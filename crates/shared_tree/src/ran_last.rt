@@ -25,8 +25,10 @@ pub enum Ran {
     Forked { left: u32, right: u32 },
     /// Its task has ended, and the parent goes on, which may be taken, where both its children have.
     Ended { resumed: Option<u32> },
-    /// The run has ended.
-    Over,
+    /// Its last step has ended the run: the task stands before it, and the worker still holds the part.
+    Over(Private),
+    /// The root has returned: the run is done, and no worker holds a task.
+    Done,
 }
 
 // A step in which other tasks have part.
@@ -46,7 +48,7 @@ fn ran_by(forking: Forking) -> Ran
 {
     match forking {
         Forking::Forked { left, right } => Ran::Forked { left, right },
-        Forking::Over => Ran::Over,
+        Forking::Over(part) => Ran::Over(part),
     }
 }
 
@@ -123,7 +125,8 @@ impl Shared {
     {
         match self.ran_other(worker, part) {
             Ok(Alone::Goes(part)) => Ok(Ran::Goes(part)),
-            Ok(Alone::Over) => Ok(Ran::Over),
+            Ok(Alone::Over(part)) => Ok(Ran::Over(part)),
+            Ok(Alone::Done) => unreachable!(),
             Ok(Alone::Beyond(_)) => unreachable!(),
             Err(failed) => Err(failed),
         }
@@ -163,7 +166,8 @@ impl Shared {
     {
         match self.ran_alone(worker, part) {
             Ok(Alone::Goes(part)) => Ok(Ran::Goes(part)),
-            Ok(Alone::Over) => Ok(Ran::Over),
+            Ok(Alone::Over(part)) => Ok(Ran::Over(part)),
+            Ok(Alone::Done) => Ok(Ran::Done),
             Ok(Alone::Beyond(part)) => self.ran_joint(worker, part),
             Err(failed) => Err(failed),
         }

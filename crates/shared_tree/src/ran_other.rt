@@ -1,12 +1,11 @@
 // A part's steps are entered with one that works on an object of another task.
 
-ghost use Rattle.std.specs.Prelude.{◌≡◌, ◌≢◌, ◌<◌, OnErr, OnOk, IfErr, IfOk, None};
-ghost use Rattle.hh_model.specs.Step.{ended_by, step};
-ghost use Rattle.shared_tree.specs.Alone.{alone_event, EndsAlone, GoesAlone, IsShared};
+ghost use Rattle.std.specs.Prelude.{◌≡◌, ◌<◌, OnErr, OnOk, IfErr, IfOk, None};
+ghost use Rattle.shared_tree.specs.Alone.{alone_event, GoesAlone, IsShared};
 ghost use Rattle.shared_tree.specs.Entered.{refused, RanAnswers};
 ghost use Rattle.shared_tree.specs.Fits.{Fits};
 ghost use Rattle.shared_tree.specs.Joins.{IsUnchanged};
-ghost use Rattle.shared_tree.specs.Other.{then_accounts, IsOther, OtherAnswered, SameButRoom, TellsOther};
+ghost use Rattle.shared_tree.specs.Other.{IsOther, OtherAnswered, SameButRoom, TellsOther};
 
 use crate::answer::NotEntered;
 use crate::other::{OtherStep, named, step_on};
@@ -15,7 +14,7 @@ use crate::shared::Shared;
 use hh_lang::{IntReg, RefReg};
 use hh_model::End;
 use object_layout::Addr;
-use run_ledger::{Refused, RunEnd};
+use run_ledger::Refused;
 use run_trace::{Entry, Kind};
 use task_machine::Private;
 
@@ -103,22 +102,6 @@ impl Shared {
         part.fresh = 0;
     }
 
-    // Enters a step by which the machine ends: it can't be done, or is a read that is stopped.
-    fn enter_other_end(&mut self, worker: u32, part: &Private, end: End)
-        requires room { 0 < self.old.journal.room }
-        requires fits { Fits self.old worker part.now }
-        requires shared { IsShared self.old part.now }
-        requires free { refused self.old (alone_event worker part.now) ≡ None }
-        requires other { end ≢ End.Done }
-        requires ends { step self.old.program (then_accounts self.old part.now).machine part.now.task ≡ ended_by (then_accounts self.old part.now).machine end }
-        ensures { EndsAlone self.old self.new worker part.now }
-    {
-        self.steps += part.fresh as u64 + 1;
-        self.journal
-            .push_reserved(Entry::new(worker, Kind::Ran(part.task, part.fresh + 1)));
-        self.end = Some(RunEnd::Machine(end));
-    }
-
     // Enters what the next step does.
     fn enter_other(
         &mut self,
@@ -149,13 +132,13 @@ impl Shared {
             }
             OtherStep::Stops(owner) => {
                 let end = End::Entangled(part.task, owner);
-                self.enter_other_end(worker, &part, end);
-                Ok(Alone::Over)
+                self.enter_halt(worker, &mut part, end);
+                Ok(Alone::Over(part))
             }
             OtherStep::Traps(kind) => {
                 let end = End::Trapped(kind, part.task, line);
-                self.enter_other_end(worker, &part, end);
-                Ok(Alone::Over)
+                self.enter_halt(worker, &mut part, end);
+                Ok(Alone::Over(part))
             }
             OtherStep::StoresReference(object, field, value) => {
                 self.store_other(worker, part, object, field, value, None, line)

@@ -68,7 +68,8 @@ impl Run {
             Ok(Ran::Goes(part)) => run.entered(Next::Running(part)),
             Ok(Ran::Forked { left, right }) => run.entered(Next::Forked { left, right }),
             Ok(Ran::Ended { resumed }) => run.entered(next_of(resumed)),
-            Ok(Ran::Over) => run.entered(Next::Stop),
+            Ok(Ran::Over(_)) => run.entered(Next::Stop),
+            Ok(Ran::Done) => run.entered(Next::Stop),
             Err(failed) => run.wanting(failed.cause),
         }
     }

@@ -66,7 +66,7 @@ module _ (w after : World) (e : Event) (I : IsWorld w) (hands : List Held) (was 
   made_all hand (Ok x) R = record {
     free = R.free;
     enters = R.enters;
-    holds = all_with w after false false hands e.worker was between hand there H (λ j ne h K. others_hold w after e R.enters I R.free R.others j ne h K) R.holds;
+    holds = all_with w after false false hands e.worker was between hand there H (λ j ne h K. others_hold w after e R.enters R.free R.others j ne h K) R.holds;
   }
   made_all hand (Err (Refuses cause)) R = record {
     cause_is = R.cause_is;
@@ -83,7 +83,7 @@ module _ (w after : World) (e : Event) (I : IsWorld w) (hands : List Held) (was 
 -- ---- ONE FOR A TASK THAT NO WORKER HOLDS
 
 pub apart_all : (w after : World) (e : Event) (hands : List Held) (r : Result (Unit {0}) NotEntered) → IsWorld w → is_own e.kind ≡ false → AllHold w false hands → AnswersApart w after e r → AnswersAll w after e hands r
-apart_all w after e hands (Ok x) I own H R = record { free = R.free; enters = R.enters; holds = λ k h at. each_holds w after e R.enters I R.free own R.fit k h (H k h at) }
+apart_all w after e hands (Ok x) I own H R = record { free = R.free; enters = R.enters; holds = λ k h at. each_holds w after e R.enters R.free own R.fit k h (H k h at) }
 apart_all w after e hands (Err (Refuses cause)) I own H R = record {
   cause_is = R.0;
   same = subst (SameButRoomier w) (sym R.1) refl;
@@ -104,7 +104,7 @@ module _ (w mid : World) (roomier : SameButRoomier w mid) (fit : AllFit w mid) w
       by room A k h at = carried w (record w { journal = record { items = w.journal.items; room = room } }) false false k (λ q. q)
           (λ p K. record { fits = A k p K.fits; idle = K.idle; entered = K.entered })
           (λ p moved K. copy_of w (record w { journal = record { items = w.journal.items; room = room } }) k p moved K (A k K.before K.fits))
-          (λ K goes t q. K goes t q) h (H k h at)
+          (λ K t q. K t q) h (H k h at)
 
   pub wants_room : (hands : List Held) → AllHold w false hands → WantsAll w mid hands
   wants_room hands H = record {

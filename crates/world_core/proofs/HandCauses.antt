@@ -14,18 +14,19 @@ use Rattle.run_ledger.specs.Entries.{ends_as, is_fuel, is_held_by, is_out, is_po
 use Rattle.run_ledger.specs.Heaps.{end_numbers, heap_of, in_use}
 use Rattle.run_ledger.specs.Steps.{is_due, is_in_need, most_steps, standing}
 use Rattle.run_ledger.proofs.Holders.{tasks_are_held_once}
+use Rattle.core_relation.proofs.HandedBack.{handed_on}
 use Rattle.task_machine.specs.declared.part.Begun.{Begun}
 use Rattle.task_machine.specs.declared.part.Private.{Private}
 use Rattle.shared_tree.specs.Causes.{first_cause, or_else, task_held}
 use Rattle.shared_tree.specs.Entered.{refused}
 use Rattle.shared_tree.specs.Fits.{Fits}
+use Rattle.shared_tree.specs.Hands.{HoldsNone}
 use Rattle.shared_tree.specs.LeafEnd.{FitsCopied, end_event}
 use Rattle.shared_tree.specs.Stands.{IsWorld}
 use Rattle.shared_tree.specs.World.{World, accounts}
-use Rattle.shared_tree.proofs.Apart.{apart_cause}
+use Rattle.shared_tree.proofs.Apart.{apart_cause, unless_false}
 use Rattle.shared_tree.proofs.Begun.{at_part, begun_is}
-use Rattle.shared_tree.proofs.LeafRefusals.{end_answer}
-use Rattle.shared_tree.proofs.Going.{journal_goes}
+use Rattle.shared_tree.proofs.LeafRefusals.{end_answer, unless_true}
 use Rattle.shared_tree.proofs.Refusals.{on_is, refused_is}
 use Rattle.copied_part.specs.Handed.{IsCopying}
 use Rattle.copied_part.proofs.Handing.{copied_fits}
@@ -48,14 +49,6 @@ copy_fits w k p moved I H =
 some_twice : {A : Type 0} (x y : A) → Some x ≡ Some y → x ≡ y
 some_twice x y e = same_Some x y e
 
-unless_true : (b : Bool) (c : Refused) (rest : Option Refused) → b ≡ true → refused_unless b c rest ≡ rest
-unless_true true c rest e = refl
-unless_true false c rest e = absurd (false≢true e)
-
-unless_false : (b : Bool) (c : Refused) (rest : Option Refused) → b ≡ false → refused_unless b c rest ≡ Some c
-unless_false false c rest e = refl
-unless_false true c rest e = absurd (false≢true (sym e))
-
 -- ---- A WORKER THAT MAY MAKE ENTRIES
 
 module _ (w : World) (k : ℕ) (I : IsWorld w) (first : first_cause w.end w.steps w.settings k false ≡ None) where
@@ -65,8 +58,9 @@ module _ (w : World) (k : ℕ) (I : IsWorld w) (first : first_cause w.end w.step
   pub on : l.end ≡ None
   on = on_is w I k false (ap is_some first)
 
-  pub goes : l.machine.end ≡ None
-  goes = journal_goes w.program w.settings w.journal.items on
+  -- a worker that holds nothing
+  none : HoldsNone w k → (t : ℕ) → (heap_of l t).worker ≢ Some k
+  none H t h = H t (ap (λ (z : Ledger). (heap_of z t).worker) (handed_on l on) ∙ h)
 
   holders : HoldsTasks l
   holders = tasks_are_held_once w.program w.settings w.journal.items I.legal
@@ -107,7 +101,7 @@ module _ (w : World) (k : ℕ) (I : IsWorld w) (first : first_cause w.end w.step
     by_copy p q b false e task F begun is = apart t kind cause held is (other t q.task F.held (ap (λ u. u == t) (sym task) ∙ e))
 
     by_hand : (h : Held) → Holds w false k h → idle_cause h t ≡ Some cause → refused w (record { worker = k; kind = kind }) ≡ Some cause
-    by_hand Nothing H is = apart t kind cause held is (H goes t)
+    by_hand Nothing H is = apart t kind cause held is (none H t)
     by_hand (Part p) H is = by_part p (p.task == t) refl H.fits.held is
     by_hand (Copied p moved) H is = by_copy p H.before H.begun (p.task == t) refl (ap (λ (q : Private). q.task) H.part) H.fits H.amid is
 
@@ -134,7 +128,7 @@ module _ (w : World) (k : ℕ) (I : IsWorld w) (first : first_cause w.end w.step
     by_same p q false cause e task F is = apart t (End t a g n) cause refl is (other t q.task F.held (ap (λ u. u == t) (sym task) ∙ e))
 
     pub copied_refused : (h : Held) (cause : Refused) → Holds w false k h → copied_cause h t ≡ Some cause → refused w (record { worker = k; kind = End t a g n }) ≡ Some cause
-    copied_refused Nothing cause H is = apart t (End t a g n) cause refl is (H goes t)
+    copied_refused Nothing cause H is = apart t (End t a g n) cause refl is (none H t)
     copied_refused (Part p) cause H is = by_other p (p.task == t) cause refl H is
     copied_refused (Copied p moved) cause H is = by_same p H.before (p.task == t) cause refl (ap (λ (q : Private). q.task) H.part) H.fits is
 

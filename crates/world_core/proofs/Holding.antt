@@ -11,17 +11,17 @@ use Rattle.run_ledger.specs.declared.data.Ledger.{Ledger}
 use Rattle.run_ledger.specs.Entries.{after}
 use Rattle.run_ledger.specs.Heaps.{heap_of}
 use Rattle.run_ledger.specs.Journals.{ledger_of}
+use Rattle.core_relation.specs.Whole.{handed}
+use Rattle.core_relation.proofs.HandedBack.{handed_on}
 use Rattle.task_machine.specs.declared.part.Private.{Private}
 use Rattle.shared_tree.specs.Entered.{Enters, refused}
 use Rattle.shared_tree.specs.Fits.{AllFit, Fits, OthersFit}
 use Rattle.shared_tree.specs.Hands.{HoldsNone}
 use Rattle.shared_tree.specs.Joins.{SameButPlaces}
-use Rattle.shared_tree.specs.Stands.{IsWorld}
 use Rattle.shared_tree.specs.World.{World, accounts}
 use Rattle.shared_tree.proofs.Entered.{accounts_then}
-use Rattle.shared_tree.proofs.Entering.{entry_on}
+use Rattle.shared_tree.proofs.Entering.{entry_on, held_by_end}
 use Rattle.shared_tree.proofs.JoinPlaces.{same_world}
-use Rattle.shared_tree.proofs.Going.{journal_goes}
 use Rattle.world_core.specs.declared.held.Held.{Held}
 use Rattle.world_core.specs.declared.held.Held.TheVariants.{Nothing, Part, Copied}
 use Rattle.world_core.specs.Applied.{is_own}
@@ -36,7 +36,7 @@ copy_of w w' k p moved H F = record { before = H.before; begun = H.begun; news =
 
 -- where each part of the worker fits, and it holds nothing still where it did
 pub carried : (w w' : World) (stopped stops : Bool) (k : ℕ) → (stops ≡ false → stopped ≡ false) → ((p : Private) → HoldsPart w stopped k p → HoldsPart w' stops k p) → ((p : Private) (moved : Moved) → HoldsCopy w k p moved → HoldsCopy w' k p moved)
-    → (((accounts w).machine.end ≡ None → HoldsNone w k) → (accounts w').machine.end ≡ None → HoldsNone w' k) → (h : Held) → Holds w stopped k h → Holds w' stops k h
+    → (HoldsNone w k → HoldsNone w' k) → (h : Held) → Holds w stopped k h → Holds w' stops k h
 carried w w' stopped stops k on part copy none Nothing H = none H
 carried w w' stopped stops k on part copy none (Part p) H = part p H
 carried w w' stopped stops k on part copy none (Copied p moved) H = copy p moved H
@@ -49,12 +49,13 @@ module _ (w w' : World) (e : Event) (E : Enters w w' e) where
       ∙ (ap (λ (s : Limits). ledger_of w.program s w'.journal.items) E.settings
       ∙ (ap (ledger_of w.program w.settings) E.journal ∙ accounts_then w.program w.settings w.journal.items e))
 
-  module _ (I : IsWorld w) (free : refused w e ≡ None) where
-    went : (accounts w).machine.end ≡ None
-    went = journal_goes w.program w.settings w.journal.items (entry_on w e free)
+  module _ (free : refused w e ≡ None) where
+    -- who holds a task then, and before it, since the run went on
+    holder : (t k : ℕ) → (heap_of (handed (accounts w')) t).worker ≡ Some k → (heap_of (after w.program w.settings (accounts w) e) t).worker ≡ Some k
+    holder t k h = ap (λ (l : Ledger). (heap_of l t).worker) (sym then_accounts) ∙ held_by_end (accounts w') (accounts w').end t k h
 
-    holder : (t k : ℕ) → (heap_of (accounts w') t).worker ≡ Some k → (heap_of (after w.program w.settings (accounts w) e) t).worker ≡ Some k
-    holder t k h = ap (λ (l : Ledger). (heap_of l t).worker) (sym then_accounts) ∙ h
+    held : (t k : ℕ) → (heap_of (accounts w) t).worker ≡ Some k → (heap_of (handed (accounts w)) t).worker ≡ Some k
+    held t k h = ap (λ (l : Ledger). (heap_of l t).worker) (handed_on (accounts w) (entry_on w e free)) ∙ h
 
     -- WHAT OTHERS HOLD, at an entry of a worker
     pub others_hold : OthersFit w w' e.worker → (k : ℕ) → k ≢ e.worker → (h : Held) → Holds w false k h → Holds w' false k h
@@ -62,7 +63,7 @@ module _ (w w' : World) (e : Event) (E : Enters w w' e) where
         carried w w' false false k (λ q. q)
         (λ p H. record { fits = O k p ne H.fits; idle = H.idle; entered = H.entered })
         (λ p moved H. copy_of w w' k p moved H (O k H.before ne H.fits))
-        (λ H goes t h. H went t (kind_held w.program w.settings (accounts w) e.worker e.kind t k ne (holder t k h)))
+        (λ H t h. H t (held t k (kind_held w.program w.settings (accounts w) e.worker e.kind t k ne (holder t k h))))
 
     -- WHAT EACH HOLDS, at one for a task that no worker holds
     pub each_holds : is_own e.kind ≡ false → AllFit w w' → (k : ℕ) (h : Held) → Holds w false k h → Holds w' false k h
@@ -70,7 +71,7 @@ module _ (w w' : World) (e : Event) (E : Enters w w' e) where
         carried w w' false false k (λ q. q)
         (λ p H. record { fits = A k p H.fits; idle = H.idle; entered = H.entered })
         (λ p moved H. copy_of w w' k p moved H (A k H.before H.fits))
-        (λ H goes t h. H went t (apart_held w.program w.settings (accounts w) e.worker e.kind apart t k (holder t k h)))
+        (λ H t h. H t (held t k (apart_held w.program w.settings (accounts w) e.worker e.kind apart t k (holder t k h))))
 
 -- ---- WHERE THE WORLD STOPS
 
@@ -93,7 +94,7 @@ wants w w' same A k =
     carried w w' false true k (λ q. absurd (false≢true (sym q)))
     (λ p H. record { fits = A k p H.fits; idle = H.idle; entered = λ q. absurd (false≢true (sym q)) })
     (λ p moved H. copy_of w w' k p moved H (A k H.before H.fits))
-    (λ H goes t h. H (ap (λ (l : Ledger). l.machine.end) (sym same) ∙ goes) t (ap (λ (l : Ledger). (heap_of l t).worker) (sym same) ∙ h))
+    (λ H t h. H t (ap (λ (l : Ledger). (heap_of (handed l) t).worker) (sym same) ∙ h))
 
 -- ---- ALL HANDS, one of them another
 

@@ -3,10 +3,10 @@ pub mod WasHeld
 pub mod Holding
 pub mod HandCauses
 pub mod Standing
+pub mod Aside
 pub mod Together
 pub mod Making
 pub mod BegunPart
 pub mod Applying
 pub mod Replayed
-pub mod MachineEnds
 pub mod LocalRuns

@@ -1,16 +1,15 @@
 -- What an entry of a worker comes to, from what a call of the shared value answers.
-use Rattle.std.proofs.Common.{◌≡◌, ℕ, ◌+◌, true, false, Option, Some, None, Result, Ok, Err, is_some, option_map, refl, ap, sym, subst, ◌∙◌}
+use Rattle.std.proofs.Common.{◌≡◌, ℕ, true, false, Option, Some, None, Result, Ok, Err, is_some, option_map, refl, ap, sym, subst, ◌∙◌}
 use Rattle.std.specs.Result.{OnErr, OnOk}
 use Rattle.std.proofs.lemmas.Bool.{false≢true}
 use Rattle.leaf_copy_gc.specs.declared.lists.Moved.{Moved}
 use Rattle.run_trace.specs.Entry.{Event}
 use Rattle.run_ledger.specs.declared.data.Refused.{Refused}
-use Rattle.run_ledger.specs.declared.data.RunEnd.{RunEnd}
 use Rattle.task_machine.specs.declared.part.Private.{Private}
 use Rattle.shared_tree.specs.declared.answer.NotEntered.{NotEntered}
 use Rattle.shared_tree.specs.declared.answer.NotEntered.TheVariants.{NoMemory, Refuses}
 use Rattle.shared_tree.specs.declared.ran_last.Ran.{Ran}
-use Rattle.shared_tree.specs.declared.ran_last.Ran.TheVariants.{Ended, Forked, Goes, Over}
+use Rattle.shared_tree.specs.declared.ran_last.Ran.TheVariants.{Done, Ended, Forked, Goes, Over}
 use Rattle.shared_tree.specs.Alone.{IsShared, alone_event}
 use Rattle.shared_tree.specs.Causes.{first_cause, or_else}
 use Rattle.run_ledger.specs.declared.data.Refused.TheVariants.{Collecting}
@@ -23,17 +22,16 @@ use Rattle.shared_tree.specs.Joins.{IsUnchanged}
 use Rattle.shared_tree.specs.LeafEnd.{ended}
 use Rattle.shared_tree.specs.Ran.{RanTo}
 use Rattle.shared_tree.specs.Stands.{IsWorld}
-use Rattle.shared_tree.specs.World.{World, accounts}
+use Rattle.shared_tree.specs.World.{World}
 use Rattle.shared_tree.proofs.Joints.{fit_by}
-use Rattle.shared_tree.proofs.Entering.{entry_on}
 use Rattle.world_core.specs.declared.held.Held.{Held}
 use Rattle.world_core.specs.declared.held.Held.TheVariants.{Part, Copied}
 use Rattle.world_core.specs.declared.held.Made.{Made}
 use Rattle.world_core.specs.Applied.{AnswersFor, EntersFor, MakesFor, RefusesFor, hand_of}
 use Rattle.world_core.specs.Whole.{Holds, HoldsCopy, HoldsPart}
 use Rattle.world_core.proofs.HandCauses.{copy_fits, said}
-use Rattle.world_core.proofs.Holding.{part_stops, places_same, stops, then_accounts}
-use Rattle.world_core.proofs.MachineEnds.{GoesWith, steps_go}
+use Rattle.world_core.proofs.Holding.{part_stops, places_same, stops}
+use Rattle.world_core.proofs.WasHeld.{nobody}
 
 none_some : {A : Type 0} {c : Refused} → ◌≡◌ {A = Option Refused} None (Some c) → A
 none_some e = absurd cc
@@ -74,26 +72,23 @@ begin_fails w after k e p q cause why same back H F =
 
 -- ---- STEPS
 
--- the run goes on where the machine does
-machine_goes : (w after : World) (k : ℕ) (p : Private) → refused w (alone_event k p) ≡ None → Enters w after (alone_event k p) → (accounts after).machine.end ≡ None → (accounts after).end ≡ None
-machine_goes w after k p free E =
-    subst GoesWith (sym (then_accounts w after (alone_event k p) E)) (steps_go w.program (p.fresh + 1) (accounts w) p.task (λ m. entry_on w (alone_event k p) free))
-
-some_end : (o : Option RunEnd) → is_some o ≡ true → o ≡ None → ⊥
-some_end None h e = false≢true h
-some_end (Some x) h e = cc
-
 -- a shared step is entered
-pub ran_made : (w after : World) (k : ℕ) (p : Private) (r : Ran) → IsWorld after → p.begun ≡ None → refused w (alone_event k p) ≡ None → RanTo w after k p r → EntersFor w after k (alone_event k p) (hand_of r)
-ran_made w after k p (Goes q) I idle free R = record {
+pub ran_made : (w after : World) (k : ℕ) (p : Private) (r : Ran) → p.begun ≡ None → refused w (alone_event k p) ≡ None → RanTo w after k p r → EntersFor w after k (alone_event k p) (hand_of r)
+ran_made w after k p (Goes q) idle free R = record {
   free = free;
   enters = R.enters;
   others = R.others;
   holds = record { fits = R.fits; idle = ap (λ (z : Private). z.begun) R.part ∙ idle; entered = λ h. ap (λ (z : Private). z.fresh) R.part };
 }
-ran_made w after k p (Forked left right) I idle free R = record { free = free; enters = R.0.enters; others = R.0.others; holds = λ goes. R.1 }
-ran_made w after k p (Ended resumed) I idle free R = record { free = free; enters = R.0.enters; others = R.0.others; holds = λ goes. R.1 }
-ran_made w after k p Over I idle free R = record { free = free; enters = R.enters; others = R.others; holds = λ goes. absurd (some_end (accounts after).end R.ends (machine_goes w after k p free R.enters goes)) }
+ran_made w after k p (Forked left right) idle free R = record { free = free; enters = R.0.enters; others = R.0.others; holds = R.1 }
+ran_made w after k p (Ended resumed) idle free R = record { free = free; enters = R.0.enters; others = R.0.others; holds = R.1 }
+ran_made w after k p (Over q) idle free R = record {
+  free = free;
+  enters = R.enters;
+  others = R.others;
+  holds = record { fits = R.fits; idle = ap (λ (z : Private). z.begun) R.part ∙ idle; entered = λ h. ap (λ (z : Private). z.fresh) R.part };
+}
+ran_made w after k p Done idle free R = record { free = free; enters = R.enters; others = R.others; holds = λ t held. nobody (sym (R.rest t) ∙ held) }
 
 -- behind the causes that come first it isn't refused
 pub alone_free : (w : World) (k : ℕ) (p : Private) → IsWorld w → Fits w k p → IsShared w p → p.begun ≡ None → first_cause w.end w.steps w.settings k false ≡ None → refused w (alone_event k p) ≡ None

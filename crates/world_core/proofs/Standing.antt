@@ -28,7 +28,7 @@ use Rattle.shared_tree.specs.Stands.{IsWorld}
 use Rattle.shared_tree.specs.World.{World, accounts, value_of}
 use Rattle.shared_tree.proofs.Asking.{asks_is, asks_two, counted_is, since_is}
 use Rattle.shared_tree.proofs.Begun.{at_part}
-use Rattle.shared_tree.proofs.Going.{same_going}
+use Rattle.core_relation.proofs.Quiet.{aside_is}
 use Rattle.shared_tree.proofs.LastSteps as last
 use Rattle.shared_tree.proofs.Linked as link
 use Rattle.shared_tree.proofs.Running.{fits_now, goes}
@@ -81,7 +81,7 @@ module _ (w : World) (k : ℕ) (p : Private) (I : IsWorld w) (F : Fits w k p) (g
   V = fits_now w k p I F going
 
   machine_same : machine_after w p ≡ M.machine
-  machine_same = ap (λ (z : Ledger). (ahead w.program (part_of w.settings p) z).machine) (same_going l (goes w k p I F going)) ∙ link.machine_is w k p I F going
+  machine_same = ap (λ (z : Ledger). (ahead w.program (part_of w.settings p) z).machine) (aside_is l (goes w k p I F going)) ∙ link.machine_is w k p I F going
 
   due_by : is_part_due w.program p (machine_after w p) ≡ true → is_due w.settings w.program M t ≡ true
   due_by h =

@@ -1,16 +1,18 @@
 -- The parts that workers hold stand together in the shared value.
 use Rattle.std.proofs.Common.{◌≡◌, ℕ, zero, suc, ◌<◌, Bool, Option, Some, None, List, [], ◌∷◌, length, slice_get, inl, inr, refl, ap, sym, subst, ◌∙◌, arith}
+use Rattle.std.proofs.lemmas.Bool.{false≢true}
 use Rattle.std.proofs.lemmas.Option.{same_Some}
 use Rattle.listed.proofs.Members.{got_within}
 use Rattle.hh_lang.specs.Form.{ProgramText}
+use Rattle.hh_model.specs.Step.{is_running}
 use Rattle.run_ledger.specs.Heaps.{heap_of, let_go}
 use Rattle.run_ledger.specs.Laws.{HoldsTasks}
 use Rattle.run_ledger.specs.Steps.{task_steps}
 use Rattle.run_ledger.specs.declared.data.Ledger.{Ledger}
 use Rattle.run_ledger.proofs.Holders.{tasks_are_held_once}
-use Rattle.ledger_steps.specs.Accounts.{Rests}
+use Rattle.ledger_steps.specs.Accounts.{Knows, Rests, aside}
 use Rattle.ledger_steps.proofs.Known.{legal_knows}
-use Rattle.ledger_steps.proofs.Rested.{rested_worker}
+use Rattle.ledger_steps.proofs.Rested.{rested_knows, rested_worker}
 use Rattle.core_relation.specs.Fits.{Part as PartOf, ahead}
 use Rattle.core_relation.specs.Frames.{NotOf, all_ahead}
 use Rattle.core_relation.specs.Value.{In}
@@ -18,18 +20,19 @@ use Rattle.core_relation.specs.Worker.{AllFit, Fits as FitsValue}
 use Rattle.core_relation.proofs.All.{all_fit_together}
 use Rattle.shared_tree.specs.Fits.{part_of}
 use Rattle.shared_tree.specs.Stands.{IsWorld}
-use Rattle.core_relation.specs.Whole.{StandsFor, by_end}
-use Rattle.hh_model.specs.declared.data.End.{End}
+use Rattle.core_relation.specs.Whole.{by_end, handed}
 use Rattle.hh_model.specs.declared.data.End.TheVariants.{Done, Entangled, Trapped}
 use Rattle.run_ledger.specs.declared.data.RunEnd.{RunEnd}
 use Rattle.run_ledger.specs.declared.data.RunEnd.TheVariants.{Fuel, Machine, Pool}
-use Rattle.shared_tree.specs.World.{World, accounts, flat, totals_of, value_of}
+use Rattle.shared_tree.specs.World.{World, accounts, flat, value_of}
 use Rattle.world_core.specs.declared.held.Held.{Held}
 use Rattle.world_core.specs.declared.held.Held.TheVariants.{Nothing, Part, Copied}
-use Rattle.world_core.specs.Together.{AreParts, HoldsOneOf, IsPartIn, PartsStand, StandsTogether}
+use Rattle.shared_tree.proofs.Entering.{held_by_end}
+use Rattle.shared_tree.proofs.IdleTasks.{done_idles}
+use Rattle.world_core.specs.Together.{AreParts, HoldsOneOf, IsPartIn, PartsStand, StandsTogether, with_parts}
 use Rattle.world_core.specs.Whole.{Holds, IsWhole, Whole}
+use Rattle.world_core.proofs.Aside.{fits_aside, knows_aside, stands_aside}
 use Rattle.world_core.proofs.HandCauses.{copy_fits}
-use Rattle.world_core.proofs.MachineEnds.{journal_told}
 use Rattle.world_core.proofs.WasHeld.{WasHeld, nobody, one_held, steps_held, then_held}
 
 -- ---- THE PARTS
@@ -148,70 +151,87 @@ module _ (x : Whole) (I : IsWorld x.shared) (W : IsWhole x) where
   holds_tasks : HoldsTasks (accounts w)
   holds_tasks = tasks_are_held_once w.program w.settings w.journal.items I.legal
 
-  module _ (on : (accounts w).machine.end ≡ None) where
-    abbrev l : Ledger
-    l = accounts w
+  abbrev l : Ledger
+  l = accounts w
 
-    -- the root isn't handed back
-    not_done : (o : Option RunEnd) → l.end ≡ o → by_end l o ≡ l
-    not_done None e = refl
-    not_done (Some (Fuel n)) e = refl
-    not_done (Some (Pool n)) e = refl
-    not_done (Some (Machine Done)) e = never (sym on ∙ journal_told w.program w.settings w.journal.items Done e)
-      where
-        never : {A : Type 0} → ◌≡◌ {A = Option End} None (Some Done) → A
-        never q = absurd cc
-    not_done (Some (Machine (Trapped kind t line))) e = refl
-    not_done (Some (Machine (Entangled t u))) e = refl
+  -- with the machine's end left aside, and the root handed back once the run is done
+  abbrev L : Ledger
+  L = aside (handed l)
 
-    stands_at : StandsFor (value_of w) (totals_of w) l
-    stands_at = subst (StandsFor (value_of w) (totals_of w)) (not_done l.end refl) I.stands
+  handed_knows : (o : Option RunEnd) → Knows l → Knows (by_end l o)
+  handed_knows None K = K
+  handed_knows (Some (Fuel n)) K = K
+  handed_knows (Some (Pool n)) K = K
+  handed_knows (Some (Machine Done)) K = rested_knows l 0 K
+  handed_knows (Some (Machine (Trapped kind t line))) K = K
+  handed_knows (Some (Machine (Entangled t u))) K = K
 
-    R : Found w (λ j. j) x.hands
-    R = found w holds_tasks x.stopped (λ j. j) (λ i j e. e) x.hands W.hands
+  knows : Knows L
+  knows = knows_aside (handed l) (handed_knows l.end (legal_knows w.program w.settings w.journal.items I.legal))
 
-    parts_are : AreParts x R.parts
-    parts_are = record {
-      each = λ q m. (let z = R.from q m in (z.0, record { hand = z.1; is = z.2; part = z.3 }));
-      all = R.all;
-    }
+  -- a part fits still: once the run is done there is none
+  one_fits : (q : PartOf) → FitsValue w.program w.settings q (value_of w) l → FitsValue w.program w.settings q (value_of w) L
+  one_fits q F = by l.end refl
+    where
+      same : FitsValue w.program w.settings q (value_of w) (aside l)
+      same = fits_aside w.program w.settings q (value_of w) l F
 
-    -- who holds a task holds its part
-    out : (t k : ℕ) → (heap_of l t).worker ≡ Some k → Rests (all_ahead w.program R.parts l) t
-    out t k e = by hand.0 (W.hands k hand.0 hand.1) (R.all k hand.0 hand.1)
-      where
-        listed : slice_get w.hands k ≡ Some (Some t)
-        listed = some_flat (slice_get w.hands k) t ((stands_at.totals.hand k t).1 e)
+      by : (o : Option RunEnd) → l.end ≡ o → FitsValue w.program w.settings q (value_of w) (aside (by_end l o))
+      by None e = same
+      by (Some (Fuel n)) e = same
+      by (Some (Pool n)) e = same
+      by (Some (Machine Done)) e = absurd (false≢true (sym (done_idles w.program w.settings w.journal.items I.form I.legal e q.task) ∙ (ap is_running F.is ∙ F.runs)))
+      by (Some (Machine (Trapped kind t line))) e = same
+      by (Some (Machine (Entangled t u))) e = same
 
-        hand : (h : Held) × (slice_get x.hands k ≡ Some h)
-        hand = there x.hands k (let a = got_within w.hands k (Some t) listed in let b = I.workers in let c = W.count in omega (arith, a, b, c))
+  all_fit : (qs : List PartOf) → AllFit w.program w.settings qs (value_of w) l → AllFit w.program w.settings qs (value_of w) L
+  all_fit [] A = tt
+  all_fit (q ∷ qs) A = (one_fits q A.0, A.1, all_fit qs A.2)
 
-        at : (q : PartOf) (u : ℕ) → q.task ≡ u → In R.parts q → (heap_of l u).worker ≡ Some k → Rests (all_ahead w.program R.parts l) t
-        at q u is m held = freed w.program R.parts l t q m (is ∙ holds_tasks.one u t k held e)
+  R : Found w (λ j. j) x.hands
+  R = found w holds_tasks x.stopped (λ j. j) (λ i j e. e) x.hands W.hands
 
-        by : (h : Held) → Holds w x.stopped k h → HoldsOneOf w k h R.parts → Rests (all_ahead w.program R.parts l) t
-        by Nothing H O = absurd (H on t e)
-        by (Part p) H O = at O.0 p.task (ap (λ (z : PartOf). z.task) O.2) O.1 H.fits.held
-        by (Copied p moved) H O = at O.0 O.2.0.before.task (ap (λ (z : PartOf). z.task) O.2.1) O.1 O.2.0.fits.held
+  parts_are : AreParts x R.parts
+  parts_are = record {
+    each = λ q m. (let z = R.from q m in (z.0, record { hand = z.1; is = z.2; part = z.3 }));
+    all = R.all;
+  }
 
-    rest : (t : ℕ) → Rests (all_ahead w.program R.parts l) t
-    rest t = by (heap_of l t).worker refl
-      where
-        by : (o : Option ℕ) → (heap_of l t).worker ≡ o → Rests (all_ahead w.program R.parts l) t
-        by None e = still_free l (all_ahead w.program R.parts l) t (all_ahead_held w.program R.parts l) e
-        by (Some k) e = out t k e
+  -- who holds a task holds its part
+  out : (t k : ℕ) → (heap_of L t).worker ≡ Some k → Rests (with_parts w R.parts) t
+  out t k e = by hand.0 (W.hands k hand.0 hand.1) (R.all k hand.0 hand.1)
+    where
+      listed : slice_get w.hands k ≡ Some (Some t)
+      listed = some_flat (slice_get w.hands k) t ((I.stands.totals.hand k t).1 e)
 
-    parts_stand : PartsStand x
-    parts_stand = record {
-      parts = R.parts;
-      are = parts_are;
-      stands =
-          all_fit_together w.program w.settings R.parts (value_of w) l (legal_knows w.program w.settings w.journal.items I.legal) on stands_at.homes R.fit;
-      rest = rest;
-    }
+      hand : (h : Held) × (slice_get x.hands k ≡ Some h)
+      hand = there x.hands k (let a = got_within w.hands k (Some t) listed in let b = I.workers in let c = W.count in omega (arith, a, b, c))
+
+      at : (q : PartOf) (u : ℕ) → q.task ≡ u → In R.parts q → (heap_of l u).worker ≡ Some k → Rests (with_parts w R.parts) t
+      at q u is m held = freed w.program R.parts L t q m (is ∙ holds_tasks.one u t k held (held_by_end l l.end t k e))
+
+      by : (h : Held) → Holds w x.stopped k h → HoldsOneOf w k h R.parts → Rests (with_parts w R.parts) t
+      by Nothing H O = absurd (H t e)
+      by (Part p) H O = at O.0 p.task (ap (λ (z : PartOf). z.task) O.2) O.1 H.fits.held
+      by (Copied p moved) H O = at O.0 O.2.0.before.task (ap (λ (z : PartOf). z.task) O.2.1) O.1 O.2.0.fits.held
+
+  rest : (t : ℕ) → Rests (with_parts w R.parts) t
+  rest t = by (heap_of L t).worker refl
+    where
+      by : (o : Option ℕ) → (heap_of L t).worker ≡ o → Rests (with_parts w R.parts) t
+      by None e = still_free L (with_parts w R.parts) t (all_ahead_held w.program R.parts L) e
+      by (Some k) e = out t k e
+
+  parts_stand : PartsStand x
+  parts_stand = record {
+    parts = R.parts;
+    are = parts_are;
+    stands = all_fit_together w.program w.settings R.parts (value_of w) L knows refl (stands_aside (value_of w) (handed l) I.stands.homes) (all_fit R.parts R.fit);
+    rest = rest;
+  }
 
   pub stands_together : StandsTogether x
   stands_together = record {
-    parts = λ on. parts_stand on;
+    parts = parts_stand;
     copies = λ k p moved e. copy_fits w k p moved I (W.hands k (Copied p moved) e);
   }

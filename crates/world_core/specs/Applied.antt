@@ -8,7 +8,7 @@ use Rattle.run_ledger.specs.declared.data.Refused.TheVariants.{Collecting, NotCo
 use Rattle.shared_tree.specs.declared.answer.NotEntered.{NotEntered}
 use Rattle.shared_tree.specs.declared.answer.NotEntered.TheVariants.{NoMemory, Refuses}
 use Rattle.shared_tree.specs.declared.ran_last.Ran.{Ran}
-use Rattle.shared_tree.specs.declared.ran_last.Ran.TheVariants.{Ended, Forked, Goes, Over}
+use Rattle.shared_tree.specs.declared.ran_last.Ran.TheVariants.{Done, Ended, Forked, Goes, Over}
 use Rattle.shared_tree.specs.Entered.{Enters, refused}
 use Rattle.shared_tree.specs.Fits.{AllFit, OthersFit}
 use Rattle.shared_tree.specs.Joins.{SameButPlaces}
@@ -48,7 +48,8 @@ abbrev pub hand_of : Ran → Held
 hand_of (Goes p) = Part p
 hand_of (Forked left right) = Nothing
 hand_of (Ended resumed) = Nothing
-hand_of Over = Nothing
+hand_of (Over p) = Part p
+hand_of Done = Nothing
 
 -- ---- AN ENTRY OF A WORKER, and what the worker holds then
 

@@ -1,12 +1,14 @@
 -- All parts together: with the home of each part that a worker holds put into the shared value, that stands for the accounts.
-use Rattle.std.specs.Prelude.{◌≡◌, ℕ, Some, None, List, slice_get}
+use Rattle.std.specs.Prelude.{◌≡◌, ℕ, Some, List, slice_get}
 use Rattle.leaf_copy_gc.specs.declared.lists.Moved.{Moved}
-use Rattle.ledger_steps.specs.Accounts.{Rests}
+use Rattle.run_ledger.specs.declared.data.Ledger.{Ledger}
+use Rattle.ledger_steps.specs.Accounts.{Rests, aside}
 use Rattle.task_machine.specs.declared.part.Private.{Private}
 use Rattle.core_relation.specs.Fits.{Part as PartOf}
 use Rattle.core_relation.specs.Frames.{all_ahead, with_homes}
 use Rattle.core_relation.specs.Stands.{Stands}
 use Rattle.core_relation.specs.Value.{In}
+use Rattle.core_relation.specs.Whole.{handed}
 use Rattle.shared_tree.specs.Fits.{part_of}
 use Rattle.shared_tree.specs.LeafEnd.{FitsCopied}
 use Rattle.shared_tree.specs.World.{World, accounts, value_of}
@@ -36,15 +38,20 @@ pub record AreParts (x : Whole) (qs : List PartOf) : Type 0 where
   pub each : (q : PartOf) → In qs q → (k : ℕ) × IsHeldBy x k q
   pub all : (k : ℕ) (h : Held) → slice_get x.hands k ≡ Some h → HoldsOneOf x.shared k h qs
 
+-- the accounts with the fresh steps of all parts, their tasks at rest: the machine's end is left aside, and once the run is done the
+-- root is handed back
+abbrev pub with_parts : World → List PartOf → Ledger
+with_parts w qs = all_ahead w.program qs (aside (handed (accounts w)))
+
 pub record PartsStand (x : Whole) : Type 0 where
   pub parts : List PartOf
   pub are : AreParts x parts
-  -- with all their homes and the fresh steps of all
-  pub stands : Stands (with_homes (value_of x.shared) parts) (all_ahead x.shared.program parts (accounts x.shared))
+  -- with all their homes
+  pub stands : Stands (with_homes (value_of x.shared) parts) (with_parts x.shared parts)
   -- then no heap and no frame is missing
-  pub rest : (t : ℕ) → Rests (all_ahead x.shared.program parts (accounts x.shared)) t
+  pub rest : (t : ℕ) → Rests (with_parts x.shared parts) t
 
--- the parts stand together until the machine ends, and the copy of each heap between the begin and the end of its collection is one
+-- the parts stand together, and the copy of each heap between the begin and the end of its collection is one
 pub record StandsTogether (x : Whole) : Type 0 where
-  pub parts : (accounts x.shared).machine.end ≡ None → PartsStand x
+  pub parts : PartsStand x
   pub copies : (k : ℕ) (p : Private) (moved : Moved) → slice_get x.hands k ≡ Some (Copied p moved) → FitsCopied x.shared k p moved

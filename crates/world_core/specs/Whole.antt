@@ -9,7 +9,7 @@ use Rattle.task_machine.specs.declared.part.Private.{Private}
 use Rattle.shared_tree.specs.Fits.{Fits}
 use Rattle.shared_tree.specs.Hands.{HoldsNone}
 use Rattle.shared_tree.specs.LeafBegin.{number_of}
-use Rattle.shared_tree.specs.World.{World, accounts}
+use Rattle.shared_tree.specs.World.{World}
 use Rattle.world_core.specs.declared.held.Held.{Held}
 use Rattle.world_core.specs.declared.held.Held.TheVariants.{Nothing, Part, Copied}
 
@@ -40,9 +40,9 @@ pub record HoldsCopy (w : World) (k : ℕ) (p : Private) (moved : Moved) : Type 
   pub copy : IsCollected before.heap before.frames begun.roots news p.heap p.frames moved
   pub part : p ≡ record before { heap = p.heap; frames = p.frames }
 
--- WHAT A WORKER HOLDS fits; until the machine ends one that holds nothing has no task
+-- WHAT A WORKER HOLDS fits; one that holds nothing has no task
 abbrev pub Holds : World → Bool → ℕ → Held → Type 0
-Holds w stopped k Nothing = (accounts w).machine.end ≡ None → HoldsNone w k
+Holds w stopped k Nothing = HoldsNone w k
 Holds w stopped k (Part p) = HoldsPart w stopped k p
 Holds w stopped k (Copied p moved) = HoldsCopy w k p moved
 

@@ -102,7 +102,8 @@ fn hand_of(ran: Ran) -> Held
         Ran::Goes(part) => Held::Part(part),
         Ran::Forked { left, right } => Held::Nothing,
         Ran::Ended { resumed } => Held::Nothing,
-        Ran::Over => Held::Nothing,
+        Ran::Over(part) => Held::Part(part),
+        Ran::Done => Held::Nothing,
     }
 }
 
@@ -116,9 +117,7 @@ fn enter_last(shared: &mut Shared, worker: u32, part: Private) -> Made
     ensures { MakesFor shared.old shared.new worker (alone_event worker part) result }
 {
     shared.stands();
-    let ran = shared.ran(worker, part);
-    shared.stands();
-    match ran {
+    match shared.ran(worker, part) {
         Ok(ran) => Made {
             hand: hand_of(ran),
             answer: Ok(()),

@@ -1,4 +1,4 @@
-use Rattle.std.proofs.Common.{arith, ◌≡◌, ◌+◌, ◌-◌, ◌≤◌, sym}
+use Rattle.std.proofs.Common.{arith, ◌+◌, ◌-◌, ◌≤◌, sym}
 use Rattle.task_machine.specs.Run.{PausesBy}
 use Rattle.world_core.specs.Next.{IsNext}
 use Rattle.world_core.proofs.HandCauses.{on}

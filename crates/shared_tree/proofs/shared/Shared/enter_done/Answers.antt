@@ -12,8 +12,8 @@ use Rattle.shared_tree.specs.Fits.{Fits}
 use Rattle.shared_tree.specs.Alone.{IsShared, alone_event}
 use Rattle.shared_tree.specs.Entered.{refused}
 use Rattle.shared_tree.specs.contracts.shared.Shared.{the_view}
-use Rattle.shared_tree.specs.Alone.{EndsAlone, Tells, ended_rest}
-use Rattle.shared_tree.proofs.AloneEntries.{alone_small, finished_ends, finished_world, home_there, node_there}
+use Rattle.shared_tree.specs.Alone.{FinishesAlone, Tells, ended_rest}
+use Rattle.shared_tree.proofs.AloneEntries.{alone_small, finishes_alone, finished_world, home_there, node_there}
 use Rattle.shared_tree.proofs.Entered.{four_changed, journal_by}
 use Rattle.shared_tree.proofs.shared.Shared.enter_done.Goals as goal
 
@@ -74,7 +74,7 @@ returns c =
     let free : refused w (alone_event k p) ≡ None = subst (λ (z : World). refused z (alone_event k p) ≡ None) (sym c.self.view_is) c.requires.free in
     let T : Tells w p Returns c.args.line = subst (λ (z : World). Tells z p Returns c.args.line) (sym c.self.view_is) c.requires.returns in
     let v : World = record w { steps = w.steps + (p.fresh + 1); end = Some (Machine Done) } in
-    subst (λ (z : World). EndsAlone z (record v { tree = c.set_state.new.self; homes = c.set-2.new.self; hands = c.set.new.self; journal = c.push_reserved.new.self }) k p) c.self.view_is
-    (subst (λ (z : World). EndsAlone w z k p) (sym (four_changed v (with_state w.tree p.task Ended) _ (slice_set w.homes p.task (Some (ended_rest p))) _ (slice_set w.hands k None) _ (record { items = _; room = w.journal.room - 1 }) _
+    subst (λ (z : World). FinishesAlone z (record v { tree = c.set_state.new.self; homes = c.set-2.new.self; hands = c.set.new.self; journal = c.push_reserved.new.self }) k p) c.self.view_is
+    (subst (λ (z : World). FinishesAlone w z k p) (sym (four_changed v (with_state w.tree p.task Ended) _ (slice_set w.homes p.task (Some (ended_rest p))) _ (slice_set w.hands k None) _ (record { items = _; room = w.journal.room - 1 }) _
     c.set_state.ensures (c.set-2.ensures ∙ ap (λ (r : Rest). slice_set w.homes p.task (Some r)) c.at_end.ensures) c.set.ensures (journal_by w.journal _ _ (alone_event k p) c.new.ensures c.push_reserved.ensures)))
-    (finished_ends w k p c.self.invariant F shared free c.args.line T c.requires.root (record { items = []; room = w.journal.room - 1 })))
+    (finishes_alone w k p c.self.invariant F shared free c.args.line T c.requires.root (record { items = []; room = w.journal.room - 1 })))

@@ -1,10 +1,13 @@
-use Rattle.std.proofs.Common.{◌≡◌, ◌<◌, ℕ, None, length, sym, subst, ◌∙◌}
+use Rattle.std.proofs.Common.{◌≡◌, ◌≤◌, ◌<◌, ℕ, None, length, sym, subst, ◌∙◌}
 use Rattle.listed.proofs.Members.{got_within}
+use Rattle.heap_tree.specs.Node.{depth_of}
+use Rattle.hh_model.specs.declared.data.Trap.TheVariants.{Depth}
 use Rattle.task_machine.specs.declared.part.Private.{Private}
 use Rattle.shared_tree.specs.World.{World}
 use Rattle.shared_tree.specs.Alone.{alone_event}
 use Rattle.shared_tree.specs.Entered.{refused}
-use Rattle.shared_tree.proofs.ForkSteps.{node_out, on}
+use Rattle.shared_tree.proofs.AloneEntries.{trap_is}
+use Rattle.shared_tree.proofs.ForkSteps.{deep_traps, fork_shared, node_out, on}
 use Rattle.shared_tree.proofs.shared.Shared.ran_forking.Goals as goal
 
 pub depth-requires : goal.depth-requires
@@ -15,3 +18,16 @@ depth-requires c =
     let free : refused w (alone_event k p) ≡ None = sym c.fork_refused.ensures ∙ c.in_default.is in
     let n = node_out w c.stands.ensures (on w k p c.stands.ensures c.requires.fits c.requires.forks free) k p c.requires.fits in
     subst (λ (z : World). p.task < length z.tree) (sym c.self.view_is) (got_within w.tree p.task n.0 n.1)
+
+pub enter_halt-requires-clause-ends : goal.enter_halt-requires-clause-ends
+enter_halt-requires-clause-ends c =
+    let w : World = c.args.self.now in
+    let p : Private = c.args.part in
+    let k : ℕ = c.args.worker in
+    let free : refused w (alone_event k p) ≡ None = sym c.fork_refused.ensures ∙ c.in_default.is in
+    let deep : 1000 ≤ depth_of w.tree p.task = subst (λ (z : World). 1000 ≤ depth_of z.tree p.task) c.self.view_is (subst (λ n. 1000 ≤ n) c.depth.ensures c.if-depth-lt-DEPTH_LIMIT.false) in
+    let line = c.fork_line-left.result in
+    trap_is w p Depth line.2 (deep_traps w k p c.stands.ensures c.requires.fits c.requires.forks free line.0 line.1 line.2 c.fork_line-left.ensures deep)
+
+pub enter_halt-requires-clause-shared : goal.enter_halt-requires-clause-shared
+enter_halt-requires-clause-shared c = fork_shared c.args.self.now c.args.part c.requires.forks

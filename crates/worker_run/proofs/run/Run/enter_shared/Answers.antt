@@ -1,5 +1,5 @@
 use Rattle.std.proofs.Common.{refl, subst}
-use Rattle.shared_tree.specs.Alone.{EndsAlone, GoesAlone}
+use Rattle.shared_tree.specs.Alone.{FinishesAlone, GoesAlone, HaltsAlone}
 use Rattle.shared_tree.specs.ChildEnds.{EndsChild}
 use Rattle.shared_tree.specs.Forks.{ForksOn}
 use Rattle.shared_tree.specs.Hands.{HoldsNone}
@@ -34,9 +34,15 @@ returns-in-Ok-Ended c =
 
 pub returns-in-Ok-Over : goal.returns-in-Ok-Over
 returns-in-Ok-Over c =
-    let a : EndsAlone c.args.self.paced c.ran.new.self c.args.worker c.args.part =
+    let a : HaltsAlone c.args.self.paced c.ran.new.self c.args.worker c.args.part c.in-Ok-Over.field-0-0 =
     subst (RanTo c.args.self.paced c.ran.new.self c.args.worker c.args.part) c.in-Ok-Over.field-0-is c.in-Ok-Over.ensures.answered in
     c.entered-in-Ok-Over.ensures c.args.self.paced c.args.worker (one c.args.self.paced c.ran.new.self c.args.worker a.enters refl a.others) (λ on. tt)
+
+pub returns-in-Ok-Done : goal.returns-in-Ok-Done
+returns-in-Ok-Done c =
+    let a : FinishesAlone c.args.self.paced c.ran.new.self c.args.worker c.args.part =
+    subst (RanTo c.args.self.paced c.ran.new.self c.args.worker c.args.part) c.in-Ok-Done.field-0-is c.in-Ok-Done.ensures.answered in
+    c.entered-in-Ok-Done.ensures c.args.self.paced c.args.worker (one c.args.self.paced c.ran.new.self c.args.worker a.enters refl a.others) (λ on. tt)
 
 pub returns-in-Err : goal.returns-in-Err
 returns-in-Err c = c.wanting.ensures c.args.self.paced c.args.worker (unentered c.args.self.paced c.ran.new.self c.in-Err.failed.cause c.in-Err.ensures.same c.in-Err.ensures.still)

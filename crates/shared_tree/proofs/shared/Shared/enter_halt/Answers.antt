@@ -7,14 +7,12 @@ use Rattle.task_machine.specs.declared.part.Private.{Private}
 use Rattle.shared_tree.specs.Stands.{IsWorld}
 use Rattle.shared_tree.specs.World.{World}
 use Rattle.shared_tree.specs.Fits.{Fits}
-use Rattle.shared_tree.specs.Alone.{EndsAlone, IsShared, alone_event}
+use Rattle.shared_tree.specs.Alone.{HaltsAlone, IsShared, alone_event, then_accounts}
 use Rattle.shared_tree.specs.Entered.{refused}
-use Rattle.shared_tree.specs.Other.{then_accounts}
 use Rattle.shared_tree.specs.contracts.shared.Shared.{the_view}
-use Rattle.shared_tree.proofs.AloneEntries.{alone_small}
+use Rattle.shared_tree.proofs.AloneEntries.{alone_small, halt_world, halts_alone}
 use Rattle.shared_tree.proofs.Entered.{journal_by}
-use Rattle.shared_tree.proofs.OtherEntries.{end_ends, end_world}
-use Rattle.shared_tree.proofs.shared.Shared.enter_other_end.Goals as goal
+use Rattle.shared_tree.proofs.shared.Shared.enter_halt.Goals as goal
 
 pub overflow_add-self-2 : goal.overflow_add-self-2
 overflow_add-self-2 c =
@@ -37,7 +35,7 @@ invariant_of-self c =
     let free : refused w (alone_event k p) ≡ None = subst (λ (z : World). refused z (alone_event k p) ≡ None) (sym c.self.view_is) c.requires.free in
     let is : step w.program (then_accounts w p).machine p.task ≡ ended_by (then_accounts w p).machine c.args.end = subst (λ (z : World). step z.program (then_accounts z p).machine p.task ≡ ended_by (then_accounts z p).machine c.args.end) (sym c.self.view_is) c.requires.ends in
     subst (λ (j : Space Event). IsWorld (record w { steps = w.steps + (p.fresh + 1); journal = j; end = Some (Machine c.args.end) })) (sym (journal_by w.journal _ _ (alone_event k p) c.new.ensures c.push_reserved.ensures))
-    (end_world w k p c.self.invariant F shared free c.args.end c.requires.other is (record { items = []; room = w.journal.room - 1 }))
+    (halt_world w k p c.self.invariant F shared free c.args.end c.requires.other is (record { items = []; room = w.journal.room - 1 }))
 
 pub returns : goal.returns
 returns c =
@@ -48,6 +46,6 @@ returns c =
     let shared : IsShared w p = subst (λ (z : World). IsShared z p) (sym c.self.view_is) c.requires.shared in
     let free : refused w (alone_event k p) ≡ None = subst (λ (z : World). refused z (alone_event k p) ≡ None) (sym c.self.view_is) c.requires.free in
     let is : step w.program (then_accounts w p).machine p.task ≡ ended_by (then_accounts w p).machine c.args.end = subst (λ (z : World). step z.program (then_accounts z p).machine p.task ≡ ended_by (then_accounts z p).machine c.args.end) (sym c.self.view_is) c.requires.ends in
-    subst (λ (z : World). EndsAlone z (record w { steps = w.steps + (p.fresh + 1); journal = c.push_reserved.new.self; end = Some (Machine c.args.end) }) k p) c.self.view_is
-    (subst (λ (j : Space Event). EndsAlone w (record w { steps = w.steps + (p.fresh + 1); journal = j; end = Some (Machine c.args.end) }) k p) (sym (journal_by w.journal _ _ (alone_event k p) c.new.ensures c.push_reserved.ensures))
-    (end_ends w k p c.self.invariant F shared free c.args.end c.requires.other is (record { items = []; room = w.journal.room - 1 })))
+    subst (λ (z : World). HaltsAlone z (record w { steps = w.steps + (p.fresh + 1); journal = c.push_reserved.new.self; end = Some (Machine c.args.end) }) k p (record p { fresh = 0 })) c.self.view_is
+    (subst (λ (j : Space Event). HaltsAlone w (record w { steps = w.steps + (p.fresh + 1); journal = j; end = Some (Machine c.args.end) }) k p (record p { fresh = 0 })) (sym (journal_by w.journal _ _ (alone_event k p) c.new.ensures c.push_reserved.ensures))
+    (halts_alone w k p c.self.invariant F shared free c.args.end c.requires.other is (record { items = []; room = w.journal.room - 1 })))

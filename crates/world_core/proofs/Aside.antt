@@ -1,0 +1,51 @@
+-- What holds of accounts holds of them with the machine's end left aside.
+use Rattle.std.proofs.Common.{ℕ}
+use Rattle.hh_model.specs.declared.data.Name.{Name}
+use Rattle.object_layout.specs.declared.word.Addr.{Addr}
+use Rattle.hh_lang.specs.Form.{ProgramText}
+use Rattle.run_trace.specs.Settings.{Limits}
+use Rattle.run_ledger.specs.declared.data.Ledger.{Ledger}
+use Rattle.ledger_steps.specs.Accounts.{Knows, aside}
+use Rattle.core_relation.specs.Fits.{Part}
+use Rattle.core_relation.specs.Stands.{HomeStands, IsSource, Place, Stands}
+use Rattle.core_relation.specs.Value.{Source, Value}
+use Rattle.core_relation.specs.Worker.{Fits}
+use Rattle.core_relation.proofs.Carry.{object_kept, task_kept}
+
+pub knows_aside : (l : Ledger) → Knows l → Knows (aside l)
+knows_aside l K = record { sound = K.sound; stored = K.stored; rows = K.rows }
+
+pub fits_aside : (p : ProgramText) (s : Limits) (q : Part) (v : Value) (l : Ledger) → Fits p s q v l → Fits p s q v (aside l)
+fits_aside p s q v l F = record { task = F.task; is = F.is; runs = F.runs; steady = F.steady; part = F.part; leaf = F.leaf; fields = F.fields }
+
+module _ (v : Value) (l : Ledger) where
+  place : (n : Name) (a : Addr) → Place v l n a → Place v (aside l) n a
+  place n a P = record { chunk = P.chunk; here = P.here }
+
+  home : (t : ℕ) → HomeStands v l t → HomeStands v (aside l) t
+  home t H = record { names = H.names; room = H.room; since = H.since; count = H.count; owned = H.owned; inside = H.inside; once = H.once; named = H.named; laid = H.laid }
+
+  source : (t : ℕ) (s : Source) → IsSource v l t s → IsSource v (aside l) t s
+  source t s S = record {
+    name = S.name;
+    object = S.object;
+    is = S.is;
+    place = place S.name s.object S.place;
+    field = S.field;
+    waits = S.waits;
+    rests = S.rests;
+    above = S.above;
+    below = S.below;
+    live = S.live;
+    kept = S.kept;
+  }
+
+  pub stands_aside : Stands v l → Stands v (aside l)
+  stands_aside S = record {
+    made = S.made;
+    homes = λ t r. home t (S.homes t r);
+    contents = λ t o r i. (let c = S.contents t o r i in (c.0, c.1, object_kept (Place v l) (Place v (aside l)) o c.0 (λ n m a h. place n a h) c.2));
+    tasks = λ t x r e. task_kept (Place v l) (Place v (aside l)) (v.homes t) x (λ n m a h. place n a h) (S.tasks t x r e);
+    remembered = S.remembered;
+    sources = λ t s i. source t s (S.sources t s i);
+  }
