@@ -6,9 +6,10 @@ use Rattle.object_layout.specs.declared.word.Birth.{Birth}
 use Rattle.object_layout.specs.Cell.{Mark, Born, Moved, Hole, IsBorn}
 use Rattle.object_layout.specs.Content.{Content}
 use Rattle.object_layout.specs.Chunks.{cell_of}
+use Rattle.object_layout.specs.Graph.{Leads}
 use Rattle.walks.specs.Reached.{IsWalk, IsReached}
-use Rattle.leaf_copy_gc.specs.Survivors.{Starts as StartsCopying, Leads as LeadsCopying}
-use Rattle.inner_mark_gc.specs.Snapshot.{Starts as StartsMarking, Leads as LeadsMarking}
+use Rattle.leaf_copy_gc.specs.Survivors.{Starts as StartsCopying}
+use Rattle.inner_mark_gc.specs.Snapshot.{Starts as StartsMarking}
 use Rattle.birth_walks.specs.Births.{Bears, AreBornOnce, StartsNamed, LeadsNamed, IsReachedByName}
 use Rattle.birth_walks.specs.Laws.{SurvivorsAreNamed, SnapshotIsNamed}
 
@@ -40,9 +41,7 @@ module _ (h : List Content) (starts : Addr → Type 0) (leads : Addr → Addr �
   carried a n e = ((λ w. (w.0, by_names w.0 a n e w.1)), (λ w. (w.0, by_addresses w.0 a n e w.1)))
 
 pub survivors : SurvivorsAreNamed
-survivors = λ h from once.
-    carried h (StartsCopying h from) (LeadsCopying h) once (λ a s. born_name (cell_of h a).mark s.0) (λ b a l. born_name (cell_of h a).mark l.0)
+survivors = λ h from once. carried h (StartsCopying h from) (Leads h) once (λ a s. born_name (cell_of h a).mark s.0) (λ b a l. born_name (cell_of h a).mark l.1)
 
 pub snapshot : SnapshotIsNamed
-snapshot = λ f kept once born.
-    carried f.heap (StartsMarking f kept) (LeadsMarking f.heap) once (λ a s. born_name (cell_of f.heap a).mark (born a s.0)) (λ b a l. born_name (cell_of f.heap a).mark (born a l.0))
+snapshot = λ f kept once. carried f.heap (StartsMarking f kept) (Leads f.heap) once (λ a s. born_name (cell_of f.heap a).mark s.0) (λ b a l. born_name (cell_of f.heap a).mark l.1)

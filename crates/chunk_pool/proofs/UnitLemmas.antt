@@ -1,8 +1,10 @@
 -- Units in use after a change at one number.
-use Rattle.std.proofs.Common.{◌≡◌, ◌≢◌, IfSome, subst, ℕ, zero, suc, ◌+◌, ◌-◌, ◌<◌, ◌≤◌, Option, Some, None, List, [], ◌∷◌, get_or, set, length, refl, sym, ap, ◌∙◌, arith}
+use Rattle.std.proofs.Common.{◌≡◌, ◌≢◌, IfSome, subst, ℕ, zero, suc, ◌+◌, ◌-◌, ◌^◌, ◌<◌, ◌≤◌, Option, Some, None, List, [], ◌∷◌, get_or, set, length, inl, inr, refl, sym, ap, ◌∙◌, arith}
+use Rattle.std.proofs.lemmas.Bool.{cases_eq}
+use Rattle.std.proofs.lemmas.Option.{same_Some}
 use Rattle.std.proofs.lemmas.List.{get_or-set_same, get_or-set_other}
 use Rattle.chunk_pool.specs.declared.pool.Held.{Held}
-use Rattle.chunk_pool.specs.Chunks.{Chunks, units_held, units_in, Takes, Gives, Relabels, KeepsOthers, IsWithin}
+use Rattle.chunk_pool.specs.Chunks.{Chunks, units_held, units_in, Takes, Gives, Relabels, KeepsOthers, IsWithin, AreChunks}
 
 abbrev first : List (Option Held) → Option Held
 first [] = None
@@ -64,6 +66,21 @@ units_changed (suc n) xs ys same =
     let hy : units_held (get_or ys (suc n) None) ≡ units_held (get_or (rest ys) n None) = ap units_held (at_rest ys n) in
     omega (arith, a, b)
 
+-- numbers of 32 bits and units, after a change at one number
+pub chunks_set : (xs ys : List (Option Held)) (n : ℕ) (h : Held) → AreChunks xs → ((k : ℕ) → k ≢ n → get_or ys k None ≡ get_or xs k None) → get_or ys n None ≡ Some h → (n < 2 ^ 32) × (0 < h.units) → AreChunks ys
+chunks_set xs ys n h C others now fit k g e = elim (cases_eq k n) [
+  | inl same ↦
+      let here : h ≡ g = same_Some h g (sym now ∙ (ap (λ z. get_or ys z None) (sym same) ∙ e)) in
+      (subst (λ z. z < 2 ^ 32) (sym same) fit.0, subst (λ (z : Held). 0 < z.units) here fit.1)
+  | inr off ↦ C k g (sym (others k off) ∙ e)
+]
+
+pub chunks_unset : (xs ys : List (Option Held)) (n : ℕ) → AreChunks xs → ((k : ℕ) → k ≢ n → get_or ys k None ≡ get_or xs k None) → get_or ys n None ≡ None → AreChunks ys
+chunks_unset xs ys n C others now k g e = elim (cases_eq k n) [
+  | inl same ↦ absurd (let both : get_or ys n None ≡ Some g = ap (λ z. get_or ys z None) (sym same) ∙ e in cc)
+  | inr off ↦ C k g (sym (others k off) ∙ e)
+]
+
 abbrev pool_of : ℕ → List (Option Held) → Chunks
 pool_of limit xs = record { limit = limit; slots = xs }
 
@@ -84,11 +101,11 @@ module _ (limit used : ℕ) (xs ys : List (Option Held)) (within : IsWithin limi
     pub takes : Takes (pool_of limit xs) (pool_of limit ys) n h
     takes = record { was_free = free; taken = now; units = taken_units; rest = kept }
 
-    pub takes_within : used + h.units ≤ limit → IsWithin limit (used + h.units) ys
-    takes_within le =
+    pub takes_within : used + h.units ≤ limit → (n < 2 ^ 32) × (0 < h.units) → IsWithin limit (used + h.units) ys
+    takes_within le fit =
         let u = taken_units in
         let c : used ≡ units_in xs = within.counted in
-        record { small = within.small; counted = omega (arith, u); within = le }
+        record { small = within.small; counted = omega (arith, u); within = le; chunks = chunks_set xs ys n h within.chunks others now fit }
 
   module _ (h : Held) (was : get_or xs n None ≡ Some h) (now : get_or ys n None ≡ None) where
     given_units : units_in ys + h.units ≡ units_in xs
@@ -113,7 +130,7 @@ module _ (limit used : ℕ) (xs ys : List (Option Held)) (within : IsWithin limi
         let u = given_units in
         let c : used ≡ units_in xs = within.counted in
         let le : used ≤ limit = within.within in
-        record { small = within.small; counted = omega (arith, u); within = omega arith }
+        record { small = within.small; counted = omega (arith, u); within = omega arith; chunks = chunks_unset xs ys n within.chunks others now }
 
   module _ (h g : Held) (was : get_or xs n None ≡ Some h) (now : get_or ys n None ≡ Some g) (same : g.units ≡ h.units) where
     same_units : units_in ys ≡ units_in xs
@@ -126,7 +143,9 @@ module _ (limit used : ℕ) (xs ys : List (Option Held)) (within : IsWithin limi
     relabels_within =
         let u = same_units in
         let c : used ≡ units_in xs = within.counted in
-        record { small = within.small; counted = omega (arith, u); within = within.within }
+        let old = within.chunks n h was in
+        let some : 0 < g.units = subst (λ z. 0 < z) (sym same) old.1 in
+        record { small = within.small; counted = omega (arith, u); within = within.within; chunks = chunks_set xs ys n g within.chunks others now (old.0, some) }
 
   pub relabels : (h : Held) (owner : ℕ) → get_or xs n None ≡ Some h → get_or ys n None ≡ Some (record h { owner = owner }) → Relabels (pool_of limit xs) (pool_of limit ys) n owner
   relabels h owner was now = record {

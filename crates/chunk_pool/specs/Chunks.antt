@@ -87,8 +87,13 @@ pub record Relabels (old new : Chunks) (number owner : ℕ) : Type 0 where
   pub units : units_in_use new ≡ units_in_use old
   pub rest : KeepsOthers old new number
 
+-- each number in use has 32 bits, and its chunk has a unit at least
+abbrev pub AreChunks : List (Option Held) → Type 0
+AreChunks slots = (number : ℕ) (h : Held) → held_in slots number ≡ Some h → (number < 2 ^ 32) × (0 < h.units)
+
 -- the units in use are counted, and within the limit
 pub record IsWithin (limit used : ℕ) (slots : List (Option Held)) : Type 0 where
   pub small : limit < 2 ^ 22
   pub counted : used ≡ units_in slots
   pub within : used ≤ limit
+  pub chunks : AreChunks slots

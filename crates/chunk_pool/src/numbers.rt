@@ -1,8 +1,8 @@
 // Many chunks at once: they are made before the first of them gets a number.
 
-ghost use Rattle.std.specs.Prelude.{◌≡◌, ◌+◌, ◌^◌, ◌≤◌, All, IfOk, None, OnOk, Some, length, vec_capacity, vec_len};
+ghost use Rattle.std.specs.Prelude.{◌≡◌, ◌+◌, ◌^◌, ◌<◌, ◌≤◌, All, IfOk, None, OnOk, Some, length, vec_capacity, vec_len};
 ghost use Rattle.slab.specs.Slab.{slab_len, HasRoomFor, Updates};
-ghost use Rattle.chunk_pool.specs.Chunks.{held_in, one_unit, IsBlank, NumbersBehind};
+ghost use Rattle.chunk_pool.specs.Chunks.{held_in, one_unit, AreChunks, IsBlank, NumbersBehind};
 
 use crate::pool::Held;
 use object_layout::Chunk;
@@ -43,6 +43,7 @@ fn number_one(slots: &mut Slab<Held>, owner: u32, chunk: &mut Chunk)
     ensures chunk { chunk.new ≡ record chunk.old { number = chunk.new.number } }
     ensures was_free { held_in slots.old.slots chunk.new.number ≡ None }
     ensures updates { Updates slots.old slots.new chunk.new.number (Some (one_unit owner)) }
+    ensures short { chunk.new.number < 2 ^ 32 }
     ensures len { slab_len slots.new ≡ slab_len slots.old + 1 }
     ensures capacity { slots.new.capacity ≡ slots.old.capacity }
 {
@@ -56,7 +57,8 @@ pub fn number_all(slots: &mut Slab<Held>, owner: u32, blank: &mut Vec<Chunk>, li
     requires small { slots.old.capacity ≤ 2 ^ 32 }
     requires places { vec_len list.old + length blank.old.items ≤ vec_capacity list.old }
     requires blank { All IsBlank blank.old.items }
-    ensures { NumbersBehind slots.old.slots slots.new.slots owner (length blank.old.items) list.old.items list.new.items }
+    ensures numbered { NumbersBehind slots.old.slots slots.new.slots owner (length blank.old.items) list.old.items list.new.items }
+    ensures chunks { AreChunks slots.old.slots → AreChunks slots.new.slots }
 {
     while let Some(mut chunk) = blank.pop() {
         number_one(slots, owner, &mut chunk);

@@ -1,7 +1,7 @@
 // The pool of chunks: a limit in units, and an owner for each number in use.
 
 ghost use Rattle.std.specs.Prelude.{◌≡◌, ℕ, ◌+◌, ◌*◌, ◌^◌, ◌<◌, ◌≤◌, ◌↔◌, [], OnErr, OnOk, IfOk, Err, Some, IsSome};
-ghost use Rattle.chunk_pool.specs.Chunks.{held_at, owner_of, units_in_use, Takes, TakesAll, Gives, Relabels};
+ghost use Rattle.chunk_pool.specs.Chunks.{held_at, owner_of, units_in_use, AreChunks, Takes, TakesAll, Gives, Relabels};
 
 use crate::numbers::{blank_chunks, make_numbers, number_all};
 use object_layout::Chunk;
@@ -62,7 +62,8 @@ impl Pool {
     ///
     /// Whether the limit allows it is checked before memory is asked for.
     pub fn take(&mut self, owner: u32, units: u32) -> Result<Chunk, NotTaken>
-        requires { units < 2 ^ 22 }
+        requires some { 0 < units }
+        requires few { units < 2 ^ 22 }
         ensures full { (result ≡ Err NotTaken.Full) ↔ (self.old.limit < units_in_use self.old + units) }
         ensures taken { IfOk result (λ chunk. Takes self.old self.new chunk.number (record { owner = owner; units = units })) }
         ensures chunk { IfOk result (λ chunk. chunk ≡ record { number = chunk.number; size = 1024 * units; cells = [] }) }
@@ -135,9 +136,10 @@ impl Pool {
         self.slots.get(number as usize).copied()
     }
 
-    /// The numbers in use are all below this.
+    /// The numbers in use are all below this, and have 32 bits; each chunk in use has a unit at least.
     pub fn numbers(&self) -> usize
-        ensures { (number : ℕ) → IsSome (held_at self.now number) → number < result }
+        ensures below { (number : ℕ) → IsSome (held_at self.now number) → number < result }
+        ensures chunks { AreChunks self.now.slots }
     {
         self.slots.capacity()
     }

@@ -11,7 +11,8 @@ use Rattle.run_ledger.specs.Reachable.{holds_name}
 use Rattle.run_ledger.proofs.Collections.{collections_keep_just}
 use Rattle.run_ledger.proofs.Held.{birth_cases, insert_cases}
 use Rattle.leaf_copy_gc.specs.declared.lists.Survivor.{Survivor}
-use Rattle.leaf_copy_gc.specs.Survivors.{Once, olds, old_of, survivor_order}
+use Rattle.object_layout.proofs.Distinct.{Once}
+use Rattle.leaf_copy_gc.specs.Survivors.{olds, old_of, survivor_order}
 use Rattle.leaf_copy_gc.proofs.ListLemmas.{in_map as into_map}
 use Rattle.core_relation.specs.Value.{In}
 use Rattle.core_relation.proofs.Members.{map_in}

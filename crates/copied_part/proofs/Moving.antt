@@ -10,10 +10,11 @@ use Rattle.object_layout.specs.Cell.{Born, Cell, size_of}
 use Rattle.object_layout.specs.Content.{Content}
 use Rattle.object_layout.specs.Place.{cell_at}
 use Rattle.object_layout.specs.Chunks.{cell_of, chunk_at}
+use Rattle.object_layout.proofs.Distinct.{Once, once_from}
 use Rattle.alloc_path.specs.Heap.{AreApart, Heap, IsReserved, IsSettled, IsTidy}
 use Rattle.remembered_set.specs.Moved.{new_of, same_address}
 use Rattle.leaf_copy_gc.specs.declared.lists.Survivor.{Survivor}
-use Rattle.leaf_copy_gc.specs.Survivors.{Once, olds, old_of}
+use Rattle.leaf_copy_gc.specs.Survivors.{olds, old_of}
 use Rattle.leaf_copy_gc.specs.Laid.{Laying, before, is_small, smalls}
 use Rattle.leaf_copy_gc.specs.Redirected.{led as led_cell_by, led_chunk, new_address}
 use Rattle.leaf_copy_gc.specs.Exchanged.{reserved_of, unreserved}
@@ -134,7 +135,7 @@ module _ (h : Heap) (from : List (Option Addr)) (ss : List Survivor) (news : Lis
   laid_apart n i j = nums.distinct_apart_parts (numbers h.chunks) (numbers news) all_once n j (laid_new n i)
 
   pub apart_now : AreApart ks'
-  apart_now = nums.distinct_apart ks' (naming.goal_once h.chunks ss g h.reserved (laid_of h ss (reverse news)) settled.tidy once_h S.once S.names laid_apart laid_once (within_of h.chunks h.reserved reserved) (none_of h.chunks h.reserved reserved))
+  apart_now = nums.distinct_apart ks' (naming.goal_once h.chunks ss g h.reserved (laid_of h ss (reverse news)) settled.tidy once_h (once_from (olds ss) S.once) S.names laid_apart laid_once (within_of h.chunks h.reserved reserved) (none_of h.chunks h.reserved reserved))
 
   -- ---- where survivors lead
 
@@ -145,7 +146,7 @@ module _ (h : Heap) (from : List (Option Addr)) (ss : List Survivor) (news : Lis
   firsts_are = firsts (before (reverse news)) h.chunks xs
 
   once_moves : Once (map first_in ms)
-  once_moves = subst Once (sym firsts_are) (moves.once_smalls h.chunks (olds ss) S.once)
+  once_moves = subst Once (sym firsts_are) (moves.once_smalls h.chunks (olds ss) (once_from (olds ss) S.once))
 
   pub to_new : (m : Addr × Addr) → In ms m → to m.0 ≡ m.1
   to_new m i = ap (λ (o : Option Addr). unwrap_or o m.0) (some_by ms m once_moves i)

@@ -10,6 +10,7 @@ use Rattle.object_layout.specs.Cell.{Born, Cell, size_of}
 use Rattle.object_layout.specs.Content.{Content}
 use Rattle.object_layout.specs.Place.{cell_at, words_in}
 use Rattle.object_layout.specs.Chunks.{cell_of}
+use Rattle.object_layout.proofs.Distinct.{Once, once_from}
 use Rattle.alloc_path.specs.Heap.{Heap, IsReserved, IsSettled}
 use Rattle.hh_model.specs.declared.data.Name.{Name}
 use Rattle.hh_model.specs.declared.data.State.{State}
@@ -20,7 +21,7 @@ use Rattle.run_ledger.proofs.Members.{holds_from_in, in_from_holds}
 use Rattle.task_machine.specs.Accounts.{large_names, names_in, small_lists}
 use Rattle.remembered_set.specs.Moved.{same_address}
 use Rattle.leaf_copy_gc.specs.declared.lists.Survivor.{Survivor}
-use Rattle.leaf_copy_gc.specs.Survivors.{Once, olds, old_of}
+use Rattle.leaf_copy_gc.specs.Survivors.{olds, old_of}
 use Rattle.leaf_copy_gc.specs.Laid.{HaveRoom, Laying, before, is_small, laid_all, room_in}
 use Rattle.leaf_copy_gc.specs.Redirected.{led_chunk}
 use Rattle.leaf_copy_gc.specs.Exchanged.{reserved_of, unreserved}
@@ -154,7 +155,7 @@ module _ (h : Heap) (from : List (Option Addr)) (ss : List Survivor) (news : Lis
   single_here = subst (λ ls. Single (flat_map (λ ns. ns) ls)) (sym (small_names h.chunks) ∙ O.names.small) (single_small h.chunks settled.apart O.named)
 
   once_zs : Once (olds zs)
-  once_zs = subst Once (sym (olds_small h.chunks ss)) (moves.once_smalls h.chunks (olds ss) S.once)
+  once_zs = subst Once (sym (olds_small h.chunks ss)) (moves.once_smalls h.chunks (olds ss) (once_from (olds ss) S.once))
 
   -- the small survivors, in order of birth
   pub births : map birth_name zs ≡ small_survivors a

@@ -1,12 +1,11 @@
 -- What a collection says, and where it can begin to copy.
 use Rattle.std.proofs.Common.{◌≡◌, ℕ, ◌+◌, ◌<◌, ◌==◌, arith, Bool, true, false, cond, All, Option, Some, None, List, [], ◌∷◌, length, map, slice_get, inl, inr, refl, ap, sym, subst, ◌∙◌}
-use Rattle.std.proofs.lemmas.Bool.{eqb-true}
 use Rattle.std.proofs.lemmas.Option.{same_Some}
 use Rattle.listed.proofs.Members.{flat_in, got_in, in_append_cases}
 use Rattle.object_layout.specs.declared.word.Addr.{Addr}
-use Rattle.object_layout.specs.Cell.{IsBorn}
 use Rattle.object_layout.specs.Content.{Content}
-use Rattle.object_layout.specs.Chunks.{cell_of, held_words, place_of}
+use Rattle.object_layout.specs.Chunks.{held_words}
+use Rattle.object_layout.specs.Graph.{IsClosed, IsSound}
 use Rattle.alloc_path.specs.Heap.{Heap}
 use Rattle.alloc_path.specs.Units.{counted32, unit_count}
 use Rattle.hh_lang.specs.Form.{ProgramText}
@@ -20,21 +19,20 @@ use Rattle.run_ledger.specs.declared.data.Ledger.{Ledger}
 use Rattle.run_ledger.specs.Heaps.{heap_of}
 use Rattle.task_frames.specs.declared.frames.Frame.{Frame}
 use Rattle.task_frames.specs.Stack.{Stack, frames_of as all_frames}
-use Rattle.leaf_copy_gc.specs.Survivors.{IsClosed, IsLive, IsSound, as_reference, held_by as refs_held, outside, references_in}
+use Rattle.leaf_copy_gc.specs.Survivors.{as_reference, held_by as refs_held, outside, references_in}
 use Rattle.leaf_copy_gc.proofs.ListLemmas.{all_from, read_in}
 use Rattle.core_relation.specs.Value.{Begun, Frame as SeenFrame, Home, In, Seen, Value, objects_in}
 use Rattle.core_relation.specs.Reads.{AllRead, FramesAreRead, HoldsRead, TaskIsRead}
 use Rattle.core_relation.specs.Stands.{Place}
 use Rattle.core_relation.proofs.Members.{in_map}
-use Rattle.ledger_steps.specs.Accounts.{Rests, own}
+use Rattle.ledger_steps.specs.Accounts.{Rests}
 use Rattle.ledger_steps.proofs.Rested.{rested_view, rested_worker}
-use Rattle.shared_tree.specs.Objects.{chunks_of, seen}
+use Rattle.shared_tree.specs.Objects.{chunks_of}
 use Rattle.shared_tree.specs.World.{frame_of, frames_of}
-use Rattle.shared_tree.proofs.Cells.{object_seen, seen_object}
+use Rattle.shared_tree.proofs.Closed as reads
 use Rattle.copied_part.specs.Copied.{BegunCanCopy, CanCopy, IsBegun, NumbersAreSaid}
 use Rattle.copied_part.proofs.Copying as copying
 use Rattle.copied_part.proofs.Counting as counting
-use Rattle.copied_part.proofs.Walks.{birth_at}
 
 -- ---- NUMBERS
 
@@ -63,14 +61,6 @@ frame_one at (x ∷ fs) [] f r h i j = absurd h
 frame_one at (x ∷ fs) (y ∷ xs) f r h (inl e) j = read_one at x.refs y.refs r h.0.refs (subst (λ (z : SeenFrame). In z.refs (Some r)) (sym e) j)
 frame_one at (x ∷ fs) (y ∷ xs) f r h (inr i) j = frame_one at fs xs f r h.1 i j
 
-placed : (ks : List Content) (n : ℕ) → place_of ks n < length ks → (k : Content) × In ks k × (k.number ≡ n)
-placed [] n lt = absurd (omega (arith, lt))
-placed (x ∷ ks) n lt = by (x.number == n) refl lt (placed ks n)
-  where
-    by : (b : Bool) → (x.number == n) ≡ b → cond b 0 (1 + place_of ks n) < length (x ∷ ks) → (place_of ks n < length ks → (k : Content) × In ks k × (k.number ≡ n)) → (k : Content) × In (x ∷ ks) k × (k.number ≡ n)
-    by true e l go = (x, inl refl, eqb-true x.number n e)
-    by false e l go = let r = go (omega (arith, l)) in (r.0, inr r.1, r.2)
-
 module _ (p : ProgramText) (st : Limits) (t : ℕ) (h : Heap) (count : ℕ) (s : Stack) (b : Begun) (news : List Content) (v : Value) (l : Ledger) (B : IsBegun p st t h count s b news v l) where
   abbrev V : Value
   V = copying.V p st t h count s b news v l B
@@ -81,31 +71,15 @@ module _ (p : ProgramText) (st : Limits) (t : ℕ) (h : Heap) (count : ℕ) (s :
   abbrev At : Name → Addr → Type 0
   At n r = Place V lt n r
 
+  home : (V.homes t).chunks ≡ chunks_of h.chunks
+  home = ap (λ (z : Home). z.chunks) (copying.here p st t h count s b news v l B)
+
   -- where a name is read
   sound_at : (n : Name) (r : Addr) → At n r → IsSound h.chunks (Some r)
-  sound_at n r P inside =
-      let k = placed h.chunks r.chunk inside in
-      let mine : v.owner r.chunk ≡ Some t = ap v.owner (sym k.2) ∙ copying.owned_chunk p st t h count s b news v l B k.0 k.1 in
-      let o : own lt n ≡ t = same_Some (own lt n) t (sym P.chunk ∙ mine) in
-      let lies = P.here (subst (Rests lt) (sym o) (rested_worker l t)) in
-      let there : In (objects_in (V.homes t).chunks) lies.0 = subst (λ u. In (objects_in (V.homes u).chunks) lies.0) o lies.1 in
-      let i : In (objects_in (chunks_of h.chunks)) lies.0 = subst (λ (z : Home). In (objects_in z.chunks) lies.0) (copying.here p st t h count s b news v l B) there in
-      let y = seen_object h.chunks lies.0 B.form.shaped.apart i in (
-        subst (IsLive h.chunks) lies.2.at (subst IsBorn (sym y.mark) tt),
-        subst (λ (z : Addr). z.offset < 1024) lies.2.at (B.form.near lies.0 i),
-      )
+  sound_at = reads.sound_at V lt (copying.stands p st t h count s b news v l B) t (rested_worker l t) h.chunks home B.form.shaped.apart B.form.near
 
   closed : IsClosed h.chunks
-  closed a live = all_from (IsSound h.chunks) (cell_of h.chunks a).refs one
-    where
-      one : (r : Option Addr) → In (cell_of h.chunks a).refs r → IsSound h.chunks r
-      one None i = tt
-      one (Some r) i =
-          let y = birth_at (cell_of h.chunks a).mark live in
-          let o : Seen = seen a.chunk a.offset y.0 (cell_of h.chunks a) in
-          let c = (copying.stands p st t h count s b news v l B).contents t (seen a.chunk a.offset y.0 (cell_of h.chunks a)) (rested_worker l t) (copying.there p st t h count s b news v l B (seen a.chunk a.offset y.0 (cell_of h.chunks a)) (object_seen h.chunks a y.0 y.1)) in
-          let n = read_one At (cell_of h.chunks a).refs c.0.refs r c.2.refs i in
-          sound_at n.0 r n.1
+  closed = reads.closed V lt (copying.stands p st t h count s b news v l B) t (rested_worker l t) h.chunks home B.form.shaped.apart B.form.near
 
   module _ (x : Task) (is : slice_get l.machine.tasks t ≡ Some x) (runs : x.status ≡ Running) (rooted : All (IsSound h.chunks) (map as_reference b.roots)) where
     read : FramesAreRead At (frames_of s) (x.top ∷ x.below)

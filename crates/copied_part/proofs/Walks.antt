@@ -3,26 +3,19 @@ use Rattle.std.proofs.Common.{◌≡◌, ℕ, zero, suc, Option, Some, List, [],
 use Rattle.listed.proofs.Members.{contains_from_in, flat_in, got_in, in_append_cases, in_append_left, in_append_right, in_flat, in_from_contains}
 use Rattle.walks.specs.Reached.{IsWalk}
 use Rattle.object_layout.specs.declared.word.Addr.{Addr}
-use Rattle.object_layout.specs.declared.word.Birth.{Birth}
-use Rattle.object_layout.specs.Cell.{Born, Hole, IsBorn, Mark, Moved}
 use Rattle.object_layout.specs.Chunks.{cell_of}
 use Rattle.object_layout.specs.Content.{Content}
+use Rattle.object_layout.specs.Graph.{IsHeld, Leads}
 use Rattle.alloc_path.specs.Heap.{AreApart}
 use Rattle.task_frames.specs.declared.frames.Frame.{Frame}
 use Rattle.task_frames.specs.Stack.{Stack, frames_of as all_frames}
-use Rattle.leaf_copy_gc.specs.Survivors.{IsLive, IsSurvivor, Leads, Starts, as_reference, held_by, outside, references_in}
+use Rattle.leaf_copy_gc.specs.Survivors.{IsSurvivor, Starts, as_reference, held_by, outside, references_in}
 use Rattle.core_relation.specs.Value.{Frame as SeenFrame, Home, In, Seen, objects_in}
 use Rattle.core_relation.specs.Begins.{IsAt, IsReachedAt, LeadsAt, StartsAt}
 use Rattle.core_relation.proofs.Members.{in_map, map_in}
-use Rattle.shared_tree.specs.Objects.{chunks_of, seen}
+use Rattle.shared_tree.specs.Objects.{chunks_of}
 use Rattle.shared_tree.specs.World.{frame_of, frames_of}
-use Rattle.shared_tree.proofs.Cells.{object_seen, seen_object}
-
--- a mark that bears a name
-pub birth_at : (m : Mark) → IsBorn m → (b : Birth) × (m ≡ Born b)
-birth_at (Born b) l = (b, refl)
-birth_at (Moved to) l = absurd l
-birth_at Hole l = absurd l
+use Rattle.shared_tree.proofs.Closed.{held_seen, seen_held}
 
 module _ (ks : List Content) (A : AreApart ks) (home : Home) (s : Stack) (roots : List Addr) (chunks : home.chunks ≡ chunks_of ks) (frames : home.frames ≡ frames_of s) where
   -- ---- OBJECTS
@@ -30,21 +23,14 @@ module _ (ks : List Content) (A : AreApart ks) (home : Home) (s : Stack) (roots 
   in_chunks : (o : Seen) → In (objects_in home.chunks) o → In (objects_in (chunks_of ks)) o
   in_chunks o i = subst (λ cs. In (objects_in cs) o) chunks i
 
-  live_at : (a : Addr) (o : Seen) → IsAt home a o → IsLive ks a
-  live_at a o at =
-      let y = seen_object ks o A (in_chunks o at.0) in
-      subst (IsLive ks) at.1 (subst IsBorn (sym y.mark) tt)
+  live_at : (a : Addr) (o : Seen) → IsAt home a o → IsHeld ks a
+  live_at a o at = subst (IsHeld ks) at.1 (seen_held ks A o (in_chunks o at.0)).0
 
   refs_at : (a : Addr) (o : Seen) → IsAt home a o → o.refs ≡ (cell_of ks a).refs
-  refs_at a o at =
-      let y = seen_object ks o A (in_chunks o at.0) in
-      ap (λ (z : Seen). z.refs) y.is ∙ ap (λ (z : Addr). (cell_of ks z).refs) at.1
+  refs_at a o at = sym (seen_held ks A o (in_chunks o at.0)).1 ∙ ap (λ (z : Addr). (cell_of ks z).refs) at.1
 
-  pub object_at : (a : Addr) → IsLive ks a → (o : Seen) × IsAt home a o
-  object_at a l =
-      let b = birth_at (cell_of ks a).mark l in
-      let o : Seen = seen a.chunk a.offset b.0 (cell_of ks a) in
-      (o, (subst (λ cs. In (objects_in cs) o) (sym chunks) (object_seen ks a b.0 b.1), refl))
+  pub object_at : (a : Addr) → IsHeld ks a → (o : Seen) × IsAt home a o
+  object_at a l = let o = held_seen ks a l in (o.0, (subst (λ cs. In (objects_in cs) o.0) (sym chunks) o.1, o.2))
 
   -- ---- REGISTERS
 
@@ -98,17 +84,13 @@ module _ (ks : List Content) (A : AreApart ks) (home : Home) (s : Stack) (roots 
       )
 
   leads_to : (m a : Addr) → LeadsAt home m a → Leads ks m a
-  leads_to m a w = (live_at a w.1 w.4, contains_from_in (cell_of ks m).refs (Some a) (subst (λ rs. In rs (Some a)) (refs_at m w.0 w.2) w.3))
+  leads_to m a w = (live_at m w.0 w.2, live_at a w.1 w.4, contains_from_in (cell_of ks m).refs (Some a) (subst (λ rs. In rs (Some a)) (refs_at m w.0 w.2) w.3))
 
-  leads_back : (m a : Addr) → IsLive ks m → Leads ks m a → LeadsAt home m a
-  leads_back m a l w =
-      let o = object_at m l in
-      let q = object_at a w.0 in
-      (o.0, q.0, o.1, subst (λ rs. In rs (Some a)) (sym (refs_at m o.0 o.1)) (in_from_contains (cell_of ks m).refs (Some a) w.1), q.1)
-
-  walk_live : (k : ℕ) (a : Addr) → IsWalk (Starts ks (outside s roots)) (Leads ks) k a → IsLive ks a
-  walk_live zero a w = w.0
-  walk_live (suc k) a w = w.2.0
+  leads_back : (m a : Addr) → Leads ks m a → LeadsAt home m a
+  leads_back m a w =
+      let o = object_at m w.0 in
+      let q = object_at a w.1 in
+      (o.0, q.0, o.1, subst (λ rs. In rs (Some a)) (sym (refs_at m o.0 o.1)) (in_from_contains (cell_of ks m).refs (Some a) w.2), q.1)
 
   walk_to : (k : ℕ) (a : Addr) → IsWalk (StartsAt home roots) (LeadsAt home) k a → IsWalk (Starts ks (outside s roots)) (Leads ks) k a
   walk_to zero a w = starts_to a w
@@ -116,7 +98,7 @@ module _ (ks : List Content) (A : AreApart ks) (home : Home) (s : Stack) (roots 
 
   walk_back : (k : ℕ) (a : Addr) → IsWalk (Starts ks (outside s roots)) (Leads ks) k a → IsWalk (StartsAt home roots) (LeadsAt home) k a
   walk_back zero a w = starts_back a w
-  walk_back (suc k) a w = (w.0, walk_back k w.0 w.1, leads_back w.0 a (walk_live k w.0 w.1) w.2)
+  walk_back (suc k) a w = (w.0, walk_back k w.0 w.1, leads_back w.0 a w.2)
 
   pub reached_to : (a : Addr) → IsReachedAt home roots a → IsSurvivor ks (outside s roots) a
   reached_to a w = (w.0, walk_to w.0 a w.1)

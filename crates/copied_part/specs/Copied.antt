@@ -2,6 +2,7 @@
 use Rattle.std.specs.Prelude.{◌≡◌, ℕ, ◌≤◌, pos, All, Some, None, List, Option, length, map, slice_get}
 use Rattle.object_layout.specs.declared.word.Addr.{Addr}
 use Rattle.object_layout.specs.Content.{Content}
+use Rattle.object_layout.specs.Graph.{IsClosed, IsSound}
 use Rattle.alloc_path.specs.Heap.{Heap}
 use Rattle.hh_lang.specs.Form.{ProgramText}
 use Rattle.run_trace.specs.Settings.{Limits}
@@ -14,7 +15,7 @@ use Rattle.leaf_copy_gc.specs.declared.lists.Moved.{Moved}
 use Rattle.leaf_copy_gc.specs.Laws.{CanTake}
 use Rattle.leaf_copy_gc.specs.Lists.{IsCollected}
 use Rattle.leaf_copy_gc.specs.Redirected.{new_address}
-use Rattle.leaf_copy_gc.specs.Survivors.{IsClosed, IsSound, as_reference, outside}
+use Rattle.leaf_copy_gc.specs.Survivors.{as_reference, outside}
 use Rattle.core_relation.specs.Value.{Begun, Home, In, Value}
 use Rattle.core_relation.specs.Copies.{CopyFits, PartFits, before}
 use Rattle.shared_tree.specs.Stands.{HeapForm}

@@ -3,6 +3,7 @@ use Rattle.std.proofs.Common.{◌≡◌, ◌⊎◌, ◌-◌, ◌≤◌, ◌==◌
 use Rattle.std.specs.List.{AllByRecursion, IsDistinct}
 use Rattle.std.proofs.lemmas.Bool.{both_ways, and_from, eq-eqb}
 use Rattle.object_layout.specs.declared.word.Addr.{Addr}
+use Rattle.object_layout.specs.Chunks.{same_address}
 use Rattle.hh_model.specs.declared.data.Name.{Name}
 use Rattle.run_ledger.specs.declared.data.Ledger.{Ledger}
 use Rattle.run_ledger.specs.Heaps.{held_in, heap_of, marked_in}
@@ -11,7 +12,6 @@ use Rattle.run_ledger.proofs.Members.{same_from_is_name, is_name_itself}
 use Rattle.ledger_steps.specs.Accounts.{Rests}
 use Rattle.core_relation.specs.Value.{Seen, Value, In, objects}
 use Rattle.core_relation.specs.Stands.{Stands}
-use Rattle.core_relation.specs.Marking.{same_address}
 use Rattle.core_relation.specs.CopyLaws.{MarksAreAll}
 use Rattle.core_relation.proofs.Members.{held_object}
 

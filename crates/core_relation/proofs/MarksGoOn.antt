@@ -1,11 +1,12 @@
 -- A marking that can go on still can, where objects stay and what was overwritten was kept.
 use Rattle.std.proofs.Common.{◌≡◌, ℕ, ◌+◌, ◌<◌, ◌≤◌, ◌++◌, arith, Some, List, [], length, length-append, Contains, ◌⊎◌, ◌↔◌, inl, inr, refl, ap, sym, subst, ◌∙◌}
 use Rattle.object_layout.specs.declared.word.Addr.{Addr}
+use Rattle.object_layout.specs.Graph.{IsHeld, Leads}
 use Rattle.hh_model.specs.declared.data.Name.{Name}
 use Rattle.listed.proofs.Members.{contains_from_in, in_append_cases, in_append_left, in_append_right, in_from_contains}
 use Rattle.walks.proofs.Reached.{reached_more, reached_start, reached_within}
 use Rattle.inner_mark_gc.specs.Marks.{IsMarking, Marks}
-use Rattle.inner_mark_gc.specs.Snapshot.{Fork, IsHeld, IsInSnapshot, Leads, Starts}
+use Rattle.inner_mark_gc.specs.Snapshot.{Fork, IsInSnapshot, Starts}
 use Rattle.inner_mark_gc.proofs.GoingOn.{marking_goes_on}
 use Rattle.core_relation.specs.Value.{Home, In, Seen, Value, objects}
 use Rattle.core_relation.specs.Marking.{GoesOn}

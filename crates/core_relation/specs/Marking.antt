@@ -1,16 +1,15 @@
 -- What is marked of a waiting heap.
-use Rattle.std.specs.Prelude.{◌≡◌, ◌⊎◌, ◌↔◌, ◌==◌, ◌&&◌, ◌+◌, ◌<◌, ◌≤◌, ℕ, Bool, Option, Some, None, List, length}
+use Rattle.std.specs.Prelude.{◌≡◌, ◌⊎◌, ◌↔◌, ◌+◌, ◌<◌, ◌≤◌, ℕ, Option, Some, None, List, length}
 use Rattle.std.specs.List.{IsDistinct}
 use Rattle.object_layout.specs.declared.word.Addr.{Addr}
+use Rattle.object_layout.specs.Chunks.{same_address}
+use Rattle.object_layout.specs.Graph.{IsHeld, Leads}
 use Rattle.hh_model.specs.declared.data.Name.{Name}
 use Rattle.run_ledger.specs.declared.data.Ledger.{Ledger}
 use Rattle.run_ledger.specs.Heaps.{heap_of}
-use Rattle.inner_mark_gc.specs.Marks.{IsMarking, Marks, Once, marked_of}
-use Rattle.inner_mark_gc.specs.Snapshot.{Fork, IsHeld, IsInSnapshot, Leads}
+use Rattle.inner_mark_gc.specs.Marks.{IsMarking, Marks, marked_of}
+use Rattle.inner_mark_gc.specs.Snapshot.{Fork, IsInSnapshot}
 use Rattle.core_relation.specs.Value.{Seen, Value, In, objects}
-
-abbrev pub same_address : Addr → Addr → Bool
-same_address a b = (a.chunk == b.chunk) && (a.offset == b.offset)
 
 -- the objects at these addresses are marked: as many as the account says, none twice, and each of the snapshot
 pub record MarksStand (v : Value) (l : Ledger) (t : ℕ) (marked : List Addr) : Type 0 where
@@ -30,7 +29,7 @@ pub record GoesOn (v : Value) (t : ℕ) (names : List Name) (m : Marks) : Type 0
   -- walks through it, also from what was kept, lead to just these names
   pub snapshot : (o : Seen) → In (objects v t) o → IsInSnapshot fork (v.noted t).kept o.at ↔ In names o.name
   -- each object found stands once, and there is room for all others, and for the chunks
-  pub once : Once m.found
+  pub once : IsDistinct same_address m.found
   pub marked : m.marked ≤ length m.found
   pub followed : m.followed ≤ length (v.noted t).kept
   pub slots : length (objects v t) < length m.found + m.slots

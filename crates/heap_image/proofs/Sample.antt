@@ -89,12 +89,18 @@ has_child = (child, inr (inl refl), refl)
 above : IsAncestor sample.tasks 0 1
 above = (0, (child, inr (inl refl), refl, refl))
 
+waits_and_runs : Waiting ≡ Running → ⊥
+waits_and_runs e = cc
+
+no_number_twice : (n : ℕ) → 1 ≡ n → n ≡ 0 → ⊥
+no_number_twice n e f = omega (arith, e, f)
+
 parent_rests : IsRunning sample 0 → ⊥
 parent_rests h = by h.0 h.1 h.2 h.3
   where
     by : (k : Task) → In sample.tasks k → k.number ≡ 0 → k.state ≡ Running → ⊥
-    by k (inl e) n r = let f : Waiting ≡ Running = ap (λ (t : Task). t.state) e ∙ r in cc
-    by k (inr (inl e)) n r = let f : 1 ≡ 0 = ap (λ (t : Task). t.number) e ∙ n in cc
+    by k (inl e) n r = waits_and_runs (ap (λ (t : Task). t.state) e ∙ r)
+    by k (inr (inl e)) n r = no_number_twice k.number (ap (λ (t : Task). t.number) e) n
     by k (inr (inr i)) n r = absurd i
 
 parents_known : (t : Task) (q : ℕ) → In sample.tasks t → t.parent ≡ Some q → HasTask sample q × (q < t.number)

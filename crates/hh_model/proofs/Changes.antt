@@ -18,9 +18,9 @@ use Rattle.hh_model.specs.Names.{refs_of, refs_at}
 use Rattle.hh_model.specs.Store.{IsWriteTo}
 use Rattle.hh_model.proofs.Carried.{at_in, flat_at, in_take, none_in, named_from_in}
 
--- its fields of each kind are within the limit, or no more than the registers
+-- its fields of both kinds together are within the limit, or those of each kind are no more than the registers
 abbrev pub IsSized : ℕ → Frame → Object → Type 0
-IsSized limit f o = ((length o.refs ≤ limit) × (length o.ints ≤ limit)) ⊎ ((length o.refs ≤ length f.refs) × (length o.ints ≤ length f.ints))
+IsSized limit f o = (length o.refs + length o.ints ≤ limit) ⊎ ((length o.refs ≤ length f.refs) × (length o.ints ≤ length f.ints))
 
 -- a new object of the task, at its strand; a mutable one refers to nothing, an immutable one to what registers hold
 pub record Allocates (s : Setting) (f : Frame) (store store' : List (List Object)) : Type 0 where
@@ -118,7 +118,7 @@ newm_sized limit f x y strand n e =
     let le = counts_within limit x y n e in
     let r : length (replicate n.0 none_name) ≡ n.0 = length-replicate n.0 none_name in
     let i : length (replicate n.1 (pos 0)) ≡ n.1 = length-replicate n.1 (pos 0) in
-    inl (omega (arith, le, r), omega (arith, le, i))
+    inl (omega (arith, le, r, i))
 
 module _ (s : Setting) (f : Frame) (instr : Instr) (store : List (List Object)) where
   abbrev D : Effect → Type 0

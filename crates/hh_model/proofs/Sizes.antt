@@ -1,5 +1,5 @@
 -- Each frame of each task has 16 registers of each kind, and each object a bounded number of fields.
-use Rattle.std.proofs.Common.{◌≡◌, ℕ, ℤ, zero, suc, pos, ◌+◌, ◌-◌, ◌==◌, Bool, true, false, cond, Option, Some, None, List, [], ◌∷◌, ◌++◌, length, slice_get, slice_set, nat_lt, inl, inr, refl, ap, sym, subst, ◌∙◌, length-set, ◌⊎◌, arith, max}
+use Rattle.std.proofs.Common.{◌≡◌, ℕ, ℤ, zero, suc, pos, ◌+◌, ◌-◌, ◌≤◌, ◌==◌, Bool, true, false, cond, Option, Some, None, List, [], ◌∷◌, ◌++◌, length, slice_get, slice_set, nat_lt, inl, inr, refl, ap, sym, subst, ◌∙◌, length-set, ◌⊎◌, arith, max}
 use Rattle.listed.proofs.Members.{In, in_append_cases, in_from_contains, got_cases}
 use Rattle.hh_lang.specs.declared.instr.Instr.{Instr}
 use Rattle.hh_lang.specs.declared.instr.Instr.TheVariants.{Set, Mov, Movr, Nil as NilOf, Calc, Same, Jmp, Jz, Newm, Pack, Getr, Geti, Putr, Puti, Cntr, Cnti, Freeze, Cas}
@@ -208,21 +208,22 @@ wide p limit ts = run_wide p (start p limit) ts (start_wide p limit)
 
 -- FIELDS
 
-abbrev FewIn : ℕ → List (List Object) → Type 0
-FewIn limit store = (n : Name) (o : Object) → object_at store n ≡ Some o → HasFewFields (max limit 16) o
+-- of each kind, and of both together
+abbrev Bounded : ℕ → Object → Type 0
+Bounded limit o = HasFewFields (max limit 16) o × (length o.refs + length o.ints ≤ max limit 32)
 
-sized : (limit : ℕ) (f : Frame) (o : Object) → IsWide f → IsSized limit f o → HasFewFields (max limit 16) o
-sized limit f o w (inl s) = let a = s.0 in let b = s.1 in record { refs = omega (arith, a); ints = omega (arith, b) }
-sized limit f o w (inr s) = let a = s.0 in let b = s.1 in let c = w.refs in let d = w.ints in record { refs = omega (arith, a, c); ints = omega (arith, b, d) }
+abbrev FewIn : ℕ → List (List Object) → Type 0
+FewIn limit store = (n : Name) (o : Object) → object_at store n ≡ Some o → Bounded limit o
+
+sized : (limit : ℕ) (f : Frame) (o : Object) → IsWide f → IsSized limit f o → Bounded limit o
+sized limit f o w (inl s) = (record { refs = omega (arith, s); ints = omega (arith, s) }, omega (arith, s))
+sized limit f o w (inr s) = let a = s.0 in let b = s.1 in let c = w.refs in let d = w.ints in (record { refs = omega (arith, a, c); ints = omega (arith, b, d) }, omega (arith, a, b, c, d))
 
 module _ (p : ProgramText) (m : State) (t : ℕ) (K : Kept m) (A : AllWide m.tasks) (F : FewIn m.field_limit m.store) where
-  abbrev most : ℕ
-  most = max m.field_limit 16
+  resized : (x y : Object) → Bounded m.field_limit x → length y.refs ≡ length x.refs → length y.ints ≡ length x.ints → Bounded m.field_limit y
+  resized x y few a b = let c = few.0.refs in let d = few.0.ints in let e = few.1 in (record { refs = omega (arith, a, c); ints = omega (arith, b, d) }, omega (arith, a, b, e))
 
-  resized : (x y : Object) → HasFewFields most x → length y.refs ≡ length x.refs → length y.ints ≡ length x.ints → HasFewFields most y
-  resized x y few a b = let c = few.refs in let d = few.ints in record { refs = omega (arith, a, c); ints = omega (arith, b, d) }
-
-  changed : (f : Frame) (n : Name) (x y : Object) (s : Setting) → HasFewFields most x → SetsRef f x y ⊎ (SetsInt x y ⊎ Freezes s n x y) → HasFewFields most y
+  changed : (f : Frame) (n : Name) (x y : Object) (s : Setting) → Bounded m.field_limit x → SetsRef f x y ⊎ (SetsInt x y ⊎ Freezes s n x y) → Bounded m.field_limit y
   changed f n x y s few (inl h) = resized x y few (ap (λ (o : Object). length o.refs) h.1.2 ∙ length-set x.refs h.1.0 h.1.1) (ap (λ (o : Object). length o.ints) h.1.2)
   changed f n x y s few (inr (inl h)) = resized x y few (ap (λ (o : Object). length o.refs) h.1.2) (ap (λ (o : Object). length o.ints) h.1.2 ∙ length-set x.ints h.1.0 h.1.1)
   changed f n x y s few (inr (inr h)) = resized x y few (ap (λ (o : Object). length o.refs) h.1) (ap (λ (o : Object). length o.ints) h.1)
@@ -232,12 +233,12 @@ module _ (p : ProgramText) (m : State) (t : ℕ) (K : Kept m) (A : AllWide m.tas
   altered x store ix (inr (line, il, inl e)) n o is = F n o (ap (λ w. object_at w n) (sym e) ∙ is)
   altered x store ix (inr (line, il, inr (inl a))) n o is =
       elim (made_cases m.store t a.new n o (ap (λ w. object_at w n) (sym a.is) ∙ is)) [
-        | inl h ↦ subst (HasFewFields most) (sym h.2) (sized m.field_limit x.top a.new (A t x ix x.top (inl refl)) a.size)
+        | inl h ↦ subst (Bounded m.field_limit) (sym h.2) (sized m.field_limit x.top a.new (A t x ix x.top (inl refl)) a.size)
         | inr old ↦ F n o old
       ]
   altered x store ix (inr (line, il, inr (inr w))) n o is =
       elim (put_cases m.store w.name w.new n o (ap (λ s. object_at s n) (sym w.is) ∙ is)) [
-        | inl h ↦ subst (HasFewFields most) (sym h.1) (changed x.top w.name w.old w.new (setting m t x) (F w.name w.old w.was) w.how)
+        | inl h ↦ subst (Bounded m.field_limit) (sym h.1) (changed x.top w.name w.old w.new (setting m t x) (F w.name w.old w.was) w.how)
         | inr old ↦ F n o old
       ]
 
@@ -267,6 +268,11 @@ few_from p m (t ∷ ts) limit e K A F =
 pub sizes_are_bounded : SizesAreBounded
 sizes_are_bounded p limit ts = record {
   frames = λ t x f is c. wide p limit ts t x is f (in_from_contains (x.top ∷ x.below) f c);
-  objects = subst (λ k. FewIn k (run p limit ts).store) (sym (limit_stays p limit ts))
-      (few_from p (start p limit) ts limit refl (start_kept p limit) (start_wide p limit) (λ n o e. absurd (no_objects n.task n.count o e)));
+  objects = λ n o e. (few n o e).0;
+  together = λ n o e. (few n o e).1;
 }
+  where
+    few : FewIn (run p limit ts).field_limit (run p limit ts).store
+    few =
+        subst (λ k. FewIn k (run p limit ts).store) (sym (limit_stays p limit ts))
+        (few_from p (start p limit) ts limit refl (start_kept p limit) (start_wide p limit) (λ n o e. absurd (no_objects n.task n.count o e)))

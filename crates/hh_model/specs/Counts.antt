@@ -38,10 +38,11 @@ pub record HasFewFields (most : ℕ) (o : Object) : Type 0 where
   pub refs : length o.refs ≤ most
   pub ints : length o.ints ≤ most
 
--- a `newm` makes at most as many fields as the limit says, and a `pack` at most 16 of each kind
+-- a `newm` makes at most as many fields as the limit says, of both kinds together, and a `pack` at most 16 of each kind
 pub record SizesIn (m : State) : Type 0 where
   pub frames : (t : ℕ) (x : Task) (f : Frame) → slice_get m.tasks t ≡ Some x → Contains (x.top ∷ x.below) f → IsWide f
   pub objects : (n : Name) (o : Object) → object_at m.store n ≡ Some o → HasFewFields (max m.field_limit 16) o
+  pub together : (n : Name) (o : Object) → object_at m.store n ≡ Some o → length o.refs + length o.ints ≤ max m.field_limit 32
 
 abbrev pub SizesAreBounded : Type 0
 SizesAreBounded = (p : ProgramText) (limit : ℕ) (ts : List ℕ) → SizesIn (run p limit ts)

@@ -2,35 +2,17 @@
 use Rattle.std.proofs.Common.{◌≡◌, ℕ, suc, ◌≤◌, Bool, true, false, cond, List, [], ◌∷◌, ◌++◌, length, refl, sym, ap, ◌∙◌, subst, arith, ◌⊎◌, inl, inr}
 use Rattle.std.proofs.lemmas.Bool.{false≢true}
 use Rattle.std.proofs.lemmas.List.{append-nil}
+use Rattle.std.specs.List.{IsDistinct}
 use Rattle.object_layout.specs.declared.word.Addr.{Addr}
+use Rattle.object_layout.proofs.Distinct.{Once, distinct_from, once_from, once_push, same_is, same_self}
 use Rattle.listed.proofs.Members.{In, any_from_in, in_from_any, in_append_left, in_append_right, in_append_cases, contains_from_in, in_from_contains}
-use Rattle.inner_mark_gc.specs.Marks.{Once, has_address, noted, same_address}
-
-pub same_is : (a b : Addr) → same_address a b ≡ true → a ≡ b
-same_is a b e =
-    let c : a.chunk ≡ b.chunk = grind arith in
-    let o : a.offset ≡ b.offset = grind arith in
-    let one : a ≡ record { chunk = b.chunk; offset = a.offset } = ap (λ (n : ℕ). let r : Addr = record { chunk = n; offset = a.offset } in r) c in
-    one ∙ ap (λ (n : ℕ). let r : Addr = record { chunk = b.chunk; offset = n } in r) o
-
-pub same_self : (a : Addr) → same_address a a ≡ true
-same_self a = grind arith
+use Rattle.inner_mark_gc.specs.Marks.{has_address, noted, same_address}
 
 pub has_in : (xs : List Addr) (a : Addr) → has_address xs a ≡ true → In xs a
 has_in xs a h = let f = in_from_any (same_address a) xs h in subst (λ (x : Addr). In xs x) (sym (same_is a f.0 f.2)) f.1
 
 pub in_has : (xs : List Addr) (a : Addr) → In xs a → has_address xs a ≡ true
 in_has xs a i = any_from_in (same_address a) xs a i (same_self a)
-
-pub once_push : (xs : List Addr) (a : Addr) → Once xs → (In xs a → ⊥) → Once (xs ++ a ∷ [])
-once_push [] a o n = ((λ i. let j = in_from_contains [] a i in j), tt)
-once_push (x ∷ xs) a o n = (
-  (λ i. elim (in_append_cases xs (a ∷ []) x (in_from_contains _ x i)) [
-    | inl j ↦ o.0 (contains_from_in xs x j)
-    | inr j ↦ elim j [ inl e ↦ n (inl (sym e)) | inr z ↦ z ]
-  ]),
-  once_push xs a o.1 (λ i. n (inr i)),
-)
 
 -- ---- an address noted
 
@@ -39,7 +21,7 @@ pub record Noted (xs : List Addr) (a : Addr) (ys : List Addr) : Type 0 where
   pub each : (x : Addr) → In ys x → In xs x ⊎ (a ≡ x)
   pub there : In ys a
   pub kept : (x : Addr) → In xs x → In ys x
-  pub once : Once xs → Once ys
+  pub once : IsDistinct same_address xs → IsDistinct same_address ys
 
 noted_by : (xs : List Addr) (a : Addr) (b : Bool) → has_address xs a ≡ b → Noted xs a (cond b xs (xs ++ a ∷ []))
 noted_by xs a true e = record {
@@ -54,7 +36,7 @@ noted_by xs a false e = record {
   each = λ x i. elim (in_append_cases xs (a ∷ []) x i) [ inl j ↦ inl j | inr j ↦ elim j [ inl f ↦ inr f | inr z ↦ absurd z ] ];
   there = in_append_right xs (a ∷ []) a (inl refl);
   kept = λ x i. in_append_left xs (a ∷ []) x i;
-  once = λ o. once_push xs a o (λ i. false≢true (sym e ∙ in_has xs a i));
+  once = λ o. distinct_from (xs ++ a ∷ []) (once_push xs a (once_from xs o) (λ i. false≢true (sym e ∙ in_has xs a i)));
 }
 
 pub noted_is : (xs : List Addr) (a : Addr) → Noted xs a (noted xs a)

@@ -2,14 +2,17 @@
 use Rattle.std.proofs.Common.{◌≡◌, ℕ, zero, suc, ◌+◌, ◌-◌, ◌<◌, ◌≤◌, ◌==◌, Bool, true, false, cond, List, [], ◌∷◌, ◌++◌, length, get_or, take, refl, ap, ◌∙◌, subst, arith, inl}
 use Rattle.std.specs.Prelude.{nat_le}
 use Rattle.std.proofs.lemmas.List.{length-append}
+use Rattle.std.specs.List.{IsDistinct}
 use Rattle.object_layout.specs.declared.word.Addr.{Addr}
 use Rattle.object_layout.specs.Cell.{Born, Cell, Hole, IsObject, Mark, Moved, no_cell, size_of}
 use Rattle.object_layout.specs.Content.{Content}
-use Rattle.object_layout.specs.Chunks.{cell_of, held_size, one_each, sum_in}
+use Rattle.object_layout.specs.Chunks.{cell_of, same_address, held_size, one_each, sum_in}
 use Rattle.object_layout.specs.Place.{cell_at}
+use Rattle.object_layout.proofs.ChunkLaws as laws
+use Rattle.object_layout.specs.Graph.{IsHeld}
+use Rattle.object_layout.proofs.Distinct.{once_from}
 use Rattle.listed.proofs.Members.{In, in_append_left, in_append_right}
-use Rattle.inner_mark_gc.specs.Marks.{Once}
-use Rattle.inner_mark_gc.specs.Snapshot.{IsHeld, object_count}
+use Rattle.inner_mark_gc.specs.Snapshot.{object_count}
 use Rattle.inner_mark_gc.proofs.Addresses.{once_within}
 
 -- the addresses of the objects of a chunk, whose cells begin at an offset, and of a heap
@@ -65,11 +68,11 @@ in_cells (c ∷ cs) number start (suc n) o = by (λ p. in_cells cs number (start
         in_append_right (address_if c.mark number start) _ _ (subst (λ (m : ℕ). In (cells_at cs number (start + size_of c)) (record { chunk = number; offset = m })) s (rest o))
     by rest false e o = absurd o
 
-pub in_addresses : (ks : List Content) (a : Addr) → IsHeld ks a → In (addresses ks) a
+in_addresses : (ks : List Content) (a : Addr) → IsObject (cell_of ks a).mark → In (addresses ks) a
 in_addresses [] a o = absurd o
 in_addresses (k ∷ ks) a o = by (in_addresses ks a) (k.number == a.chunk) refl o
   where
-    by : (IsHeld ks a → In (addresses ks) a) → (b : Bool) → (k.number == a.chunk) ≡ b → IsObject (cond b (cell_at k.cells a.offset) (cell_of ks a)).mark → In (addresses (k ∷ ks)) a
+    by : (IsObject (cell_of ks a).mark → In (addresses ks) a) → (b : Bool) → (k.number == a.chunk) ≡ b → IsObject (cond b (cell_at k.cells a.offset) (cell_of ks a)).mark → In (addresses (k ∷ ks)) a
     by rest true e o =
         let n : k.number ≡ a.chunk = grind arith in
         let i = in_cells k.cells k.number 0 a.offset o in
@@ -79,5 +82,5 @@ in_addresses (k ∷ ks) a o = by (in_addresses ks a) (k.number == a.chunk) refl 
     by rest false e o = in_append_right (cells_at k.cells k.number 0) _ _ (rest o)
 
 -- objects that are found, each once, are no more than there are
-pub found_within : (ks : List Content) (xs : List Addr) → Once xs → ((a : Addr) → In xs a → IsHeld ks a) → length xs ≤ object_count ks
-found_within ks xs o h = let le = once_within xs (addresses ks) o (λ a i. in_addresses ks a (h a i)) in subst (λ (n : ℕ). length xs ≤ n) (addresses_count ks) le
+pub found_within : (ks : List Content) (xs : List Addr) → IsDistinct same_address xs → ((a : Addr) → In xs a → IsHeld ks a) → length xs ≤ object_count ks
+found_within ks xs o h = let le = once_within xs (addresses ks) (once_from xs o) (λ a i. in_addresses ks a (laws.born_object ks a (h a i))) in subst (λ (n : ℕ). length xs ≤ n) (addresses_count ks) le

@@ -4,14 +4,16 @@ use Rattle.std.proofs.lemmas.List.{append-nil, append_assoc, take_all, length-dr
 use Rattle.std.proofs.Common.{Bool, true, false, nat_lt, drop, ◌-◌}
 use Rattle.std.specs.Prelude.{is_some, if◌then◌else◌}
 use Rattle.std.proofs.lemmas.Bool.{false≢true}
+use Rattle.std.specs.List.{IsDistinct}
 use Rattle.std.proofs.lemmas.Option.{slice_get-get_or}
-use Rattle.object_layout.specs.Chunks.{place_in, place_of}
+use Rattle.object_layout.specs.Chunks.{place_in, place_of, same_address}
 use Rattle.object_layout.proofs.ChunkLaws as laws
 use Rattle.object_layout.specs.declared.word.Addr.{Addr}
 use Rattle.object_layout.specs.Content.{Content}
+use Rattle.object_layout.specs.Graph.{IsHeld, IsSound}
 use Rattle.listed.proofs.Members.{In, in_append_left, contains_from_in, in_from_contains}
-use Rattle.inner_mark_gc.specs.Marks.{Finds, HasRoom, Marks, Once, noted}
-use Rattle.inner_mark_gc.specs.Snapshot.{IsHeld, IsSound, object_count}
+use Rattle.inner_mark_gc.specs.Marks.{Finds, HasRoom, Marks, noted}
+use Rattle.inner_mark_gc.specs.Snapshot.{object_count}
 use Rattle.inner_mark_gc.proofs.Addresses.{noted_is}
 use Rattle.inner_mark_gc.proofs.Counting.{found_within}
 
@@ -68,7 +70,7 @@ room_noted h old new a r held e s p q =
         | inl j ↦ r.each x (contains_from_in old.found x j)
         | inr f ↦ subst (IsHeld h) f held
       ];
-      once = subst Once (sym e) (n.once r.once);
+      once = subst (IsDistinct same_address) (sym e) (n.once r.once);
       slots = omega arith;
       spare = omega arith;
       places = omega arith;
@@ -155,28 +157,28 @@ owned_by ks n true e o = grind arith
 owned_by ks n false e o = absurd (false≢true o)
 
 pub owned_held : (ks : List Content) (a : Addr) → IsSound ks (Some a) → is_some (place_in ks a.chunk) ≡ true → IsHeld ks a
-owned_held ks a sound o = sound (owned_by ks a.chunk (nat_lt (place_of ks a.chunk) (length ks)) refl o)
+owned_held ks a sound o = (sound (owned_by ks a.chunk (nat_lt (place_of ks a.chunk) (length ks)) refl o)).0
 
 not_by : (ks : List Content) (n : ℕ) (b : Bool) → nat_lt (place_of ks n) (length ks) ≡ b → is_some (if b then Some (place_of ks n) else None) ≡ false → place_of ks n < length ks → ⊥
 not_by ks n true e o l = false≢true (sym o)
 not_by ks n false e o l = grind arith
 
 pub not_owned : (ks : List Content) (a : Addr) → is_some (place_in ks a.chunk) ≡ false → IsHeld ks a → ⊥
-not_owned ks a o h = not_by ks a.chunk (nat_lt (place_of ks a.chunk) (length ks)) refl o (laws.chunk_of_object ks a h)
+not_owned ks a o h = not_by ks a.chunk (nat_lt (place_of ks a.chunk) (length ks)) refl o (laws.chunk_of_object ks a (laws.born_object ks a h))
 
 pub held_in : (P : Addr → Type 0) (xs : List Addr) (a : Addr) → All P xs → Contains xs a → P a
 held_in P xs a all c = subst P c.2 (all c.0 a c.1)
 
 -- one object more of a list of objects
 pub finds_more_at : (H : Addr → Type 0) (xs : List Addr) (k : ℕ) (d : Addr) (old mid new : Marks) → k < length xs
-    → Finds (λ a. H a × Contains (take k xs) a) old mid → Finds (λ a. H a × (Some (get_or xs k d) ≡ Some a)) mid new
+    → H (get_or xs k d) → Finds (λ a. H a × Contains (take k xs) a) old mid → Finds (λ a. get_or xs k d ≡ a) mid new
     → Finds (λ a. H a × Contains (take (k + 1) xs) a) old new
-finds_more_at H xs k d old mid new l f g =
+finds_more_at H xs k d old mid new l h f g =
     finds_more H (λ (a : Addr). a) xs k (get_or xs k d) old mid new (slice_get-get_or xs k d l) f
     record {
       grown = g.grown;
-      each = λ a i. elim (g.each a i) [ inl j ↦ inl j | inr q ↦ inr (q.0, some_same q.1) ];
-      all = λ a q. g.all a (q.0, ap (λ (x : Addr). Some x) q.1);
+      each = λ a i. elim (g.each a i) [ inl j ↦ inl j | inr q ↦ inr (subst H q h, q) ];
+      all = λ a q. g.all a q.1;
       marked = g.marked;
       followed = g.followed;
     }

@@ -3,10 +3,11 @@ use Rattle.std.proofs.Common.{◌≡◌, ℕ, zero, suc, ◌+◌, ◌<◌, ◌�
 use Rattle.std.proofs.lemmas.List.{take-append-le}
 use Rattle.object_layout.specs.declared.word.Addr.{Addr}
 use Rattle.object_layout.specs.Content.{Content}
+use Rattle.object_layout.specs.Graph.{Leads}
 use Rattle.listed.proofs.Members.{In, in_append_left, in_append_right, in_append_cases, contains_from_in, in_from_contains}
 use Rattle.walks.proofs.Reached.{reached_start, reached_more, reached_within}
 use Rattle.inner_mark_gc.specs.Laws.{MarkingGoesOn, MarkingStaysOf, SnapshotIsOfRoots}
-use Rattle.inner_mark_gc.specs.Snapshot.{Fork, IsInSnapshot, Leads, Starts, object_count}
+use Rattle.inner_mark_gc.specs.Snapshot.{Fork, IsInSnapshot, Starts, object_count}
 
 -- more starts lead to more
 more_starts : (f : Fork) (kept others : List Addr) → ((a : Addr) → Starts f kept a → Starts f others a) → (a : Addr) → IsInSnapshot f kept a → IsInSnapshot f others a

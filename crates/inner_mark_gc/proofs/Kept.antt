@@ -5,17 +5,18 @@ use Rattle.std.proofs.lemmas.Bool.{cases_Bool, eq-eqb, eqb-true, false≢true, n
 use Rattle.std.proofs.lemmas.List.{length-map}
 use Rattle.std.proofs.lemmas.List.Elements.{All-cons, All-filter, All-head, All-map, All-tail, All-weaker}
 use Rattle.object_layout.specs.declared.word.Addr.{Addr}
-use Rattle.object_layout.specs.Cell.{Cell, IsObject, Mark, Born, Moved, Hole, as_object, marked_object, moved_to, no_cell, size_of}
+use Rattle.object_layout.specs.Cell.{Cell, IsBorn, IsObject, Mark, Born, Moved, Hole, as_object, marked_object, moved_to, no_cell, size_of}
 use Rattle.object_layout.specs.Content.{Content}
 use Rattle.object_layout.specs.Place.{cell_at}
 use Rattle.object_layout.specs.Chunks.{cell_of, chunk_at, object_of, place_of}
+use Rattle.object_layout.specs.Graph.{IsHeld}
 use Rattle.object_layout.proofs.ChunkLaws as laws
 use Rattle.listed.proofs.Members.{In, contains_from_in, in_from_contains}
 use Rattle.alloc_path.specs.Heap.{AreApart, IsCurrent, IsFresh, IsReserved, IsSettled, IsTidy, units}
 use Rattle.alloc_path.proofs.HeapLemmas.{fresh_at, fresh_cons, fresh_head, fresh_tail, none_there}
 use Rattle.inner_mark_gc.specs.Laws.{AllMarkedIsDone, EachLeftHolds, SweptAreRead, SweptIsSnapshot}
 use Rattle.inner_mark_gc.specs.Marks.{has_address, marked_of}
-use Rattle.inner_mark_gc.specs.Snapshot.{IsHeld, IsInSnapshot}
+use Rattle.inner_mark_gc.specs.Snapshot.{IsInSnapshot}
 use Rattle.inner_mark_gc.specs.Swept.{has_number, has_object, number_at, place_at, stays, swept, swept_cell, swept_cells, swept_chunk}
 use Rattle.inner_mark_gc.proofs.Addresses.{has_in, in_has}
 use Rattle.inner_mark_gc.proofs.Giving.{apart_filtered, fresh_filtered}
@@ -202,13 +203,13 @@ module _ (kept : List Addr) (reserved : Option ℕ) (a : Addr) where
 pub swept_are_read : SweptAreRead
 swept_are_read h kept apart a = read_left kept (number_at h.chunks h.reserved) a h.chunks apart
 
-object_held : (c : Cell) → IsObject (as_object c).mark → IsObject c.mark
+object_held : (c : Cell) → IsBorn (as_object c).mark → IsBorn c.mark
 object_held c = by_mark c.mark refl
   where
-    by_mark : (m : Mark) → m ≡ c.mark → IsObject (as_object c).mark → IsObject c.mark
-    by_mark (Born b) q o = subst IsObject q tt
-    by_mark (Moved to) q o = subst IsObject q tt
-    by_mark Hole q o = absurd (subst (λ (n : Mark). IsObject (marked_object n c).mark) (sym q) o)
+    by_mark : (m : Mark) → m ≡ c.mark → IsBorn (as_object c).mark → IsBorn c.mark
+    by_mark (Born b) q o = subst IsBorn q tt
+    by_mark (Moved to) q o = subst (λ (n : Mark). IsBorn (marked_object n c).mark) (sym q) o
+    by_mark Hole q o = absurd (subst (λ (n : Mark). IsBorn (marked_object n c).mark) (sym q) o)
 
 held_object : (c : Cell) → IsObject c.mark → IsObject (as_object c).mark
 held_object c = by_mark c.mark refl
@@ -226,7 +227,7 @@ swept_is_snapshot f kept m h apart own is all a =
           let i = in_from_contains (marked_of m) a (all a s) in
           let here : IsHeld h.chunks a = own.room.each a (contains_from_in m.found a (in_take m.marked m.found a i)) in
           let same : object_of (swept h (marked_of m)).chunks a ≡ object_of h.chunks a = read ∙ ap (λ (b : Bool). cond b (object_of h.chunks a) no_cell) (in_has (marked_of m) a i) in
-          object_held (cell_of (swept h (marked_of m)).chunks a) (subst (λ (c : Cell). IsObject c.mark) (sym same) (held_object (cell_of h.chunks a) here)),
+          object_held (cell_of (swept h (marked_of m)).chunks a) (subst (λ (c : Cell). IsBorn c.mark) (sym same) (subst (λ (c : Cell). IsBorn c.mark) (sym (laws.object_is h.chunks a (laws.born_object h.chunks a here))) here)),
     )
   where
     by_test : (b : Bool) → b ≡ has_address (marked_of m) a → IsObject (cond b (object_of h.chunks a) no_cell).mark → IsInSnapshot f kept a

@@ -4,10 +4,12 @@ use Rattle.std.specs.Prelude.{◌↔◌}
 use Rattle.std.proofs.lemmas.List.{take_all, take-append-le, drop_all, length-append}
 use Rattle.object_layout.specs.declared.word.Addr.{Addr}
 use Rattle.object_layout.specs.Content.{Content}
+use Rattle.object_layout.specs.Graph.{IsHeld, Leads}
+use Rattle.object_layout.proofs.Distinct.{once_from}
 use Rattle.listed.proofs.Members.{In, in_append_left, in_append_right, in_append_cases, contains_from_in, in_from_contains}
 use Rattle.walks.proofs.Reached.{reached_start, reached_within}
 use Rattle.inner_mark_gc.specs.Marks.{Finds, IsAllMarked, IsMarking, IsOf, Marks, marked_of}
-use Rattle.inner_mark_gc.specs.Snapshot.{Fork, IsHeld, IsInSnapshot, IsSince, Leads, Starts, refs_of}
+use Rattle.inner_mark_gc.specs.Snapshot.{Fork, IsInSnapshot, IsSince, Starts}
 use Rattle.inner_mark_gc.proofs.Addresses.{once_within}
 use Rattle.inner_mark_gc.proofs.Finding.{got_in_take, held_in, in_take_more, still_found}
 
@@ -115,7 +117,7 @@ module _ (f : Fork) (kept : List Addr) where
                 | inr d ↦ absurd (none_left old.followed kept done a d)
               ]
               | inr e ↦ elim (s.overwritten b a g) [
-                | inl r ↦ inl (finds.all a ((s.objects a).0 g.0, subst (λ (x : Addr). Contains (refs_of h x) (Some a)) (sym e) r))
+                | inl r ↦ inl (finds.all a (subst (λ (x : Addr). Leads h x a) (sym e) r))
                 | inr k ↦ inl (still a (m.kept_found a (all_kept a k)))
               ]
             ];
@@ -139,7 +141,7 @@ module _ (f : Fork) (kept : List Addr) where
   -- where the whole snapshot is marked, all that was found is, and all that was kept is found
   pub all_found_marked : (h : List Content) (m : Marks) → IsOf h kept m → IsMarking f kept m → IsAllMarked f kept m → m.marked ≡ length m.found
   all_found_marked h m own is all =
-      let le : length m.found ≤ length (take m.marked m.found) = once_within m.found (take m.marked m.found) own.room.once (λ a i. in_from_contains (take m.marked m.found) a (all a (is.each a (contains_from_in m.found a i)))) in
+      let le : length m.found ≤ length (take m.marked m.found) = once_within m.found (take m.marked m.found) (once_from m.found own.room.once) (λ a i. in_from_contains (take m.marked m.found) a (all a (is.each a (contains_from_in m.found a i)))) in
       let few : length (take m.marked m.found) ≤ m.marked = take_few m.marked m.found in
       let within : m.marked ≤ length m.found = own.marked in
       omega arith

@@ -1,11 +1,12 @@
 -- What callers need of the snapshot, of a marking between two calls, and of a sweep.
 use Rattle.std.specs.Prelude.{◌≡◌, ◌≤◌, ◌↔◌, ◌⊎◌, true, List, [], ◌++◌, Contains, length, if◌then◌else◌}
 use Rattle.object_layout.specs.declared.word.Addr.{Addr}
-use Rattle.object_layout.specs.Cell.{no_cell}
+use Rattle.object_layout.specs.Cell.{IsObject, no_cell}
 use Rattle.object_layout.specs.Content.{Content}
-use Rattle.object_layout.specs.Chunks.{object_of}
+use Rattle.object_layout.specs.Chunks.{cell_of, object_of}
+use Rattle.object_layout.specs.Graph.{IsHeld}
 use Rattle.alloc_path.specs.Heap.{AreApart, Heap}
-use Rattle.inner_mark_gc.specs.Snapshot.{Fork, IsHeld, IsInSnapshot, Starts, object_count}
+use Rattle.inner_mark_gc.specs.Snapshot.{Fork, IsInSnapshot, Starts, object_count}
 use Rattle.inner_mark_gc.specs.Marks.{has_address, marked_of, IsAllMarked, IsDone, IsMarking, IsOf, Marks}
 use Rattle.inner_mark_gc.specs.Swept.{has_number, has_object, left_of, number_at, swept}
 
@@ -45,12 +46,12 @@ SweptAreRead =
     (h : Heap) (kept : List Addr) → AreApart h.chunks
     → (a : Addr) → object_of (swept h kept).chunks a ≡ (if has_address kept a then object_of h.chunks a else no_cell)
 
--- where the whole snapshot is marked, a sweep leaves exactly that
+-- where the whole snapshot is marked, a sweep leaves exactly that: each object there is of it, and all of it is there
 abbrev pub SweptIsSnapshot : Type 0
 SweptIsSnapshot =
     (f : Fork) (kept : List Addr) (m : Marks) (h : Heap) → AreApart h.chunks
     → IsOf h.chunks kept m → IsMarking f kept m → IsAllMarked f kept m
-    → (a : Addr) → IsHeld (swept h (marked_of m)).chunks a ↔ IsInSnapshot f kept a
+    → (a : Addr) → (IsObject (cell_of (swept h (marked_of m)).chunks a).mark → IsInSnapshot f kept a) × (IsInSnapshot f kept a → IsHeld (swept h (marked_of m)).chunks a)
 
 -- in each chunk that a sweep leaves lies an object, but for the reserved one
 abbrev pub EachLeftHolds : Type 0

@@ -1,10 +1,11 @@
 -- What a marking has found and marked.
-use Rattle.std.specs.Prelude.{◌≡◌, ◌⊎◌, ℕ, ◌+◌, ◌<◌, ◌≤◌, Bool, List, [], ◌∷◌, ◌++◌, ◌==◌, ◌&&◌, if◌then◌else◌, Contains, length, take, drop}
-use Rattle.std.specs.List.{list_any}
+use Rattle.std.specs.Prelude.{◌≡◌, ◌⊎◌, ℕ, ◌+◌, ◌<◌, ◌≤◌, Bool, List, [], ◌∷◌, ◌++◌, if◌then◌else◌, Contains, length, take, drop}
+use Rattle.std.specs.List.{IsDistinct, list_any}
 use Rattle.object_layout.specs.declared.word.Addr.{Addr}
 use Rattle.object_layout.specs.Content.{Content}
+use Rattle.object_layout.specs.Graph.{IsHeld, Leads}
 pub use Rattle.object_layout.specs.Chunks.{same_address}
-use Rattle.inner_mark_gc.specs.Snapshot.{Fork, IsHeld, IsInSnapshot, Leads, object_count}
+use Rattle.inner_mark_gc.specs.Snapshot.{Fork, IsInSnapshot, object_count}
 
 -- the objects that were found, in the order in which they were found; how many of the first of them
 -- are marked, and how many of the references that were kept are followed; for how many objects more
@@ -24,11 +25,6 @@ has_address xs a = list_any (same_address a) xs
 abbrev pub noted : List Addr → Addr → List Addr
 noted xs a = if has_address xs a then xs else xs ++ a ∷ []
 
--- no address stands here twice
-abbrev pub Once : List Addr → Type 0
-Once [] = Unit {0}
-Once (x ∷ xs) = (Contains xs x → ⊥) × Once xs
-
 -- the objects that are marked
 abbrev pub marked_of : Marks → List Addr
 marked_of m = take m.marked m.found
@@ -40,7 +36,7 @@ IsDone m = m.marked ≡ length m.found
 -- the objects found lie in the heap, each stands once, and there are places for all others, and for the chunks
 pub record HasRoom (h : List Content) (m : Marks) : Type 0 where
   pub each : (a : Addr) → Contains m.found a → IsHeld h a
-  pub once : Once m.found
+  pub once : IsDistinct same_address m.found
   pub slots : object_count h < length m.found + m.slots
   pub spare : object_count h < length m.found + m.spare
   pub places : length h ≤ m.places

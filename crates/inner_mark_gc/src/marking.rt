@@ -3,7 +3,8 @@
 ghost use Rattle.std.specs.Prelude.{◌≡◌, ℕ, ◌+◌, ◌-◌, ◌<◌, ◌≤◌, ◌↔◌, [], List, All, Contains, IfOk, IsTrue, Some, length, drop, slice_index_or, take, true, vec_capacity};
 ghost use Rattle.object_layout.specs.declared.word.Addr.{Addr};
 ghost use Rattle.object_layout.specs.Chunks.{object_count};
-ghost use Rattle.inner_mark_gc.specs.Snapshot.{IsClosed, IsHeld, IsSince, IsSound, Leads, Fork};
+ghost use Rattle.object_layout.specs.Graph.{IsClosed, IsHeld, IsSound, Leads};
+ghost use Rattle.inner_mark_gc.specs.Snapshot.{IsSince, Fork};
 ghost use Rattle.inner_mark_gc.specs.Marks.{has_address, marked_of, noted, Finds, HasRoom, IsAllMarked, IsDone, IsMarking, IsOf};
 
 use alloc_path::LeafHeap;
@@ -210,8 +211,9 @@ impl Marking {
         ensures finds { Finds (Contains objects.now) self.old self.new }
         ensures room { HasRoom heap.now.chunks self.new }
     {
+        let _ = heap;
         for &object in objects {
-            self.visit(heap, Some(object));
+            self.note(object);
         }
     }
 }

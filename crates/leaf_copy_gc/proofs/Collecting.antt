@@ -4,10 +4,11 @@ use Rattle.std.specs.Prelude.{reverse}
 use Rattle.std.proofs.lemmas.List.{length-map, reverse-reverse}
 use Rattle.object_layout.specs.Content.{Content}
 use Rattle.object_layout.specs.Chunks.{chunk_at}
+use Rattle.object_layout.proofs.Distinct.{Once}
 use Rattle.alloc_path.specs.Heap.{AreApart, AreTidy, Heap, IsReserved, IsCurrent, IsSettled, exchanged, with_places}
 use Rattle.listed.proofs.Members.{In, in_append_left}
 use Rattle.leaf_copy_gc.specs.declared.lists.Survivor.{Survivor}
-use Rattle.leaf_copy_gc.specs.Survivors.{olds, with_chunks, Once, HaveNames}
+use Rattle.leaf_copy_gc.specs.Survivors.{olds, with_chunks, HaveNames}
 use Rattle.leaf_copy_gc.specs.Laid.{before, smalls, AreNew}
 use Rattle.leaf_copy_gc.specs.Redirected.{led_chunk}
 use Rattle.leaf_copy_gc.specs.Exchanged.{emptied, goes, stays, unreserved, reserved_of, reserved_place, named, last_place, CanName}

@@ -7,10 +7,12 @@ use Rattle.object_layout.specs.Cell.{Cell, Born, IsBorn, IsObject}
 use Rattle.object_layout.proofs.ChunkLaws as laws
 use Rattle.object_layout.specs.Content.{Content}
 use Rattle.object_layout.specs.Chunks.{cell_of}
+use Rattle.object_layout.specs.Graph.{IsClosed, IsHeld, IsSound, Leads}
+use Rattle.object_layout.proofs.Distinct.{Once, once_push}
 use Rattle.listed.proofs.Members.{In, in_append_left, in_append_right, in_append_cases, contains_from_in, in_from_contains}
 use Rattle.walks.proofs.Reached.{reached_within}
 use Rattle.leaf_copy_gc.specs.declared.lists.Survivor.{Survivor}
-use Rattle.leaf_copy_gc.specs.Survivors.{IsLive, olds, old_of, IsSurvivor, Starts, Leads, Once, IsSound, IsClosed}
+use Rattle.leaf_copy_gc.specs.Survivors.{olds, old_of, IsSurvivor, Starts}
 use Rattle.leaf_copy_gc.specs.Search.{found_in, all_found, Search, visited, visited_at, birth_in, IsTarget}
 use Rattle.leaf_copy_gc.proofs.Puts as puts
 use Rattle.leaf_copy_gc.proofs.FoundLemmas as marks
@@ -23,16 +25,6 @@ use Rattle.task_frames.specs.declared.frames.Frame.{Frame}
 
 abbrev pub Grows : {X : Type 0} → List X → List X → Type 0
 Grows {X} xs ys = (more : List X) × (ys ≡ xs ++ more)
-
-once_push : (xs : List Addr) (a : Addr) → Once xs → (In xs a → ⊥) → Once (xs ++ a ∷ [])
-once_push [] a o n = ((λ i. let j = in_from_contains [] a i in j), tt)
-once_push (x ∷ xs) a o n = (
-  (λ i. elim (in_append_cases xs (a ∷ []) x (in_from_contains _ x i)) [
-    | inl j ↦ o.0 (contains_from_in xs x j)
-    | inr j ↦ elim j [ inl e ↦ n (inl (sym e)) | inr z ↦ z ]
-  ]),
-  once_push xs a o.1 (λ i. n (inr i)),
-)
 
 olds_push : (xs ys : List Survivor) → olds (xs ++ ys) ≡ olds xs ++ olds ys
 olds_push [] ys = refl
@@ -48,7 +40,7 @@ module _ (h : List Content) (from : List (Option Addr)) where
   pub record Visits (s : Search) (rs : List (Option Addr)) (t : Search) : Type 0 where
     pub discovered : Discovered t
     pub grows : Grows s.found t.found
-    pub covers : (a : Addr) → In rs (Some a) → IsLive h a → In (olds t.found) a
+    pub covers : (a : Addr) → In rs (Some a) → IsHeld h a → In (olds t.found) a
 
   stays : (s : Search) → Discovered s → Grows s.found s.found
   stays s d = ([], sym (append-nil s.found))
@@ -57,15 +49,15 @@ module _ (h : List Content) (from : List (Option Addr)) where
   grows_in xs ys g a i = subst (λ (zs : List Addr). In zs a) (sym (ap olds g.1 ∙ olds_push xs g.0)) (in_append_left (olds xs) (olds g.0) a i)
 
   -- the marks tell what was found
-  live_now : (s : Search) → Discovered s → (a : Addr) → IsLive h a → (In (olds s.found) a → ⊥) → cell_of s.heap a ≡ cell_of h a
+  live_now : (s : Search) → Discovered s → (a : Addr) → IsHeld h a → (In (olds s.found) a → ⊥) → cell_of s.heap a ≡ cell_of h a
   live_now s d a l n = ap (λ (k : List Content). cell_of k a) d.heap ∙ marks.found_kept h (olds s.found) a n
 
-  module _ (s : Search) (d : Discovered s) (a : Addr) (kept : IsLive h a → IsSurvivor h from a) where
+  module _ (s : Search) (d : Discovered s) (a : Addr) (kept : IsHeld h a → IsSurvivor h from a) where
     visit_found : (b : Birth) → birth_in (cell_of s.heap a).mark ≡ Some b → Visits s (Some a ∷ []) (visited_at s a (Some b))
     visit_found b e =
         let now : (cell_of s.heap a).mark ≡ Born b = birth_live (cell_of s.heap a).mark b e in
-        let there : IsLive s.heap a = born_live (cell_of s.heap a).mark b now in
-        let was = marks.found_live h (olds s.found) a (subst (λ (k : List Content). IsLive k a) d.heap there) in
+        let there : IsHeld s.heap a = born_live (cell_of s.heap a).mark b now in
+        let was = marks.found_live h (olds s.found) a (subst (λ (k : List Content). IsHeld k a) d.heap there) in
         let same : cell_of s.heap a ≡ cell_of h a = live_now s d a was.0 was.1 in
         let x : Survivor = record { birth = b; old = a } in
         let more : olds (s.found ++ x ∷ []) ≡ olds s.found ++ a ∷ [] = olds_push s.found (x ∷ []) in
@@ -112,20 +104,20 @@ module _ (h : List Content) (from : List (Option Addr)) where
         same_some : {c : Addr} → Some a ≡ Some c → a ≡ c
         same_some e = cc
 
-        known : (c : Addr) → a ≡ c → IsLive h c → In (olds s.found) c
+        known : (c : Addr) → a ≡ c → IsHeld h c → In (olds s.found) c
         known c q l =
             elim (puts.in_or_not (olds s.found) c) [
               | inl i ↦ i
               | inr n ↦
-                  let now : IsLive s.heap c = subst (λ (x : Cell). IsBorn x.mark) (sym (live_now s d c l n)) l in
-                  absurd (live_birth (cell_of s.heap a).mark (subst (IsLive s.heap) (sym q) now) e)
+                  let now : IsHeld s.heap c = subst (λ (x : Cell). IsBorn x.mark) (sym (live_now s d c l n)) l in
+                  absurd (live_birth (cell_of s.heap a).mark (subst (IsHeld s.heap) (sym q) now) e)
             ]
 
     visit_at : (b : Option Birth) → birth_in (cell_of s.heap a).mark ≡ b → Visits s (Some a ∷ []) (visited_at s a b)
     visit_at None e = visit_known e
     visit_at (Some b) e = visit_found b e
 
-  pub visit_one : (s : Search) → Discovered s → (r : Option Addr) → ((a : Addr) → r ≡ Some a → IsLive h a → IsSurvivor h from a) → Visits s (r ∷ []) (visited s r)
+  pub visit_one : (s : Search) → Discovered s → (r : Option Addr) → ((a : Addr) → r ≡ Some a → IsHeld h a → IsSurvivor h from a) → Visits s (r ∷ []) (visited s r)
   visit_one s d None kept =
       record {
         discovered = d;
@@ -149,7 +141,7 @@ module _ (h : List Content) (from : List (Option Addr)) where
       }
 
   -- each of a list of references is followed
-  pub visit_all : (s : Search) → Discovered s → (rs : List (Option Addr)) → ((a : Addr) → In rs (Some a) → IsLive h a → IsSurvivor h from a) → Visits s rs (fold visited s rs)
+  pub visit_all : (s : Search) → Discovered s → (rs : List (Option Addr)) → ((a : Addr) → In rs (Some a) → IsHeld h a → IsSurvivor h from a) → Visits s rs (fold visited s rs)
   visit_all s d [] kept = record { discovered = d; grows = stays s d; covers = λ a i l. absurd i }
   visit_all s d (r ∷ rs) kept =
       let v = visit_one s d r (λ a e l. kept a (inl e) l) in
@@ -159,14 +151,14 @@ module _ (h : List Content) (from : List (Option Addr)) where
   discovered_none = record { heap = refl; born = λ x i. absurd i; kept = λ a i. absurd i; once = tt }
 
   -- exactly what survives is found, where nothing is left to follow
-  pub found_exactly : (s : Search) → Discovered s → ((a : Addr) → In from (Some a) → IsLive h a → In (olds s.found) a)
-      → ((m a : Addr) → In (olds s.found) m → In (cell_of h m).refs (Some a) → IsLive h a → In (olds s.found) a)
+  pub found_exactly : (s : Search) → Discovered s → ((a : Addr) → In from (Some a) → IsHeld h a → In (olds s.found) a)
+      → ((m a : Addr) → In (olds s.found) m → In (cell_of h m).refs (Some a) → IsHeld h a → In (olds s.found) a)
       → (a : Addr) → Contains (olds s.found) a ↔ IsSurvivor h from a
   found_exactly s d first closed a = (
     λ c. d.kept a (in_from_contains (olds s.found) a c),
     λ w. contains_from_in (olds s.found) a (reached_within (Starts h from) (Leads h) (In (olds s.found))
         (λ b q. first b (in_from_contains from (Some b) q.1) q.0)
-        (λ m b i q. closed m b i (in_from_contains (cell_of h m).refs (Some b) q.1) q.0)
+        (λ m b i q. closed m b i (in_from_contains (cell_of h m).refs (Some b) q.2) q.1)
         a w),
   )
 
@@ -198,8 +190,8 @@ module _ (h : List Content) (from : List (Option Addr)) where
   -- all is found that the first n of those found refer to
   pub record Going (s : Search) (n : ℕ) : Type 0 where
     pub discovered : Discovered s
-    pub first : (a : Addr) → In from (Some a) → IsLive h a → In (olds s.found) a
-    pub closed : (m a : Addr) → In (olds (take n s.found)) m → In (cell_of h m).refs (Some a) → IsLive h a → In (olds s.found) a
+    pub first : (a : Addr) → In from (Some a) → IsHeld h a → In (olds s.found) a
+    pub closed : (m a : Addr) → In (olds (take n s.found)) m → In (cell_of h m).refs (Some a) → IsHeld h a → In (olds s.found) a
     pub within : n ≤ length s.found
 
   pub going_none : (s : Search) (k : ℕ) → length from ≤ k → Visits (record { heap = h; found = [] }) (take k from) s → Going s 0
@@ -210,8 +202,8 @@ module _ (h : List Content) (from : List (Option Addr)) where
     within = omega arith;
   }
 
-  pub survivor_live : (a : Addr) → IsSurvivor h from a → IsLive h a
-  survivor_live a w = reached_within (Starts h from) (Leads h) (IsLive h) (λ b q. q.0) (λ m b i q. q.0) a w
+  pub survivor_live : (a : Addr) → IsSurvivor h from a → IsHeld h a
+  survivor_live a w = reached_within (Starts h from) (Leads h) (IsHeld h) (λ b q. q.0) (λ m b i q. q.1) a w
 
   in_olds : (xs : List Survivor) (x : Survivor) → In xs x → In (olds xs) x.old
   in_olds [] x i = i
@@ -225,7 +217,7 @@ module _ (h : List Content) (from : List (Option Addr)) where
     next_in : In (olds s.found) x.old
     next_in = in_olds s.found x (subst (In s.found) (sym e) (in_read s.found n x l))
 
-    pub next_live : IsLive h x.old
+    pub next_live : IsHeld h x.old
     next_live = survivor_live x.old (g.discovered.kept x.old next_in)
 
     same_refs : (cell_of s.heap x.old).refs ≡ (cell_of h x.old).refs
@@ -235,7 +227,7 @@ module _ (h : List Content) (from : List (Option Addr)) where
     pub going_more : Going (fold visited s (cell_of s.heap x.old).refs) (n + 1)
     going_more =
         let v = visit_all s g.discovered (cell_of s.heap x.old).refs
-        (λ a i live. let w = g.discovered.kept x.old next_in in (suc w.0, (x.old, w.1, (live, contains_from_in (cell_of h x.old).refs (Some a) (subst (λ (rs : List (Option Addr)). In rs (Some a)) same_refs i))))) in
+        (λ a i live. let w = g.discovered.kept x.old next_in in (suc w.0, (x.old, w.1, (next_live, live, contains_from_in (cell_of h x.old).refs (Some a) (subst (λ (rs : List (Option Addr)). In rs (Some a)) same_refs i))))) in
         let t : Search = fold visited s (cell_of s.heap x.old).refs in
         let len : length t.found ≡ length s.found + length v.grows.0 = ap length v.grows.1 ∙ length-append s.found v.grows.0 in
         let front : take n t.found ≡ take n s.found = ap (take n) v.grows.1 ∙ take-append-le n s.found v.grows.0 g.within in
@@ -267,14 +259,14 @@ module _ (h : List Content) (from : List (Option Addr)) (closed : IsClosed h) (s
   pub targets_now : (rs : List (Option Addr)) → All (IsSound h) rs → All (IsTarget s.heap) rs
   targets_now rs all = λ k r l. target_now (get_or rs k r) (all k r l)
 
-  pub refs_now : (a : Addr) → IsLive h a → All (IsTarget s.heap) (cell_of s.heap a).refs
+  pub refs_now : (a : Addr) → IsHeld h a → All (IsTarget s.heap) (cell_of s.heap a).refs
   refs_now a l =
       subst (λ (rs : List (Option Addr)). All (IsTarget s.heap) rs)
       (sym (ap (λ (k : List Content). (cell_of k a).refs) d.heap ∙ marks.all_found_refs h (olds s.found) a))
       (targets_now (cell_of h a).refs (closed a l))
 
   -- it is an object still, found or not
-  pub object_now : (a : Addr) → IsLive h a → IsObject (cell_of s.heap a).mark
+  pub object_now : (a : Addr) → IsHeld h a → IsObject (cell_of s.heap a).mark
   object_now a l = subst (λ (k : List Content). IsObject (cell_of k a).mark) (sym d.heap) (marks.all_found_object h (olds s.found) a (laws.born_object h a l))
 
 -- the frames and the roots were followed

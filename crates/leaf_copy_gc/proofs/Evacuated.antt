@@ -10,10 +10,12 @@ use Rattle.object_layout.specs.declared.word.Addr.{Addr}
 use Rattle.object_layout.specs.Cell.{Cell, Moved, IsObject, size_of, with_mark}
 use Rattle.object_layout.specs.Content.{Content}
 use Rattle.object_layout.specs.Chunks.{cell_of}
+use Rattle.object_layout.specs.Graph.{IsClosed, IsSound}
+use Rattle.object_layout.proofs.Distinct.{Once}
 use Rattle.remembered_set.specs.Moved.{same_address}
 use Rattle.listed.proofs.Members.{In, in_from_contains, contains_from_in}
 use Rattle.leaf_copy_gc.specs.declared.lists.Survivor.{Survivor}
-use Rattle.leaf_copy_gc.specs.Survivors.{IsClosed, IsSound, IsSurvivor, olds, old_of, Once, HaveNames}
+use Rattle.leaf_copy_gc.specs.Survivors.{IsSurvivor, olds, old_of, HaveNames}
 use Rattle.leaf_copy_gc.specs.Search.{all_found, found_in}
 use Rattle.leaf_copy_gc.specs.Laid.{before, is_small, smalls, relocations, AreNew, laid_at}
 use Rattle.leaf_copy_gc.specs.Copying.{Copying, copied, copied_one}

@@ -5,16 +5,16 @@ use Rattle.object_layout.specs.declared.word.Birth.{Birth}
 use Rattle.object_layout.specs.Cell.{Cell, Mark, Born, Moved, Hole, IsBorn, IsObject, moved_to, with_mark}
 use Rattle.object_layout.specs.Content.{Content}
 use Rattle.object_layout.specs.Chunks.{cell_of, place_of}
+use Rattle.object_layout.specs.Graph.{IsHeld, IsSound}
 use Rattle.object_layout.proofs.ChunkLaws as laws
 use Rattle.listed.proofs.Members.{In}
-use Rattle.leaf_copy_gc.specs.Survivors.{IsLive, IsSound}
 use Rattle.leaf_copy_gc.specs.Search.{found_in, all_found, birth_in, visited, visited_at, IsTarget, Search}
 use Rattle.leaf_copy_gc.proofs.Puts as puts
 
 pub found_other : (h : List Content) (x a : Addr) → (x ≡ a → ⊥) → cell_of (found_in h x) a ≡ cell_of h a
 found_other h x a ne = puts.mark_other h x (Moved x) a ne
 
-pub found_same : (h : List Content) (a : Addr) → IsLive (found_in h a) a → ⊥
+pub found_same : (h : List Content) (a : Addr) → IsHeld (found_in h a) a → ⊥
 found_same h a l = puts.mark_dead h a (Moved a) (λ b. b) l
 
 pub found_refs : (h : List Content) (x a : Addr) → (cell_of (found_in h x) a).refs ≡ (cell_of h a).refs
@@ -36,12 +36,12 @@ all_found_alone h [] a m = refl
 all_found_alone h (x ∷ xs) a m = all_found_alone (found_in h x) xs a m ∙ puts.mark_alone h x (Moved x) a m
 
 -- what bears its birth name then bore it before, and is not marked
-pub found_live : (h : List Content) (xs : List Addr) (a : Addr) → IsLive (all_found h xs) a → IsLive h a × (In xs a → ⊥)
+pub found_live : (h : List Content) (xs : List Addr) (a : Addr) → IsHeld (all_found h xs) a → IsHeld h a × (In xs a → ⊥)
 found_live h [] a l = (l, λ i. i)
 found_live h (x ∷ xs) a l =
     let r = found_live (found_in h x) xs a l in
     elim (puts.same_or_other x a) [
-      | inl e ↦ absurd (found_same h a (subst (λ (y : Addr). IsLive (found_in h y) a) e r.0))
+      | inl e ↦ absurd (found_same h a (subst (λ (y : Addr). IsHeld (found_in h y) a) e r.0))
       | inr n ↦ (subst (λ (c : Cell). IsBorn c.mark) (found_other h x a n) r.0, λ i. elim i [ inl e ↦ n e | inr j ↦ r.1 j ])
     ]
 
@@ -110,7 +110,7 @@ moved_dead (Born b) to e = absurd cc
 moved_dead (Moved x) to e = refl
 moved_dead Hole to e = refl
 
-pub visit_live : (h : List Content) (a : Addr) (b : Birth) (r : Option Birth) → r ≡ birth_in (cell_of h a).mark → r ≡ Some b → IsLive h a
+pub visit_live : (h : List Content) (a : Addr) (b : Birth) (r : Option Birth) → r ≡ birth_in (cell_of h a).mark → r ≡ Some b → IsHeld h a
 visit_live h a b r e f = born_live (cell_of h a).mark b (birth_live (cell_of h a).mark b (sym e ∙ f))
 
 pub visited_all_targets : (s : Search) (v : Option Addr) (k : List Content) → k ≡ (visited s v).heap → (rs : List (Option Addr)) → All (IsTarget s.heap) rs → All (IsTarget k) rs

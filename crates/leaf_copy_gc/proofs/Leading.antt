@@ -7,10 +7,12 @@ use Rattle.object_layout.specs.declared.word.Addr.{Addr}
 use Rattle.object_layout.specs.Cell.{Cell, Born, Moved, IsObject, moved_to, size_of, with_mark}
 use Rattle.object_layout.specs.Content.{Content}
 use Rattle.object_layout.specs.Chunks.{cell_of, place_of}
+use Rattle.object_layout.specs.Graph.{IsClosed, IsHeld, IsSound}
+use Rattle.object_layout.proofs.Distinct.{Once}
 use Rattle.object_layout.proofs.ChunkLaws as laws
 use Rattle.listed.proofs.Members.{In, in_from_contains, contains_from_in}
 use Rattle.leaf_copy_gc.specs.declared.lists.Survivor.{Survivor}
-use Rattle.leaf_copy_gc.specs.Survivors.{IsLive, IsClosed, IsSound, IsSurvivor, olds, old_of, Once, HaveNames}
+use Rattle.leaf_copy_gc.specs.Survivors.{IsSurvivor, olds, old_of, HaveNames}
 use Rattle.leaf_copy_gc.specs.Search.{all_found, IsTarget}
 use Rattle.leaf_copy_gc.specs.Laid.{Laying, is_small, smalls, laid_all, laid_one, opened, open_next, placed, room_in, relocations, before, AreNew, HaveRoom, small_words}
 use Rattle.leaf_copy_gc.specs.Copying.{Copying, copied, copied_one, IsReady}
@@ -118,7 +120,7 @@ module _ (h : List Content) (from : List (Option Addr)) (closed : IsClosed h) (s
   pub can_copy : HaveRoom (before spare) h (smalls h (olds ss)) → IsReady k ss
   can_copy room = moves.are_ready h k ss once as_were (subst (λ (y : Laying). HaveRoom y h (smalls h (olds ss))) (sym k_laying) room)
 
-  pub lives : (a : Addr) → In (olds ss) a → IsLive h a
+  pub lives : (a : Addr) → In (olds ss) a → IsHeld h a
   lives a i = survivor_live h from a ((kept a).0 (contains_from_in (olds ss) a i))
 
   small_once : Once (olds (small_ones h ss))
@@ -129,7 +131,7 @@ module _ (h : List Content) (from : List (Option Addr)) (closed : IsClosed h) (s
 
   pub enough : 2 * ((small_words h + 1023) / 1024) ≤ length spare + 1 → HaveRoom (before spare) h (smalls h (olds ss))
   enough room =
-      let small : (a : Addr) → In (smalls h (olds ss)) a → IsLive h a × (is_small h a ≡ true) = λ a i. let p = moves.in_smalls h (olds ss) a i in (lives a p.0, p.1) in
+      let small : (a : Addr) → In (smalls h (olds ss)) a → IsHeld h a × (is_small h a ≡ true) = λ a i. let p = moves.in_smalls h (olds ss) a i in (lives a p.0, p.1) in
       let most = rooms.sizes_most h (smalls h (olds ss)) (moves.once_smalls h (olds ss) once) small in
       let up : small_words h ≤ 1024 * ((small_words h + 1023) / 1024) = omega arith in
       rooms.enough_room h ((small_words h + 1023) / 1024) spare (smalls h (olds ss)) new (omega arith) room (λ a i. leb-true (size_of (cell_of h a)) 1024 (small a i).1)
@@ -179,7 +181,7 @@ module _ (h : List Content) (from : List (Option Addr)) (closed : IsClosed h) (s
               ∙ sym (ap (λ (o : Option Addr). Some (unwrap_or o a)) (moves.new_none (before spare) h (smalls h (olds ss)) a out)))))
         ]
 
-    pub leads_reference : (r : Option Addr) → IsSound h r → ((a : Addr) → r ≡ Some a → IsLive h a → IsSurvivor h from a)
+    pub leads_reference : (r : Option Addr) → IsSound h r → ((a : Addr) → r ≡ Some a → IsHeld h a → IsSurvivor h from a)
         → Leads t.old (relocations (before spare) h (smalls h (olds ss))) r
     leads_reference None s reach = (refl, tt)
     leads_reference (Some a) s reach = (
@@ -201,7 +203,7 @@ module _ (h : List Content) (from : List (Option Addr)) (closed : IsClosed h) (s
     leads_refs a i =
         let w = (kept a).0 (contains_from_in (olds ss) a i) in
         λ j d l. leads_reference (get_or (cell_of h a).refs j d) (closed a (lives a i) j d l)
-        (λ b e live. (suc w.0, (a, w.1, (live, contains_from_in (cell_of h a).refs (Some b) (subst (In (cell_of h a).refs) e (in_read (cell_of h a).refs j d l))))))
+        (λ b e live. (suc w.0, (a, w.1, (lives a i, live, contains_from_in (cell_of h a).refs (Some b) (subst (In (cell_of h a).refs) e (in_read (cell_of h a).refs j d l))))))
 
     pub leads_from : All (Leads t.old (relocations (before spare) h (smalls h (olds ss)))) from
     leads_from = λ j d l. leads_reference (get_or from j d) (sound j d l)

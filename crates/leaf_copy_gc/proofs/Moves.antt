@@ -8,11 +8,13 @@ use Rattle.object_layout.specs.declared.word.Birth.{Birth}
 use Rattle.object_layout.specs.Cell.{Cell, Mark, Born, Moved, IsBorn, IsObject, moved_to, size_of, with_mark}
 use Rattle.object_layout.specs.Content.{Content}
 use Rattle.object_layout.specs.Chunks.{cell_of, place_of, put_object}
+use Rattle.object_layout.specs.Graph.{IsHeld}
+use Rattle.object_layout.proofs.Distinct.{Once}
 use Rattle.object_layout.proofs.ChunkLaws as laws
 use Rattle.remembered_set.specs.Moved.{new_of, same_address}
 use Rattle.listed.proofs.Members.{In, contains_from_in, in_from_contains}
 use Rattle.leaf_copy_gc.specs.declared.lists.Survivor.{Survivor}
-use Rattle.leaf_copy_gc.specs.Survivors.{IsLive, olds, old_of, Once}
+use Rattle.leaf_copy_gc.specs.Survivors.{olds, old_of}
 use Rattle.leaf_copy_gc.specs.Search.{all_found, found_in, IsTarget}
 use Rattle.leaf_copy_gc.specs.Laid.{Laying, is_small, smalls, laid_one, laid_at, relocations, laid_all, HasRoom, HaveRoom}
 use Rattle.leaf_copy_gc.specs.Copying.{Copying, copied, copied_one, survivor_cell, IsReady}
@@ -251,7 +253,7 @@ named_cell c b e = λ i. record { mark = sym e i; mutable = c.mutable; refs = c.
 pub are_as : (h : List Content) (xs : List Addr) (ss : List Survivor) → ((s : Survivor) → In ss s → (cell_of h s.old).mark ≡ Born s.birth) → AreAs h (all_found h xs) ss
 are_as h xs ss born s i =
     let b = born s i in
-    let live : IsLive h s.old = subst IsBorn (sym b) tt in (
+    let live : IsHeld h s.old = subst IsBorn (sym b) tt in (
       marks.all_found_alone h xs s.old (Born s.birth) ∙ named_cell (cell_of h s.old) s.birth b,
       marks.all_found_object h xs s.old (laws.born_object h s.old live),
     )

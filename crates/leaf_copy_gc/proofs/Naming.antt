@@ -9,13 +9,15 @@ use Rattle.object_layout.specs.Cell.{Cell, Mark, Born, Moved, IsBorn, IsObject, 
 use Rattle.object_layout.specs.Content.{Content}
 use Rattle.object_layout.specs.Place.{cell_at}
 use Rattle.object_layout.specs.Chunks.{cell_of, chunk_at, place_of, place_in, put_object}
+use Rattle.object_layout.specs.Graph.{IsHeld}
+use Rattle.object_layout.proofs.Distinct.{Once}
 use Rattle.object_layout.proofs.ChunkLaws as laws
 use Rattle.remembered_set.specs.Moved.{same_address}
 use Rattle.alloc_path.specs.Heap.{AreTidy, IsTidy}
 use Rattle.alloc_path.proofs.HeapLemmas.{none_there}
 use Rattle.listed.proofs.Members.{In, contains_from_in, in_from_kept, in_append_cases}
 use Rattle.leaf_copy_gc.specs.declared.lists.Survivor.{Survivor}
-use Rattle.leaf_copy_gc.specs.Survivors.{IsLive, olds, old_of, Once, HaveNames}
+use Rattle.leaf_copy_gc.specs.Survivors.{olds, old_of, HaveNames}
 use Rattle.leaf_copy_gc.specs.Redirected.{led, led_chunk}
 use Rattle.leaf_copy_gc.specs.Exchanged.{unreserved, reserved_of, named, CanName}
 use Rattle.leaf_copy_gc.specs.Collected.{AreAlike, keeps}
@@ -148,8 +150,8 @@ module _ (h : List Content) (ss : List Survivor) (f : Option Addr → Option Add
   born : (s : Survivor) → In ss s → (cell_of h s.old).mark ≡ Born s.birth
   born s i = read_in (λ (x : Survivor). (cell_of h x.old).mark ≡ Born x.birth) ss s i names
 
-  lives : (a : Addr) → In (olds ss) a → IsLive h a
-  lives a i = let u = in_unmap ss a i in subst (IsLive h) u.1.1 (subst IsBorn (sym (born u.0 u.1.0)) tt)
+  lives : (a : Addr) → In (olds ss) a → IsHeld h a
+  lives a i = let u = in_unmap ss a i in subst (IsHeld h) u.1.1 (subst IsBorn (sym (born u.0 u.1.0)) tt)
 
   lies : (a : Addr) → In (olds ss) a → In (numbers h) a.chunk
   lies a i =

@@ -6,10 +6,11 @@ use Rattle.object_layout.specs.Cell.{Cell, Mark, Born, Moved, Hole, IsBorn, IsOb
 use Rattle.object_layout.specs.Content.{Content}
 use Rattle.object_layout.specs.Place.{cell_at, put_cell}
 use Rattle.object_layout.specs.Chunks.{cell_of, place_in, place_of, put_object}
+use Rattle.object_layout.specs.Graph.{IsHeld}
 use Rattle.object_layout.proofs.PlaceLemmas as place
 use Rattle.object_layout.proofs.ChunkLaws as laws
 use Rattle.listed.proofs.Members.{In}
-use Rattle.leaf_copy_gc.specs.Survivors.{IsLive, born_of, born_in, live_count}
+use Rattle.leaf_copy_gc.specs.Survivors.{born_of, born_in, live_count}
 
 -- two addresses are one, or not
 pub same_or_other : (a b : Addr) → (a ≡ b) ⊎ (a ≡ b → ⊥)
@@ -104,7 +105,7 @@ module _ (h : List Content) (x : Addr) (m : Mark) where
       ]
 
   -- what isn't to bear its birth name doesn't
-  pub mark_dead : (IsBorn m → ⊥) → IsLive (put_object h x (with_mark (cell_of h x) m)) x → ⊥
+  pub mark_dead : (IsBorn m → ⊥) → IsHeld (put_object h x (with_mark (cell_of h x) m)) x → ⊥
   mark_dead d l =
       elim (put_cases h x (with_mark (cell_of h x) m)) [
         | inl p ↦ d (subst (λ (c : Cell). IsBorn c.mark) p l)
@@ -112,7 +113,7 @@ module _ (h : List Content) (x : Addr) (m : Mark) where
       ]
 
 -- what bears its birth name lies in a chunk
-pub live_chunk : (h : List Content) (a : Addr) → IsLive h a → place_of h a.chunk < length h
+pub live_chunk : (h : List Content) (a : Addr) → IsHeld h a → place_of h a.chunk < length h
 live_chunk h a l = laws.chunk_of_object h a (laws.born_object h a l)
 
 -- ---- how many bear their birth names
@@ -134,7 +135,7 @@ count_cells (c ∷ cs) (suc n) to l =
     rw t (omega arith))
     (cases_lt (suc n) (size_of c))
 
-pub count_found : (h : List Content) (a to : Addr) → IsLive h a → live_count h ≡ live_count (put_object h a (with_mark (cell_of h a) (Moved to))) + 1
+pub count_found : (h : List Content) (a to : Addr) → IsHeld h a → live_count h ≡ live_count (put_object h a (with_mark (cell_of h a) (Moved to))) + 1
 count_found [] a to l = absurd l
 count_found (k ∷ ks) a to l =
     ⊎_elim

@@ -9,12 +9,14 @@ use Rattle.object_layout.specs.Cell.{Born, Cell, IsBorn, IsObject, no_cell, size
 use Rattle.object_layout.specs.Content.{Content}
 use Rattle.object_layout.specs.Place.{cell_at, IsCellAt}
 use Rattle.object_layout.specs.Chunks.{cell_of, chunk_at}
+use Rattle.object_layout.specs.Graph.{IsHeld}
 use Rattle.object_layout.proofs.PlaceLemmas as place
 use Rattle.object_layout.proofs.ChunkLaws as laws
+use Rattle.object_layout.proofs.Distinct.{once_from}
 use Rattle.listed.proofs.Members.{In, in_append_left, in_from_contains, in_kept}
 use Rattle.alloc_path.specs.Heap.{AreTidy, Heap, IsReserved, IsSettled, IsTidy}
 use Rattle.leaf_copy_gc.specs.declared.lists.Survivor.{Survivor}
-use Rattle.leaf_copy_gc.specs.Survivors.{IsLive, olds}
+use Rattle.leaf_copy_gc.specs.Survivors.{olds}
 use Rattle.leaf_copy_gc.specs.Exchanged.{reserved_of, unreserved}
 use Rattle.leaf_copy_gc.specs.Collected.{AreSurvivors, collected, keeps, kept_of, laid_of, moves_of, redirection}
 use Rattle.leaf_copy_gc.specs.Laws.{CanTake, LargeAreRead, MovedAreRead}
@@ -136,18 +138,18 @@ led_there f (k ∷ ks) a =
 -- ---- the law
 
 module _ (h : Heap) (from : List (Option Addr)) (ss : List Survivor) (news : List Content) (s : AreSurvivors h.chunks from ss) (t : CanTake h.chunks news) where
-  lives : (a : Addr) → In (olds ss) a → IsLive h.chunks a
+  lives : (a : Addr) → In (olds ss) a → IsHeld h.chunks a
   lives a i =
       let u = in_unmap ss a i in
-      subst (IsLive h.chunks) u.1.1 (subst IsBorn (sym (read_in (λ (x : Survivor). (cell_of h.chunks x.old).mark ≡ Born x.birth) ss u.0 u.1.0 s.names)) tt)
+      subst (IsHeld h.chunks) u.1.1 (subst IsBorn (sym (read_in (λ (x : Survivor). (cell_of h.chunks x.old).mark ≡ Born x.birth) ss u.0 u.1.0 s.names)) tt)
 
-  pub small : (a : Addr) → In (smalls h.chunks (olds ss)) a → IsLive h.chunks a × (is_small h.chunks a ≡ true)
+  pub small : (a : Addr) → In (smalls h.chunks (olds ss)) a → IsHeld h.chunks a × (is_small h.chunks a ≡ true)
   small a i = let p = moves.in_smalls h.chunks (olds ss) a i in (lives a p.0, p.1)
 
   pub room : HaveRoom (before (reverse news)) h.chunks (smalls h.chunks (olds ss))
   room =
       let n = (small_words h.chunks + 1023) / 1024 in
-      let most = rooms.sizes_most h.chunks (smalls h.chunks (olds ss)) (moves.once_smalls h.chunks (olds ss) s.once) small in
+      let most = rooms.sizes_most h.chunks (smalls h.chunks (olds ss)) (moves.once_smalls h.chunks (olds ss) (once_from (olds ss) s.once)) small in
       let up : small_words h.chunks ≤ 1024 * ((small_words h.chunks + 1023) / 1024) = omega arith in
       let enough = t.enough in
       rooms.enough_room h.chunks ((small_words h.chunks + 1023) / 1024) (reverse news) (smalls h.chunks (olds ss)) (nums.new_reverse news t.new) (omega arith) (omega (arith, length-reverse news))
@@ -222,10 +224,10 @@ module _ (h : Heap) (from : List (Option Addr)) (ss : List Survivor) (news : Lis
       nums.distinct_apart_parts (numbers h.chunks) (numbers news) all_once n j (nums.in_reverse news n k)
 
   module _ (a : Addr) (i : In (olds ss) a) (big : is_small h.chunks a ≡ false) where
-    live : IsLive h.chunks a
+    live : IsHeld h.chunks a
     live =
         let u = in_unmap ss a i in
-        subst (IsLive h.chunks) u.1.1 (subst IsBorn (sym (read_in (λ (x : Survivor). (cell_of h.chunks x.old).mark ≡ Born x.birth) ss u.0 u.1.0 s.names)) tt)
+        subst (IsHeld h.chunks) u.1.1 (subst IsBorn (sym (read_in (λ (x : Survivor). (cell_of h.chunks x.old).mark ≡ Born x.birth) ss u.0 u.1.0 s.names)) tt)
 
     own : (k : Content) × (In h.chunks k × (k.number ≡ a.chunk))
     own = extent.chunk_in h.chunks a.chunk (object_number h.chunks a (laws.born_object h.chunks a live))
@@ -248,7 +250,7 @@ module _ (h : Heap) (from : List (Option Addr)) (ss : List Survivor) (news : Lis
             let full : k.cells ≡ [] → ⊥ = λ e. let n = ap (λ (cs : List Cell). length cs) e in absurd (omega arith) in
             let stays = in_kept (keeps ss) (unreserved h.chunks h.reserved) k (unreserved_in h.chunks h.reserved reserved k j full) kept in
             let out = λ (z : In (numbers (laid_of h ss (reverse news))) a.chunk). laid_apart a.chunk z (object_number h.chunks a (laws.born_object h.chunks a live)) in
-            naming.goal_kept h.chunks ss f h.reserved (laid_of h ss (reverse news)) tidy once_h s.once s.names laid_apart laid_once (within_of h.chunks h.reserved reserved) (none_of h.chunks h.reserved reserved) a out k stays q
+            naming.goal_kept h.chunks ss f h.reserved (laid_of h ss (reverse news)) tidy once_h (once_from (olds ss) s.once) s.names laid_apart laid_once (within_of h.chunks h.reserved reserved) (none_of h.chunks h.reserved reserved) a out k stays q
             ∙ (led_cell f k.cells a.offset ∙ ap (led f) (sym there))
           where
             at_first : (k : Content) → k.number ≡ a.chunk → k.cells ≡ cell_at k.cells 0 ∷ [] → IsBorn (cell_at k.cells a.offset).mark → (o : ℕ) → o ≡ a.offset → a ≡ first_of k

@@ -7,9 +7,10 @@ use Rattle.object_layout.specs.Cell.{Cell, Mark, Born, Moved, Hole, IsBorn, size
 use Rattle.object_layout.specs.Content.{Content}
 use Rattle.object_layout.specs.Place.{cell_at, put_cell, words_in}
 use Rattle.object_layout.specs.Chunks.{cell_of, put_object}
+use Rattle.object_layout.specs.Graph.{IsHeld}
+use Rattle.object_layout.proofs.Distinct.{Once}
 use Rattle.object_layout.proofs.PlaceLemmas as place
 use Rattle.listed.proofs.Members.{In, contains_from_in}
-use Rattle.leaf_copy_gc.specs.Survivors.{IsLive, Once}
 use Rattle.leaf_copy_gc.specs.Search.{found_in}
 use Rattle.leaf_copy_gc.specs.Laid.{Laying, room_in, placed, next_place, laid_one, open_next, HasRoom, HaveRoom, AreNew, is_small, small_size, small_in, small_words}
 use Rattle.leaf_copy_gc.proofs.FoundLemmas as marks
@@ -184,7 +185,7 @@ words_cells (c ∷ cs) (suc n) to l s =
           rw t (omega arith)
     ]
 
-words_found : (h : List Content) (a to : Addr) → IsLive h a → is_small h a ≡ true → small_words h ≡ small_words (put_object h a (with_mark (cell_of h a) (Moved to))) + size_of (cell_of h a)
+words_found : (h : List Content) (a to : Addr) → IsHeld h a → is_small h a ≡ true → small_words h ≡ small_words (put_object h a (with_mark (cell_of h a) (Moved to))) + size_of (cell_of h a)
 words_found [] a to l s = absurd l
 words_found (k ∷ ks) a to l s =
     elim (cases_Bool (eqb k.number a.chunk)) [
@@ -200,7 +201,7 @@ sizes_found h a (x ∷ xs) n =
     omega arith
 
 -- the words of different small objects of a heap are no more than those of all its small objects
-pub sizes_most : (h : List Content) (xs : List Addr) → Once xs → ((a : Addr) → In xs a → IsLive h a × (is_small h a ≡ true)) → sizes h xs ≤ small_words h
+pub sizes_most : (h : List Content) (xs : List Addr) → Once xs → ((a : Addr) → In xs a → IsHeld h a × (is_small h a ≡ true)) → sizes h xs ≤ small_words h
 sizes_most h [] o l = omega arith
 sizes_most h (a ∷ xs) o l =
     let n : In xs a → ⊥ = λ i. o.0 (contains_from_in xs a i) in

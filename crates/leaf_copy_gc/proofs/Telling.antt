@@ -8,12 +8,13 @@ use Rattle.listed.proofs.Members.{In, contains_from_in, in_from_contains}
 use Rattle.object_layout.specs.declared.word.Addr.{Addr}
 use Rattle.object_layout.specs.Content.{Content}
 use Rattle.object_layout.specs.Chunks.{cell_of, has_chunk}
+use Rattle.object_layout.proofs.Distinct.{Once, once_from}
 use Rattle.object_layout.proofs.ChunkLaws as laws
 use Rattle.object_layout.proofs.Owning.{fresh_none}
 use Rattle.alloc_path.specs.Heap.{Heap}
 use Rattle.remembered_set.specs.Moved.{ArePlaces, new_of, same_address}
 use Rattle.leaf_copy_gc.specs.declared.lists.Survivor.{Survivor}
-use Rattle.leaf_copy_gc.specs.Survivors.{olds, Once}
+use Rattle.leaf_copy_gc.specs.Survivors.{olds}
 use Rattle.leaf_copy_gc.specs.Laid.{before, laid_one, relocations, smalls, HaveRoom, Laying}
 use Rattle.leaf_copy_gc.specs.Redirected.{redirected}
 use Rattle.leaf_copy_gc.specs.Collected.{moves_of, AreSurvivors}
@@ -98,7 +99,7 @@ module _ (h : Heap) (from : List (Option Addr)) (ss : List Survivor) (news : Lis
   firsts_are = firsts (before (reverse news)) h.chunks (smalls h.chunks (olds ss))
 
   once_all : Once (map first_in all)
-  once_all = subst Once (sym firsts_are) (moves.once_smalls h.chunks (olds ss) s.once)
+  once_all = subst Once (sym firsts_are) (moves.once_smalls h.chunks (olds ss) (once_from (olds ss) s.once))
 
   once_moved : Once (map first_in moved)
   once_moved = once_sorted (map first_in all) (map first_in moved) (IsPermutation-map first_in all moved p) once_all

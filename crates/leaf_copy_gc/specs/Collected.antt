@@ -1,6 +1,6 @@
 -- What a collection makes of a heap.
 use Rattle.std.specs.Prelude.{◌≡◌, ◌+◌, ◌↔◌, ◌&&◌, Bool, false, List, [], ◌∷◌, ◌++◌, Option, Contains, filter, length, map, nat_le, not, reverse}
-use Rattle.std.specs.List.{list_any}
+use Rattle.std.specs.List.{IsDistinct, list_any}
 use Rattle.std.specs.List.Sorted.{IsSorted}
 use Rattle.object_layout.specs.declared.word.Addr.{Addr}
 use Rattle.object_layout.specs.Cell.{Moved, size_of, with_mark}
@@ -8,9 +8,9 @@ use Rattle.object_layout.specs.Content.{Content}
 use Rattle.object_layout.specs.Place.{cell_at}
 use Rattle.object_layout.specs.Chunks.{cell_of}
 use Rattle.alloc_path.specs.Heap.{Heap}
-use Rattle.remembered_set.specs.Moved.{same_address}
+use Rattle.object_layout.specs.Chunks.{same_address}
 use Rattle.leaf_copy_gc.specs.declared.lists.Survivor.{Survivor}
-use Rattle.leaf_copy_gc.specs.Survivors.{HaveNames, IsSurvivor, Once, olds, survivor_order}
+use Rattle.leaf_copy_gc.specs.Survivors.{HaveNames, IsSurvivor, olds, survivor_order}
 use Rattle.leaf_copy_gc.specs.Laid.{Laying, before, is_small, laid_all, relocations, smalls}
 use Rattle.leaf_copy_gc.specs.Redirected.{led, led_chunk, redirected}
 use Rattle.leaf_copy_gc.specs.Exchanged.{emptied, last_place, reserved_of, reserved_place, unreserved}
@@ -18,7 +18,7 @@ use Rattle.leaf_copy_gc.specs.Exchanged.{emptied, last_place, reserved_of, reser
 -- exactly what the references from outside lead to, each once, under its name, in order of birth
 pub record AreSurvivors (h : List Content) (from : List (Option Addr)) (ss : List Survivor) : Type 0 where
   pub exactly : (a : Addr) → Contains (olds ss) a ↔ IsSurvivor h from a
-  pub once : Once (olds ss)
+  pub once : IsDistinct same_address (olds ss)
   pub names : HaveNames h ss
   pub order : IsSorted survivor_order ss
 

@@ -1,30 +1,18 @@
 -- The objects of a heap that a collection keeps.
-use Rattle.std.specs.Prelude.{◌≡◌, ℕ, ◌+◌, ◌<◌, List, [], ◌∷◌, ◌++◌, Option, Some, None, Contains, map, length, All}
+use Rattle.std.specs.Prelude.{◌≡◌, ℕ, ◌+◌, List, [], ◌∷◌, ◌++◌, Option, Some, Contains, map, All}
 use Rattle.std.specs.List.{flat_map}
 use Rattle.std.specs.Ordering.{nat_cmp, ordering_then}
 use Rattle.std.specs.declared.cmp.Ordering.{Ordering}
 use Rattle.object_layout.specs.declared.word.Addr.{Addr}
-use Rattle.object_layout.specs.Cell.{Born, Cell, Hole, IsBorn, Mark, Moved}
+use Rattle.object_layout.specs.Cell.{Born, Cell, Hole, Mark, Moved}
 use Rattle.object_layout.specs.Content.{Content}
-use Rattle.object_layout.specs.Chunks.{cell_of, place_of}
+use Rattle.object_layout.specs.Chunks.{cell_of}
+pub use Rattle.object_layout.specs.Graph.{IsClosed, IsHeld, IsHeld as IsLive, IsSound, Leads}
 use Rattle.alloc_path.specs.Heap.{Heap}
 use Rattle.task_frames.specs.declared.frames.Frame.{Frame}
 use Rattle.task_frames.specs.Stack.{Stack, frames_of}
 use Rattle.walks.specs.Reached.{IsReached}
 use Rattle.leaf_copy_gc.specs.declared.lists.Survivor.{Survivor}
-
--- an object that bears its birth name lies at this address
-abbrev pub IsLive : List Content → Addr → Type 0
-IsLive h a = IsBorn (cell_of h a).mark
-
--- a reference into the heap leads to an object there, at a place that a word can hold
-abbrev pub IsSound : List Content → Option Addr → Type 0
-IsSound h None = Unit {0}
-IsSound h (Some a) = place_of h a.chunk < length h → IsLive h a × (a.offset < 1024)
-
--- each reference of each object of the heap does
-abbrev pub IsClosed : List Content → Type 0
-IsClosed h = (a : Addr) → IsLive h a → All (IsSound h) (cell_of h a).refs
 
 -- the references that frames hold, and the roots
 abbrev pub references_in : Frame → List (Option Addr)
@@ -41,20 +29,11 @@ outside s roots = held_by (frames_of s) ++ map as_reference roots
 
 -- these references refer to a
 abbrev pub Starts : List Content → List (Option Addr) → Addr → Type 0
-Starts h from a = IsLive h a × Contains from (Some a)
-
--- the object at m refers to that at a
-abbrev pub Leads : List Content → Addr → Addr → Type 0
-Leads h m a = IsLive h a × Contains (cell_of h m).refs (Some a)
+Starts h from a = IsHeld h a × Contains from (Some a)
 
 -- references from outside, and then those within the heap, lead to a
 abbrev pub IsSurvivor : List Content → List (Option Addr) → Addr → Type 0
 IsSurvivor h from a = IsReached (Starts h from) (Leads h) a
-
--- no address stands here twice
-abbrev pub Once : List Addr → Type 0
-Once [] = Unit {0}
-Once (x ∷ xs) = (Contains xs x → ⊥) × Once xs
 
 abbrev pub old_of : Survivor → Addr
 old_of s = s.old

@@ -2,7 +2,8 @@
 
 ghost use Rattle.std.specs.Prelude.{◌≡◌, ◌+◌, ◌*◌, ◌/◌, ◌≤◌, ◌++◌, length, vec_len, vec_capacity, All};
 ghost use Rattle.alloc_path.specs.Heap.{AreApart, AreTidy, IsFresh, IsSettled};
-ghost use Rattle.leaf_copy_gc.specs.Survivors.{outside, IsClosed, IsSound};
+ghost use Rattle.object_layout.specs.Graph.{IsClosed, IsSound};
+ghost use Rattle.leaf_copy_gc.specs.Survivors.{outside};
 ghost use Rattle.leaf_copy_gc.specs.Laid.{small_words, AreNew};
 ghost use Rattle.leaf_copy_gc.specs.Exchanged.{counted32};
 ghost use Rattle.leaf_copy_gc.specs.Lists.{AreReserved, IsCollected};

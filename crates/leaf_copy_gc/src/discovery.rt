@@ -1,11 +1,13 @@
 // Finds what survives.
 
 ghost use Rattle.std.specs.Prelude.{◌≡◌, ◌+◌, ◌≤◌, ◌<◌, ◌↔◌, [], length, vec_len, vec_capacity, fold, map, All, Contains, Some};
+ghost use Rattle.std.specs.List.{IsDistinct};
 ghost use Rattle.object_layout.specs.Cell.{IsObject};
-ghost use Rattle.object_layout.specs.Chunks.{cell_of};
-ghost use Rattle.leaf_copy_gc.specs.Survivors.{as_reference, held_by, live_count, olds, outside, with_chunks, HaveNames, IsClosed, IsSound, IsSurvivor, Once};
+ghost use Rattle.object_layout.specs.Chunks.{cell_of, same_address};
+ghost use Rattle.leaf_copy_gc.specs.Survivors.{as_reference, held_by, live_count, olds, outside, with_chunks, HaveNames, IsSurvivor};
 ghost use Rattle.leaf_copy_gc.specs.Search.{all_found, birth_in, visited, IsTarget, Search};
 ghost use Rattle.object_layout.specs.declared.word.Addr.{Addr};
+ghost use Rattle.object_layout.specs.Graph.{IsClosed, IsSound};
 ghost use Rattle.task_frames.specs.Stack.{frames_of};
 
 use crate::lists::Survivor;
@@ -114,7 +116,7 @@ pub fn discover(heap: &mut Space, frames: &Frames, roots: &[Addr], found: &mut V
     requires empty { found.old.items ≡ [] }
     requires room { live_count heap.old.chunks ≤ vec_capacity found.old }
     ensures survivors { (a : Addr) → Contains (olds found.new.items) a ↔ IsSurvivor heap.old.chunks (outside frames.now roots.now) a }
-    ensures once { Once (olds found.new.items) }
+    ensures once { IsDistinct same_address (olds found.new.items) }
     ensures names { HaveNames heap.old.chunks found.new.items }
     ensures marked { heap.new ≡ with_chunks heap.old (all_found heap.old.chunks (olds found.new.items)) }
     ensures count { vec_len found.new ≤ live_count heap.old.chunks }

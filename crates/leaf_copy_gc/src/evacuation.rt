@@ -2,7 +2,8 @@
 
 ghost use Rattle.std.specs.Prelude.{◌≡◌, ◌+◌, ◌*◌, ◌/◌, ◌≤◌, [], length, map, reverse, vec_len, vec_capacity, All};
 ghost use Rattle.task_frames.specs.Stack.{frames_of};
-ghost use Rattle.leaf_copy_gc.specs.Survivors.{live_count, olds, outside, with_chunks, IsClosed, IsSound};
+ghost use Rattle.object_layout.specs.Graph.{IsClosed, IsSound};
+ghost use Rattle.leaf_copy_gc.specs.Survivors.{live_count, olds, outside, with_chunks};
 ghost use Rattle.leaf_copy_gc.specs.Laid.{small_words, AreNew};
 ghost use Rattle.leaf_copy_gc.specs.Redirected.{led_chunk, led_frame};
 ghost use Rattle.leaf_copy_gc.specs.Collected.{laying_of, moves_of, redirection, AreSurvivors, IsLeft};

@@ -6,6 +6,7 @@ use Rattle.object_layout.specs.declared.word.Addr.{Addr}
 use Rattle.object_layout.specs.Cell.{IsBorn}
 use Rattle.object_layout.specs.Chunks.{cell_of, small_words}
 use Rattle.object_layout.specs.Content.{Content}
+use Rattle.object_layout.specs.Graph.{IsSound}
 use Rattle.run_trace.specs.declared.entry.Kind.TheVariants.{Begin}
 use Rattle.run_trace.specs.Entry.{Event}
 use Rattle.chunk_pool.specs.Chunks.{Chunks, TakesAll, units_in_use}
@@ -13,7 +14,7 @@ use Rattle.alloc_path.specs.Heap.{AreApart, IsFresh, counted, with_places}
 use Rattle.leaf_copy_gc.specs.declared.lists.ToChunks.{ToChunks}
 use Rattle.leaf_copy_gc.specs.Laid.{AreNew}
 use Rattle.leaf_copy_gc.specs.Lists.{AreReserved}
-use Rattle.leaf_copy_gc.specs.Survivors.{IsSound, as_reference}
+use Rattle.leaf_copy_gc.specs.Survivors.{as_reference}
 use Rattle.task_machine.specs.declared.part.Begun.{Begun as BegunPart}
 use Rattle.task_machine.specs.declared.part.Private.{Private}
 use Rattle.core_relation.specs.Value.{In}

@@ -121,7 +121,7 @@ held_many a ks N =
     ∙ chunks_many ks)
 
 -- OF A TASK that doesn't run
-handed_held : (l : Ledger) (t : ℕ) → held_in (heap_of (handed l) t) ≡ held_in (heap_of l t)
+pub handed_held : (l : Ledger) (t : ℕ) → held_in (heap_of (handed l) t) ≡ held_in (heap_of l t)
 handed_held l t = by l.end
   where
     root : held_in (heap_of (rested l 0) t) ≡ held_in (heap_of l t)

@@ -5,9 +5,10 @@ use Rattle.std.proofs.lemmas.List.Elements.{All-head, All-tail}
 use Rattle.listed.proofs.Members.{contains_from_in, in_append_cases, in_append_left, in_append_right, in_from_contains}
 use Rattle.walks.proofs.Reached.{reached_more, reached_start, reached_within}
 use Rattle.object_layout.specs.declared.word.Addr.{Addr}
-use Rattle.object_layout.specs.Cell.{Born, Cell, Hole, IsObject, Mark, Moved, marked_object, moved_to, size_of}
+use Rattle.object_layout.specs.Cell.{Born, Cell, Hole, Mark, Moved, moved_to, size_of}
 use Rattle.object_layout.specs.Chunks.{cell_of, held_size, object_count, one_each, sum_in}
 use Rattle.object_layout.specs.Content.{Content}
+use Rattle.object_layout.specs.Graph.{IsHeld, Leads}
 use Rattle.alloc_path.specs.Heap.{AreTidy, IsTidy}
 use Rattle.hh_model.specs.declared.data.Task.{Task}
 use Rattle.hh_model.specs.Step.{is_waiting}
@@ -15,9 +16,8 @@ use Rattle.run_ledger.specs.declared.data.Ledger.{Ledger}
 use Rattle.run_ledger.specs.Heaps.{heap_of}
 use Rattle.run_ledger.specs.Sound.{SoundLedger}
 use Rattle.run_ledger.proofs.Journals.{legal_sound}
-use Rattle.alloc_path.proofs.Settled.{unmoved_at}
 use Rattle.inner_mark_gc.specs.Marks.{IsMarking, IsOf, Marks}
-use Rattle.inner_mark_gc.specs.Snapshot.{Fork, IsHeld, IsInSnapshot, Leads, Starts, refs_of}
+use Rattle.inner_mark_gc.specs.Snapshot.{Fork, IsInSnapshot, Starts}
 use Rattle.ledger_steps.specs.Accounts.{Rests}
 use Rattle.ledger_steps.proofs.Split.{legal_idle}
 use Rattle.core_relation.specs.Value.{Frame, In, Seen, Value, objects, objects_in}
@@ -29,11 +29,11 @@ use Rattle.core_relation.specs.Whole.{StandsFor}
 use Rattle.core_relation.proofs.Past.{waiting_stops}
 use Rattle.core_relation.proofs.SnapshotNow.{snapshot_now}
 use Rattle.shared_tree.specs.declared.rest.Rest.{Rest}
-use Rattle.shared_tree.specs.Objects.{chunk_of, chunks_of, objects_from, seen, seen_by}
+use Rattle.shared_tree.specs.Objects.{chunk_of, chunks_of, objects_from, seen_by}
 use Rattle.shared_tree.specs.World.{World, accounts, home_in, rest_at, totals_of, value_of}
 use Rattle.shared_tree.specs.Stands.{HeapForm, IsWorld}
 use Rattle.shared_tree.specs.Marking.{MarksBegin}
-use Rattle.shared_tree.proofs.Cells.{object_seen, seen_object}
+use Rattle.shared_tree.proofs.Closed.{held_seen, seen_held}
 use Rattle.shared_tree.proofs.Now.{stands_now}
 use Rattle.shared_tree.proofs.Targets.{home_chunks}
 
@@ -58,23 +58,6 @@ objects_counted (k ∷ ks) t =
 pub length_chunks : (cs : List Content) → length (chunks_of cs) ≡ length cs
 length_chunks [] = refl
 length_chunks (c ∷ cs) = ap suc (length_chunks cs)
-
--- OBJECTS of chunks, by their cells
-cell_refs : (c : Cell) (m : Mark) → IsObject m → (marked_object m c).refs ≡ c.refs
-cell_refs c (Born b) o = refl
-cell_refs c (Moved to) o = refl
-cell_refs c Hole o = absurd o
-
-pub held_seen : (ks : List Content) → AreTidy ks → (a : Addr) → IsHeld ks a → (o : Seen) × In (objects_in (chunks_of ks)) o × (o.at ≡ a) × (refs_of ks a ≡ o.refs)
-held_seen ks t a h = by (cell_of ks a).mark refl h (unmoved_at ks a t)
-  where
-    by : (m : Mark) → (cell_of ks a).mark ≡ m → IsObject m → moved_to (cell_of ks a).mark ≡ None → (o : Seen) × In (objects_in (chunks_of ks)) o × (o.at ≡ a) × (refs_of ks a ≡ o.refs)
-    by (Born b) e o u = (seen a.chunk a.offset b (cell_of ks a), object_seen ks a b e, refl, cell_refs (cell_of ks a) (cell_of ks a).mark h)
-    by (Moved to) e o u = absurd (none_some (sym u ∙ ap moved_to e))
-      where
-        none_some : {A : Type 0} {x : Addr} → ◌≡◌ {A = Option Addr} None (Some x) → A
-        none_some q = absurd cc
-    by Hole e o u = absurd o
 
 module _ (w : World) (I : IsWorld w) (on : (accounts w).end ≡ None) (t : ℕ) (r : Rest) (there : rest_at w.homes t ≡ Some r) (wait : is_waiting (slice_get (accounts w).machine.tasks t) ≡ true) (keeps : ((value_of w).noted t).keeps ≡ true) where
   abbrev l : Ledger
@@ -108,15 +91,13 @@ module _ (w : World) (I : IsWorld w) (on : (accounts w).end ≡ None) (t : ℕ) 
   from_home o i = subst (λ cs. In (objects_in cs) o) home_is i
 
   pub is_held : (o : Seen) → In (objects v t) o → IsHeld ks o.at
-  is_held o i = let y = seen_object ks o form.shaped.apart (from_home o i) in subst IsObject (sym y.mark) tt
+  is_held o i = (seen_held ks form.shaped.apart o (from_home o i)).0
 
-  pub seen_at : (a : Addr) → IsHeld ks a → (o : Seen) × In (objects v t) o × (o.at ≡ a) × (refs_of ks a ≡ o.refs)
-  seen_at a h = let o = held_seen ks form.tidy a h in (o.0, to_home o.0 o.1, o.2, o.3)
+  pub seen_at : (a : Addr) → IsHeld ks a → (o : Seen) × In (objects v t) o × (o.at ≡ a) × ((cell_of ks a).refs ≡ o.refs)
+  seen_at a h = let o = held_seen ks a h in (o.0, to_home o.0 o.1, o.2, o.3)
 
-  pub refs_are : (o : Seen) → In (objects v t) o → refs_of ks o.at ≡ o.refs
-  refs_are o i =
-      let y = seen_object ks o form.shaped.apart (from_home o i) in
-      cell_refs (cell_of ks o.at) (cell_of ks o.at).mark (subst IsObject (sym y.mark) tt) ∙ sym (ap (λ (z : Seen). z.refs) y.is)
+  pub refs_are : (o : Seen) → In (objects v t) o → (cell_of ks o.at).refs ≡ o.refs
+  refs_are o i = (seen_held ks form.shaped.apart o (from_home o i)).1
 
   -- the roots: what registers name, and what remembered fields hold
   module _ (roots : List Addr) (are : (a : Addr) → In roots a ↔ (((o : Seen) × IsAt (v.homes t) a o × ((f : Frame) × In (v.homes t).frames f × In f.refs (Some a))) ⊎ IsRoot v l t a)) where
@@ -139,10 +120,10 @@ module _ (w : World) (I : IsWorld w) (on : (accounts w).end ≡ None) (t : ℕ) 
     more_now : (b a : Addr) → IsThere b → Leads ks b a → IsThere a
     more_now b a y d =
         let o : (o : Seen) × IsAt (v.homes t) b o = y.1 in
-        let q = seen_at a d.0 in
+        let q = seen_at a d.1 in
         let at : IsAt (v.homes t) a q.0 = (q.1, q.2) in
-        let refs : refs_of ks b ≡ o.0.refs = ap (refs_of ks) (sym o.1.1) ∙ refs_are o.0 o.1.0 in
-        (reached_more (StartsNow v l t) (LeadsAt (v.homes t)) b a y.0 (o.0, q.0, o.1, subst (λ rs. In rs (Some a)) refs (in_from_contains (refs_of ks b) (Some a) d.1), at), (q.0, at))
+        let refs : (cell_of ks b).refs ≡ o.0.refs = ap (λ x. (cell_of ks x).refs) (sym o.1.1) ∙ refs_are o.0 o.1.0 in
+        (reached_more (StartsNow v l t) (LeadsAt (v.homes t)) b a y.0 (o.0, q.0, o.1, subst (λ rs. In rs (Some a)) refs (in_from_contains (cell_of ks b).refs (Some a) d.2), at), (q.0, at))
 
     to_now : (a : Addr) → IsInSnapshot f (kept v t) a → IsReachedNow v l t a
     to_now a g = (reached_within (Starts f (kept v t)) (Leads ks) IsThere start_now more_now a g).0
@@ -165,8 +146,8 @@ module _ (w : World) (I : IsWorld w) (on : (accounts w).end ≡ None) (t : ℕ) 
 
     more_then : (b a : Addr) → IsInSnapshot f (kept v t) b → LeadsAt (v.homes t) b a → IsInSnapshot f (kept v t) a
     more_then b a g d =
-        let refs : refs_of ks b ≡ d.0.refs = ap (refs_of ks) (sym d.2.1) ∙ refs_are d.0 d.2.0 in
-        reached_more (Starts f (kept v t)) (Leads ks) b a g (held_at a d.1 d.4, contains_from_in (refs_of ks b) (Some a) (subst (λ rs. In rs (Some a)) (sym refs) d.3))
+        let refs : (cell_of ks b).refs ≡ d.0.refs = ap (λ x. (cell_of ks x).refs) (sym d.2.1) ∙ refs_are d.0 d.2.0 in
+        reached_more (Starts f (kept v t)) (Leads ks) b a g (held_at b d.0 d.2, held_at a d.1 d.4, contains_from_in (cell_of ks b).refs (Some a) (subst (λ rs. In rs (Some a)) (sym refs) d.3))
 
     from_now : (a : Addr) → IsReachedNow v l t a → IsInSnapshot f (kept v t) a
     from_now a g = reached_within (StartsNow v l t) (LeadsAt (v.homes t)) (IsInSnapshot f (kept v t)) start_then more_then a g
@@ -193,7 +174,7 @@ module _ (w : World) (I : IsWorld w) (on : (accounts w).end ≡ None) (t : ℕ) 
           marks = marks;
           there = is_held;
           were = λ a h. (let o = seen_at a h in (o.0, o.1, o.2));
-          overwritten = λ o a i c d. inl (subst (λ rs. In rs (Some a)) (refs_are o i) (in_from_contains (refs_of ks o.at) (Some a) d.1));
+          overwritten = λ o a i c d. inl (subst (λ rs. In rs (Some a)) (refs_are o i) (in_from_contains (cell_of ks o.at).refs (Some a) d.2));
           snapshot = snapshot_is;
           once = own.room.once;
           marked = own.marked;

@@ -5,13 +5,15 @@ use Rattle.std.proofs.Math.Nat.{min-eq_left, min-eq_right}
 use Rattle.std.proofs.lemmas.Bool.{cases_lt}
 use Rattle.listed.proofs.Members.{contains_from_in, in_from_contains}
 use Rattle.object_layout.specs.declared.word.Addr.{Addr}
+use Rattle.object_layout.proofs.Distinct.{distinct_take}
+use Rattle.object_layout.specs.Graph.{IsHeld, Leads}
 use Rattle.hh_model.specs.declared.data.Name.{Name}
 use Rattle.run_ledger.specs.declared.data.Heap.{Heap}
 use Rattle.run_ledger.specs.declared.data.Ledger.{Ledger}
 use Rattle.run_ledger.specs.Heaps.{heap_of, held_in, left_in, marked_in, or_fresh, with_heap}
 use Rattle.run_ledger.proofs.History.{snapshots_are_held}
 use Rattle.inner_mark_gc.specs.Marks.{Marks, marked_of}
-use Rattle.inner_mark_gc.specs.Snapshot.{IsHeld, IsInSnapshot, Leads, Starts}
+use Rattle.inner_mark_gc.specs.Snapshot.{IsInSnapshot, Starts}
 use Rattle.inner_mark_gc.proofs.Marked.{in_take}
 use Rattle.walks.proofs.Reached.{reached_within}
 use Rattle.ledger_steps.specs.Accounts.{Rests}
@@ -25,7 +27,6 @@ use Rattle.shared_tree.specs.Marking.{MarksCount}
 use Rattle.shared_tree.specs.World.{accounts, totals_of, value_of}
 use Rattle.shared_tree.proofs.MarkBegun as begun
 use Rattle.shared_tree.proofs.MarkFurther.{is_since}
-use Rattle.shared_tree.proofs.MarkWorld.{distinct_once, take_once}
 use Rattle.shared_tree.proofs.Now.{stands_now}
 
 take_long : (n : ℕ) (xs : List Addr) → n ≤ length xs → length (take n xs) ≡ n
@@ -37,7 +38,7 @@ take_long (suc n) (x ∷ xs) le = ap suc (take_long n xs (omega (arith, le)))
 marked_each : (v : Value) (t : ℕ) (names : List Name) (m : Marks) → GoesOn v t names m → (a : Addr) → In (marked_of m) a → (q : Seen) × In (objects v t) q × (q.at ≡ a) × In names q.name
 marked_each v t names m G a i =
     let reached = G.marks.each a (contains_from_in m.found a (in_take m.marked m.found a i)) in
-    let held : IsHeld G.fork.heap a = reached_within (Starts G.fork (kept v t)) (Leads G.fork.heap) (IsHeld G.fork.heap) (λ x s. s.0) (λ b x h d. d.0) a reached in
+    let held : IsHeld G.fork.heap a = reached_within (Starts G.fork (kept v t)) (Leads G.fork.heap) (IsHeld G.fork.heap) (λ x s. s.0) (λ b x h d. d.1) a reached in
     let o = G.were a held in
     (o.0, o.1, o.2, (G.snapshot o.0 o.1).0 (subst (IsInSnapshot G.fork (kept v t)) (sym o.2) reached))
 
@@ -66,7 +67,7 @@ marks_count w k t r m m' n c I on there wait keeps at G' sum most last =
     let each = marked_each v t (heap_of l t).snapshot m' G' in
     let long : length (marked_of m) ≡ m.marked = take_long m.marked m.found G.marked in
     let long' : length (marked_of m') ≡ m'.marked = take_long m'.marked m'.found G'.marked in
-    let few : length (marked_of m') ≤ length (heap_of l t).snapshot = few_marked v l t (marked_of m') S.homes rests each (distinct_once (marked_of m') (take_once m'.marked m'.found G'.once)) in
+    let few : length (marked_of m') ≤ length (heap_of l t).snapshot = few_marked v l t (marked_of m') S.homes rests each (distinct_take m'.marked m'.found G'.once) in
     let all : c < n → length (heap_of l t).snapshot ≤ length (marked_of m') = λ lt.
     all_marked v l t (marked_of m') S.homes rests each F.once (λ x i. in_from_contains (held_in (heap_of l t)) x (F.held x (contains_from_in (heap_of l t).snapshot x i)))
     (λ q i j. in_from_contains (marked_of m') q.at (last lt G.fork (is_since w I on t r there wait keeps m G) G.marks q.at ((G.snapshot q i).1 j))) in

@@ -6,6 +6,7 @@ use Rattle.std.proofs.lemmas.Option.{get_or_from_slice_get}
 use Rattle.listed.proofs.Members.{got_other, got_same, got_within}
 use Rattle.object_layout.specs.declared.word.Addr.{Addr}
 use Rattle.object_layout.specs.Chunks.{held_words}
+use Rattle.object_layout.specs.Graph.{IsHeld}
 use Rattle.run_trace.specs.declared.entry.Kind.TheVariants.{Mark, More}
 use Rattle.run_trace.specs.Entry.{Event}
 use Rattle.run_trace.specs.Settings.{Limits}
@@ -20,7 +21,7 @@ use Rattle.run_ledger.specs.Sound.{SoundLedger}
 use Rattle.run_ledger.proofs.Journals.{entry_tells, legal_sound}
 use Rattle.alloc_path.specs.Heap.{counted}
 use Rattle.inner_mark_gc.specs.Marks.{IsAllMarked, IsMarking, IsOf, Marks, marked_of}
-use Rattle.inner_mark_gc.specs.Snapshot.{Fork, IsHeld, IsSince}
+use Rattle.inner_mark_gc.specs.Snapshot.{Fork, IsSince}
 use Rattle.remembered_set.specs.Moved.{AreFields}
 use Rattle.write_barrier.specs.declared.sets.SetOf.{SetOf}
 use Rattle.ledger_steps.proofs.Ahead.{heap_then, with_at}

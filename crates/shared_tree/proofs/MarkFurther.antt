@@ -1,13 +1,12 @@
 -- A marking that can go on marks more: what it asks of the heap, and that it can go on then.
 use Rattle.std.proofs.Common.{◌≡◌, ◌⊎◌, ◌↔◌, ℕ, ◌+◌, ◌<◌, ◌≤◌, true, Option, Some, None, List, [], ◌∷◌, All, Contains, is_some, length, nat_lt, slice_get, inl, inr, refl, ap, sym, subst, ◌∙◌}
-use Rattle.std.proofs.lemmas.Bool.{cond-true, false≢true, lt-ltb}
-use Rattle.std.proofs.lemmas.Option.{same_Some}
+use Rattle.std.proofs.lemmas.Bool.{false≢true}
 use Rattle.listed.proofs.Members.{contains_from_in, in_from_contains}
 use Rattle.walks.proofs.Reached.{reached_more, reached_within}
 use Rattle.object_layout.specs.declared.word.Addr.{Addr}
-use Rattle.object_layout.specs.Cell.{Born, Hole, IsObject, Mark, Moved, marked_object}
-use Rattle.object_layout.specs.Chunks.{cell_of, has_chunk, object_count, place_of}
+use Rattle.object_layout.specs.Chunks.{cell_of, object_count}
 use Rattle.object_layout.specs.Content.{Content}
+use Rattle.object_layout.specs.Graph.{IsClosed, IsHeld, Leads}
 use Rattle.hh_model.specs.declared.data.Task.{Task}
 use Rattle.hh_model.specs.Step.{is_waiting}
 use Rattle.run_ledger.specs.declared.data.Ledger.{Ledger}
@@ -15,15 +14,12 @@ use Rattle.run_ledger.specs.Heaps.{heap_of, held_in, left_in}
 use Rattle.run_ledger.proofs.History.{snapshots_are_held}
 use Rattle.run_ledger.proofs.Journals.{legal_sound}
 use Rattle.inner_mark_gc.specs.Marks.{IsAllMarked, IsMarking, IsOf, Marks, marked_of}
-use Rattle.inner_mark_gc.specs.Snapshot.{Fork, IsClosed, IsHeld, IsSound, IsInSnapshot, IsSince, Leads, Starts, refs_of}
-use Rattle.ledger_steps.specs.Accounts.{Rests, own as owner_of_name}
-use Rattle.core_relation.specs.Value.{In, Lies, Seen, Value, objects, objects_in}
+use Rattle.inner_mark_gc.specs.Snapshot.{Fork, IsInSnapshot, IsSince, Starts}
+use Rattle.ledger_steps.specs.Accounts.{Rests}
+use Rattle.core_relation.specs.Value.{In, Seen, Value, objects, objects_in}
 use Rattle.core_relation.specs.Begins.{LeadsAt}
 use Rattle.core_relation.specs.Marking.{GoesOn, MarksStand}
-use Rattle.core_relation.specs.Stands.{Place}
 use Rattle.core_relation.proofs.MarksAll.{marks_are_all}
-use Rattle.core_relation.proofs.Members.{in_map}
-use Rattle.core_relation.proofs.Roots.{index_of, name_at}
 use Rattle.core_relation.specs.Now.{IsReachedNow, StartsNow}
 use Rattle.core_relation.specs.Since.{kept}
 use Rattle.core_relation.specs.Whole.{StandsFor}
@@ -31,11 +27,10 @@ use Rattle.core_relation.proofs.Rooted.{lies_in}
 use Rattle.core_relation.proofs.SnapshotNow.{snapshot_now}
 use Rattle.shared_tree.specs.declared.rest.Rest.{Rest}
 use Rattle.shared_tree.specs.Marking.{MarksGoFurther}
-use Rattle.shared_tree.specs.Objects.{chunk_of}
-use Rattle.shared_tree.proofs.RootsHeld.{chunk_in}
 use Rattle.std.proofs.lemmas.List.Elements.{All-cons, All-nil}
 use Rattle.shared_tree.specs.World.{World, accounts, rest_at, totals_of, value_of}
 use Rattle.shared_tree.specs.Stands.{HeapForm, IsWorld}
+use Rattle.shared_tree.proofs.Closed.{closed as is_closed}
 use Rattle.shared_tree.proofs.MarkBegun as begun
 use Rattle.shared_tree.proofs.MarkBegun.{objects_counted}
 use Rattle.shared_tree.proofs.Now.{stands_now}
@@ -43,15 +38,6 @@ use Rattle.shared_tree.proofs.Now.{stands_now}
 all_in : {A : Type 0} (P : A → Type 0) (xs : List A) → ((x : A) → In xs x → P x) → All P xs
 all_in P [] f = All-nil P
 all_in P (x ∷ xs) f = All-cons P x xs (f x (inl refl)) (all_in P xs (λ y i. f y (inr i)))
-
--- what refers to something is an object
-refers_held : (h : List Content) (b : Addr) (x : Option Addr) → Contains (refs_of h b) x → IsHeld h b
-refers_held h b x c = by (cell_of h b).mark (in_from_contains (refs_of h b) x c)
-  where
-    by : (m : Mark) → In (marked_object m (cell_of h b)).refs x → IsObject m
-    by (Born n) i = tt
-    by (Moved to) i = tt
-    by Hole i = i
 
 module _ (w : World) (I : IsWorld w) (on : (accounts w).end ≡ None) (t : ℕ) (r : Rest) (there : rest_at w.homes t ≡ Some r) (wait : is_waiting (slice_get (accounts w).machine.tasks t) ≡ true) (keeps : ((value_of w).noted t).keeps ≡ true)
     (m : Marks) (G : GoesOn (value_of w) t (heap_of (accounts w) t).snapshot m) where
@@ -81,26 +67,28 @@ module _ (w : World) (I : IsWorld w) (on : (accounts w).end ≡ None) (t : ℕ) 
   now = snapshot_now v l t task.0 (legal_sound w.program w.settings w.journal.items I.legal) stands.homes task.1 wait (begun.rests w I on t r there wait keeps) (stands.since t keeps)
 
   reached_held : (a : Addr) → IsInSnapshot G.fork (kept v t) a → IsHeld G.fork.heap a
-  reached_held a g = reached_within (Starts G.fork (kept v t)) (Leads G.fork.heap) (IsHeld G.fork.heap) (λ x s. s.0) (λ b x h d. d.0) a g
+  reached_held a g = reached_within (Starts G.fork (kept v t)) (Leads G.fork.heap) (IsHeld G.fork.heap) (λ x s. s.0) (λ b x h d. d.1) a g
 
   written : (b a : Addr) → IsInSnapshot G.fork (kept v t) b → Leads ks b a → IsInSnapshot G.fork (kept v t) a
   written b a g d =
       let o = G.were b (reached_held b g) in
-      let q = begun.seen_at w I on t r there wait keeps a d.0 in
+      let q = begun.seen_at w I on t r there wait keeps a d.1 in
       let name = (G.snapshot o.0 o.1).0 (subst (IsInSnapshot G.fork (kept v t)) (sym o.2) g) in
       let from : IsReachedNow v l t b = subst (IsReachedNow v l t) o.2 ((now o.0 o.1).1 name) in
-      let refs : refs_of ks b ≡ o.0.refs = ap (refs_of ks) (sym o.2) ∙ begun.refs_are w I on t r there wait keeps o.0 o.1 in
-      let to : IsReachedNow v l t a = reached_more (StartsNow v l t) (LeadsAt (v.homes t)) b a from (o.0, q.0, (o.1, o.2), subst (λ rs. In rs (Some a)) refs (in_from_contains (refs_of ks b) (Some a) d.1), (q.1, q.2)) in
+      let refs : (cell_of ks b).refs ≡ o.0.refs = ap (λ x. (cell_of ks x).refs) (sym o.2) ∙ begun.refs_are w I on t r there wait keeps o.0 o.1 in
+      let to : IsReachedNow v l t a = reached_more (StartsNow v l t) (LeadsAt (v.homes t)) b a from (o.0, q.0, (o.1, o.2), subst (λ rs. In rs (Some a)) refs (in_from_contains (cell_of ks b).refs (Some a) d.2), (q.1, q.2)) in
       subst (IsInSnapshot G.fork (kept v t)) q.2 ((G.snapshot q.0 q.1).1 ((now q.0 q.1).0 (subst (IsReachedNow v l t) (sym q.2) to)))
 
-  overwritten : (b a : Addr) → Leads G.fork.heap b a → Contains (refs_of ks b) (Some a) ⊎ Contains (kept v t) a
+  overwritten : (b a : Addr) → Leads G.fork.heap b a → Leads ks b a ⊎ Contains (kept v t) a
   overwritten b a d =
-      let o = G.were b (refers_held G.fork.heap b (Some a) d.1) in
-      let q = G.were a d.0 in
+      let o = G.were b d.0 in
+      let q = G.were a d.1 in
+      let from : IsHeld ks b = subst (IsHeld ks) o.2 (begun.is_held w I on t r there wait keeps o.0 o.1) in
+      let to : IsHeld ks a = subst (IsHeld ks) q.2 (begun.is_held w I on t r there wait keeps q.0 q.1) in
       let mine : v.owner a.chunk ≡ Some t = ap (λ (z : Addr). v.owner z.chunk) (sym q.2) ∙ lies_in v l stands.homes t q.0 (begun.rests w I on t r there wait keeps) q.1 in
-      let refs : refs_of ks b ≡ o.0.refs = ap (refs_of ks) (sym o.2) ∙ begun.refs_are w I on t r there wait keeps o.0 o.1 in
+      let refs : (cell_of ks b).refs ≡ o.0.refs = ap (λ x. (cell_of ks x).refs) (sym o.2) ∙ begun.refs_are w I on t r there wait keeps o.0 o.1 in
       elim (G.overwritten o.0 a o.1 mine (subst (λ z. Leads G.fork.heap z a) (sym o.2) d)) [
-        | inl i ↦ inl (contains_from_in (refs_of ks b) (Some a) (subst (λ rs. In rs (Some a)) (sym refs) i))
+        | inl i ↦ inl (from, to, contains_from_in (cell_of ks b).refs (Some a) (subst (λ rs. In rs (Some a)) (sym refs) i))
         | inr k ↦ inr (contains_from_in (kept v t) a k)
       ]
 
@@ -156,23 +144,8 @@ module _ (w : World) (I : IsWorld w) (on : (accounts w).end ≡ None) (t : ℕ) 
   kept_held = all_in (IsHeld ks) (kept v t) (λ b i. let o = (stands.since t keeps).each b i in subst (IsHeld ks) o.2 (begun.is_held w I on t r there wait keeps o.0 o.1))
 
   -- and each reference into a chunk of the heap leads to an object
-  sound_at : (b : Addr) → IsHeld ks b → (x : Option Addr) → In (refs_of ks b) x → IsSound ks x
-  sound_at b h None i = tt
-  sound_at b h (Some a) i = λ lt.
-      let o = begun.seen_at w I on t r there wait keeps b h in
-      let rests : Rests l t = begun.rests w I on t r there wait keeps in
-      let c = stands.homes.contents t o.0 rests o.1 in
-      let j = index_of o.0.refs (Some a) (subst (λ rs. In rs (Some a)) o.3 i) in
-      let n = name_at (Place v l) o.0.refs c.0.refs j.0 a c.2.refs j.1 in
-      let there_in : has_chunk ks a.chunk ≡ true = ap is_some (cond-true (nat_lt (place_of ks a.chunk) (length ks)) (Some (place_of ks a.chunk)) None (lt-ltb (place_of ks a.chunk) (length ks) lt)) in
-      let k = chunk_in ks a.chunk there_in in
-      let mine : v.owner a.chunk ≡ Some t = ap v.owner (sym k.2) ∙ (stands.homes.homes t rests).owned (chunk_of k.0) (subst (λ cs. In cs (chunk_of k.0)) (sym (begun.home_is w I on t r there wait keeps)) (in_map chunk_of ks k.0 k.1)) in
-      let own_is : owner_of_name l n.0 ≡ t = same_Some (owner_of_name l n.0) t (sym n.2.chunk ∙ mine) in
-      let lies : Lies (v.homes t).chunks n.0 a = subst (λ z. Lies (v.homes z).chunks n.0 a) own_is (n.2.here (subst (Rests l) (sym own_is) rests)) in
-      subst (IsHeld ks) lies.2.at (begun.is_held w I on t r there wait keeps lies.0 lies.1)
-
   pub closed : IsClosed ks
-  closed b h = all_in (IsSound ks) (refs_of ks b) (sound_at b h)
+  closed = is_closed v l stands.homes t (begun.rests w I on t r there wait keeps) ks (begun.home_is w I on t r there wait keeps) form.shaped.apart form.near
 
   -- WHEN NOTHING IS LEFT
   pub left_is : MarksStand v l t (marked_of m) → IsAllMarked G.fork (kept v t) m ↔ (left_in (heap_of l t) ≡ 0)

@@ -5,6 +5,9 @@ use Rattle.std.specs.Prelude.{◌==◌}
 use Rattle.std.proofs.lemmas.Bool.{and_parts, cases_eq, eqb-true}
 use Rattle.listed.proofs.Members.{contains_from_in, in_from_contains}
 use Rattle.object_layout.specs.declared.word.Addr.{Addr}
+use Rattle.object_layout.specs.Chunks.{same_address}
+use Rattle.object_layout.specs.Graph.{IsHeld, Leads}
+use Rattle.object_layout.proofs.Distinct.{distinct_take}
 use Rattle.hh_model.specs.declared.data.State.{State}
 use Rattle.hh_model.specs.Effect.{row_of}
 use Rattle.run_trace.specs.declared.entry.Kind.TheVariants.{Took, Ran, Chunk, Begin, End, PutOff, Mark, More, Sweep, Fuel}
@@ -15,15 +18,15 @@ use Rattle.run_ledger.specs.Heaps.{heap_of, left_in, marked_in, or_fresh, with_h
 use Rattle.ledger_steps.proofs.Ahead.{heap_then, with_at, with_machine, with_off}
 use Rattle.shared_tree.specs.Marking.{MarksEnter}
 use Rattle.run_ledger.specs.Entries.{after}
-use Rattle.inner_mark_gc.specs.Marks.{Marks, Once, marked_of}
-use Rattle.inner_mark_gc.specs.Snapshot.{IsHeld, IsInSnapshot, Leads, Starts}
+use Rattle.inner_mark_gc.specs.Marks.{Marks, marked_of}
+use Rattle.inner_mark_gc.specs.Snapshot.{IsInSnapshot, Starts}
 use Rattle.inner_mark_gc.proofs.Marked.{in_take}
 use Rattle.walks.proofs.Reached.{reached_within}
 use Rattle.ledger_steps.specs.Accounts.{Rests}
 use Rattle.core_relation.specs.Value.{In, Seen, Value, objects}
 use Rattle.core_relation.specs.Changes.{SameObjects}
 use Rattle.core_relation.specs.Counts.{CountsGo, IsMarked, IsQuiet}
-use Rattle.core_relation.specs.Marking.{GoesOn, MarkedBy, same_address}
+use Rattle.core_relation.specs.Marking.{GoesOn, MarkedBy}
 use Rattle.core_relation.specs.Since.{MarksOn, NotesStay, kept}
 use Rattle.core_relation.specs.Layout.{AreLaidOut}
 use Rattle.core_relation.specs.Stands.{HasNames, HomeStands}
@@ -39,32 +42,6 @@ use Rattle.shared_tree.specs.Entered.{refused}
 use Rattle.shared_tree.proofs.Entering.{entry_on}
 use Rattle.shared_tree.proofs.EnteringMarks.{entered_marks, marked_fits, marked_world}
 use Rattle.shared_tree.proofs.Now.{stands_now}
-
--- EACH OBJECT that is marked stands once
-pub take_once : (n : ℕ) (xs : List Addr) → Once xs → Once (take n xs)
-take_once zero xs o = tt
-take_once (suc n) [] o = tt
-take_once (suc n) (x ∷ xs) o = ((λ c. o.0 (contains_from_in xs x (in_take n xs x (in_from_contains (take n xs) x c)))), take_once n xs o.1)
-
-same_addresses : (a b : Addr) → same_address a b ≡ true → a ≡ b
-same_addresses a b e =
-    let p = and_parts (a.chunk == b.chunk) (a.offset == b.offset) e in
-    let c : a.chunk ≡ b.chunk = eqb-true a.chunk b.chunk p.0 in
-    let f : a.offset ≡ b.offset = eqb-true a.offset b.offset p.1 in
-    λ i. record { chunk = c i; offset = f i }
-
-apart_by : (b : Bool) → (b ≡ true → ⊥) → b ≡ false
-apart_by true f = absurd (f refl)
-apart_by false f = refl
-
-apart : (x : Addr) (ys : List Addr) → (Contains ys x → ⊥) → AllByRecursion (λ y. same_address x y ≡ false) ys
-apart x [] n = tt
-apart x (y ∷ ys) n = (apart_by (same_address x y) (λ e. n (contains_from_in (y ∷ ys) x (inl (sym (same_addresses x y e))))), apart x ys (λ c. n (contains_from_in (y ∷ ys) x (inr (in_from_contains ys x c)))))
-
-pub distinct_once : (xs : List Addr) → Once xs → IsDistinct same_address xs
-unfolding IsDistinct
-distinct_once [] o = tt
-distinct_once (x ∷ xs) o = (apart x xs o.0, distinct_once xs o.1)
 
 -- a home whose account has another count of marks alone
 home_marked : (v v' : Value) (l L : Ledger) (t : ℕ) (o : Option ℕ) → v'.homes t ≡ v.homes t → ((k : ℕ) → v.owner k ≡ Some t → v'.owner k ≡ Some t) → L.machine ≡ l.machine → heap_of L t ≡ record (heap_of l t) { marked = o } → HomeStands v l t → HomeStands v' L t
@@ -157,13 +134,13 @@ module _ (w : World) (e : Event) (I : IsWorld w) (free : refused w e ≡ None) (
     each_marked a i =
         let found : Contains m.found a = contains_from_in m.found a (in_take m.marked m.found a i) in
         let reached = G.marks.each a found in
-        let held : IsHeld G.fork.heap a = reached_within (Starts G.fork (kept v t)) (Leads G.fork.heap) (IsHeld G.fork.heap) (λ x s. s.0) (λ b x h d. d.0) a reached in
+        let held : IsHeld G.fork.heap a = reached_within (Starts G.fork (kept v t)) (Leads G.fork.heap) (IsHeld G.fork.heap) (λ x s. s.0) (λ b x h d. d.1) a reached in
         let o = G.were a held in
         (o.0, o.1, o.2, subst (λ (h : Heap). In h.snapshot o.0.name) (sym heap_t) ((G.snapshot o.0 o.1).0 (subst (λ b. IsInSnapshot G.fork (kept v t) b) (sym o.2) reached)))
 
     marked_now : MarkedBy v' L t (Some m)
     marked_now = (
-      record { count = ap (λ (h : Heap). h.marked) heap_t; once = distinct_once (marked_of m) (take_once m.marked m.found G.once); each = each_marked },
+      record { count = ap (λ (h : Heap). h.marked) heap_t; once = distinct_take m.marked m.found G.once; each = each_marked },
       goes_then,
     )
 

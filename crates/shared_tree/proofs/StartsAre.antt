@@ -5,6 +5,7 @@ use Rattle.listed.proofs.Members.{in_append_cases, in_append_left, in_append_rig
 use Rattle.object_layout.specs.declared.word.Addr.{Addr}
 use Rattle.object_layout.specs.Chunks.{has_chunk}
 use Rattle.object_layout.specs.Content.{Content}
+use Rattle.object_layout.specs.Graph.{IsHeld}
 use Rattle.remembered_set.specs.declared.remembered.Source.{Source}
 use Rattle.remembered_set.specs.Moved.{AreFields, into, targets_of}
 use Rattle.task_frames.specs.Stack.{frames_of as stacked}
@@ -15,7 +16,6 @@ use Rattle.hh_model.specs.declared.data.Task.{Task}
 use Rattle.hh_model.specs.declared.data.Name.{Name}
 use Rattle.hh_model.specs.Step.{is_waiting, waits}
 use Rattle.run_ledger.specs.declared.data.Ledger.{Ledger}
-use Rattle.inner_mark_gc.specs.Snapshot.{IsHeld}
 use Rattle.inner_mark_gc.proofs.Finding.{all_from}
 use Rattle.ledger_steps.specs.Accounts.{Rests}
 use Rattle.ledger_steps.proofs.Split.{legal_idle}

@@ -3,11 +3,12 @@ use Rattle.std.specs.Prelude.{◌≡◌, ℕ, All, List, Some, length, map, vec_
 use Rattle.object_layout.specs.declared.word.Addr.{Addr}
 use Rattle.object_layout.specs.Chunks.{small_words}
 use Rattle.object_layout.specs.Content.{Content}
+use Rattle.object_layout.specs.Graph.{IsSound}
 use Rattle.alloc_path.specs.Heap.{AreApart, IsFresh, with_places}
 use Rattle.leaf_copy_gc.specs.declared.lists.ToChunks.{ToChunks}
 use Rattle.leaf_copy_gc.specs.Laid.{AreNew}
 use Rattle.leaf_copy_gc.specs.Lists.{AreReserved}
-use Rattle.leaf_copy_gc.specs.Survivors.{IsSound, as_reference}
+use Rattle.leaf_copy_gc.specs.Survivors.{as_reference}
 use Rattle.task_machine.specs.declared.part.Private.{Private}
 use Rattle.shared_tree.specs.Due.{take_by}
 

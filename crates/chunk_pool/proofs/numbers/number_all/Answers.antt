@@ -1,9 +1,10 @@
-use Rattle.std.proofs.Common.{◌≡◌, ℕ, ◌+◌, ◌-◌, ◌<◌, ◌≤◌, List, [], ◌∷◌, ◌++◌, length, refl, ap, ◌∙◌, sym, subst, arith, rules, length-append}
-use Rattle.std.specs.Prelude.{All, None}
+use Rattle.std.proofs.Common.{◌≡◌, ◌+◌, ◌-◌, ◌≤◌, [], ◌∷◌, ◌++◌, length, ap, ◌∙◌, sym, subst, arith, rules, length-append}
+use Rattle.std.specs.Prelude.{All}
 use Rattle.std.proofs.lemmas.List.Elements.{All-head}
 use Rattle.object_layout.specs.Content.{Content}
-use Rattle.chunk_pool.specs.Chunks.{IsBlank, NumbersBehind, held_in}
+use Rattle.chunk_pool.specs.Chunks.{IsBlank, NumbersBehind, one_unit}
 use Rattle.chunk_pool.proofs.Numbering.{all_left, all_right, behind_more}
+use Rattle.chunk_pool.proofs.UnitLemmas.{chunks_set}
 use Rattle.chunk_pool.proofs.numbers.number_all.Goals as goal
 
 pub loop-chunk-preserved : goal.loop-chunk-preserved
@@ -23,6 +24,7 @@ loop-chunk-preserved c =
       places = omega (arith, fewer);
       blank = all_left c.pop.new.self.items (c.in-Some.chunk ∷ []) both;
       fewer = omega (arith, fewer);
+      chunks = λ C. chunks_set c.loop-chunk.slots.slots c.number_one.new.slots.slots c.number_one.new.chunk.number (one_unit c.args.owner) (c.loop-chunk.invariant.chunks C) u.others u.changed (c.number_one.ensures.short, omega arith);
       numbered = subst (λ is. NumbersBehind c.args.slots.now.slots c.number_one.new.slots.slots c.args.owner (length c.args.blank.now.items - length c.pop.new.self.items) c.args.list.now.items is) (sym c.push_reserved.ensures.items)
           (behind_more c.args.slots.now.slots c.loop-chunk.slots.slots c.number_one.new.slots.slots c.args.owner (length c.args.blank.now.items - length c.loop-chunk.blank.items) (length c.args.blank.now.items - length c.pop.new.self.items)
           c.args.list.now.items c.loop-chunk.list.items c.number_one.new.chunk c.loop-chunk.invariant.numbered new c.number_one.ensures.was_free u.changed u.others step);

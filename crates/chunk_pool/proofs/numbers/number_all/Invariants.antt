@@ -1,7 +1,7 @@
-use Rattle.std.proofs.Common.{◌≡◌, ◌+◌, ◌-◌, ◌≤◌, ◌^◌, length, vec_len, vec_capacity}
+use Rattle.std.proofs.Common.{◌+◌, ◌-◌, ◌≤◌, ◌^◌, length, vec_len, vec_capacity}
 use Rattle.std.specs.Prelude.{All}
 use Rattle.slab.specs.Slab.{HasRoomFor}
-use Rattle.chunk_pool.specs.Chunks.{IsBlank, NumbersBehind}
+use Rattle.chunk_pool.specs.Chunks.{AreChunks, IsBlank, NumbersBehind}
 use Rattle.chunk_pool.proofs.numbers.number_all.Given as goal
 
 abbrev pub invariant-loop-chunk : goal.invariant-loop-chunk
@@ -11,6 +11,7 @@ invariant-loop-chunk l = record {
   places : vec_len l.list + length l.blank.items ≤ vec_capacity l.list;
   blank : All IsBlank l.blank.items;
   fewer : length l.blank.items ≤ length l.fn.blank.items;
+  chunks : AreChunks l.fn.slots.slots → AreChunks l.slots.slots;
   numbered : NumbersBehind l.fn.slots.slots l.slots.slots l.owner (length l.fn.blank.items - length l.blank.items) l.fn.list.items l.list.items;
 }
 

@@ -1,6 +1,7 @@
 use Rattle.std.proofs.Common.{◌≡◌, ℕ, List, length, fold, reverse, refl, sym, ap, ◌∙◌, subst, arith, Option}
 use Rattle.object_layout.specs.declared.word.Addr.{Addr}
 use Rattle.object_layout.specs.Content.{Content}
+use Rattle.object_layout.proofs.Distinct.{once_from}
 use Rattle.alloc_path.specs.Heap.{Heap}
 use Rattle.leaf_copy_gc.specs.declared.lists.Survivor.{Survivor}
 use Rattle.leaf_copy_gc.specs.Survivors.{olds, outside, with_chunks}
@@ -27,7 +28,7 @@ exchange-requires-clause-apart c =
     let laid : List Content = c.evacuate.new.laid.items in
     let r : Option ℕ = c.reserved-reserved.result in
     let s = c.evacuate.ensures.survivors in
-    collecting.now_apart h g.chunks ss news r laid c.evacuate.ensures.left c.requires.tidy c.requires.apart c.requires.new s.once s.names c.reserved-reserved.ensures.empty c.evacuate.ensures.laid
+    collecting.now_apart h g.chunks ss news r laid c.evacuate.ensures.left c.requires.tidy c.requires.apart c.requires.new (once_from (olds ss) s.once) s.names c.reserved-reserved.ensures.empty c.evacuate.ensures.laid
 
 pub exchange-requires-clause-small : goal.exchange-requires-clause-small
 exchange-requires-clause-small c =
@@ -38,7 +39,7 @@ exchange-requires-clause-small c =
     let laid : List Content = c.evacuate.new.laid.items in
     let r : Option ℕ = c.reserved-reserved.result in
     let s = c.evacuate.ensures.survivors in
-    collecting.small_last h g.chunks ss news r laid c.evacuate.ensures.left c.requires.tidy c.requires.apart c.requires.new s.once s.names c.reserved-reserved.ensures.empty c.evacuate.ensures.laid
+    collecting.small_last h g.chunks ss news r laid c.evacuate.ensures.left c.requires.tidy c.requires.apart c.requires.new (once_from (olds ss) s.once) s.names c.reserved-reserved.ensures.empty c.evacuate.ensures.laid
 
 pub exchange-requires-clause-laid : goal.exchange-requires-clause-laid
 exchange-requires-clause-laid c =
@@ -66,7 +67,7 @@ name_all-requires c =
     let s = c.evacuate.ensures.survivors in
     let chunks = ap (λ (x : Heap). x.chunks) c.exchange.ensures.heap in
     subst (CanName c.exchange.new.heap.chunks) (sym c.deref-2.ensures.value)
-    (subst (λ (ks : List Content). CanName ks ss) (sym chunks) (collecting.can_name h g.chunks ss news r laid c.evacuate.ensures.left c.requires.tidy c.requires.apart c.requires.new s.once s.names c.reserved-reserved.ensures.empty c.evacuate.ensures.laid))
+    (subst (λ (ks : List Content). CanName ks ss) (sym chunks) (collecting.can_name h g.chunks ss news r laid c.evacuate.ensures.left c.requires.tidy c.requires.apart c.requires.new (once_from (olds ss) s.once) s.names c.reserved-reserved.ensures.empty c.evacuate.ensures.laid))
 
 pub returns-clause-collected : goal.returns-clause-collected
 returns-clause-collected c =
@@ -82,16 +83,16 @@ returns-clause-collected c =
     record {
       survivors = ss;
       are = s;
-      heap = collecting.heap_is h g.chunks ss news r laid c.evacuate.ensures.left c.requires.tidy c.requires.apart c.requires.new s.once s.names c.reserved-reserved.ensures.empty c.evacuate.ensures.laid c.args.heap.now r_is refl c.exchange.new.heap c.name_all.new.heap c.reset_since.new.self g c.exchange.ensures.heap
+      heap = collecting.heap_is h g.chunks ss news r laid c.evacuate.ensures.left c.requires.tidy c.requires.apart c.requires.new (once_from (olds ss) s.once) s.names c.reserved-reserved.ensures.empty c.evacuate.ensures.laid c.args.heap.now r_is refl c.exchange.new.heap c.name_all.new.heap c.reset_since.new.self g c.exchange.ensures.heap
           (c.name_all.ensures ∙ ap (λ (xs : List Survivor). with_chunks c.exchange.new.heap (fold named c.exchange.new.heap.chunks xs)) c.deref-2.ensures.value) c.reset_since.ensures;
       frames = c.evacuate.ensures.frames;
       moved = permuted;
-      order = orders.moved_in_order (before (reverse news)) h (smalls h (olds ss)) c.sort_unstable.new.self.items permuted c.sort_unstable.ensures.sorted (moves.once_smalls h (olds ss) s.once)
+      order = orders.moved_in_order (before (reverse news)) h (smalls h (olds ss)) c.sort_unstable.new.self.items permuted c.sort_unstable.ensures.sorted (moves.once_smalls h (olds ss) (once_from (olds ss) s.once))
           (λ a i. orders.survivor_place h (outside c.args.frames.now c.args.roots.now) c.requires.closed c.requires.outside a ((s.exactly a).0 (contains_from_in (olds ss) a (moves.in_smalls h (olds ss) a i).0)));
       taken = c.count_of-taken.ensures ∙ ap (λ (ks : List Content). counted32 (length ks)) (c.deref.ensures.value ∙ c.evacuate.ensures.laid);
       given = c.units_of.ensures ∙ ap (λ (ks : List Content). counted32 (unit_count ks)) c.deref-3.ensures.value;
       left = c.counted.ensures ∙ (ap counted32 c.words.ensures ∙ omega arith);
-      back = c.give_rest.ensures ∙ collecting.back_is h g.chunks ss news r laid c.evacuate.ensures.left c.requires.tidy c.requires.apart c.requires.new s.once s.names c.reserved-reserved.ensures.empty c.evacuate.ensures.laid c.args.heap.now r_is c.args.to_chunks.lists.back.items c.requires.reserved.back c.evacuate.new.spare.items c.evacuate.ensures.spare c.exchange.new.back.items c.exchange.ensures.back;
+      back = c.give_rest.ensures ∙ collecting.back_is h g.chunks ss news r laid c.evacuate.ensures.left c.requires.tidy c.requires.apart c.requires.new (once_from (olds ss) s.once) s.names c.reserved-reserved.ensures.empty c.evacuate.ensures.laid c.args.heap.now r_is c.args.to_chunks.lists.back.items c.requires.reserved.back c.evacuate.new.spare.items c.evacuate.ensures.spare c.exchange.new.back.items c.exchange.ensures.back;
     }
 
 pub give_rest-requires : goal.give_rest-requires
@@ -114,6 +115,6 @@ returns-clause-settled c =
     let laid : List Content = c.evacuate.new.laid.items in
     let r : Option ℕ = c.reserved-reserved.result in
     let s = c.evacuate.ensures.survivors in
-    collecting.settled_now h g.chunks ss news r laid c.evacuate.ensures.left c.requires.tidy c.requires.apart c.requires.new s.once s.names c.reserved-reserved.ensures.empty c.evacuate.ensures.laid
+    collecting.settled_now h g.chunks ss news r laid c.evacuate.ensures.left c.requires.tidy c.requires.apart c.requires.new (once_from (olds ss) s.once) s.names c.reserved-reserved.ensures.empty c.evacuate.ensures.laid
     c.exchange.new.heap c.name_all.new.heap c.reset_since.new.self (ap (λ (x : Heap). x.chunks) c.exchange.ensures.heap)
     (c.name_all.ensures ∙ ap (λ (xs : List Survivor). with_chunks c.exchange.new.heap (fold named c.exchange.new.heap.chunks xs)) c.deref-2.ensures.value) c.reset_since.ensures

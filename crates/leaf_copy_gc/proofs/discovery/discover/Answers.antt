@@ -1,7 +1,8 @@
 use Rattle.std.proofs.Common.{◌+◌, ◌<◌, List, length, sym, ap, ◌∙◌, subst, arith, fold}
+use Rattle.object_layout.proofs.Distinct.{distinct_from}
 use Rattle.task_frames.specs.Stack.{frames_of}
 use Rattle.leaf_copy_gc.specs.declared.lists.Survivor.{Survivor}
-use Rattle.leaf_copy_gc.specs.Survivors.{held_by, outside, with_chunks}
+use Rattle.leaf_copy_gc.specs.Survivors.{held_by, olds, outside, with_chunks}
 use Rattle.leaf_copy_gc.specs.Search.{Search, visited}
 use Rattle.leaf_copy_gc.proofs.Discovered as founds
 use Rattle.leaf_copy_gc.proofs.Discovered.{Going}
@@ -70,3 +71,10 @@ returns-clause-names c =
     let s : Search = record { heap = c.loop-next.heap.chunks; found = c.loop-next.found.items } in
     let g : Going c.args.heap.now.chunks from s c.loop-next.next = c.loop-next.invariant.going in
     founds.found_births c.args.heap.now.chunks from s g.discovered
+
+pub returns-clause-once : goal.returns-clause-once
+returns-clause-once c =
+    let from = outside c.args.frames.now c.args.roots.now in
+    let s : Search = record { heap = c.loop-next.heap.chunks; found = c.loop-next.found.items } in
+    let g : Going c.args.heap.now.chunks from s c.loop-next.next = c.loop-next.invariant.going in
+    distinct_from (olds s.found) g.discovered.once

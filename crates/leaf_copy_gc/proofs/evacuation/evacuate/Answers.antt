@@ -5,6 +5,7 @@ use Rattle.object_layout.specs.declared.word.Addr.{Addr}
 use Rattle.object_layout.specs.Cell.{Born}
 use Rattle.object_layout.specs.Chunks.{cell_of}
 use Rattle.object_layout.specs.Content.{Content}
+use Rattle.object_layout.proofs.Distinct.{distinct_from, once_from}
 use Rattle.alloc_path.specs.Heap.{Heap}
 use Rattle.task_frames.specs.Stack.{frames_of}
 use Rattle.leaf_copy_gc.specs.declared.lists.Survivor.{Survivor}
@@ -29,7 +30,7 @@ copy_all-requires-clause-ready c =
     let p = c.sort_unstable.ensures.permutation in
     let spare : List Content = reverse c.args.spare.now.items in
     let kept = evacuated.kept_sorted (IsSurvivor h from) xs ss p c.discover.ensures.survivors in
-    let once = evacuated.once_kept xs ss p c.discover.ensures.once in
+    let once = evacuated.once_kept xs ss p (once_from (olds xs) c.discover.ensures.once) in
     let all = evacuated.in_unsorted xs ss p in
     let names : HaveNames h ss = All-permutation (λ (s : Survivor). (cell_of h s.old).mark ≡ Born s.birth) xs ss p c.discover.ensures.names in
     let k : Copying = record { old = c.discover.new.heap.chunks; laying = record { laid = c.args.laid.now.items; spare = spare }; moved = c.args.moved.now.items } in
@@ -46,7 +47,7 @@ follow_chunks-requires c =
     let p = c.sort_unstable.ensures.permutation in
     let spare : List Content = reverse c.args.spare.now.items in
     let kept = evacuated.kept_sorted (IsSurvivor h from) xs ss p c.discover.ensures.survivors in
-    let once = evacuated.once_kept xs ss p c.discover.ensures.once in
+    let once = evacuated.once_kept xs ss p (once_from (olds xs) c.discover.ensures.once) in
     let all = evacuated.in_unsorted xs ss p in
     let names : HaveNames h ss = All-permutation (λ (s : Survivor). (cell_of h s.old).mark ≡ Born s.birth) xs ss p c.discover.ensures.names in
     let k : Copying = record { old = c.discover.new.heap.chunks; laying = record { laid = c.args.laid.now.items; spare = spare }; moved = c.args.moved.now.items } in
@@ -65,7 +66,7 @@ follow_frames-requires c =
     let p = c.sort_unstable.ensures.permutation in
     let spare : List Content = reverse c.args.spare.now.items in
     let kept = evacuated.kept_sorted (IsSurvivor h from) xs ss p c.discover.ensures.survivors in
-    let once = evacuated.once_kept xs ss p c.discover.ensures.once in
+    let once = evacuated.once_kept xs ss p (once_from (olds xs) c.discover.ensures.once) in
     let all = evacuated.in_unsorted xs ss p in
     let names : HaveNames h ss = All-permutation (λ (s : Survivor). (cell_of h s.old).mark ≡ Born s.birth) xs ss p c.discover.ensures.names in
     let k : Copying = record { old = c.discover.new.heap.chunks; laying = record { laid = c.args.laid.now.items; spare = spare }; moved = c.args.moved.now.items } in
@@ -84,7 +85,7 @@ follow_larges-requires c =
     let p = c.sort_unstable.ensures.permutation in
     let spare : List Content = reverse c.args.spare.now.items in
     let kept = evacuated.kept_sorted (IsSurvivor h from) xs ss p c.discover.ensures.survivors in
-    let once = evacuated.once_kept xs ss p c.discover.ensures.once in
+    let once = evacuated.once_kept xs ss p (once_from (olds xs) c.discover.ensures.once) in
     let all = evacuated.in_unsorted xs ss p in
     let names : HaveNames h ss = All-permutation (λ (s : Survivor). (cell_of h s.old).mark ≡ Born s.birth) xs ss p c.discover.ensures.names in
     let k : Copying = record { old = c.discover.new.heap.chunks; laying = record { laid = c.args.laid.now.items; spare = spare }; moved = c.args.moved.now.items } in
@@ -103,10 +104,10 @@ returns-clause-survivors c =
     let p = c.sort_unstable.ensures.permutation in
     let spare : List Content = reverse c.args.spare.now.items in
     let kept = evacuated.kept_sorted (IsSurvivor h from) xs ss p c.discover.ensures.survivors in
-    let once = evacuated.once_kept xs ss p c.discover.ensures.once in
+    let once = evacuated.once_kept xs ss p (once_from (olds xs) c.discover.ensures.once) in
     let all = evacuated.in_unsorted xs ss p in
     let names : HaveNames h ss = All-permutation (λ (s : Survivor). (cell_of h s.old).mark ≡ Born s.birth) xs ss p c.discover.ensures.names in
-    record { exactly = kept; once = once; names = names; order = c.sort_unstable.ensures.sorted }
+    record { exactly = kept; once = distinct_from (olds ss) once; names = names; order = c.sort_unstable.ensures.sorted }
 
 pub returns-clause-moved : goal.returns-clause-moved
 returns-clause-moved c =
@@ -117,7 +118,7 @@ returns-clause-moved c =
     let p = c.sort_unstable.ensures.permutation in
     let spare : List Content = reverse c.args.spare.now.items in
     let kept = evacuated.kept_sorted (IsSurvivor h from) xs ss p c.discover.ensures.survivors in
-    let once = evacuated.once_kept xs ss p c.discover.ensures.once in
+    let once = evacuated.once_kept xs ss p (once_from (olds xs) c.discover.ensures.once) in
     let all = evacuated.in_unsorted xs ss p in
     let names : HaveNames h ss = All-permutation (λ (s : Survivor). (cell_of h s.old).mark ≡ Born s.birth) xs ss p c.discover.ensures.names in
     let k : Copying = record { old = c.discover.new.heap.chunks; laying = record { laid = c.args.laid.now.items; spare = spare }; moved = c.args.moved.now.items } in
@@ -136,7 +137,7 @@ returns-clause-spare c =
     let p = c.sort_unstable.ensures.permutation in
     let spare : List Content = reverse c.args.spare.now.items in
     let kept = evacuated.kept_sorted (IsSurvivor h from) xs ss p c.discover.ensures.survivors in
-    let once = evacuated.once_kept xs ss p c.discover.ensures.once in
+    let once = evacuated.once_kept xs ss p (once_from (olds xs) c.discover.ensures.once) in
     let all = evacuated.in_unsorted xs ss p in
     let names : HaveNames h ss = All-permutation (λ (s : Survivor). (cell_of h s.old).mark ≡ Born s.birth) xs ss p c.discover.ensures.names in
     let k : Copying = record { old = c.discover.new.heap.chunks; laying = record { laid = c.args.laid.now.items; spare = spare }; moved = c.args.moved.now.items } in
@@ -155,7 +156,7 @@ returns-clause-laid c =
     let p = c.sort_unstable.ensures.permutation in
     let spare : List Content = reverse c.args.spare.now.items in
     let kept = evacuated.kept_sorted (IsSurvivor h from) xs ss p c.discover.ensures.survivors in
-    let once = evacuated.once_kept xs ss p c.discover.ensures.once in
+    let once = evacuated.once_kept xs ss p (once_from (olds xs) c.discover.ensures.once) in
     let all = evacuated.in_unsorted xs ss p in
     let names : HaveNames h ss = All-permutation (λ (s : Survivor). (cell_of h s.old).mark ≡ Born s.birth) xs ss p c.discover.ensures.names in
     let k : Copying = record { old = c.discover.new.heap.chunks; laying = record { laid = c.args.laid.now.items; spare = spare }; moved = c.args.moved.now.items } in
@@ -175,7 +176,7 @@ returns-clause-frames c =
     let p = c.sort_unstable.ensures.permutation in
     let spare : List Content = reverse c.args.spare.now.items in
     let kept = evacuated.kept_sorted (IsSurvivor h from) xs ss p c.discover.ensures.survivors in
-    let once = evacuated.once_kept xs ss p c.discover.ensures.once in
+    let once = evacuated.once_kept xs ss p (once_from (olds xs) c.discover.ensures.once) in
     let all = evacuated.in_unsorted xs ss p in
     let names : HaveNames h ss = All-permutation (λ (s : Survivor). (cell_of h s.old).mark ≡ Born s.birth) xs ss p c.discover.ensures.names in
     let k : Copying = record { old = c.discover.new.heap.chunks; laying = record { laid = c.args.laid.now.items; spare = spare }; moved = c.args.moved.now.items } in
@@ -196,7 +197,7 @@ returns-clause-left c =
     let p = c.sort_unstable.ensures.permutation in
     let spare : List Content = reverse c.args.spare.now.items in
     let kept = evacuated.kept_sorted (IsSurvivor h from) xs ss p c.discover.ensures.survivors in
-    let once = evacuated.once_kept xs ss p c.discover.ensures.once in
+    let once = evacuated.once_kept xs ss p (once_from (olds xs) c.discover.ensures.once) in
     let all = evacuated.in_unsorted xs ss p in
     let names : HaveNames h ss = All-permutation (λ (s : Survivor). (cell_of h s.old).mark ≡ Born s.birth) xs ss p c.discover.ensures.names in
     let k : Copying = record { old = c.discover.new.heap.chunks; laying = record { laid = c.args.laid.now.items; spare = spare }; moved = c.args.moved.now.items } in

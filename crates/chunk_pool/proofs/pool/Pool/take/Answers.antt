@@ -1,4 +1,4 @@
-use Rattle.std.proofs.Common.{◌≡◌, ◌≢◌, ◌≤◌, ℕ, List, Option, None, get_or, sym, ap, ◌∙◌, arith}
+use Rattle.std.proofs.Common.{◌≡◌, ◌≢◌, ◌^◌, ◌<◌, ◌≤◌, ℕ, List, Option, None, get_or, sym, ap, ◌∙◌, arith}
 use Rattle.object_layout.specs.Content.{Content}
 use Rattle.slab.specs.Slab.{Slab}
 use Rattle.chunk_pool.specs.declared.pool.Held.{Held}
@@ -15,7 +15,9 @@ invariant_of-self-2 c =
     let others : (k : ℕ) → k ≢ c.insert_reserved.result → get_or c.insert_reserved.new.self.slots k None ≡ get_or p.slots.slots k None =
     λ k ne. u.others k ne ∙ ap (λ (xs : List (Option Held)). get_or xs k None) same in
     let within : p.used ≤ p.limit = c.self.invariant.within in
-    takes_within p.limit p.used p.slots.slots c.insert_reserved.new.self.slots c.self.invariant c.insert_reserved.result others h free u.changed (omega arith)
+    let number : c.insert_reserved.result ≡ c.in-Ok.number = c.insert_reserved.ensures.key ∙ (sym c.vacant_key.ensures.value ∙ sym c.in-Ok.ensures.1) in
+    let short : c.insert_reserved.result < 2 ^ 32 = omega arith in
+    takes_within p.limit p.used p.slots.slots c.insert_reserved.new.self.slots c.self.invariant c.insert_reserved.result others h free u.changed (omega arith) (short, c.requires.some)
 
 pub returns-clause-taken : goal.returns-clause-taken
 returns-clause-taken c =

@@ -1,7 +1,7 @@
 use Rattle.std.proofs.Common.{◌≡◌, ◌+◌, get_or, refl, sym, ap, ◌∙◌, subst}
 use Rattle.object_layout.specs.declared.word.Addr.{Addr}
+use Rattle.object_layout.specs.Graph.{Leads}
 use Rattle.inner_mark_gc.specs.Marks.{Marks}
-use Rattle.inner_mark_gc.specs.Snapshot.{Leads}
 use Rattle.inner_mark_gc.proofs.Finding as finding
 use Rattle.inner_mark_gc.proofs.marking.Marking.mark_next.Goals as goal
 

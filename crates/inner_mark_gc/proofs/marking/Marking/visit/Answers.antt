@@ -1,5 +1,5 @@
 use Rattle.std.proofs.Common.{◌≡◌, Some, sym, ◌∙◌, subst}
-use Rattle.inner_mark_gc.specs.Snapshot.{IsHeld, IsSound}
+use Rattle.object_layout.specs.Graph.{IsHeld, IsSound}
 use Rattle.inner_mark_gc.proofs.Finding as finding
 use Rattle.inner_mark_gc.proofs.marking.Marking.visit.Goals as goal
 

@@ -1,6 +1,6 @@
 use Rattle.std.proofs.Common.{take, Contains}
 use Rattle.inner_mark_gc.specs.Marks.{Finds, HasRoom}
-use Rattle.inner_mark_gc.specs.Snapshot.{IsHeld}
+use Rattle.object_layout.specs.Graph.{IsHeld}
 use Rattle.inner_mark_gc.proofs.marking.Marking.visit_all.Given as goal
 
 abbrev pub invariant-loop-object : goal.invariant-loop-object

@@ -1,10 +1,11 @@
 use Rattle.std.proofs.Common.{take, Some, Contains}
 use Rattle.inner_mark_gc.specs.Marks.{Finds, HasRoom}
-use Rattle.inner_mark_gc.specs.Snapshot.{IsHeld, refs_of}
+use Rattle.object_layout.specs.Chunks.{object_of}
+use Rattle.object_layout.specs.Graph.{IsHeld}
 use Rattle.inner_mark_gc.proofs.marking.Marking.visit_refs.Given as goal
 
 abbrev pub invariant-loop-field : goal.invariant-loop-field
 invariant-loop-field l = record {
-  finds : Finds (λ a. IsHeld l.heap.chunks a × Contains (take l.field (refs_of l.heap.chunks l.object)) (Some a)) l.fn.self l.self;
+  finds : Finds (λ a. IsHeld l.heap.chunks a × Contains (take l.field (object_of l.heap.chunks l.object).refs) (Some a)) l.fn.self l.self;
   room : HasRoom l.heap.chunks l.self;
 }

@@ -2,11 +2,12 @@ use Rattle.std.proofs.Common.{◌≡◌, ℕ, ◌-◌, ◌<◌, ◌++◌, ◌∷
 use Rattle.std.proofs.lemmas.List.{length-set}
 use Rattle.listed.specs.Space.{Space}
 use Rattle.object_layout.specs.declared.word.Addr.{Addr}
+use Rattle.object_layout.specs.Graph.{IsHeld}
 use Rattle.run_trace.specs.Entry.{Event}
 use Rattle.run_trace.specs.declared.entry.Kind.TheVariants.{More}
 use Rattle.run_ledger.specs.Heaps.{heap_of, left_in}
 use Rattle.inner_mark_gc.specs.Marks.{IsAllMarked, IsMarking, IsOf}
-use Rattle.inner_mark_gc.specs.Snapshot.{Fork, IsHeld, IsSince}
+use Rattle.inner_mark_gc.specs.Snapshot.{Fork, IsSince}
 use Rattle.core_relation.specs.Since.{kept}
 use Rattle.shared_tree.specs.Entered.{refused}
 use Rattle.shared_tree.specs.Fits.{AllFit}

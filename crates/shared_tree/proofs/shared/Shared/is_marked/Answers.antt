@@ -1,8 +1,9 @@
 use Rattle.std.proofs.Common.{◌≡◌, ◌==◌, ◌↔◌, ℕ, All, IsTrue, List, Some, None, ap, sym, subst, ◌∙◌}
 use Rattle.object_layout.specs.declared.word.Addr.{Addr}
+use Rattle.object_layout.specs.Graph.{IsHeld}
 use Rattle.run_ledger.specs.Heaps.{heap_of, left_in}
 use Rattle.inner_mark_gc.specs.Marks.{IsAllMarked, IsMarking, IsOf}
-use Rattle.inner_mark_gc.specs.Snapshot.{Fork, IsHeld, IsSince}
+use Rattle.inner_mark_gc.specs.Snapshot.{Fork, IsSince}
 use Rattle.core_relation.specs.Since.{kept}
 use Rattle.shared_tree.specs.MarkCauses.{marking_cause}
 use Rattle.shared_tree.specs.Marking.{Further}

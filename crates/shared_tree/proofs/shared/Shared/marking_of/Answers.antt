@@ -1,9 +1,10 @@
 use Rattle.std.proofs.Common.{◌≡◌, ◌↔◌, ℕ, ◌<◌, All, IfOk, Result, Ok, Err, Some, None, List, length, ap, sym, subst, ◌∙◌}
 use Rattle.object_layout.specs.declared.word.Addr.{Addr}
+use Rattle.object_layout.specs.Graph.{IsHeld}
 use Rattle.run_trace.specs.declared.entry.Kind.TheVariants.{Mark}
 use Rattle.run_ledger.specs.Heaps.{heap_of}
 use Rattle.inner_mark_gc.specs.Marks.{IsMarking, IsOf}
-use Rattle.inner_mark_gc.specs.Snapshot.{Fork, IsHeld}
+use Rattle.inner_mark_gc.specs.Snapshot.{Fork}
 use Rattle.core_relation.specs.Marking.{GoesOn}
 use Rattle.shared_tree.specs.MarkCauses.{waiting_cause}
 use Rattle.shared_tree.specs.Starts.{starts_of}

@@ -1,0 +1,271 @@
+-- The objects of the heaps handed back: where they lie, and where their references lead.
+use Rattle.std.proofs.Common.{◌≡◌, ◌⊎◌, ℕ, zero, suc, ◌+◌, ◌*◌, ◌^◌, ◌<◌, ◌≤◌, arith, Bool, true, false, Option, Some, None, List, [], ◌∷◌, All, length, map, option_map, is_some, slice_get, inl, inr, refl, ap, sym, subst, ◌∙◌}
+use Rattle.std.proofs.lemmas.Bool.{cases_Bool, false≢true}
+use Rattle.std.proofs.lemmas.List.{length-map}
+use Rattle.std.proofs.lemmas.Option.{same_Some, slice_get-map, slice_get_within}
+use Rattle.object_layout.specs.declared.word.Addr.{Addr}
+use Rattle.object_layout.specs.Cell.{IsRef}
+use Rattle.object_layout.specs.Content.{Content}
+use Rattle.object_layout.specs.Layout.{word_of_ref}
+use Rattle.chunk_pool.specs.declared.pool.Held.{Held}
+use Rattle.chunk_pool.specs.Chunks.{AreChunks, held_at}
+use Rattle.heap_tree.specs.Node.{state_of}
+use Rattle.hh_model.specs.declared.data.Name.{Name}
+use Rattle.hh_model.specs.declared.data.Object.{Object}
+use Rattle.hh_model.specs.declared.data.Status.{Status}
+use Rattle.hh_model.specs.declared.data.Status.TheVariants.{Running, Waiting, Ended, Joined}
+use Rattle.hh_model.specs.declared.data.Task.{Task}
+use Rattle.hh_model.specs.Effect.{object_at}
+use Rattle.hh_model.specs.Step.{is_running, is_waiting, joined, runs as status_runs, waits}
+use Rattle.run_ledger.specs.Heaps.{heap_of}
+use Rattle.ledger_steps.specs.Accounts.{Rests, own}
+use Rattle.core_relation.specs.Layout.{words}
+use Rattle.core_relation.specs.Reads.{AllRead, IsRead}
+use Rattle.core_relation.specs.Stands.{HomeStands, IsSource, Place, Stands}
+use Rattle.core_relation.specs.Value.{Chunk as ChunkOf, In, Lies, LiesAt, Seen, Source, Value, objects, objects_in, sources}
+use Rattle.core_relation.proofs.Members.{in_chunk, in_map, map_in, object_held}
+use Rattle.core_relation.proofs.Roots.{name_at}
+use Rattle.image_check.specs.declared.line.Remembered.{Remembered}
+use Rattle.image_check.specs.Place.{chunk_number, offset}
+use Rattle.heap_image.specs.declared.picture.Picked.{Picked}
+use Rattle.heap_image.specs.declared.picture.Picture.{Picture}
+use Rattle.heap_image.specs.Picture.{AreApart, HasObject, IsAncestor, IsFit, IsOwned, IsPlaced, IsRunning, KeepsToPath, LeadsSomewhere, end_of}
+use Rattle.shared_tree.specs.declared.rest.Rest.{Rest}
+use Rattle.shared_tree.specs.HeldNames.{is_state_running}
+use Rattle.shared_tree.specs.Image.{IsInWords, IsLive, field_of, shown}
+use Rattle.shared_tree.specs.Measured.{IsUnheld}
+use Rattle.shared_tree.specs.Objects.{chunk_of}
+use Rattle.shared_tree.specs.Stands.{IsWorld}
+use Rattle.shared_tree.specs.World.{World, home_in, rest_at, value_of}
+use Rattle.shared_tree.proofs.Leading.{home_chunks}
+use Rattle.shared_image.specs.Drawn.{AreHeldInWords, IsHandedBack, IsPictureOf, drawn_field, drawn_object}
+use Rattle.shared_image.proofs.Known.{T, k, owned, owners, rests, runs, task_live}
+use Rattle.shared_image.proofs.Links.{chunk_in, made_at, not_running, on_path, owned_at, owner_is, running}
+use Rattle.shared_image.proofs.Numbers.{all_in, before_offset, chunk_of_word, got_at, in_at, offset_of_word, word_some}
+
+pub read_length : (at : Name → Addr → Type 0) (rs : List (Option Addr)) (xs : List (Option Name)) → AllRead at rs xs → length rs ≡ length xs
+read_length at [] [] h = refl
+read_length at [] (x ∷ xs) h = absurd h
+read_length at (r ∷ rs) [] h = absurd h
+read_length at (r ∷ rs) (x ∷ xs) h = ap suc (read_length at rs xs h.1)
+
+some_within : {A : Type 0} (xs : List A) (t : ℕ) → is_some (slice_get xs t) ≡ true → t < length xs
+some_within {A = A} xs t e = by (slice_get xs t) refl e
+  where
+    by : (o : Option A) → slice_get xs t ≡ o → is_some o ≡ true → t < length xs
+    by None is z = absurd (false≢true z)
+    by (Some x) is z = slice_get_within xs t x is
+
+waits_idle : (o : Option Task) → is_waiting o ≡ true → is_running o ≡ false
+waits_idle None e = refl
+waits_idle (Some y) e = by y.status e
+  where
+    by : (s : Status) → waits s ≡ true → status_runs s ≡ false
+    by Running z = absurd (false≢true z)
+    by Waiting z = refl
+    by (Ended n r) z = refl
+    by Joined z = refl
+
+module _ (w : World) (I : IsWorld w) (F : AreHeldInWords w) (p : Picture) (P : IsPictureOf w p) where
+  abbrev v : Value
+  v = value_of w
+
+  abbrev TT : List Task
+  TT = T w I
+
+  pub S : Stands v (k w I)
+  S = I.stands.homes
+
+  pub made : (n t : ℕ) → v.owner n ≡ Some t → t < length TT
+  made n t e = some_within TT t (S.made n t e)
+
+  near_by : (t : ℕ) (r : Option Rest) → rest_at w.homes t ≡ r → (o : Seen) → In (objects_in (home_in r).chunks) o → o.at.offset < 1024
+  near_by t None e o i = absurd i
+  near_by t (Some r) e o i = (I.heaps t r e).near o (subst (λ ks. In (objects_in ks) o) (home_chunks r) i)
+
+  measured_by : (t : ℕ) → IsUnheld w.hands t → (r : Option Rest) → rest_at w.homes t ≡ r → (c : ChunkOf) → In (home_in r).chunks c → held_at w.pool c.number ≡ Some (record { owner = t; units = c.units })
+  measured_by t un None e c i = absurd i
+  measured_by t un (Some r) e c i =
+      let q = map_in chunk_of r.heap.chunks c (subst (λ ks. In ks c) (home_chunks r) i) in
+      subst (λ (z : ChunkOf). held_at w.pool z.number ≡ Some (record { owner = t; units = z.units })) q.2 (I.measured t r e un q.0 q.1)
+
+  -- AN OBJECT OF A HEAP HANDED BACK
+  module _ (t : ℕ) (idle : IsHandedBack w t) (o : Seen) (i : In (objects v t) o) where
+    pub R : Rests (k w I) t
+    R = rests w I t idle
+
+    pub H : HomeStands v (k w I) t
+    H = S.homes t R
+
+    pub content : (x : Object) × (object_at (k w I).machine.store o.name ≡ Some x) × IsRead (Place v (k w I)) o x
+    content = S.contents t o R i
+
+    pub own_is : own (k w I) o.name ≡ t
+    own_is = (owned w I t o.name (object_held (v.homes t).chunks (heap_of (k w I) t) H.names o i)).1
+
+    pub live : joined TT t ≡ false
+    live = subst (λ u. joined TT u ≡ false) own_is ((owners w I).live o.name.task)
+
+    chunk : (c : ChunkOf) × In (v.homes t).chunks c × In c.objects o
+    chunk = in_chunk (v.homes t).chunks o i
+
+    pub owner : v.owner o.at.chunk ≡ Some t
+    owner = ap v.owner (H.inside chunk.0 o chunk.1 chunk.2) ∙ H.owned chunk.0 chunk.1
+
+    pub near : o.at.offset < 1024
+    near = near_by t (rest_at w.homes t) refl o i
+
+    unheld : IsUnheld w.hands t
+    unheld j h =
+        let a : (heap_of (k w I) t).worker ≡ None = R in
+        let b : (heap_of (k w I) t).worker ≡ Some j = (I.stands.totals.hand j t).0 h in
+        absurd cc
+
+    abbrev pub q : Picked
+    q = drawn_object (shown o)
+
+    pub here : In p.objects q
+    here = (P.objects.each q).1 (t, o, idle, i, refl)
+
+    pub end_is : end_of q ≡ o.at.offset + words o
+    end_is =
+        let a : offset q.address ≡ o.at.offset = offset_of_word o.at near in
+        let b : length q.references ≡ length o.refs = length-map o.refs word_of_ref in
+        omega (arith, a, b)
+
+    pub placed : IsPlaced p q
+    placed =
+        let c = chunk_in w I p P o.at.chunk t owner live in
+        let held : held_at w.pool o.at.chunk ≡ Some (record { owner = t; units = chunk.0.units }) = ap (held_at w.pool) (H.inside chunk.0 o chunk.1 chunk.2) ∙ measured_by t unheld (rest_at w.homes t) refl chunk.0 chunk.1 in
+        let units : c.1.units ≡ chunk.0.units = ap (λ (h : Held). h.units) (same_Some c.1 (record { owner = t; units = chunk.0.units }) (sym c.3 ∙ held)) in
+        let within : o.at.offset + words o ≤ 1024 * chunk.0.units = H.laid.within chunk.0 o chunk.1 chunk.2 in
+        let size : c.0.words ≡ 1024 * c.1.units = c.6 in
+        let last : end_of q ≡ o.at.offset + words o = end_is in
+        record {
+          chunk = c.0;
+          lies = (c.2, word_some o.at, chunk_of_word o.at near ∙ sym c.4);
+          inside = omega (arith, units, within, size, last);
+          rests = λ r. not_running w I p P t idle (subst (IsRunning p) c.5 r);
+        }
+
+    -- REFERENCES
+    pub reference : (n : ℕ) (a : Addr) → slice_get o.refs n ≡ Some (Some a) → (m : Name) × (slice_get content.0.refs n ≡ Some (Some m)) × Place v (k w I) m a
+    reference n a e = name_at (Place v (k w I)) o.refs content.0.refs n a content.2.refs e
+
+    pub ref_near : (r : Option Addr) → In o.refs r → IsRef r
+    ref_near r j = all_in IsRef o.refs r (F t o idle i).refs j
+
+    leads_to : (n : ℕ) (a : Addr) → slice_get o.refs n ≡ Some (Some a) → IsRef (Some a) → LeadsSomewhere p (word_of_ref (Some a))
+    leads_to n a e ref =
+        let m = reference n a e in
+        let u = own (k w I) m.0 in
+        let lives : joined TT u ≡ false = (owners w I).live m.0.task in
+        inr (elim (cases_Bool (is_state_running (state_of w.tree u))) [
+          | inl on ↦ inr (u, owned_at w I p P a u ref.0 m.2.chunk lives, running w I p P u (made a.chunk u m.2.chunk) lives on)
+          | inr off ↦
+              let d = m.2.here (rests w I u off) in
+              inl (drawn_object (shown d.0), (P.objects.each (drawn_object (shown d.0))).1 (u, d.0, off, d.1, refl), ap (λ z. word_of_ref (Some z)) d.2.at)
+        ])
+
+    leads_by : (n : ℕ) (r : Option Addr) → slice_get o.refs n ≡ Some r → IsRef r → LeadsSomewhere p (word_of_ref r)
+    leads_by n None e ref = inl refl
+    leads_by n (Some a) e ref = leads_to n a e ref
+
+    pub leads : (x : ℕ) → In q.references x → LeadsSomewhere p x
+    leads x j =
+        let r = map_in word_of_ref o.refs x j in
+        let n = in_at o.refs r.0 r.1 in
+        subst (LeadsSomewhere p) r.2 (leads_by n.0 r.0 n.1 (ref_near r.0 r.1))
+
+    -- a field that the set of another task's heap has
+    noted : (n u : ℕ) → u < length TT → joined TT u ≡ false → In (sources v u) (record { object = o.at; field = n }) → IsAncestor p.tasks t u × In p.fields (record { task = u; address = q.address; place = n })
+    noted n u lt lives j =
+        let s : Source = record { object = o.at; field = n } in
+        let K : IsSource v (k w I) u s = S.sources u s j in
+        let mine : own (k w I) K.name ≡ t = same_Some (own (k w I) K.name) t (sym K.place.chunk ∙ owner) in
+        let y = made_at TT u lt in
+        let x = task_live w I u y.0 y.1 lives in
+        let f : Remembered = record { task = u; address = q.address; place = n } in
+        let above : (u ≡ own (k w I) K.name) ⊎ IsAncestor p.tasks (own (k w I) K.name) u = on_path w I p P (own (k w I) K.name) u K.above lives in (
+          elim above [ inl e ↦ absurd (K.below (sym e)) | inr a ↦ subst (λ z. IsAncestor p.tasks z u) mine a ],
+          (P.fields.each f).1 (x.0, field_of s, x.1, (s, subst (λ z. In (sources v z) s) (sym x.2) j, refl), ap (λ z. drawn_field z (field_of s)) (sym x.2)),
+        )
+
+    keeps_to : (n : ℕ) (a : Addr) → slice_get o.refs n ≡ Some (Some a) → (h u : ℕ) → IsOwned p q.address h → IsOwned p (word_of_ref (Some a)) u → KeepsToPath p q.address n h u
+    keeps_to n a e h u oh ou =
+        let m = reference n a e in
+        let z = own (k w I) m.0 in
+        let lives : joined TT z ≡ false = (owners w I).live m.0.task in
+        let ref = ref_near (Some a) (got_at o.refs n (Some a) e) in
+        let eh : h ≡ t = owner_is w I p P o.at t h near owner live oh in
+        let eu : u ≡ z = owner_is w I p P a z u ref.0 m.2.chunk lives ou in
+        let goes : KeepsToPath p q.address n t z = elim (S.remembered t o content.0 n m.0 R i content.1 m.1) [
+          | inl path ↦ elim (on_path w I p P z t path live) [ inl s ↦ inl (sym s) | inr s ↦ inr (inl s) ]
+          | inr j ↦ inr (inr (noted n z (made a.chunk z m.2.chunk) lives j))
+        ] in
+        subst (λ y. KeepsToPath p q.address n y u) (sym eh) (subst (KeepsToPath p q.address n t) (sym eu) goes)
+
+    keeps_by : (n : ℕ) (r : Option Addr) → slice_get o.refs n ≡ Some r → (h u : ℕ) → IsOwned p q.address h → IsOwned p (word_of_ref r) u → KeepsToPath p q.address n h u
+    keeps_by n None e h u oh ou = absurd (let lt : 0 < 0 = ou.1.1 in omega arith)
+    keeps_by n (Some a) e h u oh ou = keeps_to n a e h u oh ou
+
+    mapped : (xs : List (Option Addr)) (n x : ℕ) → slice_get (map word_of_ref xs) n ≡ Some x → (r : Option Addr) × (slice_get xs n ≡ Some r) × (word_of_ref r ≡ x)
+    mapped xs n x e = by (slice_get xs n) refl (sym (slice_get-map word_of_ref xs n) ∙ e)
+      where
+        by : (s : Option (Option Addr)) → slice_get xs n ≡ s → option_map word_of_ref s ≡ Some x → (r : Option Addr) × (slice_get xs n ≡ Some r) × (word_of_ref r ≡ x)
+        by None is z = absurd cc
+        by (Some r) is z = (r, is, same_Some (word_of_ref r) x z)
+
+    pub keeps : (n x h u : ℕ) → slice_get q.references n ≡ Some x → IsOwned p q.address h → IsOwned p x u → KeepsToPath p q.address n h u
+    keeps n x h u e oh ou =
+        let r = mapped o.refs n x e in
+        keeps_by n r.0 r.1 h u oh (subst (λ z. IsOwned p z u) (sym r.2) ou)
+
+  -- TWO OF THEM
+  module _ (t : ℕ) (idle : IsHandedBack w t) (o : Seen) (i : In (objects v t) o) (u : ℕ) (still : IsHandedBack w u) (s : Seen) (j : In (objects v u) s) where
+    pub births : o.name ≡ s.name → o.at ≡ s.at
+    births e =
+        let same : t ≡ u = sym (own_is t idle o i) ∙ (ap (own (k w I)) e ∙ own_is u still s j) in
+        ap (λ (z : Seen). z.at) ((H t idle o i).named o s i (subst (λ z. In (objects v z) s) (sym same) j) e)
+
+    pub apart : AreApart (drawn_object (shown o)) (drawn_object (shown s))
+    apart lt e =
+        let chunks : o.at.chunk ≡ s.at.chunk = sym (chunk_of_word o.at (near t idle o i)) ∙ (e ∙ chunk_of_word s.at (near u still s j)) in
+        let same : t ≡ u = same_Some t u (sym (owner t idle o i) ∙ (ap v.owner chunks ∙ owner u still s j)) in
+        let first : o.at.offset < s.at.offset = before_offset o.at s.at chunks lt in
+        let a : end_of (drawn_object (shown o)) ≡ o.at.offset + words o = end_is t idle o i in
+        let b : offset (word_of_ref (Some s.at)) ≡ s.at.offset = offset_of_word s.at (near u still s j) in
+        elim ((H t idle o i).laid.apart o s i (subst (λ z. In (objects v z) s) (sym same) j)) [
+          | inl one ↦ absurd (let c : o.at.offset ≡ s.at.offset = ap (λ (z : Seen). z.at.offset) one in omega (arith, c, first))
+          | inr two ↦ elim two [
+            | inl off ↦ absurd (off chunks)
+            | inr ends ↦ elim ends [
+              | inl le ↦ omega (arith, a, b, le)
+              | inr le ↦ absurd (omega (arith, le, first))
+            ]
+          ]
+        ]
+
+  -- A REMEMBERED FIELD
+  pub fits : (u : ℕ) (s : Source) → joined TT u ≡ false → In (sources v u) s → IsFit p (drawn_field u (field_of s))
+  fits u s lives j =
+      let K : IsSource v (k w I) u s = S.sources u s j in
+      let t = own (k w I) K.name in
+      let idle : IsHandedBack w t = runs w I t ∙ waits_idle (slice_get TT t) K.waits in
+      let d = K.place.here K.rests in
+      let c = content t idle d.0 d.1 in
+      let object : c.0 ≡ K.object = same_Some c.0 K.object (sym c.1 ∙ (ap (object_at (k w I).machine.store) d.2.name ∙ K.is)) in
+      let a : length d.0.refs ≡ length c.0.refs = read_length (Place v (k w I)) d.0.refs c.0.refs c.2.refs in
+      let b : length c.0.refs ≡ length K.object.refs = ap (λ (z : Object). length z.refs) object in
+      let m : length (map word_of_ref d.0.refs) ≡ length d.0.refs = length-map d.0.refs word_of_ref in
+      let lt : s.field < length K.object.refs = K.field in
+      let at : word_of_ref (Some d.0.at) ≡ word_of_ref (Some s.object) = ap (λ z. word_of_ref (Some z)) d.2.at in
+      record {
+        object = drawn_object (shown d.0);
+        drawn = here t idle d.0 d.1;
+        address = at;
+        place = omega (arith, a, b, m, lt);
+        owner = t;
+        owned = subst (λ z. IsOwned p z t) at (owned_at w I p P d.0.at t (near t idle d.0 d.1) (owner t idle d.0 d.1) (live t idle d.0 d.1));
+        above = elim (on_path w I p P t u K.above lives) [ inl e ↦ absurd (K.below (sym e)) | inr a ↦ a ];
+      }

@@ -1,0 +1,134 @@
+-- What is known of the machine and of the tree of a shared value, once the root of a run that is done is handed back.
+use Rattle.std.proofs.Common.{◌≡◌, ℕ, ◌+◌, ◌*◌, ◌^◌, ◌<◌, ◌≤◌, arith, Bool, true, false, Option, Some, None, List, length, max, option_map, slice_get, inl, inr, refl, ap, sym, subst, ◌∙◌}
+use Rattle.std.proofs.lemmas.Bool.{false≢true}
+use Rattle.std.proofs.lemmas.Option.{slice_get_within}
+use Rattle.run_trace.specs.declared.settings.Version.{Version}
+use Rattle.run_trace.specs.declared.settings.Version.TheVariants.{One, Two}
+use Rattle.run_trace.specs.Settings.{field_limit}
+use Rattle.listed.specs.Members.{In}
+use Rattle.heap_tree.specs.declared.state.State.TheVariants.{Joined as IsJoined}
+use Rattle.heap_tree.specs.Node.{Node, state_of}
+use Rattle.hh_model.specs.declared.data.Name.{Name}
+use Rattle.hh_model.specs.declared.data.Object.{Object}
+use Rattle.hh_model.specs.declared.data.State.{State as Machine}
+use Rattle.hh_model.specs.declared.data.Task.{Task}
+use Rattle.hh_model.specs.Counts.{Counted}
+use Rattle.hh_model.specs.Effect.{object_at, row_of}
+use Rattle.hh_model.specs.Paths.{AreOwners, ArePaths}
+use Rattle.hh_model.specs.Step.{is_running, joined, owner_of, parents, run}
+use Rattle.hh_model.specs.Tree.{HasOneRoot, TreeOf, joins_in, waiting}
+use Rattle.hh_model.proofs.PathLaws.{owners_are_walks, paths_are_walks}
+use Rattle.hh_model.proofs.Root.{runs_have_one_root}
+use Rattle.hh_model.proofs.Sizes.{limit_stays, sizes_are_bounded}
+use Rattle.run_ledger.specs.declared.data.Ledger.{Ledger}
+use Rattle.run_ledger.specs.Heaps.{heap_of, held_in}
+use Rattle.run_ledger.specs.Journals.{tasks_of}
+use Rattle.run_ledger.proofs.Bounds.{steps_are_bounded}
+use Rattle.run_ledger.proofs.Counted.{journals_are_counted}
+use Rattle.run_ledger.proofs.Machine.{machine_is_run}
+use Rattle.ledger_steps.specs.Accounts.{Rests}
+use Rattle.core_relation.specs.Whole.{handed}
+use Rattle.shared_tree.specs.declared.live.Live.{Live}
+use Rattle.shared_tree.specs.HeldNames.{is_state_running}
+use Rattle.shared_tree.specs.Image.{IsLive}
+use Rattle.shared_tree.specs.Stands.{IsWorld}
+use Rattle.shared_tree.specs.World.{World, accounts}
+use Rattle.shared_tree.proofs.IdleTasks.{journal_idle}
+use Rattle.shared_tree.proofs.KeptNames.{handed_held, runs_is}
+use Rattle.shared_tree.proofs.TreeNow.{joined_now, live_now, node_at, parent_now, same_machine, sound, task_of, tree_of}
+
+few_by : (v : Version) → max (field_limit v) 32 ≤ 1000000
+few_by One = omega arith
+few_by Two = omega arith
+
+module _ (w : World) (I : IsWorld w) where
+  abbrev pub l : Ledger
+  l = accounts w
+
+  abbrev pub k : Ledger
+  k = handed l
+
+  abbrev pub T : List Task
+  T = k.machine.tasks
+
+  pub same : k.machine ≡ l.machine
+  same = same_machine w I
+
+  pub tree : TreeOf T k.machine.edges
+  tree = subst (λ (m : Machine). TreeOf m.tasks m.edges) (sym same) (tree_of w I)
+
+  ran : l.machine ≡ run w.program (field_limit w.settings.version) (tasks_of w.journal.items)
+  ran = machine_is_run w.program w.settings w.journal.items
+
+  pub root : HasOneRoot T
+  root = subst (λ (m : Machine). HasOneRoot m.tasks) (sym (same ∙ ran)) (runs_have_one_root w.program (field_limit w.settings.version) (tasks_of w.journal.items))
+
+  pub owners : AreOwners (parents T) (joined T) (waiting T)
+  owners = owners_are_walks _ (parents T) (joined T) (waiting T) (joins_in T) k.machine.edges tree
+
+  pub paths : ArePaths (parents T)
+  paths = paths_are_walks (parents T) tree.low
+
+  -- COUNTS
+  counted : Counted l.steps T k.machine.store
+  counted = subst (λ (m : Machine). Counted l.steps m.tasks m.store) (sym same) (journals_are_counted w.program w.settings w.journal.items).counts
+
+  few_steps : l.steps ≤ 1000000256
+  few_steps =
+      let a : l.steps ≤ w.settings.fuel + 256 = steps_are_bounded w.program w.settings w.journal.items I.legal in
+      let b : w.settings.fuel ≤ 1000000000 = I.limits.fuel.1 in
+      omega (arith, a, b)
+
+  pub few : length T < 2 ^ 32
+  few = let a = counted.made in let b = few_steps in omega (arith, a, b)
+
+  pub stored_few : (n : Name) (x : Object) → object_at k.machine.store n ≡ Some x → (n.task < 2 ^ 32) × (n.count < 2 ^ 32)
+  stored_few n x e = (task (slice_get k.machine.store n.task) refl, count)
+    where
+      count : n.count < 2 ^ 32
+      count =
+          let a = slice_get_within (row_of (slice_get k.machine.store n.task)) n.count x e in
+          let b = counted.objects n.task in
+          let c = few_steps in
+          omega (arith, a, b, c)
+
+      task : (o : Option (List Object)) → slice_get k.machine.store n.task ≡ o → n.task < 2 ^ 32
+      task None is = absurd (let none : None ≡ Some x = sym (ap (λ r. slice_get (row_of r) n.count) is) ∙ e in cc)
+      task (Some row) is =
+          let a = slice_get_within k.machine.store n.task row is in
+          let b : length k.machine.store ≡ length T = counted.rows in
+          let c = few in
+          omega (arith, a, b, c)
+
+  pub fields_few : (n : Name) (x : Object) → object_at k.machine.store n ≡ Some x → length x.refs + length x.ints ≤ 1000000
+  fields_few n x e =
+      let m : Machine = run w.program (field_limit w.settings.version) (tasks_of w.journal.items) in
+      let a = (sizes_are_bounded w.program (field_limit w.settings.version) (tasks_of w.journal.items)).together n x (subst (λ (z : Machine). object_at z.store n ≡ Some x) (same ∙ ran) e) in
+      let b : m.field_limit ≡ field_limit w.settings.version = limit_stays w.program (field_limit w.settings.version) (tasks_of w.journal.items) in
+      let c = few_by w.settings.version in
+      let d : length x.refs + length x.ints ≤ max (field_limit w.settings.version) 32 = subst (λ f. length x.refs + length x.ints ≤ max f 32) b a in
+      omega (arith, c, d)
+
+  -- TASKS
+  pub live_task : (x : Live) → IsLive w x → (y : Task) × (slice_get T x.number ≡ Some y) × (x.parent ≡ y.parent) × (joined T x.number ≡ false)
+  live_task x L =
+      let y = task_of w I x.number (record { parent = x.parent; state = x.state }) L.is in
+      (y.0, ap (λ (m : Machine). slice_get m.tasks x.number) same ∙ y.1, y.2.parent, ap (λ (m : Machine). joined m.tasks x.number) same ∙ live_now w I x.number (record { parent = x.parent; state = x.state }) L.is L.live)
+
+  pub task_live : (t : ℕ) (y : Task) → slice_get T t ≡ Some y → joined T t ≡ false → (x : Live) × IsLive w x × (x.number ≡ t) × (x.parent ≡ y.parent)
+  task_live t y e live =
+      let n = node_at w I t y (ap (λ (m : Machine). slice_get m.tasks t) (sym same) ∙ e) in
+      let x : Live = record { number = t; parent = n.0.parent; state = n.0.state } in
+      let off : n.0.state ≡ IsJoined → ⊥ = λ j. false≢true (sym live ∙ (ap (λ (m : Machine). joined m.tasks t) same ∙ joined_now w I t n.0 n.1 j)) in
+      (x, record { is = n.1; live = off }, refl, n.2.parent)
+
+  pub runs : (t : ℕ) → is_state_running (state_of w.tree t) ≡ is_running (slice_get T t)
+  runs t = runs_is w I t ∙ ap (λ (m : Machine). is_running (slice_get m.tasks t)) (sym same)
+
+  pub rests : (t : ℕ) → is_state_running (state_of w.tree t) ≡ false → Rests k t
+  rests t idle = journal_idle w.program w.settings w.journal.items I.form I.legal t (sym (runs_is w I t) ∙ idle)
+
+  pub owned : (t : ℕ) (n : Name) → In (held_in (heap_of k t)) n → (n.task < length T) × (owner_of T n.task ≡ t)
+  owned t n i =
+      let o = (sound w I).owners t n (subst (λ ns. In ns n) (handed_held l t) i) in
+      (subst (λ (m : Machine). n.task < length m.tasks) (sym same) o.0, ap (λ (m : Machine). owner_of m.tasks n.task) same ∙ o.1)

@@ -1,0 +1,5 @@
+pub mod Known
+pub mod Numbers
+pub mod Links
+pub mod Drawing
+pub mod Sounds

@@ -1,0 +1,77 @@
+-- What a picture draws of the shared value.
+use Rattle.std.specs.Prelude.{◌≡◌, ◌⊎◌, ℕ, false, Option, List, map}
+use Rattle.heap_tree.specs.declared.state.State.{State}
+use Rattle.heap_tree.specs.declared.state.State.TheVariants.{Ready, Out, Waiting, Ended, Joined}
+use Rattle.heap_tree.specs.Node.{state_of}
+use Rattle.image_check.specs.declared.line.State.{State as Drawn}
+use Rattle.image_check.specs.declared.line.State.TheVariants.{Running as IsRunning, Waiting as IsWaiting, Ended as HasEnded}
+use Rattle.image_check.specs.declared.line.Task.{Task}
+use Rattle.image_check.specs.declared.line.Chunk.{Chunk}
+use Rattle.image_check.specs.declared.line.Remembered.{Remembered}
+use Rattle.heap_image.specs.declared.picture.Picked.{Picked}
+use Rattle.heap_image.specs.declared.picture.Picture.{Picture}
+use Rattle.heap_image.specs.Picture.{ChunkBefore, FieldBefore, ObjectBefore, TaskBefore}
+use Rattle.core_relation.specs.Value.{In, Seen as SeenAt, objects}
+use Rattle.shared_tree.specs.declared.live.InUse.{InUse}
+use Rattle.shared_tree.specs.declared.live.Live.{Live}
+use Rattle.shared_tree.specs.declared.noted.Field.{Field}
+use Rattle.shared_tree.specs.declared.seen.Seen.{Seen}
+use Rattle.shared_tree.specs.HeldNames.{is_state_running}
+use Rattle.shared_tree.specs.Image.{AreAll, IsInUse, IsInWords, IsLive, IsNoted, shown}
+use Rattle.shared_tree.specs.World.{World, value_of}
+
+-- ONE BY ONE
+
+-- a task that is ready or out runs
+abbrev pub drawn_state : State → Drawn
+drawn_state Ready = IsRunning
+drawn_state Out = IsRunning
+drawn_state Waiting = IsWaiting
+drawn_state Ended = HasEnded
+drawn_state Joined = HasEnded
+
+abbrev pub drawn_task : Live → Task
+drawn_task x = record { number = x.number; parent = x.parent; state = drawn_state x.state }
+
+abbrev pub drawn_chunk : InUse → Chunk
+drawn_chunk c = record { number = c.number; owner = c.owner; words = c.words }
+
+abbrev pub drawn_object : Seen → Picked
+drawn_object o = record { address = o.at; birth = record { task = o.birth.task; count = o.birth.count }; mutable = o.mutable; references = o.refs; numbers = o.ints }
+
+abbrev pub drawn_field : ℕ → Field → Remembered
+drawn_field t f = record { task = t; address = f.object; place = f.field }
+
+-- OF A SHARED VALUE
+
+-- it is a task that hasn't joined
+abbrev pub IsTaskOf : World → Task → Type 0
+IsTaskOf w t = (x : Live) × IsLive w x × (t ≡ drawn_task x)
+
+-- it is a chunk in use
+abbrev pub IsChunkOf : World → Chunk → Type 0
+IsChunkOf w c = (x : InUse) × IsInUse w x × (c ≡ drawn_chunk x)
+
+-- the heap of a task that doesn't run is handed back
+abbrev pub IsHandedBack : World → ℕ → Type 0
+IsHandedBack w t = is_state_running (state_of w.tree t) ≡ false
+
+-- it is an object of a heap handed back
+abbrev pub IsObjectOf : World → Picked → Type 0
+IsObjectOf w q = (t : ℕ) × (o : SeenAt) × IsHandedBack w t × In (objects (value_of w) t) o × (q ≡ drawn_object (shown o))
+
+-- it is a field that the set of a task that hasn't joined has
+abbrev pub IsFieldOf : World → Remembered → Type 0
+IsFieldOf w f = (x : Live) × (g : Field) × IsLive w x × IsNoted w x.number g × (f ≡ drawn_field x.number g)
+
+-- the picture has just the tasks that haven't joined, the chunks in use, the objects of the heaps handed back and the fields of the
+-- sets, each once and in order
+pub record IsPictureOf (w : World) (p : Picture) : Type 0 where
+  pub tasks : AreAll TaskBefore (IsTaskOf w) p.tasks
+  pub chunks : AreAll ChunkBefore (IsChunkOf w) p.chunks
+  pub objects : AreAll ObjectBefore (IsObjectOf w) p.objects
+  pub fields : AreAll FieldBefore (IsFieldOf w) p.fields
+
+-- words hold the objects of the heaps handed back
+abbrev pub AreHeldInWords : World → Type 0
+AreHeldInWords w = (t : ℕ) (o : SeenAt) → IsHandedBack w t → In (objects (value_of w) t) o → IsInWords o

@@ -1,0 +1,23 @@
+use Rattle.std.proofs.Common.{◌≡◌, ◌<◌, List, ap, sym, ◌∙◌, subst, refl, Some, slice_get, length, map}
+use Rattle.std.proofs.lemmas.Option.{slice_get_read}
+use Rattle.write_barrier.specs.declared.sets.SetOf.{SetOf}
+use Rattle.shared_tree.specs.declared.noted.Field.{Field}
+use Rattle.shared_tree.specs.Image.{AreAll, FieldBefore, IsNoted, field_of}
+use Rattle.shared_tree.specs.World.{World, source_of}
+use Rattle.shared_tree.proofs.FieldReads.{noted_in_order}
+use Rattle.shared_tree.proofs.shared.Shared.remembered.Goals as goal
+
+pub returns : goal.returns
+returns c =
+    let w : World = c.args.self.now in
+    let t = c.args.task in
+    let set : SetOf = c.index.result.now in
+    let sets = c.self.inside.sets.items in
+    let same : sets ≡ w.sets = ap (λ (z : World). z.sets) c.self.view_is in
+    let few : t < length w.sets = subst (λ n. t < n) (sym c.stands.ensures.noted) c.requires in
+    let is : slice_get w.sets t ≡ Some set = ap (λ xs. slice_get xs t) (sym same) ∙ slice_get_read sets (length w.sets) t set (sym (ap length same)) few c.index.ensures in
+    let fs = c.in_ok-fields.fields.items in
+    let gs = c.sort_unstable.new.self.items in
+    let all = c.in_ok-fields.ensures ∙ ap (λ ss. map (λ s. field_of (source_of s)) ss) c.sources.ensures.sources in
+    subst (AreAll FieldBefore (IsNoted w t)) (sym c.from_vec.ensures)
+    (noted_in_order w c.stands.ensures t set is fs gs c.sources.ensures.once all c.sort_unstable.ensures.permutation c.sort_unstable.ensures.sorted)
