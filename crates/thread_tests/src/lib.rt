@@ -1,7 +1,5 @@
-// Tests of what threads share: deques, turns and a ledger. It has no code of its own.
+// Tests of what threads share without the turn: deques. It has no code of its own.
 #![tactic(auto)]
 
 #[cfg(test)]
 mod deques;
-#[cfg(test)]
-mod turns;

@@ -174,9 +174,9 @@ module _ {T E P S : Type 0} (journal : T → List E) (by : E → ℕ) (fits : T 
       r.turn
 
   hands : (s : St) (r : Rule s) (id n : ℕ) (v : V) (t x : T) (part : Option P) → length s.homes ≡ 1 → get_elem? s.views id ≡ some v → v.live ≡ true → v.taken ≡ Some t → n ≡ 2 * length (journal x)
-      → SeesIt x (with_given v (journal x) part) → ((j : ℕ) (u : V) → j ≢ id → get_elem? s.views j ≡ some u → u.live ≡ true → SeesIt x u)
-      → Rule record { words = set s.words 0 n; homes = set s.homes 0 (some (Some x)); views = set s.views id (with_given v (journal x) part) }
-  hands s r id n v t x part one_home at live has is mine others = let w : V = with_given v (journal x) part in let h = holder s r id v t at has in let long = r.wide in
+      → SeesIt x (with_given v x (journal x) part) → ((j : ℕ) (u : V) → j ≢ id → get_elem? s.views j ≡ some u → u.live ≡ true → SeesIt x u)
+      → Rule record { words = set s.words 0 n; homes = set s.homes 0 (some (Some x)); views = set s.views id (with_given v x (journal x) part) }
+  hands s r id n v t x part one_home at live has is mine others = let w : V = with_given v x (journal x) part in let h = holder s r id v t at has in let long = r.wide in
       moved s r id n v w (set s.homes 0 (some (Some x))) x at record { live = refl; worker = refl; count = refl }
       (inl (
         get_or-set_same s.words 0 n 0 (omega arith) ∙ is,
@@ -219,7 +219,7 @@ module _ {T E P S : Type 0} (journal : T → List E) (by : E → ℕ) (fits : T 
   gives_at slots id v t x part single live has more fit s r wide at small = let n : ℕ = slice_index s.words 0 in let h = holder s r id v t at has in
       let word : n ≡ 2 * length (journal t) + 1 = h.0 in let long : length (journal x) ≡ length (journal t) + 1 = ap length more.longer ∙ length-append (journal t) (more.entry ∷ []) in let short = more.short in
       let k : SeesIt t v = subst (λ (z : T). SeesIt z v) h.1 (r.knows id v at live) in let before : SeesIt t v = k in (
-        with_given v (journal x) part,
+        with_given v x (journal x) part,
         gives,
         tt,
         hands s r id ((n + 1) % 2 ^ 64) v t x part (wide ∙ single) at live has (omega arith)
@@ -237,7 +237,7 @@ module _ {T E P S : Type 0} (journal : T → List E) (by : E → ℕ) (fits : T 
             }
             (λ j u not e l. knows_more t x u v.worker more (subst (λ (z : T). SeesIt z u) h.1 (r.knows j u e l)) (λ e'. not (r.seats.once j id u v e at l live (sym e' ∙ more.by_worker)))
             (λ zero_worker. subst (λ (z : ℕ). z < u.count) (sym more.by_worker) (r.seats.counted j id u v e at l live zero_worker))),
-        ((λ y e. λ i. (with_given v (journal (held_one x y e i)) part, [])), λ y e. subst (λ (z : T). Knows journal by fits setup z v) (some_one t y (sym has ∙ e)) before.known),
+        ((λ y e. λ i. (with_given v (held_one x y e i) (journal (held_one x y e i)) part, [])), λ y e. subst (λ (z : T). Knows journal by fits setup z v) (some_one t y (sym has ∙ e)) before.known),
       )
 
   pub gives_keep : (slots id : ℕ) (m : M) (v : V) (t x : T) (part : Option P) → slots ≡ 1 → v.live ≡ true → v.taken ≡ Some t → m ≡ (v, (0, Some x) ∷ []) → Extends journal by fits setup t x v.worker
@@ -264,13 +264,13 @@ module _ {T E P S : Type 0} (journal : T → List E) (by : E → ℕ) (fits : T 
   returns_at slots id v t x single live has alike s r wide at small = let n : ℕ = slice_index s.words 0 in let h = holder s r id v t at has in
       let word : n ≡ 2 * length (journal t) + 1 = h.0 in let long : length (journal x) ≡ length (journal t) = ap length alike.same_journal in
       let before : SeesIt t v = subst (λ (z : T). SeesIt z v) h.1 (r.knows id v at live) in let k : SeesIt x v = knows_same t x v alike before in (
-        with_given v (journal x) v.part,
+        with_given v x (journal x) v.part,
         gives,
         tt,
         hands s r id ((n + (2 ^ 64 - 1)) % 2 ^ 64) v t x v.part (wide ∙ single) at live has (omega arith)
             record { known = record { rest = []; begins = sym (append-nil (journal x)); others = tt; looked = k.known.looked; part = k.known.part; setup_is = k.known.setup_is }; below = λ _ _. tt; joined = k.joined }
             (λ j u not e l. knows_same t x u alike (subst (λ (z : T). SeesIt z u) h.1 (r.knows j u e l))),
-        ((λ y e. λ i. (with_given v (journal (held_one x y e i)) v.part, [])), λ y e. subst (λ (z : T). Knows journal by fits setup z v) (some_one t y (sym has ∙ e)) before.known),
+        ((λ y e. λ i. (with_given v (held_one x y e i) (journal (held_one x y e i)) v.part, [])), λ y e. subst (λ (z : T). Knows journal by fits setup z v) (some_one t y (sym has ∙ e)) before.known),
       )
 
   pub returns_keep : (slots id : ℕ) (m : M) (v : V) (t x : T) → slots ≡ 1 → v.live ≡ true → v.taken ≡ Some t → m ≡ (v, (0, Some x) ∷ []) → IsAlike journal by fits setup t x

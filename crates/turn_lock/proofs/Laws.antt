@@ -61,7 +61,8 @@ module _ {T E P S : Type 0} (journal : T → List E) (by : E → ℕ) (fits : T 
   own_at_end z value seats all left k s at = let b = left.begins k s at in
       entries_by-begins by k (journal value) (view s).seen b.0 b.1 b.2 ∙ ap (λ (n : ℕ). entries_by by n (view s).seen) (sym (all.each_seat k s at).1)
 
-first_there : {A : Type 0} (l : List A) → 0 < length l → (a : A) × (slice_get l 0 ≡ Some a)
+-- a list that isn't empty has a first element
+pub first_there : {A : Type 0} (l : List A) → 0 < length l → (a : A) × (slice_get l 0 ≡ Some a)
 first_there [] h = absurd (omega arith)
 first_there (x ∷ xs) h = (x, refl)
 

@@ -14,7 +14,7 @@ module _ {T E P S : Type 0} where
 
   -- the view of the seat that was split
   abbrev pub split_view : View T E P S → View T E P S
-  split_view v = record { live = true; worker = v.count; setup = v.setup; looked = 0; seen = v.seen; part = None; taken = None; count = 0; joined = [] }
+  split_view v = record { live = true; worker = v.count; setup = v.setup; looked = 0; seen = v.seen; given = None; part = None; taken = None; count = 0; joined = [] }
 
   -- worker 0's view after a seat was joined with its
   abbrev pub with_joined : View T E P S → View T E P S → View T E P S
@@ -22,7 +22,7 @@ module _ {T E P S : Type 0} where
 
   -- the view of the seat that was joined
   abbrev pub spent_view : View T E P S
-  spent_view = record { live = false; worker = 0; setup = None; looked = 0; seen = []; part = None; taken = None; count = 0; joined = [] }
+  spent_view = record { live = false; worker = 0; setup = None; looked = 0; seen = []; given = None; part = None; taken = None; count = 0; joined = [] }
 
   -- the live views have the numbers below the count, each once
   pub record Numbered (views : List (View T E P S)) : Type 0 where
@@ -71,12 +71,12 @@ module _ {T E P S : Type 0} (journal : T → List E) (worker_of : E → ℕ) (fi
 
   -- the value goes home with one entry more, and the seat knew of the value that it took
   abbrev pub gives : Option P → Step (Option T) → Me (Option T) (View T E P S) → ℕ → Me (Option T) (View T E P S) → Type 0
-  gives part st m r m' = ((x : T) → m.1 ≡ (0, Some x) ∷ [] → m' ≡ (with_given m.0 (journal x) part, []))
+  gives part st m r m' = ((x : T) → m.1 ≡ (0, Some x) ∷ [] → m' ≡ (with_given m.0 x (journal x) part, []))
       × ((taken : T) → m.0.taken ≡ Some taken → Knows journal worker_of fits setup taken m.0)
 
   -- the value goes home as it was taken
   abbrev pub returns : Step (Option T) → Me (Option T) (View T E P S) → ℕ → Me (Option T) (View T E P S) → Type 0
-  returns st m r m' = ((x : T) → m.1 ≡ (0, Some x) ∷ [] → m' ≡ (with_given m.0 (journal x) m.0.part, []))
+  returns st m r m' = ((x : T) → m.1 ≡ (0, Some x) ∷ [] → m' ≡ (with_given m.0 x (journal x) m.0.part, []))
       × ((taken : T) → m.0.taken ≡ Some taken → Knows journal worker_of fits setup taken m.0)
 
 module _ {T E P S : Type 0} where

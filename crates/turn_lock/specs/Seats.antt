@@ -27,9 +27,9 @@ module _ {T E P S : Type 0} where
   abbrev pub with_taken : View T E P S → T → View T E P S
   with_taken v value = record v { taken = Some value }
 
-  -- after the turn was given back, with this journal, while the worker keeps this part
-  abbrev pub with_given : View T E P S → List E → Option P → View T E P S
-  with_given v journal part = record v { seen = journal; part = part; taken = None }
+  -- after this value was given back, with this journal, while the worker keeps this part
+  abbrev pub with_given : View T E P S → T → List E → Option P → View T E P S
+  with_given v value journal part = record v { seen = journal; given = Some value; part = part; taken = None }
 
   -- a seat of the turn z that was not joined with another
   abbrev pub IsSeatOf : TableId → Seat (Option T) (View T E P S) → Type 0
@@ -52,7 +52,7 @@ module _ {T E P S : Type 0} where
 
   -- the view of worker 0 of one, where the turn begins with this value
   abbrev pub opening_view : (T → List E) → (T → S) → T → View T E P S
-  opening_view journal setup value = record { live = true; worker = 0; setup = Some (setup value); looked = 0; seen = journal value; part = None; taken = None; count = 1; joined = [] }
+  opening_view journal setup value = record { live = true; worker = 0; setup = Some (setup value); looked = 0; seen = journal value; given = None; part = None; taken = None; count = 1; joined = [] }
 
   -- the view of worker k of n, where the first seat's began as v
   abbrev pub newcomer : View T E P S → ℕ → ℕ → View T E P S

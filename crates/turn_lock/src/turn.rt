@@ -11,9 +11,14 @@ use crate::steps::{
 };
 use atomic_table::{Closed, Refused, Table};
 use std::alloc::{AllocError, Global};
+use std::hint;
 use std::marker::Brand;
 use std::snapshot::Snapshot;
 use std::sync::Wait;
+use std::thread;
+
+// After so many vain tries for the turn, who tries lets other threads run before each further one.
+const PATIENCE: u32 = 16;
 
 /// A value that workers take in turns, each by its seat. Threads share it by reference.
 #[derive(Drop)]
@@ -93,10 +98,12 @@ impl<T: Kept + Drop> Turn<T> {
         ensures same { SameWorker (view seat.old) (view seat.new) }
         ensures value { Knows T.journal T.worker_of T.fits T.setup result (view seat.old) }
     {
+        let mut tries = 0;
         for _ in rt.forever() {
             if self.table.shared.fetch_or::<Takes<T>>(seat, 0, 1) % 2 == 0 {
                 return self.table.shared.exchange(seat, 0, None).unwrap();
             }
+            tries = pause(tries);
         }
         unreachable!()
     }
@@ -105,7 +112,7 @@ impl<T: Kept + Drop> Turn<T> {
     pub fn give_back(&self, seat: &mut Seat<T>, value: T, part: Option<&T::Part>)
         requires turn { (taken : T) × HasTurn (identity self.now) seat.old taken × Extends T.journal T.worker_of T.fits T.setup taken value (view seat.old).worker }
         requires part { IfSome part (λ p. T.fits value (view seat.old).worker p.now) }
-        ensures seat { HasNoTurn (identity self.now) seat.new × (view seat.new ≡ with_given (view seat.old) (T.journal value) (option_map (λ p. p.now) part.entry)) }
+        ensures seat { HasNoTurn (identity self.now) seat.new × (view seat.new ≡ with_given (view seat.old) value (T.journal value) (option_map (λ p. p.now) part.entry)) }
         ensures same { SameWorker (view seat.old) (view seat.new) }
         ensures own { GaveOne T.worker_of (T.journal value) (view seat.old) (view seat.new) }
     {
@@ -116,7 +123,7 @@ impl<T: Kept + Drop> Turn<T> {
         requires left { L.part ≡ option_map (λ p. p.now) part }
         requires turn { (taken : T) × HasTurn (identity self.now) seat.old taken × Extends T.journal T.worker_of T.fits T.setup taken value (view seat.old).worker }
         requires part { IfSome part (λ p. T.fits value (view seat.old).worker p.now) }
-        ensures seat { HasNoTurn (identity self.now) seat.new × (view seat.new ≡ with_given (view seat.old) (T.journal value) L.part) }
+        ensures seat { HasNoTurn (identity self.now) seat.new × (view seat.new ≡ with_given (view seat.old) value (T.journal value) L.part) }
         ensures same { SameWorker (view seat.old) (view seat.new) }
         ensures own { GaveOne T.worker_of (T.journal value) (view seat.old) (view seat.new) }
     {
@@ -128,13 +135,23 @@ impl<T: Kept + Drop> Turn<T> {
     /// Gives the value and the turn back, with the journal, the fitting parts and the setup that were taken.
     pub fn give_same(&self, seat: &mut Seat<T>, value: T)
         requires { (taken : T) × HasTurn (identity self.now) seat.old taken × IsAlike T.journal T.worker_of T.fits T.setup taken value }
-        ensures seat { HasNoTurn (identity self.now) seat.new × (view seat.new ≡ with_given (view seat.old) (T.journal value) (view seat.old).part) }
+        ensures seat { HasNoTurn (identity self.now) seat.new × (view seat.new ≡ with_given (view seat.old) value (T.journal value) (view seat.old).part) }
         ensures same { SameWorker (view seat.old) (view seat.new) }
         ensures own { own_entries T.worker_of (view seat.new) ≡ own_entries T.worker_of (view seat.old) }
     {
         drop(self.table.shared.exchange(seat, 0, Some(value)));
         self.table.shared.fetch_sub::<Returns<T>>(seat, 0, 1);
     }
+}
+
+// A pause after so many vain tries; the answer is how many there are with this one, as far as it matters.
+fn pause(tries: u32) -> u32 {
+    if tries < PATIENCE {
+        hint::spin_loop();
+        return tries + 1;
+    }
+    thread::yield_now();
+    tries
 }
 
 // The value of the one slot, which is full.

@@ -12,6 +12,8 @@ pub struct View<T, E, P, S> {
     pub looked: u64,
     /// The journal at the last giving, at first the opening one.
     pub seen: LinkedList<E>,
+    /// The value at the last giving, if there was one.
+    pub given: Option<T>,
     /// The part that the worker kept at the last giving.
     pub part: Option<P>,
     /// The value that was taken, while the seat has the turn.

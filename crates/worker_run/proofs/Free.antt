@@ -148,3 +148,18 @@ fuel_by end steps settled s k none same below spent = by end (nat_le s.fuel step
 
 pub fuel_free : (w : World) (k : ℕ) → IsWorld w → (accounts w).end ≡ None → k < w.settings.workers → is_some (first_cause w.end w.steps w.settings k false) ≡ true → refused w (record { worker = k; kind = Fuel }) ≡ None
 fuel_free w k I goes below spent = refused_is w I (record { worker = k; kind = Fuel }) ∙ fuel_by w.end w.steps (accounts w).steps w.settings k (end_now w I ∙ goes) (steps_now w I) below spent
+
+spent_by : (end : Option RunEnd) (steps settled : ℕ) (s : Limits) (k : ℕ) → end ≡ None → steps ≡ settled → k < s.workers → nat_le s.fuel settled ≡ is_some (first_cause end steps s k false)
+spent_by end steps settled s k none same below = by end (nat_le s.fuel steps) (nat_le s.fuel settled) (nat_lt k s.workers) none (ap (nat_le s.fuel) same) (grind (arith, below))
+  where
+    by : (e : Option RunEnd) (over over' hired : Bool) → e ≡ None → over ≡ over' → hired ≡ true → over' ≡ is_some (refused_if (is_some e) Over (refused_if (over && true) (Spent steps) (refused_unless hired NoWorker None)))
+    by (Some x) over over' hired a b d = absurd cc
+    by None over over' false a b d = absurd (false≢true d)
+    by None true true true a b d = refl
+    by None true false true a b d = absurd (false≢true (sym b))
+    by None false true true a b d = absurd (false≢true b)
+    by None false false true a b d = refl
+
+-- the fuel is spent exactly where it is the first cause that refuses the worker's entries
+pub spent_is : (w : World) (k : ℕ) → IsWorld w → (accounts w).end ≡ None → k < w.settings.workers → nat_le w.settings.fuel (accounts w).steps ≡ is_some (first_cause w.end w.steps w.settings k false)
+spent_is w k I goes below = spent_by w.end w.steps (accounts w).steps w.settings k (end_now w I ∙ goes) (steps_now w I) below

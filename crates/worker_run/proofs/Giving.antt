@@ -1,10 +1,11 @@
 -- A desk before and after a turn.
-use Rattle.std.proofs.Common.{◌≡◌, ◌≢◌, ℕ, suc, ◌+◌, ◌^◌, ◌<◌, ◌≤◌, ◌==◌, Bool, true, false, cond, List, [], ◌∷◌, ◌++◌, length, refl, sym, ap, ap₂, ◌∙◌, subst, arith, Option, Some, None, length-append, unwrap_or}
+use Rattle.std.proofs.Common.{◌≡◌, ◌≢◌, ◌⊎◌, inl, inr, ℕ, suc, ◌+◌, ◌^◌, ◌<◌, ◌≤◌, ◌==◌, Bool, true, false, cond, List, [], ◌∷◌, ◌++◌, length, refl, sym, ap, ap₂, ◌∙◌, subst, arith, Option, Some, None, length-append, unwrap_or}
 use Rattle.std.specs.declared.snapshot.Snapshot.{Snapshot}
 use Rattle.atomic_table.specs.Seated.{TableId}
 use Rattle.hh_lang.specs.Form.{ProgramText}
 use Rattle.run_trace.specs.Entry.{Event}
 use Rattle.run_trace.specs.Settings.{Limits}
+use Rattle.run_trace.specs.declared.entry.Kind.{Kind}
 use Rattle.shared_tree.specs.Fits.{Fits}
 use Rattle.shared_tree.specs.Stands.{IsWorld}
 use Rattle.shared_tree.specs.World.{World, accounts}
@@ -12,6 +13,7 @@ use Rattle.task_machine.specs.declared.part.Private.{Private}
 use Rattle.turn_lock.specs.Journal.{entries_by}
 use Rattle.turn_lock.specs.Seats.{view, Extends, GaveOne, HasNoTurn, HasTurn, IsAlike, Knows, SameWorker, own_entries, with_given, with_taken}
 use Rattle.turn_lock.proofs.Laws.{own_of_taken}
+use Rattle.worker_run.specs.declared.act.Acted.TheVariants.{Entered, Same}
 use Rattle.worker_run.specs.declared.desk.Desk.{Desk}
 use Rattle.worker_run.specs.declared.held.Collecting.{Collecting}
 use Rattle.worker_run.specs.declared.held.Copied.{Copied}
@@ -21,10 +23,11 @@ use Rattle.worker_run.specs.declared.held.Ready.{Ready}
 use Rattle.worker_run.specs.declared.held.Ready.TheVariants.{Paused as HasPaused, Copied as IsCopied, Found, Wanting}
 use Rattle.worker_run.specs.declared.run.Run.{Run}
 use Rattle.worker_run.specs.declared.run.Setup.{Setup}
-use Rattle.worker_run.specs.Desks.{GivesOne, HasEntry, IsDesk, SameDesk, entries_of}
-use Rattle.worker_run.specs.Parts.{BringsTo, ComesWith, GoesWith, HoldsNone, Keeps, Sight, TakesFrom, WasCopied}
-use Rattle.worker_run.specs.Values.{EntersOne, FitsKept, IsSame, setup_of, worker_of}
-use Rattle.worker_run.proofs.Rows.{journal_of}
+use Rattle.worker_run.specs.Acts.{Acts, Follows, WhyNone}
+use Rattle.worker_run.specs.Desks.{GivesOne, HasEntry, HasGiven, HasStopped, IsDesk, SameDesk, TakesTurn, entries_of}
+use Rattle.worker_run.specs.Parts.{BringsTo, ComesWith, GoesWith, Keeps, Sight, TakesFrom, WasCopied}
+use Rattle.worker_run.specs.Values.{EntersOne, FitsKept, IsSame, is_over, journal_of, setup_of, worker_of}
+use Rattle.worker_run.proofs.Turning.{ended_over}
 
 some_one : {A : Type 0} (a b : A) → Some a ≡ Some b → a ≡ b
 some_one a b e = ap (λ o. unwrap_or o a) e
@@ -69,8 +72,8 @@ module _ (p : ProgramText) (d : Desk) (value : Run) (v : Sight) (K : Knows journ
 
 -- an entry was made
 pub has_entry : (z : TableId) (p : ProgramText) (d e : Desk) (taken value : Run) → IsDesk z p d → e ≡ record d { seat = e.seat } → HasTurn z e.seat taken → view e.seat ≡ with_taken (view d.seat) taken
-    → Knows journal_of worker_of FitsKept setup_of taken (view d.seat) → EntersOne taken.paced value.paced d.worker → IsWorld value.paced → HasEntry z p e value
-has_entry z p d e taken value D is turn sees K enters world = subst (λ (x : Desk). HasEntry z p x value) (sym is) (record {
+    → Knows journal_of worker_of FitsKept setup_of taken (view d.seat) → (kind : Kind) → EntersOne taken.paced value.paced d.worker kind → IsWorld value.paced → HasEntry z p e value
+has_entry z p d e taken value D is turn sees K kind enters world = subst (λ (x : Desk). HasEntry z p x value) (sym is) (record {
   taken = taken;
   turn = turn;
   number = ap (λ (v : Sight). v.worker) sees ∙ D.number;
@@ -79,6 +82,7 @@ has_entry z p d e taken value D is turn sees K enters world = subst (λ (x : Des
   few = D.few;
   gave = D.gave ∙ ap length (sym own);
   thieves = D.thieves;
+  kind = kind;
   enters = enters;
   world = world;
   program = enters.enters.program ∙ program_taken p d taken (view d.seat) K D.number D.under;
@@ -93,9 +97,9 @@ has_entry z p d e taken value D is turn sees K enters world = subst (λ (x : Des
 module _ (z : TableId) (p : ProgramText) (d : Desk) (value : Run) (H : HasEntry z p d value) where
   pub extends : length (journal_of value) < 2 ^ 63 → Extends journal_of worker_of FitsKept setup_of H.taken value (view d.seat).worker
   extends short = record {
-    entry = H.enters.event;
+    entry = record { worker = d.worker; kind = H.kind };
     longer = H.enters.enters.journal;
-    by_worker = H.enters.by_worker ∙ sym H.number;
+    by_worker = sym H.number;
     others_fit = λ w s ne f. H.enters.others w s.value (λ e. ne (e ∙ sym H.number)) f;
     same_setup = same_setup H.taken value H.enters.enters.program H.enters.enters.settings;
     short = short;
@@ -104,7 +108,7 @@ module _ (z : TableId) (p : ProgramText) (d : Desk) (value : Run) (H : HasEntry 
   pub room_for_one : length (journal_of value) < 2 ^ 63 → d.given + 1 < 2 ^ 64
   room_for_one short =
       let a = H.gave in let b = H.within in
-      let c : length (journal_of value) ≡ length (journal_of H.taken) + 1 = ap length H.enters.enters.journal ∙ length-append (journal_of H.taken) (H.enters.event ∷ []) in
+      let c : length (journal_of value) ≡ length (journal_of H.taken) + 1 = ap length H.enters.enters.journal ∙ length-append (journal_of H.taken) (record { worker = d.worker; kind = H.kind } ∷ []) in
       omega (arith, a, b, c, short)
 
   module _ (e : Desk) (is : e ≡ record d { seat = e.seat; given = d.given + 1 }) (idle : HasNoTurn z e.seat) (same : SameWorker (view d.seat) (view e.seat)) (G : GaveOne worker_of (journal_of value) (view d.seat) (view e.seat)) where
@@ -142,16 +146,48 @@ module _ (z : TableId) (p : ProgramText) (d : Desk) (value : Run) (H : HasEntry 
 pub alike : (taken value : Run) → IsSame taken.paced value.paced → IsAlike journal_of worker_of FitsKept setup_of taken value
 alike taken value S = record { same_journal = S.journal; fit = λ w s f. S.all w s.value f; same_setup = same_setup taken value S.program S.settings }
 
-pub goes_with_none : (p : ProgramText) (k : ℕ) (v : Sight) (next : Next) → HoldsNone next → GoesWith p k v next
-goes_with_none p k v (Running part) h = absurd h
-goes_with_none p k v (Collects c) h = absurd h
-goes_with_none p k v (HasCopied c) h = absurd h
-goes_with_none p k v (GoesFor t) h = tt
-goes_with_none p k v (Forked l r) h = tt
-goes_with_none p k v (Resumed t) h = tt
-goes_with_none p k v Idle h = tt
-goes_with_none p k v Waits h = tt
-goes_with_none p k v Stop h = tt
+-- what the worker goes on with after its entry, and after none
+pub takes_from : (w after : World) (k : ℕ) (ready : Ready) (next : Next) → Follows w after k ready next → TakesFrom after k next
+takes_from w after k ready (Running part) f = f
+takes_from w after k ready (Collects c) f = f
+takes_from w after k ready (HasCopied c) f = (f.2, f.3)
+takes_from w after k ready (GoesFor t) f = tt
+takes_from w after k ready (Forked l r) f = tt
+takes_from w after k ready (Resumed t) f = tt
+takes_from w after k ready Idle f = tt
+takes_from w after k ready Waits f = tt
+takes_from w after k ready Stop f = tt
+
+pub goes_with_none : (p : ProgramText) (v : Sight) (r run : Run) (k : ℕ) (ready : Ready) (kind : Option Kind) (next : Next) → WhyNone r run k ready kind next → GoesWith p k v next
+goes_with_none p v r run k ready kind (Running part) h = absurd h
+goes_with_none p v r run k ready kind (Collects c) h = absurd h
+goes_with_none p v r run k ready kind (HasCopied c) h = absurd h
+goes_with_none p v r run k ready kind (GoesFor t) h = tt
+goes_with_none p v r run k ready kind (Forked left right) h = tt
+goes_with_none p v r run k ready kind (Resumed t) h = tt
+goes_with_none p v r run k ready kind Idle h = tt
+goes_with_none p v r run k ready kind Waits h = tt
+goes_with_none p v r run k ready kind Stop h = tt
+
+-- a worker stops only where the run is over
+pub stops_over : (old new : Desk) (ready : Ready) (T : TakesTurn old new ready Stop) → is_over T.given ≡ true
+stops_over old new ready T = elim T.does [ inl a ↦ ended_over T.given a.0.follows | inr b ↦ b.0.1.0 ]
+
+pub stopped_by : (old new : Desk) (ready : Ready) (next : Next) → TakesTurn old new ready next → next ≡ Stop → HasStopped new
+stopped_by old new ready next T is = let stops : TakesTurn old new ready Stop = subst (TakesTurn old new ready) is T in
+    record { last = stops.given; gave = stops.gave; over = stops_over old new ready stops }
+
+-- where the worker's seat keeps the same part, it may go on so as before
+pub goes_still : (p : ProgramText) (k : ℕ) (v w : Sight) (next : Next) → w.part ≡ v.part → GoesWith p k v next → GoesWith p k w next
+goes_still p k v w (Running part) e G = ((G.0.0, e ∙ G.0.1, G.0.2), G.1)
+goes_still p k v w (Collects c) e G = ((G.0.0, e ∙ G.0.1, G.0.2), G.1)
+goes_still p k v w (HasCopied c) e G = ((G.0.0, e ∙ G.0.1, G.0.2), G.1)
+goes_still p k v w (GoesFor t) e G = tt
+goes_still p k v w (Forked left right) e G = tt
+goes_still p k v w (Resumed t) e G = tt
+goes_still p k v w Idle e G = tt
+goes_still p k v w Waits e G = tt
+goes_still p k v w Stop e G = tt
 
 module _ (z : TableId) (p : ProgramText) (d e : Desk) (D : IsDesk z p d) (is : e ≡ record d { seat = e.seat }) (idle : HasNoTurn z e.seat) (same : SameWorker (view d.seat) (view e.seat)) (own : entries_of e ≡ entries_of d) where
   pub desk_same : IsDesk z p e

@@ -1,4 +1,5 @@
 mod Turning
+mod Coming
 mod Paying
 mod Going
 mod Stepping

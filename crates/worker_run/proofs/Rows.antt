@@ -17,14 +17,14 @@ use Rattle.shared_tree.specs.World.{World}
 use Rattle.task_machine.specs.declared.part.Private.{Private}
 use Rattle.turn_lock.specs.Journal.{entries_by}
 use Rattle.turn_lock.specs.Seats.{view, HasNoTurn, HasOwnEntries, SameWorker, own_entries, AreNewSeats, AreAllSeats, IsLeftBy}
-use Rattle.turn_lock.proofs.Laws.{new_are_all, kept_are_all}
+use Rattle.turn_lock.proofs.Laws.{first_there, new_are_all, kept_are_all}
 use Rattle.worker_run.specs.declared.desk.Desk.{Desk}
 use Rattle.worker_run.specs.declared.run.Run.{Run}
 use Rattle.worker_run.specs.declared.run.Setup.{Setup}
 use Rattle.worker_run.specs.Desks.{AreAllDesks, AreHands, AreNewDesks, HasOfEach, IsDesk, SameDesk, entries_of}
 use Rattle.worker_run.specs.Outcomes.{IsRun}
 use Rattle.worker_run.specs.Parts.{Sight}
-use Rattle.worker_run.specs.Values.{FitsKept, setup_of, worker_of}
+use Rattle.worker_run.specs.Values.{FitsKept, journal_of, setup_of, worker_of}
 
 abbrev pub Chair : Type 0
 Chair = Seat (Option Run) Sight
@@ -34,10 +34,6 @@ some_one a b e = ap (λ o. unwrap_or o a) e
 
 some_apart : {A : Type 0} (a : A) → None ≡ Some a → ⊥
 some_apart a e = true≢false (sym (ap is_some e))
-
-first_there : {A : Type 0} (l : List A) → 0 < length l → (a : A) × (slice_get l 0 ≡ Some a)
-first_there [] h = absurd (omega arith)
-first_there (x ∷ xs) h = (x, refl)
 
 pub removed_first : {A : Type 0} (l : List A) (x : A) → 0 < length l → x ≡ get_or l 0 x → x ∷ remove l 0 ≡ l
 removed_first [] x h e = absurd (omega arith)
@@ -121,9 +117,6 @@ new_desks z v n p s seats desks some workers few none_seen none_joined under new
     nothing k d e = ap (λ (l : List Event). entries_by worker_of (view d.seat).worker l) (ap (λ (u : Sight). u.seen) (new.1 k d.seat (at k d e)).1 ∙ none_seen)
 
 -- ---- THE VALUE AT THE END
-
-abbrev pub journal_of : Run → List Event
-journal_of r = r.paced.journal.items
 
 module _ (z : TableId) (p : ProgramText) (s : Limits) (desks : List Desk) (seats : List Chair) (value : Run) (all : AreAllDesks z p s desks) (is : seats ≡ map (λ d. d.seat) desks) where
   seat_there : (k : ℕ) (d : Desk) → slice_get desks k ≡ Some d → slice_get seats k ≡ Some d.seat

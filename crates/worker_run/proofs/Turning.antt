@@ -1,21 +1,32 @@
 -- Values before and after a turn.
-use Rattle.std.proofs.Common.{◌≡◌, ℕ, ◌++◌, ◌∷◌, [], List, Some, None, refl, ap, sym, subst, ◌∙◌}
+use Rattle.std.proofs.Common.{◌≡◌, ℕ, ◌++◌, ◌∷◌, [], ◌||◌, ◌==◌, Bool, true, false, not, List, Option, Some, None, is_some, length, refl, ap, sym, subst, ◌∙◌, inl, inr, if◌then◌else◌, eq-eqb, ne_eqb, arith}
+use Rattle.std.proofs.lemmas.Bool.{false≢true}
 use Rattle.run_trace.specs.Entry.{Event}
-use Rattle.shared_tree.specs.Entered.{Enters}
+use Rattle.run_trace.specs.declared.entry.Kind.{Kind}
+use Rattle.run_trace.specs.declared.entry.Kind.TheVariants.{Took}
+use Rattle.run_ledger.specs.declared.data.RunEnd.{RunEnd}
+use Rattle.shared_tree.specs.Entered.{Enters, refused}
 use Rattle.shared_tree.specs.Fits.{AllFit, Fits, OthersFit}
 use Rattle.shared_tree.specs.declared.answer.NotEntered.{NotEntered}
 use Rattle.shared_tree.specs.declared.answer.NotEntered.TheVariants.{NoMemory, Refuses}
+use Rattle.shared_tree.specs.ChildEnds.{running_parent}
+use Rattle.shared_tree.specs.Hands.{HoldsNone}
+use Rattle.task_machine.specs.declared.part.Paused.TheVariants.{Shared}
 use Rattle.shared_tree.specs.Joins.{IsUnchanged, SameButPlaces}
 use Rattle.shared_tree.specs.Stands.{IsWorld}
 use Rattle.shared_tree.specs.World.{World, accounts}
 use Rattle.task_machine.specs.declared.part.Private.{Private}
 use Rattle.worker_run.specs.declared.act.Acted.{Acted}
 use Rattle.worker_run.specs.declared.act.Acted.TheVariants.{Entered, Same}
+use Rattle.worker_run.specs.declared.held.Next.{Next}
+use Rattle.worker_run.specs.declared.held.Next.TheVariants.{Running, Collecting as Collects, Copied as HasCopied, Found as GoesFor, Forked, Resumed, Idle, Waits, Stop}
 use Rattle.worker_run.specs.declared.held.Ready.{Ready}
+use Rattle.worker_run.specs.declared.run.Run.{Run}
 use Rattle.worker_run.specs.declared.held.Ready.TheVariants.{Paused as HasPaused, Copied as IsCopied, Found, Wanting}
-use Rattle.worker_run.specs.Acts.{Acts}
+use Rattle.worker_run.specs.Acts.{ActsFor, after_end, EndsEntered, EndsHalted, Follows, Goes, WhyNone}
+use Rattle.worker_run.specs.Next.{going_kind, is_wanting}
 use Rattle.worker_run.specs.Parts.{BringsTo, TakesFrom, next_after}
-use Rattle.worker_run.specs.Values.{EntersOne, IsSame}
+use Rattle.worker_run.specs.Values.{EntersOne, IsSame, is_over}
 
 -- ---- NO ENTRY
 
@@ -37,17 +48,11 @@ module _ (w after : World) (S : IsSame w after) where
   pub then_same : (last : World) → IsSame after last → IsSame w last
   then_same last T = record { journal = T.journal ∙ S.journal; program = T.program ∙ S.program; settings = T.settings ∙ S.settings; all = λ k p f. T.all k p (S.all k p f) }
 
-  pub then_one : (last : World) (k : ℕ) → EntersOne after last k → EntersOne w last k
-  then_one last k E = record {
-    event = E.event;
-    by_worker = E.by_worker;
-    enters = record { journal = E.enters.journal ∙ ap (λ (l : List Event). l ++ E.event ∷ []) S.journal; program = E.enters.program ∙ S.program; settings = E.enters.settings ∙ S.settings };
+  pub then_one : (last : World) (k : ℕ) (kind : Kind) → EntersOne after last k kind → EntersOne w last k kind
+  then_one last k kind E = record {
+    enters = record { journal = E.enters.journal ∙ ap (λ (l : List Event). l ++ record { worker = k; kind = kind } ∷ []) S.journal; program = E.enters.program ∙ S.program; settings = E.enters.settings ∙ S.settings };
     others = λ j p ne f. E.others j p ne (S.all j p f);
   }
-
-  pub then_acts : (k : ℕ) (acted : Acted) → Acts after k acted → Acts w k acted
-  then_acts k (Entered run next) A = (then_one run.paced k A.0, A.1, A.2)
-  then_acts k (Same run next) A = (then_same run.paced A.0, A.1)
 
   pub brings_then : (k : ℕ) (ready : Ready) → BringsTo w k ready → BringsTo after k ready
   brings_then k (HasPaused part why) B = (B.0, S.all k B.0 B.1, λ z G f. B.2 z (record { world = G.world; program = G.program ∙ S.program; goes = G.goes }) f)
@@ -60,18 +65,104 @@ module _ (w after : World) (S : IsSame w after) where
 pub all_others : (w after : World) (k : ℕ) → AllFit w after → OthersFit w after k
 all_others w after k all = λ j p ne f. all j p f
 
-pub one : (w after : World) (k : ℕ) {e : Event} → Enters w after e → e.worker ≡ k → OthersFit w after k → EntersOne w after k
-one w after k {e} enters by others = record { event = e; by_worker = by; enters = enters; others = others }
+pub one : (w after : World) (k : ℕ) (kind : Kind) → Enters w after (record { worker = k; kind = kind }) → OthersFit w after k → EntersOne w after k kind
+one w after k kind enters others = record { enters = enters; others = others }
 
-pub one_of_all : (w after : World) (k : ℕ) {e : Event} → Enters w after e → e.worker ≡ k → AllFit w after → EntersOne w after k
-one_of_all w after k enters by all = one w after k enters by (all_others w after k all)
+pub one_of_all : (w after : World) (k : ℕ) (kind : Kind) → Enters w after (record { worker = k; kind = kind }) → AllFit w after → EntersOne w after k kind
+one_of_all w after k kind enters all = one w after k kind enters (all_others w after k all)
 
 -- after an entry by which every part still fits, the worker goes on with what it came with
-pub takes_paid : (w after : World) (k : ℕ) (ready : Ready) → IsWorld w → (accounts w).end ≡ None → BringsTo w k ready → AllFit w after → after.program ≡ w.program → (accounts after).end ≡ None → TakesFrom after k (next_after ready)
-takes_paid w after k (HasPaused part why) I on B all same goes =
+pub follows_paid : (w after : World) (k : ℕ) (ready : Ready) → IsWorld w → (accounts w).end ≡ None → is_wanting ready ≡ false → BringsTo w k ready → AllFit w after → after.program ≡ w.program → (accounts after).end ≡ None → Follows w after k ready (next_after ready)
+follows_paid w after k (HasPaused part why) I on met B all same goes =
     let P = (B.2 w (record { world = I; program = refl; goes = on }) B.1).may in
     (goes, record { fits = all k part P.fits; few = P.few; idle = P.idle })
-takes_paid w after k (IsCopied c) I on B all same goes = (all k c.begun.value B.0, λ z G f. B.1 z (record { world = G.world; program = G.program ∙ same; goes = G.goes }) f)
-takes_paid w after k (Found (Some t)) I on B all same goes = tt
-takes_paid w after k (Found None) I on B all same goes = tt
-takes_paid w after k Wanting I on B all same goes = tt
+follows_paid w after k (IsCopied c) I on met B all same goes = (goes, refl, all k c.begun.value B.0, λ z G f. B.1 z (record { world = G.world; program = G.program ∙ same; goes = G.goes }) f)
+follows_paid w after k (Found (Some t)) I on met B all same goes = (goes, refl)
+follows_paid w after k (Found None) I on met B all same goes = (goes, inl refl)
+follows_paid w after k Wanting I on met B all same goes = absurd (false≢true (sym met))
+
+-- after the end of its task
+pub follows_end : (w after : World) (k : ℕ) (part : Private) (resumed : Option ℕ) → Goes after → HoldsNone after k → resumed ≡ running_parent (accounts after).machine.tasks part.task → Follows w after k (HasPaused part Shared) (after_end resumed)
+follows_end w after k part None goes none is = (goes, inr (record { part = part; brought = refl; none = none }, sym is))
+follows_end w after k part (Some parent) goes none is = (goes, record { part = part; brought = refl; none = none }, sym is)
+
+-- ---- HOW A TURN ENDS
+
+none_over : (halted : Bool) (end : Option RunEnd) → halted ≡ false → end ≡ None → (halted || is_some end) ≡ false
+none_over true end a b = absurd (false≢true (sym a))
+none_over false None a b = refl
+none_over false (Some e) a b = absurd cc
+
+pub not_over : (r : Run) → r.halted ≡ false → (accounts r.paced).end ≡ None → is_over r ≡ false
+not_over r on goes = none_over r.halted (accounts r.paced).end on goes
+
+over_parts : (halted : Bool) (end : Option RunEnd) → (halted || is_some end) ≡ false → (halted ≡ false) × (end ≡ None)
+over_parts true end h = absurd (false≢true (sym h))
+over_parts false None h = (refl, refl)
+over_parts false (Some e) h = absurd (false≢true (sym h))
+
+pub is_on : (r : Run) → is_over r ≡ false → (r.halted ≡ false) × ((accounts r.paced).end ≡ None)
+is_on r h = over_parts r.halted (accounts r.paced).end h
+
+pub not_true : (b : Bool) → not b ≡ true → b ≡ false
+not_true true h = absurd (false≢true h)
+not_true false h = refl
+
+pub not_false : (b : Bool) → not b ≡ false → b ≡ true
+not_false true h = refl
+not_false false h = absurd (false≢true (sym h))
+
+pub ended_over : (r : Run) → is_some (accounts r.paced).end ≡ true → is_over r ≡ true
+ended_over r h = by r.halted (is_some (accounts r.paced).end) h
+  where
+    by : (a b : Bool) → b ≡ true → (a || b) ≡ true
+    by true b h = refl
+    by false b h = h
+
+pub goes_with : (after : Run) (next : Next) → IsWorld after.paced → (accounts after.paced).end ≡ None → EndsEntered after next (Entered after next)
+goes_with after next I none = λ r k ready kind E on follows. record { made = kind; is_next = refl; enters = E; world = I; on = on; follows = follows none }
+
+pub stops_with : (after : Run) (next : Next) → IsWorld after.paced → is_some (accounts after.paced).end ≡ true → EndsEntered after next (Entered after Stop)
+stops_with after next I ended = λ r k ready kind E on follows. record { made = kind; is_next = refl; enters = E; world = I; on = on; follows = ended }
+
+pub halts_with : (after : Run) → EndsHalted after (Same (record after { halted = true }) Stop)
+halts_with after = λ r k ready kind same on. (same, (refl, λ over. absurd (false≢true (sym on ∙ over))))
+
+-- ---- THE SAME FROM THE VALUE BEFORE PLACE WAS MADE FOR AN ENTRY
+
+module _ (r : Run) (after : World) (e : after ≡ record r.paced { journal = record { items = r.paced.journal.items; room = after.journal.room } }) (all : AllFit r.paced after) (on : is_over r ≡ false) (k : ℕ) (ready : Ready) where
+  same_kind : going_kind r.paced k ready ≡ going_kind after k ready
+  same_kind = sym (ap (λ (z : World). going_kind z k ready) e)
+
+  follows_then : (last : World) (next : Next) → Follows after last k ready next → Follows r.paced last k ready next
+  follows_then last (Running part) f = f
+  follows_then last (Collects c) f = f
+  follows_then last (HasCopied c) f = f
+  follows_then last (GoesFor t) f = f
+  follows_then last (Forked left right) f = (f.0, f.1, f.2 ∙ ap (λ (z : World). length (accounts z).machine.tasks) e, f.3)
+  follows_then last (Resumed t) f = f
+  follows_then last Idle f = f
+  follows_then last Waits f = f
+  follows_then last Stop f = f
+
+  none_then : (run : Run) (next : Next) → WhyNone (record r { paced = after }) run k ready (going_kind after k ready) next → WhyNone r run k ready (going_kind r.paced k ready) next
+  none_then run (Running part) f = f
+  none_then run (Collects c) f = f
+  none_then run (HasCopied c) f = f
+  none_then run (GoesFor t) f = f
+  none_then run (Forked left right) f = f
+  none_then run (Resumed t) f = f
+  none_then run Idle f = (f.0, f.1, same_kind ∙ f.2, ap (λ (z : World). is_some (refused z (record { worker = k; kind = Took f.1 }))) (sym e) ∙ f.3)
+  none_then run Waits f = (f.0, on, f.2, same_kind ∙ f.3)
+  none_then run Stop f = (f.0, λ over. absurd (false≢true (sym on ∙ over)))
+
+  pub acts_then : (acted : Acted) → ActsFor (record r { paced = after }) k ready (going_kind after k ready) acted → ActsFor r k ready (going_kind r.paced k ready) acted
+  acts_then (Entered run next) A = record {
+    made = A.made;
+    is_next = same_kind ∙ A.is_next;
+    enters = then_one r.paced after (roomier r.paced after e all) run.paced k A.made A.enters;
+    world = A.world;
+    on = A.on;
+    follows = follows_then run.paced next A.follows;
+  }
+  acts_then (Same run next) A = (then_same r.paced after (roomier r.paced after e all) run.paced A.0, none_then run next A.1)

@@ -1,17 +1,22 @@
 -- The desks of the workers.
-use Rattle.std.specs.Prelude.{◌≡◌, ◌⊎◌, ℕ, ◌^◌, ◌<◌, ◌≤◌, List, [], ◌∷◌, ◌++◌, Some, length, map, slice_get}
+use Rattle.std.specs.Prelude.{◌≡◌, ◌⊎◌, ℕ, ◌^◌, ◌<◌, ◌≤◌, true, List, [], ◌∷◌, ◌++◌, Some, length, map, slice_get}
 use Rattle.atomic_table.specs.Seated.{TableId}
 use Rattle.hh_lang.specs.Form.{ProgramText}
 use Rattle.run_trace.specs.Entry.{Event}
+use Rattle.run_trace.specs.declared.entry.Kind.{Kind}
 use Rattle.run_trace.specs.Settings.{Limits}
 use Rattle.steal_scheduler.specs.declared.hand.Hand.{Hand}
 use Rattle.steal_scheduler.specs.Hands.{thefts}
 use Rattle.turn_lock.specs.Journal.{entries_by}
-use Rattle.turn_lock.specs.Seats.{view, own_entries, AreAllSeats, HasNoTurn, HasTurn, SameWorker}
+use Rattle.turn_lock.specs.Seats.{view, own_entries, AreAllSeats, HasNoTurn, HasTurn, Knows, SameWorker}
+use Rattle.worker_run.specs.declared.act.Acted.TheVariants.{Entered, Same}
 use Rattle.worker_run.specs.declared.desk.Desk.{Desk}
+use Rattle.worker_run.specs.declared.held.Next.{Next}
+use Rattle.worker_run.specs.declared.held.Ready.{Ready}
 use Rattle.shared_tree.specs.Stands.{IsWorld}
 use Rattle.worker_run.specs.declared.run.Run.{Run}
-use Rattle.worker_run.specs.Values.{worker_of, EntersOne}
+use Rattle.worker_run.specs.Acts.{Acts}
+use Rattle.worker_run.specs.Values.{journal_of, setup_of, worker_of, is_over, EntersOne, FitsKept}
 
 -- the entries of its own that the desk's seat has seen
 abbrev pub entries_of : Desk → List Event
@@ -33,13 +38,35 @@ pub record SameDesk (old new : Desk) : Type 0 where
   pub settings : new.settings ≡ old.settings
   pub seat : SameWorker (view old.seat) (view new.seat)
 
+-- the desk gave back this value last, and has seen its journal
+pub record HasGiven (d : Desk) (value : Run) : Type 0 where
+  pub given : (view d.seat).given ≡ Some value
+  pub seen : (view d.seat).seen ≡ journal_of value
+
 -- the desk gave back one entry
 abbrev pub GivesOne : Desk → Desk → Type 0
 GivesOne old new = (e : Event) × (entries_of new ≡ entries_of old ++ e ∷ [])
 
--- or none
-abbrev pub GivesAtMostOne : Desk → Desk → Type 0
-GivesAtMostOne old new = (entries_of new ≡ entries_of old) ⊎ GivesOne old new
+-- the worker did as its turn asks by the value that it took: its desk gave back one entry or none
+abbrev pub DoesOnce : Desk → Desk → Run → Run → Ready → Next → Type 0
+DoesOnce old new taken given ready next = (Acts taken old.worker ready (Entered given next) × GivesOne old new) ⊎ (Acts taken old.worker ready (Same given next) × (entries_of new ≡ entries_of old))
+
+-- ONE TURN of a worker that comes with this and goes on so
+pub record TakesTurn (old new : Desk) (ready : Ready) (next : Next) : Type 0 where
+  pub taken : Run
+  pub knows : Knows journal_of worker_of FitsKept setup_of taken (view old.seat)
+  pub given : Run
+  pub gave : HasGiven new given
+  pub does : DoesOnce old new taken given ready next
+
+-- the run was over at the value that the desk gave back last
+pub record HasStopped (d : Desk) : Type 0 where
+  pub last : Run
+  pub gave : HasGiven d last
+  pub over : is_over last ≡ true
+
+abbrev pub HaveStopped : List Desk → Type 0
+HaveStopped desks = (k : ℕ) (d : Desk) → slice_get desks k ≡ Some d → HasStopped d
 
 -- the desks of all workers within these limits, in their order
 pub record AreAllDesks (z : TableId) (p : ProgramText) (s : Limits) (desks : List Desk) : Type 0 where
@@ -76,7 +103,8 @@ pub record HasEntry (z : TableId) (p : ProgramText) (d : Desk) (value : Run) : T
   pub few : d.settings.workers < 2 ^ 32
   pub gave : d.given ≡ length (entries_of d)
   pub thieves : length (thefts d.hand) ≡ d.settings.workers
-  pub enters : EntersOne taken.paced value.paced d.worker
+  pub kind : Kind
+  pub enters : EntersOne taken.paced value.paced d.worker kind
   pub world : IsWorld value.paced
   pub program : value.paced.program ≡ p
   pub within : length (entries_of d) ≤ length taken.paced.journal.items

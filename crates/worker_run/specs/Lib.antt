@@ -1,5 +1,6 @@
 pub mod Values
 pub mod Parts
+pub mod Next
 pub mod Acts
 pub mod Desks
 pub mod Outcomes

@@ -102,17 +102,6 @@ TakesFrom w k (Collects c) = ((accounts w).end ≡ None) × MayCopy w k c
 TakesFrom w k (HasCopied c) = Fits w k c.begun.value × WasCopied w.program k c
 TakesFrom w k _ = Unit {0}
 
--- it holds no part
-abbrev pub HoldsNone : Next → Type 0
-HoldsNone (Running part) = ⊥
-HoldsNone (Collects c) = ⊥
-HoldsNone (HasCopied c) = ⊥
-HoldsNone _ = Unit {0}
-
--- what is brought to a turn is none of the value's
-abbrev pub TakesNothing : Next → Type 0
-TakesNothing next = (w : World) (k : ℕ) → TakesFrom w k next
-
 -- how a worker goes on that has paid what it owed
 abbrev pub next_after : Ready → Next
 next_after (HasPaused part why) = Running part

@@ -2,8 +2,10 @@
 ghost use Rattle.std.specs.Prelude.{◌≡◌, ◌<◌, None, false};
 ghost use Rattle.shared_tree.specs.Causes.{first_cause};
 ghost use Rattle.shared_tree.specs.World.{accounts};
-ghost use Rattle.worker_run.specs.Acts.{Acts, EndsEntered, EndsSame};
+ghost use Rattle.worker_run.specs.Acts.{Acts, ActsFor, EndsEntered, EndsHalted};
+ghost use Rattle.worker_run.specs.Next.{going_kind, is_wanting, owing_kind};
 ghost use Rattle.worker_run.specs.Parts.{BringsTo};
+ghost use Rattle.paced_tree.specs.Owed.{owed_by};
 
 use crate::held::{Next, Ready};
 use crate::run::Run;
@@ -15,14 +17,14 @@ use shared_tree::NotEntered;
 pub enum Acted {
     /// One entry was made.
     Entered(Run, Next),
-    /// No entry was made, and the worker holds no task.
+    /// No entry was made: the run is over, the task that was found can't be taken, or none was found.
     Same(Run, Next),
 }
 
 impl Run {
     // An entry was made. Where the run has ended by it, the worker stops.
     pub(crate) fn entered(self, next: Next) -> Acted
-        ensures { EndsEntered self.paced next result }
+        ensures { EndsEntered self next result }
     {
         self.paced.stands();
         if self.paced.ended().is_some() {
@@ -34,7 +36,7 @@ impl Run {
 
     // Memory was wanting, and no entry was made.
     pub(crate) fn halted(self) -> Acted
-        ensures { EndsSame self.paced result }
+        ensures { EndsHalted self result }
     {
         let mut run = self;
         run.halted = true;
@@ -44,7 +46,7 @@ impl Run {
     // No entry was made, which can be for want of memory alone.
     pub(crate) fn wanting(self, cause: NotEntered) -> Acted
         requires { cause ≡ NotEntered.NoMemory }
-        ensures { EndsSame self.paced result }
+        ensures { EndsHalted self result }
     {
         let _ = cause;
         self.halted()
@@ -55,9 +57,12 @@ impl Run {
         requires room { 0 < self.paced.journal.room }
         requires worker { worker < self.paced.settings.workers }
         requires goes { (accounts self.paced).end ≡ None }
+        requires on { self.halted ≡ false }
+        requires met { is_wanting ready ≡ false }
         requires brings { BringsTo self.paced worker ready }
-        ensures { Acts self.paced worker result }
+        ensures { ActsFor self worker ready (going_kind self.paced worker ready) result }
     {
+        self.paced.stands();
         match self.paced.refused_first(worker) {
             Some(_) => self.end_for_fuel(worker),
             None => self.act_free(worker, ready),
@@ -70,8 +75,10 @@ impl Run {
         requires worker { worker < self.paced.settings.workers }
         requires goes { (accounts self.paced).end ≡ None }
         requires free { first_cause self.paced.end self.paced.steps self.paced.settings worker false ≡ None }
+        requires on { self.halted ≡ false }
+        requires met { is_wanting ready ≡ false }
         requires brings { BringsTo self.paced worker ready }
-        ensures { Acts self.paced worker result }
+        ensures { ActsFor self worker ready (owing_kind self.paced (owed_by self.paced worker) ready) result }
     {
         match self.paced.owed(worker) {
             Owed::Nothing => self.enter(worker, ready),
@@ -85,8 +92,10 @@ impl Run {
     fn act_next(self, worker: u32, ready: Ready) -> Acted
         requires worker { worker < self.paced.settings.workers }
         requires goes { (accounts self.paced).end ≡ None }
+        requires on { self.halted ≡ false }
+        requires met { is_wanting ready ≡ false }
         requires brings { BringsTo self.paced worker ready }
-        ensures { Acts self.paced worker result }
+        ensures { ActsFor self worker ready (going_kind self.paced worker ready) result }
     {
         let mut run = self;
         match run.paced.reserve() {
@@ -95,18 +104,19 @@ impl Run {
         }
     }
 
-    /// What the worker does in its turn: it makes the entry that it owes, or else the one that it comes with.
+    /// What the worker does in its turn: where the run isn't over it ends it for spent fuel, or makes the entry that it owes, or
+    /// else the one that it comes with.
     pub fn act(self, worker: u32, ready: Ready) -> Acted
         requires worker { worker < self.paced.settings.workers }
         requires brings { BringsTo self.paced worker ready }
-        ensures { Acts self.paced worker result }
+        ensures { Acts self worker ready result }
     {
         if !self.goes_on() {
             return Acted::Same(self, Next::Stop);
         }
-        match ready {
-            Ready::Wanting => self.halted(),
-            ready => self.act_next(worker, ready),
+        if ready.is_wanting() {
+            return self.halted();
         }
+        self.act_next(worker, ready)
     }
 }

@@ -24,11 +24,21 @@ impl Bell {
         *self.rings.lock(rt)
     }
 
-    /// Rings it: everybody who waits wakes.
-    pub fn ring<R: Wait>(&self, rt: &R) {
+    // Counts one ring.
+    fn count<R: Wait>(&self, rt: &R) {
         let mut rings = self.rings.lock(rt);
         *rings = rings.wrapping_add(1);
-        drop(rings);
+    }
+
+    /// Rings it for one task more than its worker takes: one of those who wait wakes.
+    pub fn ring_once<R: Wait>(&self, rt: &R) {
+        self.count(rt);
+        self.rung.notify_one();
+    }
+
+    /// Rings it for the end: everybody who waits wakes.
+    pub fn ring_all<R: Wait>(&self, rt: &R) {
+        self.count(rt);
         self.rung.notify_all();
     }
 

@@ -1,4 +1,6 @@
 //! What a worker holds between its turns.
+ghost use Rattle.std.specs.Prelude.{◌≡◌};
+ghost use Rattle.worker_run.specs.Next.{is_wanting};
 
 use leaf_copy_gc::{Moved, ToChunks};
 use object_layout::Addr;
@@ -33,6 +35,18 @@ pub enum Ready {
     Found(Option<u32>),
     /// Nothing: memory was wanting.
     Wanting,
+}
+
+impl Ready {
+    /// Whether it comes for want of memory.
+    pub(crate) fn is_wanting(&self) -> bool
+        ensures { result ≡ is_wanting self.now }
+    {
+        match self {
+            Ready::Wanting => true,
+            _ => false,
+        }
+    }
 }
 
 /// How a worker goes on after its turn.

@@ -5,7 +5,9 @@ ghost use Rattle.run_ledger.specs.Entries.{is_pool_enough};
 ghost use Rattle.shared_tree.specs.Causes.{first_cause};
 ghost use Rattle.shared_tree.specs.LeafEnd.{FitsCopied};
 ghost use Rattle.shared_tree.specs.World.{accounts};
-ghost use Rattle.worker_run.specs.Acts.{Acts};
+ghost use Rattle.run_trace.specs.declared.entry.Kind.{Kind as KindOf};
+ghost use Rattle.worker_run.specs.Acts.{ActsAnyhow};
+ghost use Rattle.worker_run.specs.Next.{due_kind};
 ghost use Rattle.paced_tree.specs.Owed.{owed_by};
 ghost use Rattle.worker_run.specs.Parts.{IsPaused};
 
@@ -22,9 +24,10 @@ impl Run {
         requires owes { owed_by self.paced worker ≡ OwedOf.Nothing }
         requires goes { (accounts self.paced).end ≡ None }
         requires paused { IsPaused self.paced worker part Paused.Due }
+        requires on { self.halted ≡ false }
         requires enough { is_pool_enough self.paced.settings (accounts self.paced) part.task ≡ true }
         requires fresh { part.fresh ≡ 0 }
-        ensures { Acts self.paced worker result }
+        ensures { ActsAnyhow self worker (KindOf.Begin part.task) result }
     {
         self.paced.stands();
         let mut run = self;
@@ -46,9 +49,10 @@ impl Run {
         requires owes { owed_by self.paced worker ≡ OwedOf.Nothing }
         requires goes { (accounts self.paced).end ≡ None }
         requires paused { IsPaused self.paced worker part Paused.Due }
+        requires on { self.halted ≡ false }
         requires short { is_pool_enough self.paced.settings (accounts self.paced) part.task ≡ false }
         requires fresh { part.fresh ≡ 0 }
-        ensures { Acts self.paced worker result }
+        ensures { ActsAnyhow self worker (KindOf.PutOff part.task) result }
     {
         self.paced.stands();
         let mut run = self;
@@ -65,9 +69,10 @@ impl Run {
         requires free { first_cause self.paced.end self.paced.steps self.paced.settings worker false ≡ None }
         requires owes { owed_by self.paced worker ≡ OwedOf.Nothing }
         requires goes { (accounts self.paced).end ≡ None }
+        requires on { self.halted ≡ false }
         requires paused { IsPaused self.paced worker part Paused.Due }
         requires fresh { part.fresh ≡ 0 }
-        ensures { Acts self.paced worker result }
+        ensures { ActsAnyhow self worker (due_kind self.paced part.task) result }
     {
         if self.paced.pool_enough(&part) {
             self.begin_leaf(worker, part)
@@ -81,8 +86,9 @@ impl Run {
         requires room { 0 < self.paced.journal.room }
         requires free { first_cause self.paced.end self.paced.steps self.paced.settings worker false ≡ None }
         requires owes { owed_by self.paced worker ≡ OwedOf.Nothing }
+        requires on { self.halted ≡ false }
         requires fits { FitsCopied self.paced worker copied.part copied.moved }
-        ensures { Acts self.paced worker result }
+        ensures { ActsAnyhow self worker (KindOf.End copied.part.task copied.moved.taken copied.moved.given copied.moved.left) result }
     {
         self.paced.stands();
         let mut run = self;

@@ -25,5 +25,5 @@ pub use held::{Collecting, Copied, Next, Ready};
 pub use local::{copy_part, run_part};
 pub use run::{Run, Setup};
 pub use turn::take_turn;
-pub use workers::{all_work, close, run_on_workers};
-pub use working::work;
+pub use workers::{all_work, close, opened, run_on_workers};
+pub use working::{prepare, work};

@@ -1,9 +1,13 @@
 //! The entries that a worker owes to the collections of waiting tasks' heaps, and the end for spent fuel.
-ghost use Rattle.std.specs.Prelude.{◌≡◌, ◌<◌, None, is_some, true, false};
+ghost use Rattle.std.specs.Prelude.{◌≡◌, ◌<◌, Some, None, is_some, true, false};
 ghost use Rattle.run_ledger.specs.declared.data.Owed.{Owed as OwedOf};
 ghost use Rattle.shared_tree.specs.Causes.{first_cause};
 ghost use Rattle.shared_tree.specs.World.{accounts};
-ghost use Rattle.worker_run.specs.Acts.{Acts, EndsPaid};
+ghost use Rattle.run_ledger.specs.Heaps.{heap_of, sweep_number};
+ghost use Rattle.run_ledger.specs.Pace.{marked_at_once};
+ghost use Rattle.run_trace.specs.declared.entry.Kind.{Kind as KindOf};
+ghost use Rattle.worker_run.specs.Acts.{ActsAnyhow, ActsFor, EndsPaid};
+ghost use Rattle.worker_run.specs.Next.{is_wanting};
 ghost use Rattle.paced_tree.specs.Owed.{owed_by};
 ghost use Rattle.worker_run.specs.Parts.{next_after, BringsTo};
 
@@ -30,7 +34,7 @@ fn next_after(ready: Ready) -> Next
 impl Run {
     // What was owed is paid: the worker goes on with what it came with.
     fn paid(self, ready: Ready) -> Acted
-        ensures { EndsPaid self.paced ready result }
+        ensures { EndsPaid self ready result }
     {
         let next = next_after(ready);
         self.entered(next)
@@ -42,8 +46,10 @@ impl Run {
         requires goes { (accounts self.paced).end ≡ None }
         requires free { first_cause self.paced.end self.paced.steps self.paced.settings worker false ≡ None }
         requires owes { owed_by self.paced worker ≡ OwedOf.Mark task }
+        requires on { self.halted ≡ false }
+        requires met { is_wanting ready ≡ false }
         requires brings { BringsTo self.paced worker ready }
-        ensures { Acts self.paced worker result }
+        ensures { ActsFor self worker ready (Some (KindOf.Mark task)) result }
     {
         self.paced.stands();
         let mut run = self;
@@ -59,8 +65,10 @@ impl Run {
         requires goes { (accounts self.paced).end ≡ None }
         requires free { first_cause self.paced.end self.paced.steps self.paced.settings worker false ≡ None }
         requires owes { owed_by self.paced worker ≡ OwedOf.More task }
+        requires on { self.halted ≡ false }
+        requires met { is_wanting ready ≡ false }
         requires brings { BringsTo self.paced worker ready }
-        ensures { Acts self.paced worker result }
+        ensures { ActsFor self worker ready (Some (KindOf.More task marked_at_once)) result }
     {
         self.paced.stands();
         let mut run = self;
@@ -76,8 +84,10 @@ impl Run {
         requires goes { (accounts self.paced).end ≡ None }
         requires free { first_cause self.paced.end self.paced.steps self.paced.settings worker false ≡ None }
         requires owes { owed_by self.paced worker ≡ OwedOf.Sweep task }
+        requires on { self.halted ≡ false }
+        requires met { is_wanting ready ≡ false }
         requires brings { BringsTo self.paced worker ready }
-        ensures { Acts self.paced worker result }
+        ensures { ActsFor self worker ready (Some (KindOf.Sweep task (sweep_number (accounts self.paced).machine (heap_of (accounts self.paced) task)))) result }
     {
         self.paced.stands();
         let given = self.paced.would_give(task);
@@ -93,8 +103,9 @@ impl Run {
         requires room { 0 < self.paced.journal.room }
         requires worker { worker < self.paced.settings.workers }
         requires goes { (accounts self.paced).end ≡ None }
+        requires on { self.halted ≡ false }
         requires spent { is_some (first_cause self.paced.end self.paced.steps self.paced.settings worker false) ≡ true }
-        ensures { Acts self.paced worker result }
+        ensures { ActsAnyhow self worker KindOf.Fuel result }
     {
         self.paced.stands();
         let mut run = self;

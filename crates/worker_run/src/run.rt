@@ -1,7 +1,6 @@
 //! The shared value in turns.
-ghost use Rattle.std.specs.Prelude.{◌≡◌, ◌<◌, ◌^◌, true, false, None, length};
-ghost use Rattle.shared_tree.specs.World.{accounts};
-ghost use Rattle.worker_run.specs.Values.{worker_of, setup_of, FitsKept};
+ghost use Rattle.std.specs.Prelude.{◌≡◌, ◌<◌, ◌^◌, false, not, length};
+ghost use Rattle.worker_run.specs.Values.{worker_of, setup_of, is_over, FitsKept};
 
 use hh_lang::Program;
 use paced_tree::Paced;
@@ -68,7 +67,7 @@ impl Run {
 
     /// Whether entries may be made: the run hasn't ended, and no worker has met want of memory.
     pub fn goes_on(&self) -> bool
-        ensures { result ≡ true → (accounts self.now.paced).end ≡ None }
+        ensures { result ≡ not (is_over self.now) }
     {
         !self.halted && self.paced.ended().is_none()
     }

@@ -1,11 +1,13 @@
 //! The entries that a worker comes for.
-ghost use Rattle.std.specs.Prelude.{◌≡◌, ◌<◌, None, false};
+ghost use Rattle.std.specs.Prelude.{◌≡◌, ◌+◌, ◌<◌, Some, None, false};
 ghost use Rattle.run_ledger.specs.declared.data.Owed.{Owed as OwedOf};
 ghost use Rattle.shared_tree.specs.Causes.{first_cause};
 ghost use Rattle.shared_tree.specs.World.{accounts};
-ghost use Rattle.worker_run.specs.Acts.{Acts};
+ghost use Rattle.run_trace.specs.declared.entry.Kind.{Kind as KindOf};
+ghost use Rattle.worker_run.specs.Acts.{after_end, ActsAnyhow, ActsFor};
+ghost use Rattle.worker_run.specs.Next.{brought_kind, is_wanting, paused_kind};
 ghost use Rattle.paced_tree.specs.Owed.{owed_by};
-ghost use Rattle.worker_run.specs.Parts.{BringsTo, IsPaused, MayRun, TakesNothing};
+ghost use Rattle.worker_run.specs.Parts.{BringsTo, IsPaused, MayRun};
 
 use crate::act::Acted;
 use crate::held::{Next, Ready};
@@ -14,8 +16,8 @@ use shared_tree::Ran;
 use task_machine::{Paused, Private};
 
 // How a worker goes on whose task has ended.
-fn next_of(resumed: Option<u32>) -> Next
-    ensures { TakesNothing result }
+fn after_end(resumed: Option<u32>) -> Next
+    ensures { result ≡ after_end resumed }
 {
     match resumed {
         Some(parent) => Next::Resumed(parent),
@@ -28,7 +30,9 @@ impl Run {
     fn take_task(self, worker: u32, task: u32) -> Acted
         requires room { 0 < self.paced.journal.room }
         requires owes { owed_by self.paced worker ≡ OwedOf.Nothing }
-        ensures { Acts self.paced worker result }
+        requires goes { (accounts self.paced).end ≡ None }
+        requires on { self.halted ≡ false }
+        ensures { ActsAnyhow self worker (KindOf.Took task) result }
     {
         let mut run = self;
         match run.paced.took(worker, task) {
@@ -42,9 +46,10 @@ impl Run {
         requires room { 0 < self.paced.journal.room }
         requires free { first_cause self.paced.end self.paced.steps self.paced.settings worker false ≡ None }
         requires owes { owed_by self.paced worker ≡ OwedOf.Nothing }
+        requires on { self.halted ≡ false }
         requires may { MayRun self.paced worker part }
         requires fresh { 0 < part.fresh }
-        ensures { Acts self.paced worker result }
+        ensures { ActsAnyhow self worker (KindOf.Ran part.task part.fresh) result }
     {
         self.paced.stands();
         let mut run = self;
@@ -59,15 +64,17 @@ impl Run {
         requires room { 0 < self.paced.journal.room }
         requires free { first_cause self.paced.end self.paced.steps self.paced.settings worker false ≡ None }
         requires owes { owed_by self.paced worker ≡ OwedOf.Nothing }
+        requires goes { (accounts self.paced).end ≡ None }
+        requires on { self.halted ≡ false }
         requires paused { IsPaused self.paced worker part Paused.Shared }
-        ensures { Acts self.paced worker result }
+        ensures { ActsFor self worker (Ready.Paused part Paused.Shared) (Some (KindOf.Ran part.task (part.fresh + 1))) result }
     {
         self.paced.stands();
         let mut run = self;
         match run.paced.ran(worker, part) {
             Ok(Ran::Goes(part)) => run.entered(Next::Running(part)),
             Ok(Ran::Forked { left, right }) => run.entered(Next::Forked { left, right }),
-            Ok(Ran::Ended { resumed }) => run.entered(next_of(resumed)),
+            Ok(Ran::Ended { resumed }) => run.entered(after_end(resumed)),
             Ok(Ran::Over(_)) => run.entered(Next::Stop),
             Ok(Ran::Done) => run.entered(Next::Stop),
             Err(failed) => run.wanting(failed.cause),
@@ -80,9 +87,10 @@ impl Run {
         requires free { first_cause self.paced.end self.paced.steps self.paced.settings worker false ≡ None }
         requires owes { owed_by self.paced worker ≡ OwedOf.Nothing }
         requires goes { (accounts self.paced).end ≡ None }
+        requires on { self.halted ≡ false }
         requires paused { IsPaused self.paced worker part Paused.NeedChunk }
         requires fresh { part.fresh ≡ 0 }
-        ensures { Acts self.paced worker result }
+        ensures { ActsAnyhow self worker (KindOf.Chunk part.task) result }
     {
         self.paced.stands();
         let mut run = self;
@@ -99,8 +107,9 @@ impl Run {
         requires free { first_cause self.paced.end self.paced.steps self.paced.settings worker false ≡ None }
         requires owes { owed_by self.paced worker ≡ OwedOf.Nothing }
         requires goes { (accounts self.paced).end ≡ None }
+        requires on { self.halted ≡ false }
         requires paused { IsPaused self.paced worker part why }
-        ensures { Acts self.paced worker result }
+        ensures { ActsFor self worker (Ready.Paused part why) (Some (paused_kind self.paced part why)) result }
     {
         match why {
             Paused::Shared => self.enter_shared(worker, part),
@@ -126,8 +135,10 @@ impl Run {
         requires goes { (accounts self.paced).end ≡ None }
         requires free { first_cause self.paced.end self.paced.steps self.paced.settings worker false ≡ None }
         requires owes { owed_by self.paced worker ≡ OwedOf.Nothing }
+        requires on { self.halted ≡ false }
+        requires met { is_wanting ready ≡ false }
         requires brings { BringsTo self.paced worker ready }
-        ensures { Acts self.paced worker result }
+        ensures { ActsFor self worker ready (brought_kind self.paced ready) result }
     {
         self.paced.stands();
         match ready {
@@ -135,7 +146,7 @@ impl Run {
             Ready::Copied(copied) => self.end_leaf(worker, copied),
             Ready::Found(Some(task)) => self.take_task(worker, task),
             Ready::Found(None) => Acted::Same(self, Next::Waits),
-            Ready::Wanting => self.halted(),
+            Ready::Wanting => unreachable!(),
         }
     }
 }

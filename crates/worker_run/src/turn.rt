@@ -3,7 +3,7 @@ ghost use Rattle.std.specs.Prelude.{◌≡◌, IfSome, option_map};
 ghost use Rattle.shared_tree.specs.Fits.{Fits};
 ghost use Rattle.turn_lock.specs.Seats.{view};
 ghost use Rattle.turn_lock.specs.Turn.{identity};
-ghost use Rattle.worker_run.specs.Desks.{GivesAtMostOne, GivesOne, HasEntry, IsDesk, SameDesk};
+ghost use Rattle.worker_run.specs.Desks.{GivesOne, HasEntry, HasGiven, IsDesk, SameDesk, TakesTurn};
 ghost use Rattle.worker_run.specs.Parts.{ComesWith, GoesWith, TakesFrom};
 
 use crate::act::Acted;
@@ -29,6 +29,7 @@ fn give_entry(
     ensures desk { IsDesk (identity turn.now) program.now desk.new }
     ensures same { SameDesk desk.old desk.new }
     ensures part { (view desk.new.seat).part ≡ option_map (λ s. s.now) kept.entry }
+    ensures gave { HasGiven desk.new run }
     ensures one { GivesOne desk.old desk.new }
 {
     let _ = program;
@@ -43,7 +44,9 @@ fn give(turn: &Turn<Run>, desk: &mut Desk, program: &Program, run: Run, next: Ne
     requires takes { TakesFrom run.paced desk.old.worker next }
     ensures desk { IsDesk (identity turn.now) program.now desk.new }
     ensures same { SameDesk desk.old desk.new }
+    ensures kept { result ≡ next }
     ensures next { GoesWith program.now desk.old.worker (view desk.new.seat) result }
+    ensures gave { HasGiven desk.new run }
     ensures one { GivesOne desk.old desk.new }
 {
     match next {
@@ -68,7 +71,7 @@ fn give(turn: &Turn<Run>, desk: &mut Desk, program: &Program, run: Run, next: Ne
     }
 }
 
-/// Takes the turn with what the worker comes with, and makes at most one entry.
+/// Takes the turn with what the worker comes with, and makes the entry that comes next, if one does.
 pub fn take_turn<R: Wait>(
     rt: &R,
     turn: &Turn<Run>,
@@ -81,7 +84,7 @@ pub fn take_turn<R: Wait>(
     ensures desk { IsDesk (identity turn.now) program.now desk.new }
     ensures same { SameDesk desk.old desk.new }
     ensures next { GoesWith program.now desk.old.worker (view desk.new.seat) result }
-    ensures entries { GivesAtMostOne desk.old desk.new }
+    ensures turn { TakesTurn desk.old desk.new ready result }
 {
     let run = turn.take(rt, &mut desk.seat);
     match run.act(desk.worker, ready) {

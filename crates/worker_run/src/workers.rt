@@ -1,8 +1,10 @@
 //! The workers in threads.
 ghost use Rattle.std.specs.Prelude.{◌≡◌, ◌<◌, ◌≤◌, ◌^◌, [], map, IfNone, IfOk, IfSome, vec_len, vec_capacity};
+ghost use Rattle.hh_lang.specs.Form.{ProgramText};
+ghost use Rattle.run_trace.specs.Settings.{Limits};
 ghost use Rattle.run_ledger.specs.Journals.{end_of};
 ghost use Rattle.turn_lock.specs.Turn.{identity};
-ghost use Rattle.worker_run.specs.Desks.{AreAllDesks, AreHands, AreNewDesks, HasOfEach, IsDesk, SameDesk};
+ghost use Rattle.worker_run.specs.Desks.{AreAllDesks, AreHands, AreNewDesks, HasOfEach, HasStopped, HaveStopped, IsDesk, SameDesk};
 ghost use Rattle.worker_run.specs.Outcomes.{finish_of, IsRun};
 
 use crate::bell::Bell;
@@ -22,20 +24,19 @@ use std::thread::Threads;
 use steal_scheduler::{Deques, Hand};
 use turn_lock::{Seat, Turn};
 
-/// Each worker works at its desk in a thread of its own.
+/// Each worker works at its desk in a thread of its own, until the run is over.
 pub fn all_work<R: Threads + Wait + Sync, G: Gate>(
     rt: &R,
     turn: &Turn<Run>,
     bell: &Bell,
     gate: &G,
     program: &Program,
-    settings: Settings,
     desks: &mut [Desk],
 )
-    requires { AreAllDesks (identity turn.now) program.now settings desks.old }
-    ensures { AreAllDesks (identity turn.now) program.now settings desks.new }
+    requires { (s : Limits) × AreAllDesks (identity turn.now) program.now s desks.old }
+    ensures all { (s : Limits) → AreAllDesks (identity turn.now) program.now s desks.old → AreAllDesks (identity turn.now) program.now s desks.new }
+    ensures over { HaveStopped desks.new }
 {
-    let _ = settings;
     let threads = desks.len();
     if threads == 0 {
         return;
@@ -46,7 +47,7 @@ pub fn all_work<R: Threads + Wait + Sync, G: Gate>(
         threads,
         &|_: usize, desk: &mut Desk|
             requires { IsDesk (identity turn.now) program.now desk.now }
-            ensures { IsDesk (identity turn.entry.now) program.entry.now desk.exit.now × SameDesk desk.entry.now desk.exit.now }
+            ensures { IsDesk (identity turn.entry.now) program.entry.now desk.exit.now × SameDesk desk.entry.now desk.exit.now × HasStopped desk.exit.now }
         { work(rt, turn, bell, gate, program, desk) },
     );
 }
@@ -96,22 +97,13 @@ fn seats_of(mut desks: Vec<Desk>, mut seats: Vec<Seat<Run>>) -> Vec<Seat<Run>>
 }
 
 /// Ends the turn: its value has of each worker just the entries that its desk gave back. `seats` has room for all.
-pub fn close(
-    turn: Turn<Run>,
-    desks: Vec<Desk>,
-    seats: Vec<Seat<Run>>,
-    program: &Program,
-    settings: Settings,
-) -> Paced
-    requires all { AreAllDesks (identity turn) program.now settings desks.items }
+pub fn close(turn: Turn<Run>, desks: Vec<Desk>, seats: Vec<Seat<Run>>) -> Paced
+    requires all { (p : ProgramText) × (s : Limits) × AreAllDesks (identity turn) p s desks.items }
     requires none { seats.items ≡ [] }
     requires room { vec_len desks ≤ vec_capacity seats }
     ensures of_each { HasOfEach result.journal.items desks.items }
-    ensures program { result.program ≡ program.now }
-    ensures settings { result.settings ≡ settings }
+    ensures setup { (p : ProgramText) → (s : Limits) → AreAllDesks (identity turn) p s desks.items → (result.program ≡ p) × (result.settings ≡ s) }
 {
-    let _ = program;
-    let _ = settings;
     let Run { paced, .. } = turn.close(seats_of(desks, seats));
     paced
 }
@@ -128,8 +120,8 @@ fn new_hands(alloc: Global, workers: u32) -> Result<Vec<Hand>, AllocError>
     }
 }
 
-// The turn of the value before its first entry, and the desks of all workers.
-fn opened(
+/// The turn of the value before its first entry, and the desks of all workers.
+pub fn opened(
     alloc: Global,
     program: &Program,
     settings: Settings,
@@ -157,16 +149,8 @@ fn run_all<R: Threads + Wait + Sync, G: Gate>(
     let (turn, mut desks) = opened(alloc, program, settings)?;
     let seats = Vec::with_capacity(alloc, desks.len())?;
     let bell = Bell::new();
-    all_work(
-        rt,
-        &turn,
-        &bell,
-        gate,
-        program,
-        settings,
-        desks.as_mut_slice(),
-    );
-    let shared = close(turn, desks, seats, program, settings).into_shared();
+    all_work(rt, &turn, &bell, gate, program, desks.as_mut_slice());
+    let shared = close(turn, desks, seats).into_shared();
     shared.stands();
     Ok(shared)
 }

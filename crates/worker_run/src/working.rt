@@ -1,8 +1,8 @@
 //! What a worker does until the run is over.
-ghost use Rattle.std.specs.Prelude.{◌≡◌, IfSome};
+ghost use Rattle.std.specs.Prelude.{◌≡◌, IfNone, IfSome};
 ghost use Rattle.turn_lock.specs.Seats.{view};
 ghost use Rattle.turn_lock.specs.Turn.{identity};
-ghost use Rattle.worker_run.specs.Desks.{ChangesHand, FewThefts, IsDesk, SameDesk};
+ghost use Rattle.worker_run.specs.Desks.{ChangesHand, FewThefts, HasStopped, IsDesk, SameDesk};
 ghost use Rattle.worker_run.specs.Parts.{BringsNothing, ComesWith, GoesWith};
 
 use crate::bell::Bell;
@@ -27,28 +27,29 @@ fn look<R: Wait>(rt: &R, bell: &Bell, desk: &mut Desk) -> Ready
     Ready::Found(find(rt, &mut desk.hand, desk.worker))
 }
 
-// The worker puts a task where others find it, and looks for one.
+// The worker puts the tasks that it made ready where others find them, and looks for one. Of two tasks others may take one.
 fn share<R: Wait>(rt: &R, bell: &Bell, desk: &mut Desk, next: Next) -> Ready
     requires { FewThefts desk.old }
     ensures hand { ChangesHand desk.old desk.new }
     ensures found { BringsNothing result }
 {
+    let forked = matches!(next, Next::Forked { .. });
     let put = match next {
         Next::Forked { left, right } => put_both(&mut desk.hand, left, right),
         Next::Resumed(task) => put(&mut desk.hand, task),
         _ => Ok(()),
     };
-    match put {
-        Ok(()) => {
-            bell.ring(rt);
-            look(rt, bell, desk)
-        }
-        Err(_) => Ready::Wanting,
+    if put.is_err() {
+        return Ready::Wanting;
     }
+    if forked {
+        bell.ring_once(rt);
+    }
+    look(rt, bell, desk)
 }
 
-// What the worker comes for its next turn with; None where it stops.
-fn prepare<R: Wait, G: Gate>(
+/// What the worker comes for its next turn with; None where it stops.
+pub fn prepare<R: Wait, G: Gate>(
     rt: &R,
     bell: &Bell,
     gate: &G,
@@ -60,6 +61,7 @@ fn prepare<R: Wait, G: Gate>(
     requires few { FewThefts desk.old }
     ensures hand { ChangesHand desk.old desk.new }
     ensures comes { IfSome result (ComesWith program.now desk.old.worker (view desk.old.seat)) }
+    ensures stops { IfNone result (next ≡ Next.Stop) }
 {
     match next {
         Next::Running(part) => Some(run_part(part, program, gate, desk.worker)),
@@ -76,7 +78,7 @@ fn prepare<R: Wait, G: Gate>(
             Some(look(rt, bell, desk))
         }
         Next::Stop => {
-            bell.ring(rt);
+            bell.ring_all(rt);
             None
         }
         next => Some(share(rt, bell, desk, next)),
@@ -93,7 +95,7 @@ fn task_of(ready: &Ready) -> u32 {
     }
 }
 
-/// Works until the run is over.
+/// Works until the run is over, as the worker has seen at its last turn.
 pub fn work<R: Wait, G: Gate>(
     rt: &R,
     turn: &Turn<Run>,
@@ -105,6 +107,7 @@ pub fn work<R: Wait, G: Gate>(
     requires desk { IsDesk (identity turn.now) program.now desk.old }
     ensures desk { IsDesk (identity turn.now) program.now desk.new }
     ensures same { SameDesk desk.old desk.new }
+    ensures over { HasStopped desk.new }
 {
     let mut next = Next::Idle;
     for _ in rt.forever() {

@@ -1,7 +1,7 @@
-use Rattle.std.proofs.Common.{refl}
+use Rattle.std.proofs.Common.{refl, ap, sym, ◌∙◌, inl, inr}
 use Rattle.turn_lock.specs.Seats.{view}
 use Rattle.turn_lock.specs.Turn.{identity}
-use Rattle.worker_run.proofs.Giving.{alike, brings, has_entry}
+use Rattle.worker_run.proofs.Giving.{alike, brings, goes_with_none, has_entry, takes_from}
 use Rattle.worker_run.proofs.turn.take_turn.Goals as goal
 
 pub act-requires-clause-brings : goal.act-requires-clause-brings
@@ -10,8 +10,12 @@ act-requires-clause-brings g c =
 
 pub give-requires-clause-entry : goal.give-requires-clause-entry
 give-requires-clause-entry g c =
+    let A = c.in-Entered.ensures in
     has_entry (identity c.args.turn.now) c.args.program.now c.args.desk.now (record c.args.desk.now { seat = c.take-run.new.seat }) c.take-run.result c.in-Entered.run' c.requires.desk refl c.take-run.ensures.turn c.take-run.ensures.seat
-    c.take-run.ensures.value c.in-Entered.ensures.0 c.in-Entered.ensures.1
+    c.take-run.ensures.value A.made A.enters A.world
+
+pub give-requires-clause-takes : goal.give-requires-clause-takes
+give-requires-clause-takes g c = takes_from c.take-run.result.paced c.in-Entered.run'.paced c.args.desk.now.worker c.args.ready c.in-Entered.next c.in-Entered.ensures.follows
 
 pub give_same-requires : goal.give_same-requires
 give_same-requires g c = (c.take-run.result, c.take-run.ensures.turn, alike c.take-run.result c.in-Same.run' c.in-Same.ensures.0)

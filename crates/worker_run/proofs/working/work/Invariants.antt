@@ -1,8 +1,10 @@
+use Rattle.std.proofs.Common.{◌≡◌}
+use Rattle.worker_run.specs.declared.held.Next.TheVariants.{Stop}
 use Rattle.turn_lock.specs.Seats.{view}
 use Rattle.turn_lock.specs.Turn.{identity}
-use Rattle.worker_run.specs.Desks.{IsDesk, SameDesk}
+use Rattle.worker_run.specs.Desks.{HasStopped, IsDesk, SameDesk}
 use Rattle.worker_run.specs.Parts.{GoesWith}
 use Rattle.worker_run.proofs.working.work.Given as goal
 
 abbrev pub invariant-loop : goal.invariant-loop
-invariant-loop g l = IsDesk (identity l.turn) l.program l.desk × SameDesk l.fn.desk l.desk × GoesWith l.program l.desk.worker (view l.desk.seat) l.next
+invariant-loop g l = IsDesk (identity l.turn) l.program l.desk × SameDesk l.fn.desk l.desk × GoesWith l.program l.desk.worker (view l.desk.seat) l.next × (l.next ≡ Stop → HasStopped l.desk)

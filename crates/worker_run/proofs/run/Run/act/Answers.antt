@@ -1,6 +1,17 @@
-use Rattle.std.proofs.Common.{refl}
+use Rattle.std.proofs.Common.{rules, ◌≡◌, false, refl}
+use Rattle.worker_run.specs.Next.{is_wanting, next_kind}
+use Rattle.worker_run.specs.Values.{is_over}
+use Rattle.worker_run.proofs.Coming.{acts_on}
 use Rattle.worker_run.proofs.Turning.{unchanged}
 use Rattle.worker_run.proofs.run.Run.act.Goals as goal
 
-pub returns-in-Wanting : goal.returns-in-Wanting
-returns-in-Wanting c = c.halted.ensures c.args.self.paced c.args.worker (unchanged c.args.self.paced c.args.self.paced refl)
+pub returns-then-is_wanting : goal.returns-then-is_wanting
+returns-then-is_wanting c =
+    let on : is_over c.args.self ≡ false = search rules in
+    c.halted.ensures c.args.self c.args.worker c.args.ready (next_kind c.args.self c.args.worker c.args.ready) (unchanged c.args.self.paced c.args.self.paced refl) on
+
+pub returns : goal.returns
+returns c =
+    let on : is_over c.args.self ≡ false = search rules in
+    let met : is_wanting c.args.ready ≡ false = search rules in
+    acts_on c.args.self c.args.worker c.args.ready c.act_next.result on met c.act_next.ensures

@@ -1,6 +1,14 @@
-use Rattle.std.proofs.Common.{refl}
-use Rattle.worker_run.proofs.Turning.{unchanged}
+use Rattle.std.proofs.Common.{Some, ap, ◌∙◌}
+use Rattle.worker_run.specs.declared.held.Ready.TheVariants.{Paused as HasPaused, Copied as IsCopied, Found}
+use Rattle.worker_run.proofs.Coming.{acts_brought}
 use Rattle.worker_run.proofs.run.Run.enter.Goals as goal
 
-pub returns-in-Wanting : goal.returns-in-Wanting
-returns-in-Wanting c = c.halted.ensures c.args.self.paced c.args.worker (unchanged c.args.self.paced c.args.self.paced refl)
+pub returns-in-Paused : goal.returns-in-Paused
+returns-in-Paused c = acts_brought c.args.self c.args.worker c.args.ready c.enter_part.result (HasPaused c.in-Paused.part c.in-Paused.why) c.in-Paused.is c.enter_part.ensures
+
+pub returns-in-Copied : goal.returns-in-Copied
+returns-in-Copied c = acts_brought c.args.self c.args.worker c.args.ready c.end_leaf.result (IsCopied c.in-Copied.copied) c.in-Copied.is (c.end_leaf.ensures (IsCopied c.in-Copied.copied))
+
+pub returns-in-Found-Some : goal.returns-in-Found-Some
+returns-in-Found-Some c =
+    acts_brought c.args.self c.args.worker c.args.ready c.take_task.result (Found (Some c.in-Found-Some.task)) (c.in-Found-Some.is ∙ ap Found c.in-Found-Some.field-0-is) (c.take_task.ensures (Found (Some c.in-Found-Some.task)))

@@ -1,6 +1,8 @@
-use Rattle.std.proofs.Common.{refl}
+use Rattle.run_trace.specs.declared.entry.Kind.{Kind}
+use Rattle.run_trace.specs.declared.entry.Kind.TheVariants.{Mark}
+use Rattle.std.proofs.Common.{Some, refl}
 use Rattle.worker_run.proofs.Free.{mark_free, only_memory}
-use Rattle.worker_run.proofs.Turning.{one_of_all, unchanged}
+use Rattle.worker_run.proofs.Turning.{not_over, one_of_all, unchanged}
 use Rattle.worker_run.proofs.run.Run.pay_mark.Goals as goal
 
 pub wanting-requires : goal.wanting-requires
@@ -8,8 +10,10 @@ wanting-requires c = only_memory c.in-Err.cause _ (mark_free c.args.self.paced c
 
 pub returns-in-Ok : goal.returns-in-Ok
 returns-in-Ok c =
-    c.paid.ensures c.args.self.paced c.args.worker c.stands.ensures c.requires.goes c.requires.brings
-    (one_of_all c.args.self.paced c.mark.new.self c.args.worker c.in-Ok.ensures.enters refl c.in-Ok.ensures.fits) c.in-Ok.ensures.fits
+    let kind : Kind = Mark c.args.task in
+    c.paid.ensures c.args.self c.args.worker kind c.stands.ensures c.requires.goes c.requires.met c.requires.brings
+    (one_of_all c.args.self.paced c.mark.new.self c.args.worker kind c.in-Ok.ensures.enters c.in-Ok.ensures.fits) c.in-Ok.ensures.fits c.requires.on
 
 pub returns-in-Err : goal.returns-in-Err
-returns-in-Err c = c.wanting.ensures c.args.self.paced c.args.worker (unchanged c.args.self.paced c.mark.new.self c.in-Err.ensures.same)
+returns-in-Err c =
+    c.wanting.ensures c.args.self c.args.worker c.args.ready (Some (Mark c.args.task)) (unchanged c.args.self.paced c.mark.new.self c.in-Err.ensures.same) (not_over c.args.self c.requires.on c.requires.goes)

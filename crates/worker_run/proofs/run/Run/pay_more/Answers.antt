@@ -1,4 +1,6 @@
-use Rattle.std.proofs.Common.{refl, ap, sym, ◌∙◌}
+use Rattle.run_trace.specs.declared.entry.Kind.{Kind}
+use Rattle.run_trace.specs.declared.entry.Kind.TheVariants.{More}
+use Rattle.std.proofs.Common.{Some, refl, ap, sym, ◌∙◌}
 use Rattle.shared_tree.specs.Entered.{cause_of}
 use Rattle.worker_run.proofs.Free.{more_free, not_refused}
 use Rattle.worker_run.proofs.Turning.{one_of_all}
@@ -9,5 +11,6 @@ unreachable-requires c = not_refused _ c.in-Err.field-0 (more_free c.args.self.p
 
 pub returns : goal.returns
 returns c =
-    c.paid.ensures c.args.self.paced c.args.worker c.stands.ensures c.requires.goes c.requires.brings
-    (one_of_all c.args.self.paced c.some.new.self c.args.worker c.in-Ok.ensures.enters refl c.in-Ok.ensures.fits) c.in-Ok.ensures.fits
+    let kind : Kind = More c.args.task 64 in
+    c.paid.ensures c.args.self c.args.worker kind c.stands.ensures c.requires.goes c.requires.met c.requires.brings
+    (one_of_all c.args.self.paced c.some.new.self c.args.worker kind c.in-Ok.ensures.enters c.in-Ok.ensures.fits) c.in-Ok.ensures.fits c.requires.on

@@ -1,5 +1,8 @@
-use Rattle.std.proofs.Common.{refl, ap, sym, ◌∙◌}
+use Rattle.run_trace.specs.declared.entry.Kind.{Kind}
+use Rattle.run_trace.specs.declared.entry.Kind.TheVariants.{Sweep}
+use Rattle.std.proofs.Common.{ℕ, Some, subst, refl, ap, sym, ◌∙◌}
 use Rattle.shared_tree.specs.Entered.{cause_of}
+use Rattle.worker_run.specs.Acts.{ActsFor}
 use Rattle.worker_run.proofs.Free.{sweep_free, not_refused}
 use Rattle.worker_run.proofs.Paying.{sweep_is_owed}
 use Rattle.worker_run.proofs.Turning.{one_of_all}
@@ -16,5 +19,7 @@ unreachable-requires c = not_refused _ c.in-Err.field-0 (sweep_free c.args.self.
 
 pub returns : goal.returns
 returns c =
-    c.paid.ensures c.args.self.paced c.args.worker c.stands.ensures c.requires.goes c.requires.brings
-    (one_of_all c.args.self.paced c.sweep.new.self c.args.worker c.in-Ok.ensures.enters refl c.in-Ok.ensures.fits) c.in-Ok.ensures.fits
+    let kind : Kind = Sweep c.args.task c.would_give-given.result in
+    subst (λ (n : ℕ). ActsFor c.args.self c.args.worker c.args.ready (Some (Sweep c.args.task n)) c.paid.result) c.would_give-given.ensures
+    (c.paid.ensures c.args.self c.args.worker kind c.stands.ensures c.requires.goes c.requires.met c.requires.brings
+    (one_of_all c.args.self.paced c.sweep.new.self c.args.worker kind c.in-Ok.ensures.enters c.in-Ok.ensures.fits) c.in-Ok.ensures.fits c.requires.on)

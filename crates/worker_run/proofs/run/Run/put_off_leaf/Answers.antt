@@ -1,4 +1,5 @@
 use Rattle.std.proofs.Common.{refl, ap, sym, ◌∙◌}
+use Rattle.run_trace.specs.declared.entry.Kind.TheVariants.{PutOff}
 use Rattle.shared_tree.specs.Entered.{cause_of}
 use Rattle.worker_run.proofs.Free.{not_refused, put_off_free}
 use Rattle.worker_run.proofs.Going.{may_heap}
@@ -11,6 +12,6 @@ unreachable-requires c =
     (sym c.put_off.ensures.refused ∙ ap cause_of c.in-Err.is)
 
 pub returns : goal.returns
-returns c =
-    c.entered.ensures c.args.self.paced c.args.worker (one c.args.self.paced c.put_off.new.self c.args.worker c.in-Ok.ensures.enters refl c.in-Ok.ensures.others)
+returns c = λ ready.
+    c.entered.ensures c.args.self c.args.worker ready (PutOff c.args.part.task) (one c.args.self.paced c.put_off.new.self c.args.worker (PutOff c.args.part.task) c.in-Ok.ensures.enters c.in-Ok.ensures.others) c.requires.on
     (λ on. (on, may_heap c.put_off.new.self c.args.worker c.args.part c.put_off.new.part (record c.args.part.heap { since = 0 }) c.put_off.ensures.fits c.requires.paused.may.idle c.requires.fresh c.in-Ok.ensures.part))

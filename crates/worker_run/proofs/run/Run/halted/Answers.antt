@@ -1,0 +1,5 @@
+use Rattle.worker_run.proofs.Turning.{halts_with}
+use Rattle.worker_run.proofs.run.Run.halted.Goals as goal
+
+pub returns : goal.returns
+returns c = halts_with c.args.self

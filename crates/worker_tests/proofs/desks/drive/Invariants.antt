@@ -1,0 +1,9 @@
+use Rattle.turn_lock.specs.Seats.{view}
+use Rattle.turn_lock.specs.Turn.{identity}
+use Rattle.worker_run.specs.Desks.{IsDesk}
+use Rattle.worker_run.specs.Parts.{GoesWith}
+use Rattle.worker_tests.proofs.desks.drive.Given as goal
+
+abbrev pub invariant-loop-entry : goal.invariant-loop-entry
+invariant-loop-entry g l =
+    IsDesk (identity l.turn) l.program l.first × IsDesk (identity l.turn) l.program l.second × GoesWith l.program l.first.worker (view l.first.seat) l.to_first × GoesWith l.program l.second.worker (view l.second.seat) l.to_second
