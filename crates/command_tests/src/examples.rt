@@ -1,6 +1,6 @@
 // The programs of the repository's examples, which `check` accepts. The script of the gate compares them with the files.
 
-use crate::calls::said;
+use crate::calls::{Row, check_calls};
 use std::test::Fail;
 
 const CALL: &str =
@@ -27,25 +27,33 @@ const SEVEN: &str =
 const TRAP: &str =
     "# A trap: a division by zero ends the run, with the task and the line.\nfn main\n  set i0 7\n  set i1 0\n  div i2 i0 i1\n  out i2\nend\n";
 
+const ACCEPTED: &str = "end: accepted\n";
+
+const CHECKED: [Row; 8] = [
+    ("", CALL, 0, ACCEPTED),
+    ("", DOWN_POINTER, 0, ACCEPTED),
+    ("", ENTANGLED, 0, ACCEPTED),
+    ("", FORK, 0, ACCEPTED),
+    ("", LOOP, 0, ACCEPTED),
+    ("", LOOP_SUM, 0, ACCEPTED),
+    ("", SEVEN, 0, ACCEPTED),
+    ("", TRAP, 0, ACCEPTED),
+];
+
+const RUN: [Row; 8] = [
+    ("", CALL, 0, "144\n1\nend: done\n"),
+    ("", DOWN_POINTER, 0, "42\nend: done\n"),
+    ("", ENTANGLED, 5, "end: entangled reader 2 owner 1\n"),
+    ("", FORK, 0, "36\nend: done\n"),
+    ("", LOOP, 0, "55\nend: done\n"),
+    ("", LOOP_SUM, 0, "385\nend: done\n"),
+    ("", SEVEN, 0, "7\nend: done\n"),
+    ("", TRAP, 4, "end: trap div task 0 line 5\n"),
+];
+
+// The same texts are checked and run.
 #[test]
 fn examples_are_run(rt: HostRuntime) -> Result<(), Fail> {
-    let cases = [
-        (CALL, 0, "144\n1\nend: done\n"),
-        (DOWN_POINTER, 0, "42\nend: done\n"),
-        (ENTANGLED, 5, "end: entangled reader 2 owner 1\n"),
-        (FORK, 0, "36\nend: done\n"),
-        (LOOP, 0, "55\nend: done\n"),
-        (LOOP_SUM, 0, "385\nend: done\n"),
-        (SEVEN, 0, "7\nend: done\n"),
-        (TRAP, 4, "end: trap div task 0 line 5\n"),
-    ];
-    for (text, status, bytes) in cases {
-        let checked = said(&rt, "check", text)?;
-        assert_eq!(rt; checked.0, 0);
-        assert_eq!(rt; checked.1.as_slice(), b"end: accepted\n".as_slice());
-        let (code, written) = said(&rt, "run", text)?;
-        assert_eq!(rt; code, status);
-        assert_eq!(rt; written.as_slice(), bytes.as_bytes());
-    }
-    Ok(())
+    check_calls(&rt, "check", &CHECKED)?;
+    check_calls(&rt, "run", &RUN)
 }

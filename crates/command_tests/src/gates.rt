@@ -1,7 +1,6 @@
 // Two workers that meet: gates that note which task has come where, and hold a task back for a limited time.
 
-use crate::calls::handed_through;
-use command_core::Status;
+use crate::calls::said_through;
 use outside_io::{Gate, Point};
 use std::hint::spin_loop;
 use std::sync::atomic::{AtomicBool, Ordering};
@@ -109,11 +108,10 @@ fn both_run_at_once(rt: HostRuntime) -> Result<(), Fail> {
         left: Visit::new(),
         right: Visit::new(),
     };
-    let ran = handed_through(&rt, "run --workers 2", FORKS.as_bytes(), &gate)?;
+    let ran = said_through(&rt, "--workers 2", FORKS, &gate)?;
     assert!(rt; gate.left.has_met());
     assert!(rt; gate.right.has_met());
-    assert_eq!(rt; ran.0.status, Status::Done);
-    assert_eq!(rt; ran.1.as_slice(), b"36\nend: done\n".as_slice());
+    assert!(rt; ran.wrote(0, "36\nend: done\n"));
     Ok(())
 }
 
@@ -125,10 +123,9 @@ fn copying_outside_the_turn(rt: HostRuntime) -> Result<(), Fail> {
         runs: Visit::new(),
         had_turn: AtomicBool::new(false),
     };
-    let ran = handed_through(&rt, "run --workers 2 --leaf 16", COLLECTS.as_bytes(), &gate)?;
+    let ran = said_through(&rt, "--workers 2 --leaf 16", COLLECTS, &gate)?;
     assert!(rt; gate.copies.has_met());
     assert!(rt; gate.runs.has_met());
-    assert_eq!(rt; ran.0.status, Status::Done);
-    assert_eq!(rt; ran.1.as_slice(), b"1\nend: done\n".as_slice());
+    assert!(rt; ran.wrote(0, "1\nend: done\n"));
     Ok(())
 }

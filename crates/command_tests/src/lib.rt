@@ -10,4 +10,10 @@ mod gates;
 #[cfg(test)]
 mod made;
 #[cfg(test)]
-mod rows;
+mod outside;
+#[cfg(test)]
+mod replays;
+#[cfg(test)]
+mod runs;
+#[cfg(test)]
+mod texts;

@@ -1,2 +1,3 @@
+pub mod Apart
 mod Checks
 mod Marks

@@ -1,8 +1,9 @@
 -- What is checked before a collection.
-use Rattle.std.specs.Prelude.{ℕ, ◌≤◌, List, All}
+use Rattle.std.specs.Prelude.{ℕ, ◌≤◌, List, Option, All}
 use Rattle.object_layout.specs.declared.word.Addr.{Addr}
 use Rattle.object_layout.specs.Cell.{Cell, IsBorn}
 use Rattle.object_layout.specs.Content.{Content}
+use Rattle.object_layout.specs.Chunks.{object_of}
 use Rattle.alloc_path.specs.Heap.{Heap, IsFresh}
 use Rattle.task_frames.specs.Stack.{Stack}
 use Rattle.leaf_copy_gc.specs.Survivors.{IsClosed, IsSound, outside}
@@ -18,3 +19,7 @@ pub record IsReady (h : Heap) (s : Stack) (roots : List Addr) (number : ℕ) : T
   pub outside : All (IsSound h.chunks) (outside s roots)
   pub fresh : IsFresh h.chunks number
   pub few : small_words h.chunks ≤ 1024
+
+-- the references of the object at an address
+abbrev pub fields_of : Heap → Addr → List (Option Addr)
+fields_of h a = (object_of h.chunks a).refs

@@ -1,88 +1,130 @@
 // Collections of whole heaps.
 
 use crate::collecting::collect;
-use crate::scenes::{add, at, lead, one_frame, place, told};
-use alloc_path::LeafHeap;
-use leaf_copy_gc::Moved;
+use crate::scenes::{Put, Seen, Spot, at_spot, heap_of, holds, one_frame};
 use object_layout::Addr;
+use std::alloc::Global;
+use std::process::Abort;
 use std::test::Fail;
+use task_frames::Frames;
 
-// How many new chunks the heap has kept, how many units are given back, and how many words are left.
-fn counts(moved: &Moved) -> (u32, u32, u32) {
-    (moved.taken, moved.given, moved.left)
+// A heap, what refers to its objects, and what a collection into the chunk 20 makes of them.
+struct Case {
+    heap: &'static [Put],
+    registers: &'static [(u32, Spot)],
+    root: Option<Spot>,
+    // How many new chunks the heap has kept, how many units are given back, and how many words are left.
+    counts: (u32, u32, u32),
+    // The old and the new addresses.
+    moved: &'static [(Spot, Spot)],
+    registers_after: &'static [(u32, Spot)],
+    objects_after: &'static [Seen],
+    // The words that are left in the chunk that is being filled.
+    room: u32,
 }
 
-// The old and the new address of the object that was moved as the i-th.
-fn moved_at(moved: &Moved, i: usize) -> Option<(Addr, Addr)> {
-    moved.moved.as_slice().get(i).copied()
+// A frame with these references.
+fn frame_of(alloc: Global, registers: &[(u32, Spot)]) -> Frames {
+    let mut frames = one_frame(alloc);
+    for &(register, spot) in registers {
+        if register < 16 {
+            frames.set_reference(register, Some(at_spot(spot)));
+        }
+    }
+    frames
+}
+
+fn has_registers(frames: &Frames, registers: &[(u32, Spot)]) -> bool {
+    for &(register, spot) in registers {
+        if register >= 16 || frames.reference(register) != Some(at_spot(spot)) {
+            return false;
+        }
+    }
+    true
+}
+
+fn are_moves(moved: &[(Addr, Addr)], expected: &[(Spot, Spot)]) -> bool {
+    if moved.len() != expected.len() {
+        return false;
+    }
+    for (i, &(old, new)) in expected.iter().enumerate() {
+        if moved.get(i).copied() != Some((at_spot(old), at_spot(new))) {
+            return false;
+        }
+    }
+    true
+}
+
+// Checks what a collection makes of a case.
+fn check(rt: &impl Abort, alloc: Global, case: &Case) -> Result<(), Fail> {
+    let mut heap = heap_of(alloc, case.heap)?;
+    let mut frames = frame_of(alloc, case.registers);
+    let roots = case.root.map(at_spot);
+    let moved = collect(alloc, &mut heap, &mut frames, roots.as_slice(), 20)?;
+    assert!(rt; (moved.taken, moved.given, moved.left) == case.counts);
+    assert!(rt; are_moves(moved.moved.as_slice(), case.moved));
+    assert!(rt; has_registers(&frames, case.registers_after));
+    assert!(rt; holds(&heap, case.objects_after));
+    assert!(rt; (heap.since(), heap.room()) == (0, case.room));
+    Ok(())
 }
 
 // An object that refers to itself, and to which two registers refer, is copied once. The one before it is dropped.
-#[test]
-fn refers_to_itself(rt: HostRuntime) -> Result<(), Fail> {
-    let alloc = rt.alloc();
-    let (mut heap, mut frames) = (LeafHeap::new(alloc), one_frame(alloc));
-    add(alloc, &mut heap, 7, 1)?;
-    assert_eq!(rt; place(&mut heap, 0, 5, 0)?, at(7, 0));
-    assert_eq!(rt; place(&mut heap, 1, 0, 1)?, at(7, 7));
-    lead(&mut heap, at(7, 7), at(7, 7))?;
-    frames.set_reference(0, Some(at(7, 7)));
-    frames.set_reference(5, Some(at(7, 7)));
-    let moved = collect(alloc, &mut heap, &mut frames, &[], 20)?;
-    assert_eq!(rt; counts(&moved), (1, 1, 3));
-    assert_eq!(rt; moved_at(&moved, 0), Some((at(7, 7), at(20, 0))));
-    assert_eq!(rt; moved_at(&moved, 1), None);
-    assert_eq!(rt;
-        (frames.reference(0), frames.reference(5)),
-        (Some(at(20, 0)), Some(at(20, 0)))
-    );
-    assert_eq!(rt; told(&heap, at(20, 0))?, (Some(at(20, 0)), 1));
-    assert_eq!(rt; (heap.since(), heap.words(), heap.room()), (0, 3, 1021));
-    Ok(())
-}
+const REFERS_TO_ITSELF: Case = Case {
+    heap: &[
+        Put::Chunk(7, 1),
+        Put::Object(0, 5, 0),
+        Put::Object(1, 0, 1),
+        Put::Lead((7, 7), (7, 7)),
+    ],
+    registers: &[(0, (7, 7)), (5, (7, 7))],
+    root: None,
+    counts: (1, 1, 3),
+    moved: &[((7, 7), (20, 0))],
+    registers_after: &[(0, (20, 0)), (5, (20, 0))],
+    objects_after: &[((20, 0), 1, Some((20, 0)))],
+    room: 1021,
+};
 
 // Survivors are laid out in order of birth: one that a register leads to, and one that a root does.
-#[test]
-fn births_out_of_order(rt: HostRuntime) -> Result<(), Fail> {
-    let alloc = rt.alloc();
-    let (mut heap, mut frames) = (LeafHeap::new(alloc), one_frame(alloc));
-    add(alloc, &mut heap, 7, 1)?;
-    assert_eq!(rt; place(&mut heap, 1, 0, 9)?, at(7, 0));
-    assert_eq!(rt; place(&mut heap, 1, 1, 4)?, at(7, 3));
-    frames.set_reference(0, Some(at(7, 0)));
-    let moved = collect(alloc, &mut heap, &mut frames, &[at(7, 3)], 20)?;
-    assert_eq!(rt; moved_at(&moved, 0), Some((at(7, 0), at(20, 4))));
-    assert_eq!(rt; moved_at(&moved, 1), Some((at(7, 3), at(20, 0))));
-    assert_eq!(rt; frames.reference(0), Some(at(20, 4)));
-    assert_eq!(rt;
-        (told(&heap, at(20, 0))?.1, told(&heap, at(20, 4))?.1),
-        (4, 9)
-    );
-    Ok(())
-}
+const OUT_OF_ORDER: Case = Case {
+    heap: &[Put::Chunk(7, 1), Put::Object(1, 0, 9), Put::Object(1, 1, 4)],
+    registers: &[(0, (7, 0))],
+    root: Some((7, 3)),
+    counts: (1, 1, 7),
+    moved: &[((7, 0), (20, 4)), ((7, 3), (20, 0))],
+    registers_after: &[(0, (20, 4))],
+    objects_after: &[((20, 0), 4, None), ((20, 4), 9, None)],
+    room: 1017,
+};
 
 // Of two large objects one is kept where it is, its reference to a moved object led there; the other is given back. The
 // reserved chunk stays.
+const LARGE_OBJECTS: Case = Case {
+    heap: &[
+        Put::Chunk(7, 1),
+        Put::Object(1, 0, 0),
+        Put::Chunk(8, 2),
+        Put::Object(0, 1500, 1),
+        Put::Chunk(9, 3),
+        Put::Object(1, 3000, 2),
+        Put::Chunk(10, 2),
+        Put::Lead((9, 0), (7, 0)),
+        Put::Lead((7, 0), (9, 0)),
+    ],
+    registers: &[(3, (9, 0))],
+    root: None,
+    counts: (1, 3, 3006),
+    moved: &[((7, 0), (20, 0))],
+    registers_after: &[(3, (9, 0))],
+    objects_after: &[((9, 0), 2, Some((20, 0))), ((20, 0), 0, Some((9, 0)))],
+    room: 1021,
+};
+
 #[test]
-fn large_objects(rt: HostRuntime) -> Result<(), Fail> {
+fn what_survives(rt: HostRuntime) -> Result<(), Fail> {
     let alloc = rt.alloc();
-    let (mut heap, mut frames) = (LeafHeap::new(alloc), one_frame(alloc));
-    add(alloc, &mut heap, 7, 1)?;
-    assert_eq!(rt; place(&mut heap, 1, 0, 0)?, at(7, 0));
-    add(alloc, &mut heap, 8, 2)?;
-    assert_eq!(rt; place(&mut heap, 0, 1500, 1)?, at(8, 0));
-    add(alloc, &mut heap, 9, 3)?;
-    assert_eq!(rt; place(&mut heap, 1, 3000, 2)?, at(9, 0));
-    add(alloc, &mut heap, 10, 2)?;
-    lead(&mut heap, at(9, 0), at(7, 0))?;
-    lead(&mut heap, at(7, 0), at(9, 0))?;
-    frames.set_reference(3, Some(at(9, 0)));
-    let moved = collect(alloc, &mut heap, &mut frames, &[], 20)?;
-    assert_eq!(rt; counts(&moved), (1, 3, 3006));
-    assert_eq!(rt; moved_at(&moved, 0), Some((at(7, 0), at(20, 0))));
-    assert_eq!(rt; frames.reference(3), Some(at(9, 0)));
-    assert_eq!(rt; told(&heap, at(9, 0))?, (Some(at(20, 0)), 2));
-    assert_eq!(rt; told(&heap, at(20, 0))?, (Some(at(9, 0)), 0));
-    assert_eq!(rt; place(&mut heap, 0, 1500, 4)?, at(10, 0));
-    Ok(())
+    check(&rt, alloc, &REFERS_TO_ITSELF)?;
+    check(&rt, alloc, &OUT_OF_ORDER)?;
+    check(&rt, alloc, &LARGE_OBJECTS)
 }

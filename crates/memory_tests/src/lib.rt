@@ -10,7 +10,15 @@ mod collecting;
 #[cfg(test)]
 mod collections;
 #[cfg(test)]
+mod families;
+#[cfg(test)]
 mod heaps;
+#[cfg(test)]
+mod joining;
+#[cfg(test)]
+mod joins;
+#[cfg(test)]
+mod pools;
 #[cfg(test)]
 mod registers;
 #[cfg(test)]

@@ -1,95 +1,104 @@
 // Remembered fields: noted once, lifted at a join, and rewritten in a leaf heap.
 
-ghost use Rattle.std.specs.Prelude.{◌≡◌, true};
+ghost use Rattle.std.specs.Prelude.{IsTrue};
+ghost use Rattle.remembered_set.specs.Moved.{AreFields};
+ghost use Rattle.memory_tests.specs.Fit.{fields_of};
 
-use alloc_path::{LeafHeap, New};
-use object_layout::{Addr, Birth, Chunk, Header};
+use crate::families::{Field, are_sources};
+use crate::scenes::{Put, at, heap_of, holds};
+use crate::soundness::is_live;
+use alloc_path::LeafHeap;
+use object_layout::{Addr, Chunk};
 use remembered_set::{Remembered, Source};
+use std::alloc::Global;
 use std::test::Fail;
 
-const fn at(chunk: u32) -> Addr
-    ensures { result ≡ record { chunk = chunk; offset = 8 } }
-{
-    Addr { chunk, offset: 8 }
+// A set in which these fields were noted.
+fn set_of(alloc: Global, fields: &[Field]) -> Result<Remembered, Fail> {
+    let mut set = Remembered::new(alloc);
+    for &(chunk, field) in fields {
+        set.note(at(chunk, 8), field)?;
+    }
+    Ok(set)
 }
 
-fn source(set: &Remembered, i: usize) -> Option<Source> {
-    set.sources().get(i).copied()
-}
-
-// Of the sources of a set that is lifted, that in the parent's chunk 2 is dropped, and that which
-// the parent knows stands once.
-#[test]
-fn sources_lifted(rt: HostRuntime) -> Result<(), Fail> {
-    let mut parent = Remembered::new(rt.alloc());
-    parent.note(at(1), 0)?;
-    let mut from = Remembered::new(rt.alloc());
-    from.note(at(2), 0)?;
-    from.note(at(1), 0)?;
-    from.note(at(1), 0)?;
-    from.note(at(3), 4)?;
-    assert_eq!(rt; from.sources().len(), 3);
-    let heap = vec![in rt.alloc(); Chunk::new(rt.alloc(), 2, 1)?]?;
-    parent.make_room(3, 1)?;
+// The set of a parent that has these fields, and the chunk 2, once a child's fields were lifted.
+fn lifted(alloc: Global, known: &[Field], fields: &[Field]) -> Result<Remembered, Fail> {
+    let (mut parent, from) = (set_of(alloc, known)?, set_of(alloc, fields)?);
+    let heap = [Chunk::new(alloc, 2, 1)?];
+    if from.sources().len() > 10 {
+        return Err("too many")?;
+    }
+    parent.make_room(10, 1)?;
     parent.lift(from, &heap);
-    assert_eq!(rt; parent.sources().len(), 2);
-    let first = Source {
-        object: at(1),
-        field: 0,
-    };
-    let second = Source {
-        object: at(3),
-        field: 4,
-    };
-    assert_eq!(rt; source(&parent, 0), Some(first));
-    assert_eq!(rt; source(&parent, 1), Some(second));
+    Ok(parent)
+}
+
+// The field of an object in the parent's chunk is dropped, and one that the parent knows stands once.
+#[test]
+fn fields_lifted(rt: HostRuntime) -> Result<(), Fail> {
+    let fields = [(2, 0), (1, 0), (1, 0), (3, 4)];
+    let parent = lifted(rt.alloc(), &[(1, 0)], &fields)?;
+    assert!(rt; are_sources(parent.sources(), &[(1, 0), (3, 4)]));
     Ok(())
 }
 
-const CELL: Addr = Addr {
-    chunk: 7,
-    offset: 0,
-};
-
-const OLD: Addr = Addr {
-    chunk: 9,
-    offset: 4,
-};
-
-const NEW: Addr = Addr {
-    chunk: 11,
-    offset: 0,
-};
-
-// An object of one reference.
-fn cell() -> New
-    ensures { result ≡ record { header = record { nrefs = 1; nints = 0; mutable = true }; birth = record { task = 3; count = 0 } } }
+// Whether the sources of a set are fields of objects of the heap.
+fn are_fields(heap: &LeafHeap, sources: &[Source]) -> bool
+    ensures { IsTrue result → AreFields fields_of heap.now sources.now }
 {
-    New {
-        header: Header {
-            nrefs: 1,
-            nints: 0,
-            mutable: true,
-        },
-        birth: Birth { task: 3, count: 0 },
+    match sources.split_first() {
+        None => true,
+        Some((first, rest)) => {
+            is_live(heap.chunks(), first.object)
+                && first.field < heap.own_header(first.object).nrefs
+                && are_fields(heap, rest)
+        }
     }
+}
+
+// What the sources of a set hold that points into a chunk, if they are fields of objects.
+fn target(
+    alloc: Global,
+    set: &Remembered,
+    heap: &LeafHeap,
+    chunk: Chunk,
+) -> Result<Vec<Addr>, Fail> {
+    if !are_fields(heap, set.sources()) {
+        return Err("no field")?;
+    }
+    Ok(set.targets(alloc, heap, &[chunk])?)
+}
+
+// Leads the sources of a set that hold an old address to the new one, if they are fields of objects.
+fn rewrite(set: &Remembered, heap: &mut LeafHeap, old: Addr, new: Addr) -> Result<(), Fail> {
+    if !are_fields(heap, set.sources()) || new.offset >= 1024 {
+        return Err("no field")?;
+    }
+    set.rewrite(heap, &[(old, new)]);
+    Ok(())
 }
 
 // A field that still holds the old address is rewritten; one that was overwritten stays.
 #[test]
 fn fields_rewritten(rt: HostRuntime) -> Result<(), Fail> {
-    let mut heap = LeafHeap::new(rt.alloc());
-    heap.add(Chunk::new(rt.alloc(), 7, 1)?)?;
-    assert_eq!(rt; heap.place(cell())?, Some(CELL));
-    heap.own_set_ref(CELL, 0, Some(OLD));
-    let mut set = Remembered::new(rt.alloc());
-    set.note(CELL, 0)?;
-    let collected = [Chunk::new(rt.alloc(), 9, 1)?];
-    let targets = set.targets(rt.alloc(), &heap, &collected)?;
-    assert_eq!(rt; targets.as_slice(), [OLD].as_slice());
-    set.rewrite(&mut heap, &[(OLD, NEW)]);
-    assert_eq!(rt; heap.own_ref(CELL, 0), Some(NEW));
-    set.rewrite(&mut heap, &[(OLD, CELL)]);
-    assert_eq!(rt; heap.own_ref(CELL, 0), Some(NEW));
+    let alloc = rt.alloc();
+    let (old, new, other) = (at(9, 4), at(11, 0), at(11, 8));
+    let mut heap = heap_of(
+        alloc,
+        &[
+            Put::Chunk(7, 1),
+            Put::Object(1, 0, 0),
+            Put::Lead((7, 0), (9, 4)),
+        ],
+    )?;
+    let mut set = Remembered::new(alloc);
+    set.note(at(7, 0), 0)?;
+    let targets = target(alloc, &set, &heap, Chunk::new(alloc, 9, 1)?)?;
+    assert!(rt; targets.as_slice() == [old].as_slice());
+    for to in [new, other] {
+        rewrite(&set, &mut heap, old, to)?;
+        assert!(rt; holds(&heap, &[((7, 0), 0, Some((11, 0)))]));
+    }
     Ok(())
 }

@@ -3,10 +3,13 @@
 ghost use Rattle.std.specs.Prelude.{◌≡◌, ◌<◌, ◌≤◌, length, IfSome};
 ghost use Rattle.heap_tree.specs.Node.{depth_of};
 
+use crate::pools::{relabel, take};
+use crate::scenes::at;
 use chunk_pool::Pool;
 use heap_tree::{LinkCount, State, Tree};
 use object_layout::Addr;
 use read_barrier::{Stop, check};
+use std::alloc::Global;
 use std::marker::Brand;
 use std::sync::ledger::{Blank, Ledger};
 use std::test::Fail;
@@ -54,26 +57,23 @@ fn path_counted<L: Ledger>(tree: &Tree, t: u32, depth: u32, blank: Blank) -> Opt
 }
 
 #[test]
-fn forks_and_joins(rt: HostRuntime) -> Result<(), Fail> {
+fn forks(rt: HostRuntime) -> Result<(), Fail> {
     let mut tree = Tree::new(rt.alloc())?;
-    assert_eq!(rt;
-        (tree.made(), tree.state(0), tree.parent(0)),
-        (1, Some(State::Ready), None)
-    );
-    assert_eq!(rt; on_path(&tree, 0, 0), Some(true));
-    assert_eq!(rt; forked(&mut tree, 0)?, (1, 2));
-    assert_eq!(rt;
-        (tree.state(0), tree.state(2)),
-        (Some(State::Waiting), Some(State::Ready))
-    );
-    assert_eq!(rt; forked(&mut tree, 1)?, (3, 4));
-    assert_eq!(rt; tree.parent(4), Some(1));
+    assert!(rt; (tree.made(), tree.state(0), tree.parent(0)) == (1, Some(State::Ready), None));
+    assert!(rt; on_path(&tree, 0, 0) == Some(true));
+    assert!(rt; forked(&mut tree, 0)? == (1, 2));
+    assert!(rt; (tree.state(0), tree.state(2)) == (Some(State::Waiting), Some(State::Ready)));
+    assert!(rt; (tree.parent(2), tree.state(3)) == (Some(0), None));
+    Ok(())
+}
+
+#[test]
+fn paths(rt: HostRuntime) -> Result<(), Fail> {
+    let tree = three_levels(rt.alloc())?;
+    assert!(rt; tree.parent(4) == Some(1));
     for (reader, owner, is) in [(4, 0, true), (4, 2, false), (4, 3, false), (0, 4, false)] {
-        assert_eq!(rt; on_path(&tree, reader, owner), Some(is));
+        assert!(rt; on_path(&tree, reader, owner) == Some(is));
     }
-    assert!(rt; tree.made() > 4);
-    tree.set_state(4, State::Joined);
-    assert_eq!(rt; (tree.state(4), tree.state(5)), (Some(State::Joined), None));
     Ok(())
 }
 
@@ -82,7 +82,7 @@ fn links_are_counted(rt: HostRuntime) -> Result<(), Fail> {
     let mut tree = Tree::new(rt.alloc())?;
     forked(&mut tree, 0)?;
     forked(&mut tree, 2)?;
-    assert_eq!(rt; path_counted::<Brand>(&tree, 4, 1, Blank::new(1)), Some(2));
+    assert!(rt; path_counted::<Brand>(&tree, 4, 1, Blank::new(1)) == Some(2));
     Ok(())
 }
 
@@ -94,35 +94,46 @@ fn a_thousand_deep(rt: HostRuntime) -> Result<(), Fail> {
     for _ in 0..1000 {
         last = forked(&mut tree, last)?.0;
     }
-    assert_eq!(rt; last, 1999);
-    assert_eq!(rt; path(&tree, 1999, 0), Some(0));
+    assert!(rt; last == 1999);
+    assert!(rt; path(&tree, 1999, 0) == Some(0));
     for depth in 1..1000 {
-        assert_eq!(rt; path(&tree, 1999, depth), Some(2 * depth - 1));
-        assert_eq!(rt; on_path(&tree, 1999, 2 * depth - 1), Some(true));
-        assert_eq!(rt; on_path(&tree, 1999, 2 * depth), Some(false));
+        assert!(rt; path(&tree, 1999, depth) == Some(2 * depth - 1));
+        assert!(rt; on_path(&tree, 1999, 2 * depth - 1) == Some(true));
+        assert!(rt; on_path(&tree, 1999, 2 * depth) == Some(false));
     }
     Ok(())
 }
 
+// What a reader gets that reads an address, if its chunk is a task's of the tree.
+fn read(tree: &Tree, pool: &Pool, reader: u32, to: Addr) -> Option<Result<Addr, Stop>> {
+    let held = pool.held(to.chunk)?;
+    if reader >= tree.made() || held.owner >= tree.made() {
+        return None;
+    }
+    Some(check(tree, pool, reader, to))
+}
+
+// The root has the children 1 and 2, and task 1 has 3 and 4.
+fn three_levels(alloc: Global) -> Result<Tree, Fail> {
+    let mut tree = Tree::new(alloc)?;
+    forked(&mut tree, 0)?;
+    forked(&mut tree, 1)?;
+    Ok(tree)
+}
+
+// Task 1 and those below it read an object of task 1.
 #[test]
 fn reads_across_three_levels(rt: HostRuntime) -> Result<(), Fail> {
-    let mut tree = Tree::new(rt.alloc())?;
-    assert_eq!(rt; forked(&mut tree, 0)?, (1, 2));
-    assert_eq!(rt; forked(&mut tree, 1)?, (3, 4));
-    assert_eq!(rt; tree.made(), 5);
+    let tree = three_levels(rt.alloc())?;
     let mut pool = Pool::new(rt.alloc(), 4);
-    let Ok(chunk) = pool.take(1, 1) else {
-        return Err("not taken")?;
-    };
-    let to = Addr {
-        chunk: chunk.number(),
-        offset: 0,
-    };
-    let [above, beside] = [0, 2].map(|reader| Stop { reader, owner: 1 });
-    assert_eq!(rt; check(&tree, &pool, 0, to), Err(above));
-    assert_eq!(rt; check(&tree, &pool, 2, to), Err(beside));
-    assert_eq!(rt; check(&tree, &pool, 3, to), Ok(to));
-    pool.relabel(to.chunk, 0);
-    assert_eq!(rt; check(&tree, &pool, 2, to), Ok(to));
+    assert!(rt; take(&mut pool, 1, 1) == Some(0));
+    let to = at(0, 0);
+    let [above, beside] = [0, 2].map(|reader| Some(Err(Stop { reader, owner: 1 })));
+    assert!(rt; read(&tree, &pool, 0, to) == above);
+    assert!(rt; read(&tree, &pool, 1, to) == Some(Ok(to)));
+    assert!(rt; read(&tree, &pool, 2, to) == beside);
+    assert!(rt; read(&tree, &pool, 4, to) == Some(Ok(to)));
+    relabel(&mut pool, 0, 0);
+    assert!(rt; read(&tree, &pool, 2, to) == Some(Ok(to)));
     Ok(())
 }

@@ -1,149 +1,179 @@
 // Writes of references into an object of a root that has two children.
 
-ghost use Rattle.std.specs.Prelude.{◌≡◌, ℕ, ◌<◌, ◌∷◌, [], IfOk, OnOk, None, Some, length, slice_index_or};
+ghost use Rattle.std.specs.Prelude.{◌≡◌, ◌<◌, IsTrue, None, length, slice_index_or};
 ghost use Rattle.object_layout.specs.Cell.{IsPlace};
 ghost use Rattle.object_layout.specs.Chunks.{object_of};
-ghost use Rattle.chunk_pool.specs.Chunks.{owner_of};
 ghost use Rattle.write_barrier.specs.Stored.{IsOwned};
 
-use alloc_path::{LeafHeap, New};
+use crate::joining::forked;
+use crate::pools::add_taken;
+use crate::scenes::{at, holds, one_frame, place};
+use crate::soundness::is_live;
+use alloc_path::LeafHeap;
 use chunk_pool::Pool;
-use heap_tree::{State, Tree};
-use object_layout::{Addr, Birth, Chunk, Header};
+use heap_tree::Tree;
+use object_layout::Addr;
+use std::alloc::Global;
 use std::test::Fail;
 use write_barrier::{SetOf, store};
 
-// A root with two children.
-fn family(rt: &HostRuntime) -> Result<Tree, Fail>
-    ensures { IfOk result (λ tree. length tree ≡ 3) }
+// Whether a reference, if it isn't nil, leads to a place in a chunk of a task of the tree.
+fn is_owned(tree: &Tree, pool: &Pool, reference: Option<Addr>) -> bool
+    ensures owned { IsTrue result → IsOwned (length tree.now) pool.now reference }
+    ensures place { IsTrue result → IsPlace reference }
 {
-    let mut tree = Tree::new(rt.alloc())?;
-    if tree.made() != 1 || tree.depth(0) >= 1000 {
-        return Err("no root")?;
+    let Some(to) = reference else {
+        return true;
+    };
+    match pool.held(to.chunk) {
+        None => false,
+        Some(held) => held.owner < tree.made() && to.offset < 1024,
     }
-    tree.set_state(0, State::Out);
-    if tree.state(0) != Some(State::Out) {
-        return Err("not out")?;
-    }
-    let _children = tree.fork(0)?;
-    if tree.made() != 3 {
-        return Err("not forked")?;
-    }
+}
+
+// Whether an object with a reference lies there.
+fn has_reference(heap: &LeafHeap, object: Addr) -> bool
+    ensures { IsTrue result → 0 < length (object_of heap.now.chunks object).refs }
+{
+    is_live(heap.chunks(), object) && heap.own_header(object).nrefs > 0
+}
+
+// The first reference of an object.
+#[tactic(auto, using(std::proofs::lemmas::Option::get_or_from_slice_get))]
+fn first_reference(heap: &LeafHeap, object: Addr) -> Option<Addr>
+    requires { 0 < length (object_of heap.now.chunks object).refs }
+    ensures { slice_index_or (object_of heap.now.chunks object).refs 0 None ≡ result }
+{
+    heap.own_ref(object, 0)
+}
+
+// A root with an object of one reference, and the sets of the three heaps.
+#[derive(Drop)]
+struct Scene {
+    tree: Tree,
+    pool: Pool,
+    heap: LeafHeap,
+    object: Addr,
+    sets: Vec<SetOf>,
+}
+
+// A root that has forked.
+fn family(alloc: Global) -> Result<Tree, Fail> {
+    let mut tree = Tree::new(alloc)?;
+    let _children = forked(alloc, &mut tree, 0, &one_frame(alloc))?;
     Ok(tree)
 }
 
+// A heap with an object of one reference, in the chunk 0, which is the root's.
+fn root_heap(alloc: Global, pool: &mut Pool) -> Result<LeafHeap, Fail> {
+    let mut heap = LeafHeap::new(alloc);
+    add_taken(pool, &mut heap, 0)?;
+    place(&mut heap, 1, 0, 0)?;
+    Ok(heap)
+}
+
 // An empty set for each of the three heaps.
-fn three_sets(rt: &HostRuntime) -> Result<Vec<SetOf>, Fail> {
-    let mut sets = Vec::new(rt.alloc());
+fn three_sets(alloc: Global) -> Result<Vec<SetOf>, Fail> {
+    let mut sets = Vec::new(alloc);
     for _ in 0..3 {
-        sets.push(SetOf::new(rt.alloc()))?;
+        sets.push(SetOf::new(alloc))?;
     }
     Ok(sets)
 }
 
-// A chunk of a task.
-fn taken(pool: &mut Pool, owner: u32) -> Result<Chunk, Fail>
-    ensures owner { IfOk result (λ chunk. owner_of pool.new chunk.number ≡ Some owner) }
-    ensures others { (n o : ℕ) → owner_of pool.old n ≡ Some o → owner_of pool.new n ≡ Some o }
-    ensures chunk { IfOk result (λ chunk. chunk ≡ record { number = chunk.number; size = 1024; cells = [] }) }
-{
-    let Ok(chunk) = pool.take(owner, 1) else {
-        return Err("not taken")?;
-    };
-    Ok(chunk)
+impl Scene {
+    fn new(alloc: Global) -> Result<Scene, Fail> {
+        let mut pool = Pool::new(alloc, 4);
+        let heap = root_heap(alloc, &mut pool)?;
+        Ok(Scene {
+            tree: family(alloc)?,
+            pool,
+            heap,
+            object: at(0, 0),
+            sets: three_sets(alloc)?,
+        })
+    }
+
+    // Writes the reference of the object.
+    fn write(&mut self, value: Option<Addr>) -> Result<(), Fail> {
+        store_checked(
+            &self.tree,
+            &self.pool,
+            &mut self.heap,
+            &mut self.sets,
+            self.object,
+            value,
+        )
+    }
+
+    // Whether the root's heap keeps from now on.
+    fn set_keeps(&mut self, keeps: bool) {
+        if let Some(set) = self.sets.first_mut() {
+            set.keeps = keeps;
+        }
+    }
+
+    // The numbers of sources and of kept references of the three sets.
+    fn counts(&self) -> Option<[(usize, usize); 3]> {
+        let [root, left, right] = self.sets.as_slice() else {
+            return None;
+        };
+        Some([root, left, right].map(|set| (
+            set.remembered.sources().len(),
+            set.kept.as_slice().len(),
+        )))
+    }
 }
 
-// Puts an object of one reference, which is nil, into an empty heap.
-fn cell_in(heap: &mut LeafHeap, chunk: Chunk) -> Result<Addr, Fail>
-    requires heap { heap.old.chunks ≡ [] }
-    requires chunk { chunk ≡ record { number = chunk.number; size = 1024; cells = [] } }
-    ensures number { IfOk result (λ object. object.chunk ≡ chunk.number) }
-    ensures place { IfOk result (λ object. object.offset ≡ 0) }
-    ensures nil { IfOk result (λ object. (object_of heap.new.chunks object).refs ≡ None ∷ []) }
-{
-    heap.add(chunk)?;
-    let header = Header {
-        nrefs: 1,
-        nints: 0,
-        mutable: true,
-    };
-    let birth = Birth { task: 0, count: 0 };
-    let Some(object) = heap.place_spare(New { header, birth }) else {
-        return Err("not placed")?;
-    };
-    Ok(object)
-}
-
-// Writes the reference of an object of one reference.
-fn write(
+// Writes the first reference of an object, if that may be.
+fn store_checked(
     tree: &Tree,
     pool: &Pool,
     heap: &mut LeafHeap,
     sets: &mut [SetOf],
     object: Addr,
     value: Option<Addr>,
-) -> Result<(), Fail>
-    requires made { length tree.now ≡ 3 }
-    requires sets { length sets.old ≡ 3 }
-    requires cell { length (object_of heap.old.chunks object).refs ≡ 1 }
-    requires place { IsPlace value }
-    requires object { IsOwned 3 pool.now (Some object) }
-    requires value { IsOwned 3 pool.now value }
-    requires overwritten { IsOwned 3 pool.now (slice_index_or (object_of heap.old.chunks object).refs 0 None) }
-    ensures { OnOk result ((object_of heap.new.chunks object).refs ≡ value ∷ []) }
-{
+) -> Result<(), Fail> {
+    if !has_reference(heap, object) || sets.len() < tree.made() as usize {
+        return Err("no field or no set")?;
+    }
+    if !is_owned(tree, pool, Some(object)) || !is_owned(tree, pool, value) {
+        return Err("not owned")?;
+    }
+    if !is_owned(tree, pool, first_reference(heap, object)) {
+        return Err("not owned")?;
+    }
     store(tree, pool, heap, sets, object, 0, value)?;
     Ok(())
 }
 
-// The numbers of sources and of kept references of a set.
-fn counts(sets: &[SetOf], t: usize) -> Option<(usize, usize)> {
-    let set = sets.get(t)?;
-    Some((set.remembered.sources().len(), set.kept.as_slice().len()))
-}
-
+// The field is noted once in the set of the child into whose chunk it points.
 #[test]
 fn a_down_pointer_is_noted_once(rt: HostRuntime) -> Result<(), Fail> {
-    let tree = family(&rt)?;
-    let mut pool = Pool::new(rt.alloc(), 4);
-    let of_child = taken(&mut pool, 1)?;
-    let down = Addr {
-        chunk: of_child.number(),
-        offset: 8,
-    };
-    let of_root = taken(&mut pool, 0)?;
-    let mut heap = LeafHeap::new(rt.alloc());
-    let object = cell_in(&mut heap, of_root)?;
-    let mut sets = three_sets(&rt)?;
-    if sets.len() != 3 {
-        return Err("not three")?;
-    }
-    write(&tree, &pool, &mut heap, &mut sets, object, Some(down))?;
-    assert_eq!(rt; heap.own_ref(object, 0), Some(down));
-    write(&tree, &pool, &mut heap, &mut sets, object, Some(down))?;
-    assert_eq!(rt; counts(&sets, 0), Some((0, 0)));
-    assert_eq!(rt; counts(&sets, 1), Some((1, 0)));
-    assert_eq!(rt; counts(&sets, 2), Some((0, 0)));
+    let alloc = rt.alloc();
+    let mut scene = Scene::new(alloc)?;
+    let down = at(add_taken(&mut scene.pool, &mut LeafHeap::new(alloc), 1)?, 8);
+    scene.write(Some(down))?;
+    assert!(rt; holds(&scene.heap, &[((0, 0), 0, Some((down.chunk, 8)))]));
+    scene.write(Some(down))?;
+    assert!(rt; scene.counts() == Some([(0, 0), (1, 0), (0, 0)]));
     Ok(())
 }
 
+// Where the heap keeps, a reference into it that is overwritten is kept; nil isn't.
 #[test]
 fn an_overwritten_reference_is_kept(rt: HostRuntime) -> Result<(), Fail> {
-    let tree = family(&rt)?;
-    let mut pool = Pool::new(rt.alloc(), 4);
-    let of_root = taken(&mut pool, 0)?;
-    let mut heap = LeafHeap::new(rt.alloc());
-    let object = cell_in(&mut heap, of_root)?;
-    let mut sets = three_sets(&rt)?;
-    if sets.len() != 3 {
-        return Err("not three")?;
+    let mut scene = Scene::new(rt.alloc())?;
+    let object = Some(scene.object);
+    for (value, keeps, kept) in [
+        (object, false, 0),
+        (object, false, 0),
+        (None, true, 1),
+        (object, true, 1),
+    ] {
+        scene.set_keeps(keeps);
+        scene.write(value)?;
+        assert!(rt; scene.counts() == Some([(0, kept), (0, 0), (0, 0)]));
     }
-    write(&tree, &pool, &mut heap, &mut sets, object, Some(object))?;
-    assert_eq!(rt; counts(&sets, 0), Some((0, 0)));
-    sets[0].keeps = true;
-    write(&tree, &pool, &mut heap, &mut sets, object, None)?;
-    assert_eq!(rt; counts(&sets, 0), Some((0, 1)));
-    write(&tree, &pool, &mut heap, &mut sets, object, Some(object))?;
-    assert_eq!(rt; counts(&sets, 0), Some((0, 1)));
     Ok(())
 }

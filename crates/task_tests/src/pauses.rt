@@ -11,6 +11,8 @@ const TWO_CHUNKS: &str = "fn main\nset i1 1000\nnewm r0 i0 i1\nnewm r0 i0 i1\nen
 
 const TOO_LARGE: &str = "fn main\nset i1 14\nset i2 -1\nnewm r0 i0 i1\nnewm r0 i0 i2\nend";
 
+const TOO_LARGE_FIRST: &str = "fn main\nset i1 -1\nnewm r0 i0 i1\nend";
+
 const LARGE_OBJECT: &str = "fn main\nset i1 2000\nnewm r0 i0 i1\nset i0 5\nend";
 
 // 256 private steps, and then an output.
@@ -50,7 +52,7 @@ const SMALL_CHUNK: Setup = Setup {
 };
 
 // A program, its setup and budget; why it pauses, after how many steps, and its i0.
-const PAUSES: [(&str, Setup, u32, &str); 15] = [
+const PAUSES: [(&str, Setup, u32, &str); 16] = [
     (ENDLESS, NO_CHUNK, 5, "spent 5 2"),
     (ENDLESS, NO_CHUNK, 0, "spent 0 0"),
     (TWO_OBJECTS, AMPLE, 256, "shared 3 0"),
@@ -63,6 +65,7 @@ const PAUSES: [(&str, Setup, u32, &str); 15] = [
     (TWO_CHUNKS, DUE_SOON, 256, "due 2 0"),
     (TWO_CHUNKS, AMPLE, 256, "need 2 0"),
     (TOO_LARGE, DUE_SOON, 3, "shared 3 0"),
+    (TOO_LARGE_FIRST, NO_CHUNK, 256, "shared 1 0"),
     (LARGE_OBJECT, LARGE, 256, "shared 3 5"),
     (LARGE_OBJECT, SMALL_CHUNK, 256, "need 1 0"),
     (LONG_LOOP, NO_CHUNK, 256, "shared 256 0"),

@@ -41,6 +41,20 @@ impl Run {
         }
     }
 
+    // The worker takes the task that it has found, if it has.
+    fn enter_found(self, worker: u32, found: Option<u32>) -> Acted
+        requires room { 0 < self.paced.journal.room }
+        requires owes { owed_by self.paced worker ≡ OwedOf.Nothing }
+        requires goes { (accounts self.paced).end ≡ None }
+        requires on { self.halted ≡ false }
+        ensures { ActsFor self worker (Ready.Found found) (brought_kind self.paced (Ready.Found found)) result }
+    {
+        match found {
+            Some(task) => self.take_task(worker, task),
+            None => Acted::Same(self, Next::Waits),
+        }
+    }
+
     // The fresh steps of the part are entered.
     fn enter_private(self, worker: u32, part: Private) -> Acted
         requires room { 0 < self.paced.journal.room }
@@ -144,8 +158,7 @@ impl Run {
         match ready {
             Ready::Paused(part, why) => self.enter_part(worker, part, why),
             Ready::Copied(copied) => self.end_leaf(worker, copied),
-            Ready::Found(Some(task)) => self.take_task(worker, task),
-            Ready::Found(None) => Acted::Same(self, Next::Waits),
+            Ready::Found(found) => self.enter_found(worker, found),
             Ready::Wanting => unreachable!(),
         }
     }

@@ -1,7 +1,5 @@
 //! The workers in threads.
 ghost use Rattle.std.specs.Prelude.{◌≡◌, ◌<◌, ◌≤◌, ◌^◌, [], map, IfNone, IfOk, IfSome, vec_len, vec_capacity};
-ghost use Rattle.hh_lang.specs.Form.{ProgramText};
-ghost use Rattle.run_trace.specs.Settings.{Limits};
 ghost use Rattle.run_ledger.specs.Journals.{end_of};
 ghost use Rattle.turn_lock.specs.Turn.{identity};
 ghost use Rattle.worker_run.specs.Desks.{AreAllDesks, AreHands, AreNewDesks, HasOfEach, HasStopped, HaveStopped, IsDesk, SameDesk};
@@ -31,12 +29,14 @@ pub fn all_work<R: Threads + Wait + Sync, G: Gate>(
     bell: &Bell,
     gate: &G,
     program: &Program,
+    settings: Settings,
     desks: &mut [Desk],
 )
-    requires { (s : Limits) × AreAllDesks (identity turn.now) program.now s desks.old }
-    ensures all { (s : Limits) → AreAllDesks (identity turn.now) program.now s desks.old → AreAllDesks (identity turn.now) program.now s desks.new }
+    requires { AreAllDesks (identity turn.now) program.now settings desks.old }
+    ensures all { AreAllDesks (identity turn.now) program.now settings desks.new }
     ensures over { HaveStopped desks.new }
 {
+    let _ = settings;
     let threads = desks.len();
     if threads == 0 {
         return;
@@ -97,13 +97,22 @@ fn seats_of(mut desks: Vec<Desk>, mut seats: Vec<Seat<Run>>) -> Vec<Seat<Run>>
 }
 
 /// Ends the turn: its value has of each worker just the entries that its desk gave back. `seats` has room for all.
-pub fn close(turn: Turn<Run>, desks: Vec<Desk>, seats: Vec<Seat<Run>>) -> Paced
-    requires all { (p : ProgramText) × (s : Limits) × AreAllDesks (identity turn) p s desks.items }
+pub fn close(
+    turn: Turn<Run>,
+    desks: Vec<Desk>,
+    seats: Vec<Seat<Run>>,
+    program: &Program,
+    settings: Settings,
+) -> Paced
+    requires all { AreAllDesks (identity turn) program.now settings desks.items }
     requires none { seats.items ≡ [] }
     requires room { vec_len desks ≤ vec_capacity seats }
     ensures of_each { HasOfEach result.journal.items desks.items }
-    ensures setup { (p : ProgramText) → (s : Limits) → AreAllDesks (identity turn) p s desks.items → (result.program ≡ p) × (result.settings ≡ s) }
+    ensures program { result.program ≡ program.now }
+    ensures settings { result.settings ≡ settings }
 {
+    let _ = program;
+    let _ = settings;
     let Run { paced, .. } = turn.close(seats_of(desks, seats));
     paced
 }
@@ -149,8 +158,16 @@ fn run_all<R: Threads + Wait + Sync, G: Gate>(
     let (turn, mut desks) = opened(alloc, program, settings)?;
     let seats = Vec::with_capacity(alloc, desks.len())?;
     let bell = Bell::new();
-    all_work(rt, &turn, &bell, gate, program, desks.as_mut_slice());
-    let shared = close(turn, desks, seats).into_shared();
+    all_work(
+        rt,
+        &turn,
+        &bell,
+        gate,
+        program,
+        settings,
+        desks.as_mut_slice(),
+    );
+    let shared = close(turn, desks, seats, program, settings).into_shared();
     shared.stands();
     Ok(shared)
 }

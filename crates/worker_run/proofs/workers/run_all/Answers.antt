@@ -5,5 +5,5 @@ use Rattle.worker_run.proofs.workers.run_all.Goals as goal
 
 pub returns : goal.returns
 returns g c =
-    is_run c.args.program.now c.args.settings c.into_shared-shared.result c.stands.ensures (ap (λ (w : World). w.program) c.into_shared-shared.ensures.same ∙ (c.close.ensures.setup c.args.program.now c.args.settings (c.all_work.ensures.all c.args.settings c.in_ok-turn.ensures)).0)
-    (ap (λ (w : World). w.settings) c.into_shared-shared.ensures.same ∙ (c.close.ensures.setup c.args.program.now c.args.settings (c.all_work.ensures.all c.args.settings c.in_ok-turn.ensures)).1) c.into_shared-shared.ensures.paced
+    is_run c.args.program.now c.args.settings c.into_shared-shared.result c.stands.ensures (ap (λ (w : World). w.program) c.into_shared-shared.ensures.same ∙ c.close.ensures.program)
+    (ap (λ (w : World). w.settings) c.into_shared-shared.ensures.same ∙ c.close.ensures.settings) c.into_shared-shared.ensures.paced

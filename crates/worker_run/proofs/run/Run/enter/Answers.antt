@@ -1,4 +1,3 @@
-use Rattle.std.proofs.Common.{Some, ap, ◌∙◌}
 use Rattle.worker_run.specs.declared.held.Ready.TheVariants.{Paused as HasPaused, Copied as IsCopied, Found}
 use Rattle.worker_run.proofs.Coming.{acts_brought}
 use Rattle.worker_run.proofs.run.Run.enter.Goals as goal
@@ -9,6 +8,5 @@ returns-in-Paused c = acts_brought c.args.self c.args.worker c.args.ready c.ente
 pub returns-in-Copied : goal.returns-in-Copied
 returns-in-Copied c = acts_brought c.args.self c.args.worker c.args.ready c.end_leaf.result (IsCopied c.in-Copied.copied) c.in-Copied.is (c.end_leaf.ensures (IsCopied c.in-Copied.copied))
 
-pub returns-in-Found-Some : goal.returns-in-Found-Some
-returns-in-Found-Some c =
-    acts_brought c.args.self c.args.worker c.args.ready c.take_task.result (Found (Some c.in-Found-Some.task)) (c.in-Found-Some.is ∙ ap Found c.in-Found-Some.field-0-is) (c.take_task.ensures (Found (Some c.in-Found-Some.task)))
+pub returns-in-Found : goal.returns-in-Found
+returns-in-Found c = acts_brought c.args.self c.args.worker c.args.ready c.enter_found.result (Found c.in-Found.found) c.in-Found.is c.enter_found.ensures

@@ -1,0 +1,66 @@
+// Pools of tests. Each call checks what it needs.
+
+use crate::soundness::is_fresh;
+use alloc_path::LeafHeap;
+use chunk_pool::{NotTaken, Pool};
+use std::test::Fail;
+
+/// A chunk of so many units for this owner is taken, and goes: its number stays in use.
+pub fn take(pool: &mut Pool, owner: u32, units: u32) -> Option<u32> {
+    if units > 1000 {
+        return None;
+    }
+    match pool.take(owner, units) {
+        Ok(chunk) => Some(chunk.number()),
+        Err(_) => None,
+    }
+}
+
+/// A chunk of so many units is taken and handed back: what its number was, and its words.
+pub fn take_and_give(pool: &mut Pool, units: u32) -> Option<(u32, u32)> {
+    if units > 1000 {
+        return None;
+    }
+    let Ok(chunk) = pool.take(0, units) else {
+        return None;
+    };
+    let (number, size) = (chunk.number(), chunk.size());
+    if pool.held(number).is_none() {
+        return None;
+    }
+    pool.give(chunk);
+    Some((number, size))
+}
+
+/// Whether so many units are more than are left.
+pub fn is_full(pool: &mut Pool, units: u32) -> bool {
+    units <= 1000 && matches!(pool.take(0, units), Err(NotTaken::Full))
+}
+
+/// The owner of a number, if it is in use.
+pub fn owner(pool: &Pool, number: u32) -> Option<u32> {
+    if pool.held(number).is_none() {
+        return None;
+    }
+    Some(pool.owner(number))
+}
+
+/// Gives a number another owner, if it is in use.
+pub fn relabel(pool: &mut Pool, number: u32, owner: u32) {
+    if pool.held(number).is_some() {
+        pool.relabel(number, owner);
+    }
+}
+
+/// Adds a chunk of one unit to the heap of its owner, and says its number.
+pub fn add_taken(pool: &mut Pool, heap: &mut LeafHeap, owner: u32) -> Result<u32, Fail> {
+    let Ok(chunk) = pool.take(owner, 1) else {
+        return Err("not taken")?;
+    };
+    let number = chunk.number();
+    if !is_fresh(heap.chunks(), number) {
+        return Err("the number is taken")?;
+    }
+    heap.add(chunk)?;
+    Ok(number)
+}
