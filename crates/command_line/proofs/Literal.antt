@@ -9,7 +9,7 @@ files = (refl, refl, refl, refl, refl, refl, refl)
 
 pub options : OptionsAreRead
 unfolding clap_on_literals
-options = (refl, refl, refl, refl, refl, refl, refl, refl, refl, refl, refl)
+options = (refl, refl, refl, refl, refl, refl, refl, refl, refl, refl, refl, refl, refl)
 
 pub numbers : NumbersAreRead
 unfolding clap_on_literals
@@ -17,4 +17,4 @@ numbers = (refl, refl, refl, refl, refl, refl)
 
 pub others : OthersAreRefused
 unfolding clap_on_literals
-others = (refl, refl, refl, refl, refl, refl, refl, refl, refl, refl, refl, refl, refl, refl, refl, refl)
+others = (refl, refl, refl, refl, refl, refl, refl, refl, refl, refl, refl, refl, refl, refl, refl, refl, refl)

@@ -12,14 +12,15 @@ use Rattle.clap.specs.Faults.{check_fault, defaults_fault, flag_word_fault, leve
 use Rattle.clap.specs.ValueTests.{is_unsigned_in}
 use Rattle.clap.specs.declared.error.kind.ErrorKind.TheVariants as kind
 use Rattle.clap.proofs.OnLiterals.{clap_on_literals}
+use Rattle.run_trace.specs.Settings.{Limits}
 use Rattle.command_line.specs.CommandLine.{asked, command_line, file_in, limits_in, options_in}
 use Rattle.command_line.specs.Examples.{usual_options}
 use Rattle.command_line.specs.Operands.{IsOperand, Makes, OperandsMake, OperandsNameFiles}
 use Rattle.command_line.specs.declared.line.CommandLine.{CommandLine}
-use Rattle.command_line.specs.declared.line.CommandLine.TheVariants.{Check, Run, Replay, Model, Races, Make, Verify}
+use Rattle.command_line.specs.declared.line.CommandLine.TheVariants.{Check, Run, Replay, Model, Races, Image, Make, Verify}
 use Rattle.command_line.specs.declared.line.Options.{Options}
 use Rattle.std.specs.Str.Parse.{digits_value, without_leading_plus}
-use Rattle.command_line.proofs.Shapes.{check_shape, make_shape, races_shape, runner_shape, verify_shape}
+use Rattle.command_line.proofs.Shapes.{check_shape, limited_shape, make_shape, runner_shape, verify_shape}
 
 pub no_dashes : (word : Text) → IsOperand word → bytes_eq word (45 ∷ 45 ∷ []) ≡ false
 no_dashes word h = go (bytes_eq word (45 ∷ 45 ∷ [])) refl
@@ -105,9 +106,16 @@ pub model_is : IsRunner (codes "model") Model
 unfolding clap_on_literals
 model_is = record { one = λ word. refl; two = λ first second. refl; asks = λ rows. refl }
 
-races_is : IsCommand (codes "races") races_shape (λ rows. Races (file_in rows) (limits_in rows))
+abbrev IsLimited : Text → (Option Text → Limits → CommandLine) → Type 0
+IsLimited name line = IsCommand name (limited_shape name) (λ rows. line (file_in rows) (limits_in rows))
+
+races_is : IsLimited (codes "races") Races
 unfolding clap_on_literals
 races_is = record { one = λ word. refl; two = λ first second. refl; asks = λ rows. refl }
+
+image_is : IsLimited (codes "image") Image
+unfolding clap_on_literals
+image_is = record { one = λ word. refl; two = λ first second. refl; asks = λ rows. refl }
 
 verify_is : IsCommand (codes "verify") verify_shape (λ rows. Verify (file_in rows))
 unfolding clap_on_literals
@@ -145,9 +153,9 @@ check_none : (file : Text) → level check_shape (file_kinds check_shape) (file_
 unfolding defaults_fault
 check_none file = refl
 
-races_none : (file : Text) → level races_shape (file_kinds races_shape) (file_walk races_shape file) ≡ []
+limited_none : (name file : Text) → level (limited_shape name) (file_kinds (limited_shape name)) (file_walk (limited_shape name) file) ≡ []
 unfolding defaults_fault
-races_none file = refl
+limited_none name file = refl
 
 verify_none : (file : Text) → level verify_shape (file_kinds verify_shape) (file_walk verify_shape file) ≡ []
 unfolding defaults_fault
@@ -159,7 +167,8 @@ files_named file h = (
   runner_named (codes "run") Run run_is file h,
   runner_named (codes "replay") Replay replay_is file h,
   runner_named (codes "model") Model model_is file h,
-  named (codes "races") races_shape _ races_is file h (races_none file),
+  named (codes "races") (limited_shape (codes "races")) _ races_is file h (limited_none (codes "races") file),
+  named (codes "image") (limited_shape (codes "image")) _ image_is file h (limited_none (codes "image") file),
   named (codes "verify") verify_shape _ verify_is file h (verify_none file),
 )
 

@@ -9,7 +9,7 @@ use Rattle.run_trace.specs.Settings.{AreLimits}
 use Rattle.command_line.specs.CommandLine.{HasSize, asked, file_in, flag_in, number_in, limits_in, options_in}
 use Rattle.command_line.specs.Values.{FitsCommand, FitsFound, HasLimits, HasNumber}
 use Rattle.command_line.specs.declared.line.CommandLine.{CommandLine}
-use Rattle.command_line.specs.declared.line.CommandLine.TheVariants.{Check, Run, Replay, Model, Races, Make, Verify}
+use Rattle.command_line.specs.declared.line.CommandLine.TheVariants.{Check, Run, Replay, Model, Races, Image, Make, Verify}
 
 pub wider : (id : Text) (least most : ℕ) (rows : List Row) → most ≤ 4294967295 → HasNumber id least most rows → HasNumber id 0 4294967295 rows
 wider id least most rows lt h = (h.0, h.1, (h.2.0, h.2.1, omega arith, omega (arith, h.2.3, lt)))
@@ -36,8 +36,11 @@ module _ (name : Text) (rows : List Row) (h : FitsCommand name rows) where
   abbrev or_make : Option CommandLine
   or_make = cond (bytes_eq name (codes "make")) (Some (Make (number_in (codes "SEED") rows) (number_in (codes "SIZE") rows) (flag_in (codes "run") rows))) or_verify
 
+  abbrev or_image : Option CommandLine
+  or_image = cond (bytes_eq name (codes "image")) (Some (Image (file_in rows) (limits_in rows))) or_make
+
   abbrev or_races : Option CommandLine
-  or_races = cond (bytes_eq name (codes "races")) (Some (Races (file_in rows) (limits_in rows))) or_make
+  or_races = cond (bytes_eq name (codes "races")) (Some (Races (file_in rows) (limits_in rows))) or_image
 
   abbrev or_model : Option CommandLine
   or_model = cond (bytes_eq name (codes "model")) (Some (Model (file_in rows) (options_in rows))) or_races
@@ -56,9 +59,13 @@ module _ (name : Text) (rows : List Row) (h : FitsCommand name rows) where
   by_make true e = in_range (codes "SIZE") 1 1000 rows (h.make ((bytes_eq-Decides name (codes "make")).0 e)).size
   by_make false e = by_verify (bytes_eq name (codes "verify"))
 
-  by_races : (b : Bool) → HasSize (cond b (Some (Races (file_in rows) (limits_in rows))) or_make)
+  by_image : (b : Bool) → HasSize (cond b (Some (Image (file_in rows) (limits_in rows))) or_make)
+  by_image true = tt
+  by_image false = by_make (bytes_eq name (codes "make")) refl
+
+  by_races : (b : Bool) → HasSize (cond b (Some (Races (file_in rows) (limits_in rows))) or_image)
   by_races true = tt
-  by_races false = by_make (bytes_eq name (codes "make")) refl
+  by_races false = by_image (bytes_eq name (codes "image"))
 
   by_model : (b : Bool) → HasSize (cond b (Some (Model (file_in rows) (options_in rows))) or_races)
   by_model true = tt

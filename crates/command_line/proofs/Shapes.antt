@@ -21,14 +21,15 @@ check_shape = nth 0 whole.subs
 abbrev pub runner_shape : Text → Shape
 runner_shape name = record (nth 1 whole.subs) { name = name }
 
-abbrev pub races_shape : Shape
-races_shape = nth 4 whole.subs
+-- a command that has limits alone, by its name
+abbrev pub limited_shape : Text → Shape
+limited_shape name = record (nth 4 whole.subs) { name = name }
 
 abbrev pub make_shape : Shape
-make_shape = nth 5 whole.subs
+make_shape = nth 6 whole.subs
 
 abbrev pub verify_shape : Shape
-verify_shape = nth 6 whole.subs
+verify_shape = nth 7 whole.subs
 
 abbrev pub EachPlain : Shape → Type 0
 EachPlain s = each (IsPlain s.rules) s.rules
@@ -60,8 +61,8 @@ plain_runner name = (
   ),
 )
 
-pub plain_races : EachPlain races_shape
-plain_races = (
+pub plain_limited : (name : Text) → EachPlain (limited_shape name)
+plain_limited name = (
   record { own = refl; sets = inl refl; reads = refl; filled = refl },
   (
     record { own = refl; sets = inl refl; reads = refl; filled = refl },

@@ -17,8 +17,8 @@ use Rattle.clap.specs.ValueTests.{accepts}
 use Rattle.command_line.specs.App.{app}
 use Rattle.command_line.specs.CommandLine.{asked, command_line}
 use Rattle.command_line.specs.declared.line.CommandLine.{CommandLine}
-use Rattle.command_line.specs.Values.{FitsCommand, FitsFound, HasFlag, HasNumber, HasOptions}
-use Rattle.command_line.proofs.Shapes.{check_shape, make_shape, plain_make, plain_races, plain_runner, races_shape, runner_shape, verify_shape, whole}
+use Rattle.command_line.specs.Values.{FitsCommand, FitsFound, HasFlag, HasLimits, HasNumber, HasOptions}
+use Rattle.command_line.proofs.Shapes.{check_shape, limited_shape, make_shape, plain_limited, plain_make, plain_runner, runner_shape, verify_shape, whole}
 use Rattle.command_line.proofs.Rows.{IsPassed, Passes, default_row, each, found, given_row, level_passed, never_zero, text_in, some_kind}
 
 pub is_good : is_simple_and_free app ≡ true
@@ -58,24 +58,30 @@ FitsAll s = (words : List Text) → level_fault s [] nothing_held words false []
 other_name : (a b : Text) → bytes_eq b b ≡ true → bytes_eq a b ≡ false → a ≡ b → ⊥
 other_name a b same other e = true≢false (sym same ∙ ap (λ t. bytes_eq t b) (sym e) ∙ other)
 
--- neither a command that runs a program nor `races` nor `make`
+-- no command that runs a program
 record IsOther (name : Text) : Type 0 where
   run : bytes_eq name (codes "run") ≡ false
   replay : bytes_eq name (codes "replay") ≡ false
   model : bytes_eq name (codes "model") ≡ false
 
-fits_alone : (name : Text) (rows : List Row) → IsOther name → bytes_eq name (codes "races") ≡ false → bytes_eq name (codes "make") ≡ false → FitsCommand name rows
-fits_alone name rows other races make = record {
+-- neither `races` nor `image`
+record HasNoLimits (name : Text) : Type 0 where
+  races : bytes_eq name (codes "races") ≡ false
+  image : bytes_eq name (codes "image") ≡ false
+
+fits_alone : (name : Text) (rows : List Row) → IsOther name → HasNoLimits name → bytes_eq name (codes "make") ≡ false → FitsCommand name rows
+fits_alone name rows other none make = record {
   run = λ n. absurd (other_name name (codes "run") refl other.run n);
   replay = λ n. absurd (other_name name (codes "replay") refl other.replay n);
   model = λ n. absurd (other_name name (codes "model") refl other.model n);
-  races = λ n. absurd (other_name name (codes "races") refl races n);
+  races = λ n. absurd (other_name name (codes "races") refl none.races n);
+  image = λ n. absurd (other_name name (codes "image") refl none.image n);
   make = λ n. absurd (other_name name (codes "make") refl make n);
 }
 
 fits_check : FitsAll check_shape
 fits_check words e = record {
-  fits = fits_alone (codes "check") (rows_after check_shape.rules [] words) (record { run = refl; replay = refl; model = refl }) refl refl;
+  fits = fits_alone (codes "check") (rows_after check_shape.rules [] words) (record { run = refl; replay = refl; model = refl }) (record { races = refl; image = refl }) refl;
   is_asked = refl;
 }
 
@@ -99,48 +105,57 @@ runner_options name words e =
       trace = flag_has s rows (codes "trace") h (λ t p. p _ refl) (default_row (codes "trace") s.rules refl start);
     }
 
-fits_runner : (name : Text) → bytes_eq name (codes "races") ≡ false → bytes_eq name (codes "make") ≡ false → ((rows : List Row) → is_some (asked name rows) ≡ true)
+fits_runner : (name : Text) → HasNoLimits name → bytes_eq name (codes "make") ≡ false → ((rows : List Row) → is_some (asked name rows) ≡ true)
     → FitsAll (runner_shape name)
-fits_runner name races make known words e =
+fits_runner name none make known words e =
     let options = runner_options name words e in
     record {
       fits = record {
         run = λ n. options;
         replay = λ n. options;
         model = λ n. options;
-        races = λ n. absurd (other_name name (codes "races") refl races n);
+        races = λ n. absurd (other_name name (codes "races") refl none.races n);
+        image = λ n. absurd (other_name name (codes "image") refl none.image n);
         make = λ n. absurd (other_name name (codes "make") refl make n);
       };
       is_asked = known (rows_after (runner_shape name).rules [] words);
     }
 
-fits_races : FitsAll races_shape
-fits_races words e =
-    let s = races_shape in
+-- the matches of a command that has limits alone
+limited_limits : (name : Text) (words : List Text) → level_fault (limited_shape name) [] nothing_held words false [] ≡ [] → HasLimits (rows_after (limited_shape name).rules [] words)
+limited_limits name words e =
+    let s = limited_shape name in
     let held = (walk s.rules [] nothing_held words).held in
     let rows = rows_after s.rules [] words in
-    let h = (level_passed s plain_races [] nothing_held words false [] tt e).0 in
+    let h = (level_passed s (plain_limited name) [] nothing_held words false [] tt e).0 in
     let start = (settled s.rules held).rows in
     record {
+      workers = number_has s rows (codes "workers") 1 64 h (λ t p. p _ refl) (default_row (codes "workers") s.rules refl start);
+      fuel = number_has s rows (codes "fuel") 1 1000000000 h (λ t p. p _ refl) (default_row (codes "fuel") s.rules refl start);
+      chunks = number_has s rows (codes "chunks") 2 65536 h (λ t p. p _ refl) (default_row (codes "chunks") s.rules refl start);
+      leaf = number_has s rows (codes "leaf") 16 1000000 h (λ t p. p _ refl) (default_row (codes "leaf") s.rules refl start);
+      inner = number_has s rows (codes "inner") 16 1000000 h (λ t p. p _ refl) (default_row (codes "inner") s.rules refl start);
+    }
+
+fits_limited : (name : Text) → IsOther name → bytes_eq name (codes "make") ≡ false → ((rows : List Row) → is_some (asked name rows) ≡ true)
+    → FitsAll (limited_shape name)
+fits_limited name other make known words e =
+    let limits = limited_limits name words e in
+    record {
       fits = record {
-        run = λ n. absurd (other_name (codes "races") (codes "run") refl refl n);
-        replay = λ n. absurd (other_name (codes "races") (codes "replay") refl refl n);
-        model = λ n. absurd (other_name (codes "races") (codes "model") refl refl n);
-        races = λ n. record {
-          workers = number_has s rows (codes "workers") 1 64 h (λ t p. p _ refl) (default_row (codes "workers") s.rules refl start);
-          fuel = number_has s rows (codes "fuel") 1 1000000000 h (λ t p. p _ refl) (default_row (codes "fuel") s.rules refl start);
-          chunks = number_has s rows (codes "chunks") 2 65536 h (λ t p. p _ refl) (default_row (codes "chunks") s.rules refl start);
-          leaf = number_has s rows (codes "leaf") 16 1000000 h (λ t p. p _ refl) (default_row (codes "leaf") s.rules refl start);
-          inner = number_has s rows (codes "inner") 16 1000000 h (λ t p. p _ refl) (default_row (codes "inner") s.rules refl start);
-        };
-        make = λ n. absurd (other_name (codes "races") (codes "make") refl refl n);
+        run = λ n. absurd (other_name name (codes "run") refl other.run n);
+        replay = λ n. absurd (other_name name (codes "replay") refl other.replay n);
+        model = λ n. absurd (other_name name (codes "model") refl other.model n);
+        races = λ n. limits;
+        image = λ n. limits;
+        make = λ n. absurd (other_name name (codes "make") refl make n);
       };
-      is_asked = refl;
+      is_asked = known (rows_after (limited_shape name).rules [] words);
     }
 
 fits_verify : FitsAll verify_shape
 fits_verify words e = record {
-  fits = fits_alone (codes "verify") (rows_after verify_shape.rules [] words) (record { run = refl; replay = refl; model = refl }) refl refl;
+  fits = fits_alone (codes "verify") (rows_after verify_shape.rules [] words) (record { run = refl; replay = refl; model = refl }) (record { races = refl; image = refl }) refl;
   is_asked = refl;
 }
 
@@ -164,6 +179,7 @@ fits_make words e =
         replay = λ n. absurd (other_name (codes "make") (codes "replay") refl refl n);
         model = λ n. absurd (other_name (codes "make") (codes "model") refl refl n);
         races = λ n. absurd (other_name (codes "make") (codes "races") refl refl n);
+        image = λ n. absurd (other_name (codes "make") (codes "image") refl refl n);
         make = λ n. record {
           seed = number_has s rows (codes "SEED") 0 4294967295 passed.0 (λ t p. p _ refl) (given_row (codes "SEED") rows given.0);
           size = number_has s rows (codes "SIZE") 1 1000 passed.0 (λ t p. p _ refl) (given_row (codes "SIZE") rows given.1);
@@ -190,16 +206,24 @@ entered_fits a h (Some p) e = go (find (λ s. answers_to p.0 (label_of s)) a.sub
         (fit.fits, λ _. fit.is_asked)
 
 each_fits : each FitsAll whole.subs
-each_fits = (
-  fits_check,
-  (
-    fits_runner (codes "run") refl refl (λ rows. refl),
-    (
-      fits_runner (codes "replay") refl refl (λ rows. refl),
-      (fits_runner (codes "model") refl refl (λ rows. refl), (fits_races, (fits_make, (fits_verify, tt)))),
-    ),
-  ),
-)
+each_fits =
+    let none : (name : Text) → bytes_eq name (codes "races") ≡ false → bytes_eq name (codes "image") ≡ false → HasNoLimits name = λ name r i. record { races = r; image = i } in
+    let runs_none : (name : Text) → bytes_eq name (codes "run") ≡ false → bytes_eq name (codes "replay") ≡ false → bytes_eq name (codes "model") ≡ false → IsOther name =
+    λ name r p m. record { run = r; replay = p; model = m } in
+    let races_fits : FitsAll (limited_shape (codes "races")) = fits_limited (codes "races") (runs_none _ refl refl refl) refl (λ rows. refl) in
+    let image_fits : FitsAll (limited_shape (codes "image")) = fits_limited (codes "image") (runs_none _ refl refl refl) refl (λ rows. refl) in (
+      fits_check,
+      (
+        fits_runner (codes "run") (none _ refl refl) refl (λ rows. refl),
+        (
+          fits_runner (codes "replay") (none _ refl refl) refl (λ rows. refl),
+          (
+            fits_runner (codes "model") (none _ refl refl) refl (λ rows. refl),
+            (races_fits, (image_fits, (fits_make, (fits_verify, tt)))),
+          ),
+        ),
+      ),
+    )
 
 pub record IsTaken (words : List Text) : Type 0 where
   pub fits : FitsFound (subcommand_of app words)

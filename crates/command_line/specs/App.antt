@@ -67,8 +67,9 @@ replay = runner (codes "replay")
 abbrev pub model : Shape
 model = runner (codes "model")
 
-abbrev pub races : Shape
-races = record (new_shape (codes "races")) {
+-- a command that reads a program with its trace, and writes nothing beside its answer: its limits alone
+abbrev pub limited : Text → Shape
+limited name = record (new_shape name) {
   rules = file
       ∷ workers
       ∷ fuel
@@ -77,6 +78,12 @@ races = record (new_shape (codes "races")) {
       ∷ inner
       ∷ [];
 }
+
+abbrev pub races : Shape
+races = limited (codes "races")
+
+abbrev pub image : Shape
+image = limited (codes "image")
 
 abbrev pub make : Shape
 make = record (new_shape (codes "make")) {
@@ -97,7 +104,7 @@ app = record {
     disable_version_flag = true;
     subcommand_required = true;
   };
-  subs = check ∷ run ∷ replay ∷ model ∷ races ∷ make ∷ verify ∷ [];
+  subs = check ∷ run ∷ replay ∷ model ∷ races ∷ image ∷ make ∷ verify ∷ [];
 }
 
 -- before its first subcommand

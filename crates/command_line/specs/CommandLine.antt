@@ -12,7 +12,7 @@ use Rattle.run_trace.specs.Settings.{Limits}
 use Rattle.run_trace.specs.declared.settings.Version.TheVariants.{Two}
 use Rattle.command_line.specs.App.{app}
 use Rattle.command_line.specs.declared.line.CommandLine.{CommandLine}
-use Rattle.command_line.specs.declared.line.CommandLine.TheVariants.{Check, Run, Replay, Model, Races, Make, Verify}
+use Rattle.command_line.specs.declared.line.CommandLine.TheVariants.{Check, Run, Replay, Model, Races, Image, Make, Verify}
 use Rattle.command_line.specs.declared.line.Options.{Options}
 
 -- the file that is named, if one is
@@ -52,10 +52,11 @@ asked name rows =
     else (if bytes_eq name (codes "replay") then Some (Replay (file_in rows) (options_in rows))
     else (if bytes_eq name (codes "model") then Some (Model (file_in rows) (options_in rows))
     else (if bytes_eq name (codes "races") then Some (Races (file_in rows) (limits_in rows))
+    else (if bytes_eq name (codes "image") then Some (Image (file_in rows) (limits_in rows))
     else (if bytes_eq name (codes "make")
     then Some (Make (number_in (codes "SEED") rows) (number_in (codes "SIZE") rows) (flag_in (codes "run") rows))
     else (if bytes_eq name (codes "verify") then Some (Verify (file_in rows))
-    else None))))))
+    else None)))))))
 
 -- what the words after the program's name ask for; None where they are no command line
 abbrev pub command_line : List Text → Option CommandLine

@@ -5,7 +5,7 @@ use Rattle.run_trace.specs.Settings.{usual_limits}
 use Rattle.command_line.specs.CommandLine.{command_line}
 use Rattle.command_line.specs.declared.line.CommandLine.{CommandLine}
 use Rattle.command_line.specs.declared.line.Options.{Options}
-use Rattle.command_line.specs.declared.line.CommandLine.TheVariants.{Check, Run, Replay, Model, Races, Make, Verify}
+use Rattle.command_line.specs.declared.line.CommandLine.TheVariants.{Check, Run, Replay, Model, Races, Image, Make, Verify}
 
 -- the words ask for this
 abbrev pub AskFor : List Text → CommandLine → Type 0
@@ -44,6 +44,8 @@ OptionsAreRead =
     (Model None (record { settings = record usual_limits { workers = 64; inner = 16 }; report = false; trace = true }))
     × AskFor (codes "races" ∷ []) (Races None usual_limits)
     × AskFor (codes "races" ∷ codes "a.hh" ∷ codes "--workers=2" ∷ []) (Races (Some (codes "a.hh")) (record usual_limits { workers = 2 }))
+    × AskFor (codes "image" ∷ []) (Image None usual_limits)
+    × AskFor (codes "image" ∷ codes "--leaf" ∷ codes "16" ∷ codes "a.hh" ∷ []) (Image (Some (codes "a.hh")) (record usual_limits { leaf = 16 }))
     × AskFor (codes "make" ∷ codes "1" ∷ codes "2" ∷ codes "--run" ∷ []) (Make 1 2 true)
     × AskFor (codes "make" ∷ codes "--run" ∷ codes "1" ∷ codes "2" ∷ []) (Make 1 2 true)
 
@@ -69,6 +71,7 @@ OthersAreRefused =
     × AreRefused (codes "check" ∷ codes "--report" ∷ [])
     × AreRefused (codes "--report" ∷ codes "model" ∷ [])
     × AreRefused (codes "races" ∷ codes "--report" ∷ [])
+    × AreRefused (codes "image" ∷ codes "--trace" ∷ [])
     × AreRefused (codes "verify" ∷ codes "--trace" ∷ [])
     × AreRefused (codes "model" ∷ codes "--rep" ∷ [])
     × AreRefused (codes "model" ∷ codes "--report=true" ∷ [])

@@ -9,7 +9,7 @@ use Rattle.command_line.specs.CommandLine.{command_line}
 use Rattle.command_line.specs.Examples.{usual_options}
 use Rattle.command_line.specs.declared.line.CommandLine.{CommandLine}
 use Rattle.command_line.specs.declared.line.Options.{Options}
-use Rattle.command_line.specs.declared.line.CommandLine.TheVariants.{Check, Run, Replay, Model, Races, Make, Verify}
+use Rattle.command_line.specs.declared.line.CommandLine.TheVariants.{Check, Run, Replay, Model, Races, Image, Make, Verify}
 
 -- the word doesn't begin with a hyphen (45)
 abbrev pub IsOperand : Text → Type 0
@@ -23,6 +23,7 @@ OperandsNameFiles = (file : Text) → IsOperand file
     × (command_line (codes "replay" ∷ file ∷ []) ≡ Some (Replay (Some file) usual_options))
     × (command_line (codes "model" ∷ file ∷ []) ≡ Some (Model (Some file) usual_options))
     × (command_line (codes "races" ∷ file ∷ []) ≡ Some (Races (Some file) usual_limits))
+    × (command_line (codes "image" ∷ file ∷ []) ≡ Some (Image (Some file) usual_limits))
     × (command_line (codes "verify" ∷ file ∷ []) ≡ Some (Verify (Some file)))
 
 -- two such words behind `make` ask for a program exactly where both are numbers in their ranges, and for its run where the flag

@@ -10,7 +10,7 @@ HasNumber id least most rows = (t : Text) × (one_of id rows ≡ Some t) × IsUn
 abbrev pub HasFlag : Text → List Row → Type 0
 HasFlag id rows = (one_of id rows ≡ Some (codes "true")) ⊎ (one_of id rows ≡ Some (codes "false"))
 
--- the matches of `races` have all numbers in their ranges
+-- the matches of `races` and `image` have all numbers in their ranges
 pub record HasLimits (rows : List Row) : Type 0 where
   pub workers : HasNumber (codes "workers") 1 64 rows
   pub fuel : HasNumber (codes "fuel") 1 1000000000 rows
@@ -36,6 +36,7 @@ pub record FitsCommand (name : Text) (rows : List Row) : Type 0 where
   pub replay : name ≡ codes "replay" → HasOptions rows
   pub model : name ≡ codes "model" → HasOptions rows
   pub races : name ≡ codes "races" → HasLimits rows
+  pub image : name ≡ codes "image" → HasLimits rows
   pub make : name ≡ codes "make" → FitsMake rows
 
 -- the same of the command that was met, if one was

@@ -3,7 +3,7 @@
 ghost use Rattle.std.specs.Prelude.{◌≡◌, IfOk, false};
 ghost use Rattle.clap.specs.Words.{app_of, rule_of};
 ghost use Rattle.command_line.specs.Adds.{IsShaped};
-ghost use Rattle.command_line.specs.App.{app, check, runner, run, replay, model, races, make, verify, bare, file, number, option, flag, workers, fuel, chunks, leaf, inner};
+ghost use Rattle.command_line.specs.App.{app, check, runner, limited, run, replay, model, races, image, make, verify, bare, file, number, option, flag, workers, fuel, chunks, leaf, inner};
 
 use clap::builder::ValueParser;
 use clap::{Arg, ArgAction, Command};
@@ -125,16 +125,29 @@ fn model<'w>(alloc: Global) -> Result<Command<'w>, AllocError>
     runner(alloc, "model")
 }
 
-fn races<'w>(alloc: Global) -> Result<Command<'w>, AllocError>
-    ensures { IfOk result (IsShaped races) }
+// A command that reads a program with its trace, and has limits alone.
+fn limited<'w>(alloc: Global, name: &'w str) -> Result<Command<'w>, AllocError>
+    ensures { IfOk result (IsShaped (limited name.entry.now)) }
 {
-    Command::new(alloc, "races")
+    Command::new(alloc, name)
         .arg(file(alloc))?
         .arg(workers(alloc))?
         .arg(fuel(alloc))?
         .arg(chunks(alloc))?
         .arg(leaf(alloc))?
         .arg(inner(alloc))
+}
+
+fn races<'w>(alloc: Global) -> Result<Command<'w>, AllocError>
+    ensures { IfOk result (IsShaped races) }
+{
+    limited(alloc, "races")
+}
+
+fn image<'w>(alloc: Global) -> Result<Command<'w>, AllocError>
+    ensures { IfOk result (IsShaped image) }
+{
+    limited(alloc, "image")
 }
 
 fn make<'w>(alloc: Global) -> Result<Command<'w>, AllocError>
@@ -174,6 +187,7 @@ pub(crate) fn command<'w>(alloc: Global) -> Result<Command<'w>, AllocError>
         .subcommand(replay(alloc)?)?
         .subcommand(model(alloc)?)?
         .subcommand(races(alloc)?)?
+        .subcommand(image(alloc)?)?
         .subcommand(make(alloc)?)?
         .subcommand(verify(alloc)?)
 }

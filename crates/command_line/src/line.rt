@@ -70,6 +70,11 @@ pub enum CommandLine<'w> {
         file: Option<FileName<'w>>,
         settings: Settings,
     },
+    /// Writes the heaps that a program with its trace leaves.
+    Image {
+        file: Option<FileName<'w>>,
+        settings: Settings,
+    },
     /// Writes the program of this seed and this size, which is 1 to 1,000; or runs it, and writes what its run writes.
     Make {
         seed: u32,

@@ -89,6 +89,10 @@ fn asked<'w>(name: &str, matches: &ArgMatches<'w>) -> Option<CommandLine<'w>>
             file: file(matches),
             settings: settings(matches),
         }),
+        "image" => Some(CommandLine::Image {
+            file: file(matches),
+            settings: settings(matches),
+        }),
         "make" => Some(CommandLine::Make {
             seed: number(matches, "SEED"),
             size: number(matches, "SIZE"),

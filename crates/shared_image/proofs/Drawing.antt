@@ -1,70 +1,40 @@
 -- The objects of the heaps handed back: where they lie, and where their references lead.
-use Rattle.std.proofs.Common.{◌≡◌, ◌⊎◌, ℕ, zero, suc, ◌+◌, ◌*◌, ◌^◌, ◌<◌, ◌≤◌, arith, Bool, true, false, Option, Some, None, List, [], ◌∷◌, All, length, map, option_map, is_some, slice_get, inl, inr, refl, ap, sym, subst, ◌∙◌}
-use Rattle.std.proofs.lemmas.Bool.{cases_Bool, false≢true}
+use Rattle.std.proofs.Common.{◌≡◌, ◌⊎◌, ℕ, ◌+◌, ◌*◌, ◌<◌, ◌≤◌, arith, false, Option, Some, None, List, length, map, option_map, slice_get, inl, inr, refl, ap, sym, subst, ◌∙◌}
+use Rattle.std.proofs.lemmas.Bool.{cases_Bool}
 use Rattle.std.proofs.lemmas.List.{length-map}
-use Rattle.std.proofs.lemmas.Option.{same_Some, slice_get-map, slice_get_within}
+use Rattle.std.proofs.lemmas.Option.{same_Some, slice_get-map}
 use Rattle.object_layout.specs.declared.word.Addr.{Addr}
 use Rattle.object_layout.specs.Cell.{IsRef}
-use Rattle.object_layout.specs.Content.{Content}
 use Rattle.object_layout.specs.Layout.{word_of_ref}
 use Rattle.chunk_pool.specs.declared.pool.Held.{Held}
-use Rattle.chunk_pool.specs.Chunks.{AreChunks, held_at}
+use Rattle.chunk_pool.specs.Chunks.{held_at}
 use Rattle.heap_tree.specs.Node.{state_of}
 use Rattle.hh_model.specs.declared.data.Name.{Name}
 use Rattle.hh_model.specs.declared.data.Object.{Object}
-use Rattle.hh_model.specs.declared.data.Status.{Status}
-use Rattle.hh_model.specs.declared.data.Status.TheVariants.{Running, Waiting, Ended, Joined}
 use Rattle.hh_model.specs.declared.data.Task.{Task}
 use Rattle.hh_model.specs.Effect.{object_at}
-use Rattle.hh_model.specs.Step.{is_running, is_waiting, joined, runs as status_runs, waits}
-use Rattle.run_ledger.specs.Heaps.{heap_of}
+use Rattle.hh_model.specs.Step.{joined}
 use Rattle.ledger_steps.specs.Accounts.{Rests, own}
 use Rattle.core_relation.specs.Layout.{words}
-use Rattle.core_relation.specs.Reads.{AllRead, IsRead}
-use Rattle.core_relation.specs.Stands.{HomeStands, IsSource, Place, Stands}
-use Rattle.core_relation.specs.Value.{Chunk as ChunkOf, In, Lies, LiesAt, Seen, Source, Value, objects, objects_in, sources}
-use Rattle.core_relation.proofs.Members.{in_chunk, in_map, map_in, object_held}
+use Rattle.core_relation.specs.Reads.{IsRead}
+use Rattle.core_relation.specs.Stands.{HomeStands, IsSource, Place}
+use Rattle.core_relation.specs.Value.{Chunk as ChunkOf, In, Seen, Source, Value, objects, sources}
+use Rattle.core_relation.proofs.Members.{map_in}
 use Rattle.core_relation.proofs.Roots.{name_at}
 use Rattle.image_check.specs.declared.line.Remembered.{Remembered}
-use Rattle.image_check.specs.Place.{chunk_number, offset}
+use Rattle.image_check.specs.Place.{offset}
 use Rattle.heap_image.specs.declared.picture.Picked.{Picked}
 use Rattle.heap_image.specs.declared.picture.Picture.{Picture}
-use Rattle.heap_image.specs.Picture.{AreApart, HasObject, IsAncestor, IsFit, IsOwned, IsPlaced, IsRunning, KeepsToPath, LeadsSomewhere, end_of}
-use Rattle.shared_tree.specs.declared.rest.Rest.{Rest}
+use Rattle.heap_image.specs.Picture.{AreApart, IsAncestor, IsFit, IsOwned, IsPlaced, IsRunning, KeepsToPath, LeadsSomewhere, end_of}
 use Rattle.shared_tree.specs.HeldNames.{is_state_running}
-use Rattle.shared_tree.specs.Image.{IsInWords, IsLive, field_of, shown}
-use Rattle.shared_tree.specs.Measured.{IsUnheld}
-use Rattle.shared_tree.specs.Objects.{chunk_of}
+use Rattle.shared_tree.specs.Image.{field_of, shown}
 use Rattle.shared_tree.specs.Stands.{IsWorld}
-use Rattle.shared_tree.specs.World.{World, home_in, rest_at, value_of}
-use Rattle.shared_tree.proofs.Leading.{home_chunks}
+use Rattle.shared_tree.specs.World.{World, value_of}
 use Rattle.shared_image.specs.Drawn.{AreHeldInWords, IsHandedBack, IsPictureOf, drawn_field, drawn_object}
-use Rattle.shared_image.proofs.Known.{T, k, owned, owners, rests, runs, task_live}
+use Rattle.shared_image.proofs.Resting.{R as Known_R, H as Known_H, content as Known_content, own_is as Known_own_is, live as Known_live, chunk as Known_chunk, owner as Known_owner, near as Known_near, measured as Known_measured, S, made, read_length, waits_idle}
+use Rattle.shared_image.proofs.Known.{T, k, owners, rests, runs, task_live}
 use Rattle.shared_image.proofs.Links.{chunk_in, made_at, not_running, on_path, owned_at, owner_is, running}
 use Rattle.shared_image.proofs.Numbers.{all_in, before_offset, chunk_of_word, got_at, in_at, offset_of_word, word_some}
-
-pub read_length : (at : Name → Addr → Type 0) (rs : List (Option Addr)) (xs : List (Option Name)) → AllRead at rs xs → length rs ≡ length xs
-read_length at [] [] h = refl
-read_length at [] (x ∷ xs) h = absurd h
-read_length at (r ∷ rs) [] h = absurd h
-read_length at (r ∷ rs) (x ∷ xs) h = ap suc (read_length at rs xs h.1)
-
-some_within : {A : Type 0} (xs : List A) (t : ℕ) → is_some (slice_get xs t) ≡ true → t < length xs
-some_within {A = A} xs t e = by (slice_get xs t) refl e
-  where
-    by : (o : Option A) → slice_get xs t ≡ o → is_some o ≡ true → t < length xs
-    by None is z = absurd (false≢true z)
-    by (Some x) is z = slice_get_within xs t x is
-
-waits_idle : (o : Option Task) → is_waiting o ≡ true → is_running o ≡ false
-waits_idle None e = refl
-waits_idle (Some y) e = by y.status e
-  where
-    by : (s : Status) → waits s ≡ true → status_runs s ≡ false
-    by Running z = absurd (false≢true z)
-    by Waiting z = refl
-    by (Ended n r) z = refl
-    by Joined z = refl
 
 module _ (w : World) (I : IsWorld w) (F : AreHeldInWords w) (p : Picture) (P : IsPictureOf w p) where
   abbrev v : Value
@@ -73,53 +43,34 @@ module _ (w : World) (I : IsWorld w) (F : AreHeldInWords w) (p : Picture) (P : I
   abbrev TT : List Task
   TT = T w I
 
-  pub S : Stands v (k w I)
-  S = I.stands.homes
-
-  pub made : (n t : ℕ) → v.owner n ≡ Some t → t < length TT
-  made n t e = some_within TT t (S.made n t e)
-
-  near_by : (t : ℕ) (r : Option Rest) → rest_at w.homes t ≡ r → (o : Seen) → In (objects_in (home_in r).chunks) o → o.at.offset < 1024
-  near_by t None e o i = absurd i
-  near_by t (Some r) e o i = (I.heaps t r e).near o (subst (λ ks. In (objects_in ks) o) (home_chunks r) i)
-
-  measured_by : (t : ℕ) → IsUnheld w.hands t → (r : Option Rest) → rest_at w.homes t ≡ r → (c : ChunkOf) → In (home_in r).chunks c → held_at w.pool c.number ≡ Some (record { owner = t; units = c.units })
-  measured_by t un None e c i = absurd i
-  measured_by t un (Some r) e c i =
-      let q = map_in chunk_of r.heap.chunks c (subst (λ ks. In ks c) (home_chunks r) i) in
-      subst (λ (z : ChunkOf). held_at w.pool z.number ≡ Some (record { owner = t; units = z.units })) q.2 (I.measured t r e un q.0 q.1)
-
   -- AN OBJECT OF A HEAP HANDED BACK
   module _ (t : ℕ) (idle : IsHandedBack w t) (o : Seen) (i : In (objects v t) o) where
-    pub R : Rests (k w I) t
-    R = rests w I t idle
+    abbrev pub R : Rests (k w I) t
+    R = Known_R w I t idle o i
 
-    pub H : HomeStands v (k w I) t
-    H = S.homes t R
+    abbrev pub H : HomeStands v (k w I) t
+    H = Known_H w I t idle o i
 
-    pub content : (x : Object) × (object_at (k w I).machine.store o.name ≡ Some x) × IsRead (Place v (k w I)) o x
-    content = S.contents t o R i
+    abbrev pub content : (x : Object) × (object_at (k w I).machine.store o.name ≡ Some x) × IsRead (Place v (k w I)) o x
+    content = Known_content w I t idle o i
 
-    pub own_is : own (k w I) o.name ≡ t
-    own_is = (owned w I t o.name (object_held (v.homes t).chunks (heap_of (k w I) t) H.names o i)).1
+    abbrev pub own_is : own (k w I) o.name ≡ t
+    own_is = Known_own_is w I t idle o i
 
-    pub live : joined TT t ≡ false
-    live = subst (λ u. joined TT u ≡ false) own_is ((owners w I).live o.name.task)
+    abbrev pub live : joined TT t ≡ false
+    live = Known_live w I t idle o i
 
-    chunk : (c : ChunkOf) × In (v.homes t).chunks c × In c.objects o
-    chunk = in_chunk (v.homes t).chunks o i
+    abbrev pub chunk : (c : ChunkOf) × In (v.homes t).chunks c × In c.objects o
+    chunk = Known_chunk w I t idle o i
 
-    pub owner : v.owner o.at.chunk ≡ Some t
-    owner = ap v.owner (H.inside chunk.0 o chunk.1 chunk.2) ∙ H.owned chunk.0 chunk.1
+    abbrev pub owner : v.owner o.at.chunk ≡ Some t
+    owner = Known_owner w I t idle o i
 
-    pub near : o.at.offset < 1024
-    near = near_by t (rest_at w.homes t) refl o i
+    abbrev pub near : o.at.offset < 1024
+    near = Known_near w I t idle o i
 
-    unheld : IsUnheld w.hands t
-    unheld j h =
-        let a : (heap_of (k w I) t).worker ≡ None = R in
-        let b : (heap_of (k w I) t).worker ≡ Some j = (I.stands.totals.hand j t).0 h in
-        absurd cc
+    abbrev pub measured : held_at w.pool o.at.chunk ≡ Some (record { owner = t; units = chunk.0.units })
+    measured = Known_measured w I t idle o i
 
     abbrev pub q : Picked
     q = drawn_object (shown o)
@@ -136,7 +87,7 @@ module _ (w : World) (I : IsWorld w) (F : AreHeldInWords w) (p : Picture) (P : I
     pub placed : IsPlaced p q
     placed =
         let c = chunk_in w I p P o.at.chunk t owner live in
-        let held : held_at w.pool o.at.chunk ≡ Some (record { owner = t; units = chunk.0.units }) = ap (held_at w.pool) (H.inside chunk.0 o chunk.1 chunk.2) ∙ measured_by t unheld (rest_at w.homes t) refl chunk.0 chunk.1 in
+        let held : held_at w.pool o.at.chunk ≡ Some (record { owner = t; units = chunk.0.units }) = measured in
         let units : c.1.units ≡ chunk.0.units = ap (λ (h : Held). h.units) (same_Some c.1 (record { owner = t; units = chunk.0.units }) (sym c.3 ∙ held)) in
         let within : o.at.offset + words o ≤ 1024 * chunk.0.units = H.laid.within chunk.0 o chunk.1 chunk.2 in
         let size : c.0.words ≡ 1024 * c.1.units = c.6 in
@@ -161,7 +112,7 @@ module _ (w : World) (I : IsWorld w) (F : AreHeldInWords w) (p : Picture) (P : I
         let u = own (k w I) m.0 in
         let lives : joined TT u ≡ false = (owners w I).live m.0.task in
         inr (elim (cases_Bool (is_state_running (state_of w.tree u))) [
-          | inl on ↦ inr (u, owned_at w I p P a u ref.0 m.2.chunk lives, running w I p P u (made a.chunk u m.2.chunk) lives on)
+          | inl on ↦ inr (u, owned_at w I p P a u ref.0 m.2.chunk lives, running w I p P u (made w I a.chunk u m.2.chunk) lives on)
           | inr off ↦
               let d = m.2.here (rests w I u off) in
               inl (drawn_object (shown d.0), (P.objects.each (drawn_object (shown d.0))).1 (u, d.0, off, d.1, refl), ap (λ z. word_of_ref (Some z)) d.2.at)
@@ -181,7 +132,7 @@ module _ (w : World) (I : IsWorld w) (F : AreHeldInWords w) (p : Picture) (P : I
     noted : (n u : ℕ) → u < length TT → joined TT u ≡ false → In (sources v u) (record { object = o.at; field = n }) → IsAncestor p.tasks t u × In p.fields (record { task = u; address = q.address; place = n })
     noted n u lt lives j =
         let s : Source = record { object = o.at; field = n } in
-        let K : IsSource v (k w I) u s = S.sources u s j in
+        let K : IsSource v (k w I) u s = (S w I).sources u s j in
         let mine : own (k w I) K.name ≡ t = same_Some (own (k w I) K.name) t (sym K.place.chunk ∙ owner) in
         let y = made_at TT u lt in
         let x = task_live w I u y.0 y.1 lives in
@@ -199,9 +150,9 @@ module _ (w : World) (I : IsWorld w) (F : AreHeldInWords w) (p : Picture) (P : I
         let ref = ref_near (Some a) (got_at o.refs n (Some a) e) in
         let eh : h ≡ t = owner_is w I p P o.at t h near owner live oh in
         let eu : u ≡ z = owner_is w I p P a z u ref.0 m.2.chunk lives ou in
-        let goes : KeepsToPath p q.address n t z = elim (S.remembered t o content.0 n m.0 R i content.1 m.1) [
+        let goes : KeepsToPath p q.address n t z = elim ((S w I).remembered t o content.0 n m.0 R i content.1 m.1) [
           | inl path ↦ elim (on_path w I p P z t path live) [ inl s ↦ inl (sym s) | inr s ↦ inr (inl s) ]
-          | inr j ↦ inr (inr (noted n z (made a.chunk z m.2.chunk) lives j))
+          | inr j ↦ inr (inr (noted n z (made w I a.chunk z m.2.chunk) lives j))
         ] in
         subst (λ y. KeepsToPath p q.address n y u) (sym eh) (subst (KeepsToPath p q.address n t) (sym eu) goes)
 
@@ -249,7 +200,7 @@ module _ (w : World) (I : IsWorld w) (F : AreHeldInWords w) (p : Picture) (P : I
   -- A REMEMBERED FIELD
   pub fits : (u : ℕ) (s : Source) → joined TT u ≡ false → In (sources v u) s → IsFit p (drawn_field u (field_of s))
   fits u s lives j =
-      let K : IsSource v (k w I) u s = S.sources u s j in
+      let K : IsSource v (k w I) u s = (S w I).sources u s j in
       let t = own (k w I) K.name in
       let idle : IsHandedBack w t = runs w I t ∙ waits_idle (slice_get TT t) K.waits in
       let d = K.place.here K.rests in

@@ -1,5 +1,5 @@
 -- What is known of the machine and of the tree of a shared value, once the root of a run that is done is handed back.
-use Rattle.std.proofs.Common.{◌≡◌, ℕ, ◌+◌, ◌*◌, ◌^◌, ◌<◌, ◌≤◌, arith, Bool, true, false, Option, Some, None, List, length, max, option_map, slice_get, inl, inr, refl, ap, sym, subst, ◌∙◌}
+use Rattle.std.proofs.Common.{◌≡◌, ℕ, ◌+◌, ◌^◌, ◌<◌, ◌≤◌, arith, false, Option, Some, None, List, length, max, slice_get, refl, ap, sym, subst, ◌∙◌}
 use Rattle.std.proofs.lemmas.Bool.{false≢true}
 use Rattle.std.proofs.lemmas.Option.{slice_get_within}
 use Rattle.run_trace.specs.declared.settings.Version.{Version}
@@ -7,7 +7,7 @@ use Rattle.run_trace.specs.declared.settings.Version.TheVariants.{One, Two}
 use Rattle.run_trace.specs.Settings.{field_limit}
 use Rattle.listed.specs.Members.{In}
 use Rattle.heap_tree.specs.declared.state.State.TheVariants.{Joined as IsJoined}
-use Rattle.heap_tree.specs.Node.{Node, state_of}
+use Rattle.heap_tree.specs.Node.{state_of}
 use Rattle.hh_model.specs.declared.data.Name.{Name}
 use Rattle.hh_model.specs.declared.data.Object.{Object}
 use Rattle.hh_model.specs.declared.data.State.{State as Machine}
@@ -35,7 +35,7 @@ use Rattle.shared_tree.specs.Stands.{IsWorld}
 use Rattle.shared_tree.specs.World.{World, accounts}
 use Rattle.shared_tree.proofs.IdleTasks.{journal_idle}
 use Rattle.shared_tree.proofs.KeptNames.{handed_held, runs_is}
-use Rattle.shared_tree.proofs.TreeNow.{joined_now, live_now, node_at, parent_now, same_machine, sound, task_of, tree_of}
+use Rattle.shared_tree.proofs.TreeNow.{joined_now, live_now, node_at, same_machine, sound, task_of, tree_of}
 
 few_by : (v : Version) → max (field_limit v) 32 ≤ 1000000
 few_by One = omega arith

@@ -1,5 +1,9 @@
 pub mod Known
 pub mod Numbers
 pub mod Links
+pub mod Resting
 pub mod Drawing
 pub mod Sounds
+pub mod Orders
+pub mod Chunks
+pub mod Rounds

@@ -1,7 +1,7 @@
 -- The tasks and the chunks of a picture.
-use Rattle.std.proofs.Common.{◌≡◌, ◌⊎◌, ℕ, zero, suc, ◌+◌, ◌*◌, ◌<◌, arith, Bool, true, false, Option, Some, None, List, [], ◌∷◌, length, option_map, slice_get, inl, inr, refl, ap, sym, subst, ◌∙◌}
+use Rattle.std.proofs.Common.{◌≡◌, ◌⊎◌, ℕ, zero, suc, ◌*◌, ◌<◌, arith, true, false, Option, Some, None, List, [], ◌∷◌, length, option_map, slice_get, inl, inr, refl, ap, sym, subst, ◌∙◌}
 use Rattle.std.proofs.lemmas.Bool.{false≢true}
-use Rattle.std.proofs.lemmas.Option.{same_Some, slice_get_within}
+use Rattle.std.proofs.lemmas.Option.{same_Some}
 use Rattle.listed.specs.Members.{In}
 use Rattle.object_layout.specs.declared.word.Addr.{Addr}
 use Rattle.object_layout.specs.Layout.{word_of_ref}
@@ -18,16 +18,15 @@ use Rattle.image_check.specs.declared.line.State.TheVariants.{Running}
 use Rattle.image_check.specs.declared.line.Task.{Task as Drawn}
 use Rattle.image_check.specs.declared.line.Chunk.{Chunk}
 use Rattle.heap_image.specs.declared.picture.Picture.{Picture}
-use Rattle.heap_image.specs.Picture.{HasTask, IsAncestor, IsOwned, IsParent, IsRunning, LiesIn}
+use Rattle.heap_image.specs.Picture.{HasTask, IsAncestor, IsOwned, IsParent, IsRunning}
 use Rattle.core_relation.specs.Value.{Value}
 use Rattle.shared_tree.specs.declared.live.InUse.{InUse}
-use Rattle.shared_tree.specs.declared.live.Live.{Live}
 use Rattle.shared_tree.specs.HeldNames.{is_state_running}
-use Rattle.shared_tree.specs.Image.{IsInUse, IsLive}
+use Rattle.shared_tree.specs.Image.{IsInUse}
 use Rattle.shared_tree.specs.Stands.{IsWorld}
 use Rattle.shared_tree.specs.World.{World, accounts, value_of}
 use Rattle.shared_image.specs.Drawn.{IsPictureOf, drawn_chunk, drawn_state, drawn_task}
-use Rattle.shared_image.proofs.Known.{T, few, k, live_task, owners, paths, same, task_live, tree}
+use Rattle.shared_image.proofs.Known.{T, owners, paths, same, task_live, tree}
 use Rattle.shared_image.proofs.Numbers.{chunk_of_word, word_some}
 
 drawn_running : (s : State) → is_state_running (Some s) ≡ true → drawn_state s ≡ Running

@@ -1,5 +1,5 @@
 -- A picture of a shared value is sound.
-use Rattle.std.proofs.Common.{◌≡◌, ◌⊎◌, ℕ, zero, suc, ◌+◌, ◌*◌, ◌^◌, ◌<◌, ◌≤◌, arith, Bool, true, false, Option, Some, None, List, [], ◌∷◌, length, map, option_map, slice_get, slice_index_or, inl, inr, refl, ap, sym, subst, ◌∙◌}
+use Rattle.std.proofs.Common.{◌≡◌, ℕ, zero, suc, ◌+◌, ◌*◌, ◌^◌, ◌<◌, ◌≤◌, arith, false, Option, Some, None, List, [], ◌∷◌, length, map, option_map, slice_get, refl, ap, sym, subst, ◌∙◌}
 use Rattle.std.specs.Prelude.{FitsSigned}
 use Rattle.std.specs.Int.{w64}
 use Rattle.std.proofs.lemmas.List.{length-map}
@@ -9,7 +9,6 @@ use Rattle.object_layout.specs.Cell.{IsRef}
 use Rattle.object_layout.specs.Layout.{word_of_ref}
 use Rattle.chunk_pool.specs.declared.pool.Held.{Held}
 use Rattle.chunk_pool.specs.Chunks.{AreChunks, held_at, held_in, units_held, units_in, units_in_use}
-use Rattle.hh_model.specs.declared.data.Name.{Name}
 use Rattle.hh_model.specs.declared.data.State.{State as Machine}
 use Rattle.hh_model.specs.declared.data.Task.{Task as TaskOf}
 use Rattle.hh_model.specs.Step.{joined, owner_of, parent_of as parents_in, parents}
@@ -26,16 +25,17 @@ use Rattle.image_check.specs.declared.line.Remembered.{Remembered}
 use Rattle.heap_image.specs.declared.picture.Picked.{Picked}
 use Rattle.heap_image.specs.declared.picture.Picture.{Picture}
 use Rattle.heap_image.specs.Form.{HasFitParent, IsChunkForm, IsFieldForm, IsInForm, IsObjectForm, IsTaskForm}
-use Rattle.heap_image.specs.Picture.{AreApart, HasTask, IsFit, IsOwned, IsPlaced, IsSoundPicture, KeepsToPath, LeadsSomewhere, ObjectBefore, TaskBefore, ChunkBefore, FieldBefore}
+use Rattle.heap_image.specs.Picture.{AreApart, HasTask, IsFit, IsOwned, IsPlaced, IsSoundPicture, KeepsToPath, ObjectBefore, TaskBefore, ChunkBefore, FieldBefore}
 use Rattle.shared_tree.specs.declared.live.Live.{Live}
-use Rattle.shared_tree.specs.Image.{IsInWords, IsLive, field_of, shown}
+use Rattle.shared_tree.specs.Image.{IsLive, shown}
 use Rattle.shared_tree.specs.Stands.{IsWorld}
 use Rattle.shared_tree.specs.World.{World, accounts, value_of}
 use Rattle.shared_tree.proofs.Now.{used_now}
-use Rattle.shared_image.specs.Drawn.{AreHeldInWords, IsHandedBack, IsChunkOf, IsFieldOf, IsObjectOf, IsPictureOf, IsTaskOf, drawn_chunk, drawn_field, drawn_object, drawn_task}
+use Rattle.shared_image.specs.Drawn.{AreHeldInWords, IsHandedBack, IsPictureOf, drawn_field, drawn_object}
 use Rattle.shared_image.proofs.Known.{T, few, fields_few, k, live_task, owners, root, same, stored_few, tree}
 use Rattle.shared_image.proofs.Links.{has_task, parent_live}
-use Rattle.shared_image.proofs.Drawing.{births, apart, content, fits, here, keeps, leads, live, made, near, owner, placed, read_length, ref_near}
+use Rattle.shared_image.proofs.Drawing.{births, apart, content, fits, keeps, leads, near, owner, placed, ref_near}
+use Rattle.shared_image.proofs.Resting.{made, read_length}
 use Rattle.shared_image.proofs.Numbers.{all_in, fits_passes, rises_at, word_long}
 
 units_most : (slots : List (Option Held)) (n : ℕ) (h : Held) → held_in slots n ≡ Some h → h.units ≤ units_in slots
@@ -68,7 +68,7 @@ module _ (w : World) (I : IsWorld w) (C : AreChunks w.pool.slots) (F : AreHeldIn
       subst IsTaskForm (sym x.2) (record { number = omega (arith, a, b); parent = fit_parent x.0.number y.0 y.1 x.0.parent (sym y.2) })
 
   held_made : (n : ℕ) (h : Held) → held_at w.pool n ≡ Some h → h.owner < length TT
-  held_made n h e = made w I F p P n h.owner (ap (option_map (λ (z : Held). z.owner)) e)
+  held_made n h e = made w I n h.owner (ap (option_map (λ (z : Held). z.owner)) e)
 
   owner_few : (u : ℕ) → u < length TT → owner_of (accounts w).machine.tasks u < length TT
   owner_few u lt =

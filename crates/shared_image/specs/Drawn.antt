@@ -1,5 +1,5 @@
 -- What a picture draws of the shared value.
-use Rattle.std.specs.Prelude.{◌≡◌, ◌⊎◌, ℕ, false, Option, List, map}
+use Rattle.std.specs.Prelude.{◌≡◌, ℕ, false}
 use Rattle.heap_tree.specs.declared.state.State.{State}
 use Rattle.heap_tree.specs.declared.state.State.TheVariants.{Ready, Out, Waiting, Ended, Joined}
 use Rattle.heap_tree.specs.Node.{state_of}

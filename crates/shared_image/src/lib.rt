@@ -2,5 +2,9 @@
 #![tactic(auto)]
 
 mod laws;
+mod picture;
+mod text;
 
 pub use laws::pictures_are_sound;
+pub use picture::draw;
+pub use text::image_text;

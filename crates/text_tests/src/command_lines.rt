@@ -1,9 +1,10 @@
 use command_line::{CommandLine, FileName, Options, read_command_line};
+use run_trace::Settings;
 use std::alloc::{AllocError, Global};
 use std::test::Fail;
 
 // Words, with a bar between them, and what they ask for.
-static TAKEN: [(&str, &str); 32] = [
+static TAKEN: [(&str, &str); 34] = [
     ("check", "check None"),
     ("check|a.hh", "check Some(\"a.hh\")"),
     ("check|help", "check Some(\"help\")"),
@@ -88,12 +89,17 @@ static TAKEN: [(&str, &str); 32] = [
         "races|--workers|2|p|--inner=16",
         "races Some(\"p\") 2 1000000 4096 4096 16",
     ),
+    ("image", "image None 1 1000000 4096 4096 8192"),
+    (
+        "image|p|--leaf=16|--workers|2",
+        "image Some(\"p\") 2 1000000 4096 16 8192",
+    ),
     ("verify", "verify None"),
     ("verify|a.image", "verify Some(\"a.image\")"),
 ];
 
 // Words that are no command line.
-static REFUSED: [&str; 53] = [
+static REFUSED: [&str; 55] = [
     "",
     "walk",
     "help",
@@ -145,6 +151,8 @@ static REFUSED: [&str; 53] = [
     "model|-w|1",
     "races|--report",
     "races|--workers|65",
+    "image|--trace",
+    "image|a|b",
     "verify|a|b",
     "verify|--trace",
 ];
@@ -176,6 +184,23 @@ fn run_shown(
     )
 }
 
+fn limited_shown(
+    alloc: Global,
+    command: &str,
+    file: &Option<FileName>,
+    settings: Settings,
+) -> Result<String, AllocError> {
+    format!(in alloc;
+        "{command} {:?} {} {} {} {} {}",
+        name(file),
+        settings.workers(),
+        settings.fuel(),
+        settings.chunks(),
+        settings.leaf(),
+        settings.inner()
+    )
+}
+
 fn shown(alloc: Global, line: &CommandLine) -> Result<String, AllocError> {
     match line {
         CommandLine::Check { file } => format!(in alloc; "check {:?}", name(file)),
@@ -183,15 +208,8 @@ fn shown(alloc: Global, line: &CommandLine) -> Result<String, AllocError> {
         CommandLine::Replay { file, options } => run_shown(alloc, "replay", file, *options),
         CommandLine::Model { file, options } => run_shown(alloc, "model", file, *options),
         CommandLine::Verify { file } => format!(in alloc; "verify {:?}", name(file)),
-        CommandLine::Races { file, settings } => format!(in alloc;
-            "races {:?} {} {} {} {} {}",
-            name(file),
-            settings.workers(),
-            settings.fuel(),
-            settings.chunks(),
-            settings.leaf(),
-            settings.inner()
-        ),
+        CommandLine::Races { file, settings } => limited_shown(alloc, "races", file, *settings),
+        CommandLine::Image { file, settings } => limited_shown(alloc, "image", file, *settings),
         CommandLine::Make { seed, size, run } => {
             format!(in alloc; "make {} {} {}", *seed, *size, *run)
         }

@@ -11,11 +11,10 @@ use crate::steps::{
 };
 use atomic_table::{Closed, Refused, Table};
 use std::alloc::{AllocError, Global};
-use std::hint;
 use std::marker::Brand;
 use std::snapshot::Snapshot;
 use std::sync::Wait;
-use std::thread;
+use std::{hint, thread};
 
 // After so many vain tries for the turn, who tries lets other threads run before each further one.
 const PATIENCE: u32 = 16;

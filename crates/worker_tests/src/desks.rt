@@ -96,14 +96,7 @@ fn two_desks_in_one_thread(rt: HostRuntime) -> Result<(), Fail> {
     let settings = Settings::new(Version::One, 2, 1_000_000, 4096, 16, 8192);
     let (turn, desks) = opened(rt.alloc(), &input.program, settings)?;
     let (mut first, mut second) = two_desks(&turn, &input.program, desks).ok_or("two desks")?;
-    drive(
-        &rt,
-        &turn,
-        &input.program,
-        &mut first,
-        &mut second,
-        entries,
-    )?;
+    drive(&rt, &turn, &input.program, &mut first, &mut second, entries)?;
     let shared = turn.take(&rt, &mut first.seat).paced.into_shared();
     assert_eq!(rt; shared.journal(), entries);
     assert_eq!(rt; shared.outputs(), [1].as_slice());

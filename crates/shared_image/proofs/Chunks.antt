@@ -1,0 +1,161 @@
+-- The objects of a chunk in order, and in which chunk an object is found.
+use Rattle.std.proofs.Common.{◌≡◌, ℕ, ◌+◌, ◌*◌, ◌<◌, ◌≤◌, ◌==◌, arith, Bool, true, false, cond, Option, Some, None, List, [], ◌∷◌, map, eqb-true, inl, inr, refl, ap, sym, subst, ◌∙◌}
+use Rattle.std.specs.List.{AllByRecursion, IsDistinct}
+use Rattle.std.proofs.lemmas.Bool.{eq-eqb, false≢true}
+use Rattle.std.proofs.lemmas.Map.Keys.{IsDistinct-head, IsDistinct-tail}
+use Rattle.object_layout.specs.Cell.{Born, Cell, Hole, Mark, Moved, size_of}
+use Rattle.object_layout.specs.Content.{Content}
+use Rattle.chunk_pool.specs.Chunks.{owner_of}
+use Rattle.heap_tree.specs.Node.{state_of}
+use Rattle.heap_image.specs.declared.picture.Picked.{Picked}
+use Rattle.heap_image.specs.Picture.{ObjectBefore}
+use Rattle.core_relation.specs.Value.{Chunk, In, Seen, Value, objects}
+use Rattle.core_relation.proofs.Members.{in_map, in_objects, map_in}
+use Rattle.shared_tree.specs.declared.rest.Rest.{Rest}
+use Rattle.shared_tree.specs.HeldNames.{is_state_running}
+use Rattle.shared_tree.specs.Image.{AreAll, Rises, objects_numbered, objects_of, objects_owned, shown}
+use Rattle.shared_tree.specs.Objects.{chunk_of, chunks_of, objects_from, seen_by}
+use Rattle.shared_tree.specs.Stands.{IsWorld}
+use Rattle.shared_tree.specs.World.{World, home_in, rest_at, value_of}
+use Rattle.shared_tree.proofs.Leading.{home_chunks}
+use Rattle.shared_image.specs.Drawn.{IsHandedBack, drawn_object}
+use Rattle.shared_image.proofs.Orders.{rises_map}
+use Rattle.shared_image.proofs.Resting.{H, chunk, near, owner}
+
+-- WITHIN A CHUNK
+abbrev Lower : Seen → Seen → Type 0
+Lower o q = o.at.offset < q.at.offset
+
+from_least : (number at : ℕ) (cells : List Cell) (o : Seen) → In (objects_from number at cells) o → at ≤ o.at.offset
+from_least number at [] o i = absurd i
+from_least number at (c ∷ cs) o i = by c.mark (from_least number (at + size_of c) cs o) i
+  where
+    by : (m : Mark) → (In (objects_from number (at + size_of c) cs) o → at + size_of c ≤ o.at.offset) → In (seen_by number at c m (objects_from number (at + size_of c) cs)) o → at ≤ o.at.offset
+    by (Born b) go (inl e) = let f : at ≡ o.at.offset = ap (λ (z : Seen). z.at.offset) e in omega (arith, f)
+    by (Born b) go (inr j) = let f = go j in omega (arith, f)
+    by (Moved to) go j = let f = go j in omega (arith, f)
+    by Hole go j = let f = go j in omega (arith, f)
+
+from_rises : (number at : ℕ) (cells : List Cell) → Rises Lower (objects_from number at cells)
+from_rises number at [] = tt
+from_rises number at (c ∷ cs) = by c.mark (from_rises number (at + size_of c) cs)
+  where
+    by : (m : Mark) → Rises Lower (objects_from number (at + size_of c) cs) → Rises Lower (seen_by number at c m (objects_from number (at + size_of c) cs))
+    by (Born b) up = ((λ o i. (let f : at + size_of c ≤ o.at.offset = from_least number (at + size_of c) cs o i in omega (arith, f))), up)
+    by (Moved to) up = up
+    by Hole up = up
+
+-- BY NUMBER
+numbered_rises : (n : ℕ) (ks : List Content) → Rises Lower (objects_numbered n (chunks_of ks))
+numbered_rises n [] = tt
+numbered_rises n (k ∷ ks) = by (k.number == n) (numbered_rises n ks)
+  where
+    by : (b : Bool) → Rises Lower (objects_numbered n (chunks_of ks)) → Rises Lower (cond b (chunk_of k).objects (objects_numbered n (chunks_of ks)))
+    by true up = from_rises k.number 0 k.cells
+    by false up = up
+
+numbered_in : (n : ℕ) (ks : List Chunk) (o : Seen) → In (objects_numbered n ks) o → (c : Chunk) × In ks c × (c.number ≡ n) × In c.objects o
+numbered_in n [] o i = absurd i
+numbered_in n (k ∷ ks) o i = by (numbered_in n ks o) (k.number == n) refl i
+  where
+    by : (In (objects_numbered n ks) o → (c : Chunk) × In ks c × (c.number ≡ n) × In c.objects o) → (b : Bool) → (k.number == n) ≡ b → In (cond b k.objects (objects_numbered n ks)) o → (c : Chunk) × In (k ∷ ks) c × (c.number ≡ n) × In c.objects o
+    by go true e j = (k, inl refl, eqb-true k.number n e, j)
+    by go false e j = let r = go j in (r.0, inr r.1, r.2, r.3)
+
+all_at : {A : Type 0} (Q : A → Type 0) (xs : List A) (x : A) → AllByRecursion Q xs → In xs x → Q x
+all_at Q [] x all i = absurd i
+all_at Q (y ∷ ys) x all (inl e) = subst Q e all.0
+all_at Q (y ∷ ys) x all (inr i) = all_at Q ys x all.1 i
+
+in_numbered : (n : ℕ) (ks : List Chunk) (c : Chunk) (o : Seen) → IsDistinct (λ a b. a == b) (map (λ (z : Chunk). z.number) ks) → In ks c → c.number ≡ n → In c.objects o → In (objects_numbered n ks) o
+in_numbered n [] c o d i e j = absurd i
+in_numbered n (k ∷ ks) c o d i e j = by (λ h. in_numbered n ks c o (IsDistinct-tail (λ a b. a == b) k.number (map (λ (z : Chunk). z.number) ks) d) h e j) (k.number == n) refl i
+  where
+    by : (In ks c → In (objects_numbered n ks) o) → (b : Bool) → (k.number == n) ≡ b → In (k ∷ ks) c → In (cond b k.objects (objects_numbered n ks)) o
+    by go true f (inl same) = subst (λ (z : Chunk). In z.objects o) (sym same) j
+    by go true f (inr i) =
+        let other : (k.number == c.number) ≡ false = all_at (λ b. (k.number == b) ≡ false) (map (λ (z : Chunk). z.number) ks) c.number (IsDistinct-head (λ a b. a == b) k.number (map (λ (z : Chunk). z.number) ks) d) (in_map (λ (z : Chunk). z.number) ks c i) in
+        absurd (false≢true (sym other ∙ (ap (λ z. k.number == z) e ∙ f)))
+    by go false f (inl same) = absurd (false≢true (sym f ∙ (ap (λ (z : Chunk). z.number == n) same ∙ eq-eqb c.number n e)))
+    by go false f (inr i) = go i
+
+-- OF A SHARED VALUE
+module _ (w : World) (I : IsWorld w) where
+  abbrev v : Value
+  v = value_of w
+
+  home_rises : (n : ℕ) (r : Option Rest) → Rises Lower (objects_numbered n (home_in r).chunks)
+  home_rises n None = tt
+  home_rises n (Some r) = subst (λ ks. Rises Lower (objects_numbered n ks)) (sym (home_chunks r)) (numbered_rises n r.heap.chunks)
+
+  of_rises : (n : ℕ) → Rises Lower (objects_of w n)
+  of_rises n = by (owner_of w.pool n)
+    where
+      idle : (t : ℕ) (b : Bool) → Rises Lower (cond b [] (objects_numbered n (v.homes t).chunks))
+      idle t true = tt
+      idle t false = home_rises n (rest_at w.homes t)
+
+      by : (h : Option ℕ) → Rises Lower (objects_owned w n h)
+      by None = tt
+      by (Some t) = idle t (is_state_running (state_of w.tree t))
+
+  -- an object that is told of a chunk is one of a heap handed back, and lies there
+  pub record IsToldOf (n : ℕ) (o : Seen) : Type 0 where
+    pub task : ℕ
+    pub idle : IsHandedBack w task
+    pub here : In (objects v task) o
+    pub held : owner_of w.pool n ≡ Some task
+    pub chunk : o.at.chunk ≡ n
+    pub near : o.at.offset < 1024
+
+  pub told_back : (n : ℕ) (o : Seen) → In (objects_of w n) o → IsToldOf n o
+  told_back n o i = by (owner_of w.pool n) refl i
+    where
+      idle : (t : ℕ) → owner_of w.pool n ≡ Some t → (b : Bool) → is_state_running (state_of w.tree t) ≡ b → In (cond b [] (objects_numbered n (v.homes t).chunks)) o → IsToldOf n o
+      idle t e true f j = absurd j
+      idle t e false f j =
+          let c = numbered_in n (v.homes t).chunks o j in
+          let here : In (objects v t) o = in_objects (v.homes t).chunks c.0 o c.1 c.3 in
+          record { task = t; idle = f; here = here; held = e; chunk = (H w I t f o here).inside c.0 o c.1 c.3 ∙ c.2; near = near w I t f o here }
+
+      by : (h : Option ℕ) → owner_of w.pool n ≡ h → In (objects_owned w n h) o → IsToldOf n o
+      by None e j = absurd j
+      by (Some t) e j = idle t e (is_state_running (state_of w.tree t)) refl j
+
+  pub told_there : (t : ℕ) → IsHandedBack w t → (o : Seen) → In (objects v t) o → In (objects_of w o.at.chunk) o
+  told_there t idle o i =
+      let c = chunk w I t idle o i in
+      let number : c.0.number ≡ o.at.chunk = sym ((H w I t idle o i).inside c.0 o c.1 c.2) in
+      let found : In (objects_numbered o.at.chunk (v.homes t).chunks) o = in_numbered o.at.chunk (v.homes t).chunks c.0 o (H w I t idle o i).laid.numbers c.1 number c.2 in
+      let one : In (objects_owned w o.at.chunk (Some t)) o = subst (λ b. In (cond b [] (objects_numbered o.at.chunk (v.homes t).chunks)) o) (sym idle) found in
+      subst (λ h. In (objects_owned w o.at.chunk h) o) (sym (owner w I t idle o i)) one
+
+  abbrev pub one : Seen → Picked
+  one o = drawn_object (shown o)
+
+  -- all of a chunk are drawn in order
+  pub told_in_order : (n : ℕ) → AreAll ObjectBefore (λ q. (o : Seen) × In (objects_of w n) o × (q ≡ one o)) (map drawn_object (map shown (objects_of w n)))
+  told_in_order n = record {
+    rising = rises_map (λ x y. ObjectBefore (drawn_object x) (drawn_object y)) ObjectBefore drawn_object (map shown (objects_of w n))
+        (rises_map Lower (λ x y. ObjectBefore (drawn_object x) (drawn_object y)) shown (objects_of w n) (of_rises n) up) (λ x y i j b. b);
+    each = λ q. (
+      (λ i. (let a = map_in drawn_object (map shown (objects_of w n)) q i in let b = map_in shown (objects_of w n) a.0 a.1 in (b.0, b.1, sym a.2 ∙ ap drawn_object (sym b.2)))),
+      (λ h. subst (In (map drawn_object (map shown (objects_of w n)))) (sym h.2) (in_map drawn_object (map shown (objects_of w n)) (shown h.0) (in_map shown (objects_of w n) h.0 h.1))),
+    );
+  }
+    where
+      up : (o q : Seen) → In (objects_of w n) o → In (objects_of w n) q → Lower o q → ObjectBefore (one o) (one q)
+      up o q i j lt =
+          let a : o.at.chunk ≡ n = (told_back n o i).chunk in
+          let b : q.at.chunk ≡ n = (told_back n q j).chunk in
+          let f : o.at.chunk * 1024 + o.at.offset + 1 < q.at.chunk * 1024 + q.at.offset + 1 = omega (arith, a, b, lt) in
+          f
+
+  -- those of a chunk come before those of a later one
+  pub told_apart : (n m : ℕ) (o q : Seen) → n < m → In (objects_of w n) o → In (objects_of w m) q → ObjectBefore (one o) (one q)
+  told_apart n m o q lt i j =
+      let a : o.at.chunk ≡ n = (told_back n o i).chunk in
+      let b : q.at.chunk ≡ m = (told_back m q j).chunk in
+      let c : o.at.offset < 1024 = (told_back n o i).near in
+      let f : o.at.chunk * 1024 + o.at.offset + 1 < q.at.chunk * 1024 + q.at.offset + 1 = omega (arith, a, b, c, lt) in
+      f

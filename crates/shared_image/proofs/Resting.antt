@@ -1,0 +1,109 @@
+-- The objects of the heaps handed back: whose they are, and where they lie.
+use Rattle.std.proofs.Common.{◌≡◌, ℕ, suc, ◌<◌, true, false, Option, Some, None, List, [], ◌∷◌, length, is_some, slice_get, refl, ap, subst, ◌∙◌}
+use Rattle.std.proofs.lemmas.Bool.{false≢true}
+use Rattle.std.proofs.lemmas.Option.{slice_get_within}
+use Rattle.object_layout.specs.declared.word.Addr.{Addr}
+use Rattle.chunk_pool.specs.Chunks.{held_at}
+use Rattle.hh_model.specs.declared.data.Name.{Name}
+use Rattle.hh_model.specs.declared.data.Object.{Object}
+use Rattle.hh_model.specs.declared.data.Status.{Status}
+use Rattle.hh_model.specs.declared.data.Status.TheVariants.{Running, Waiting, Ended, Joined}
+use Rattle.hh_model.specs.declared.data.Task.{Task}
+use Rattle.hh_model.specs.Effect.{object_at}
+use Rattle.hh_model.specs.Step.{is_running, is_waiting, joined, runs as status_runs, waits}
+use Rattle.run_ledger.specs.Heaps.{heap_of}
+use Rattle.ledger_steps.specs.Accounts.{Rests, own}
+use Rattle.core_relation.specs.Reads.{AllRead, IsRead}
+use Rattle.core_relation.specs.Stands.{HomeStands, Place, Stands}
+use Rattle.core_relation.specs.Value.{Chunk as ChunkOf, In, Seen, Value, objects, objects_in}
+use Rattle.core_relation.proofs.Members.{in_chunk, map_in, object_held}
+use Rattle.shared_tree.specs.declared.rest.Rest.{Rest}
+use Rattle.shared_tree.specs.Measured.{IsUnheld}
+use Rattle.shared_tree.specs.Objects.{chunk_of}
+use Rattle.shared_tree.specs.Stands.{IsWorld}
+use Rattle.shared_tree.specs.World.{World, home_in, rest_at, value_of}
+use Rattle.shared_tree.proofs.Leading.{home_chunks}
+use Rattle.shared_image.specs.Drawn.{IsHandedBack}
+use Rattle.shared_image.proofs.Known.{T, k, owned, owners, rests}
+
+pub read_length : (at : Name → Addr → Type 0) (rs : List (Option Addr)) (xs : List (Option Name)) → AllRead at rs xs → length rs ≡ length xs
+read_length at [] [] h = refl
+read_length at [] (x ∷ xs) h = absurd h
+read_length at (r ∷ rs) [] h = absurd h
+read_length at (r ∷ rs) (x ∷ xs) h = ap suc (read_length at rs xs h.1)
+
+pub some_within : {A : Type 0} (xs : List A) (t : ℕ) → is_some (slice_get xs t) ≡ true → t < length xs
+some_within {A = A} xs t e = by (slice_get xs t) refl e
+  where
+    by : (o : Option A) → slice_get xs t ≡ o → is_some o ≡ true → t < length xs
+    by None is z = absurd (false≢true z)
+    by (Some x) is z = slice_get_within xs t x is
+
+pub waits_idle : (o : Option Task) → is_waiting o ≡ true → is_running o ≡ false
+waits_idle None e = refl
+waits_idle (Some y) e = by y.status e
+  where
+    by : (s : Status) → waits s ≡ true → status_runs s ≡ false
+    by Running z = absurd (false≢true z)
+    by Waiting z = refl
+    by (Ended n r) z = refl
+    by Joined z = refl
+
+module _ (w : World) (I : IsWorld w) where
+  abbrev v : Value
+  v = value_of w
+
+  abbrev TT : List Task
+  TT = T w I
+
+  pub S : Stands v (k w I)
+  S = I.stands.homes
+
+  pub made : (n t : ℕ) → v.owner n ≡ Some t → t < length TT
+  made n t e = some_within TT t (S.made n t e)
+
+  near_by : (t : ℕ) (r : Option Rest) → rest_at w.homes t ≡ r → (o : Seen) → In (objects_in (home_in r).chunks) o → o.at.offset < 1024
+  near_by t None e o i = absurd i
+  near_by t (Some r) e o i = (I.heaps t r e).near o (subst (λ ks. In (objects_in ks) o) (home_chunks r) i)
+
+  measured_by : (t : ℕ) → IsUnheld w.hands t → (r : Option Rest) → rest_at w.homes t ≡ r → (c : ChunkOf) → In (home_in r).chunks c → held_at w.pool c.number ≡ Some (record { owner = t; units = c.units })
+  measured_by t un None e c i = absurd i
+  measured_by t un (Some r) e c i =
+      let q = map_in chunk_of r.heap.chunks c (subst (λ ks. In ks c) (home_chunks r) i) in
+      subst (λ (z : ChunkOf). held_at w.pool z.number ≡ Some (record { owner = t; units = z.units })) q.2 (I.measured t r e un q.0 q.1)
+
+  -- AN OBJECT OF A HEAP HANDED BACK
+  module _ (t : ℕ) (idle : IsHandedBack w t) (o : Seen) (i : In (objects v t) o) where
+    pub R : Rests (k w I) t
+    R = rests w I t idle
+
+    pub H : HomeStands v (k w I) t
+    H = S.homes t R
+
+    pub content : (x : Object) × (object_at (k w I).machine.store o.name ≡ Some x) × IsRead (Place v (k w I)) o x
+    content = S.contents t o R i
+
+    pub own_is : own (k w I) o.name ≡ t
+    own_is = (owned w I t o.name (object_held (v.homes t).chunks (heap_of (k w I) t) H.names o i)).1
+
+    pub live : joined TT t ≡ false
+    live = subst (λ u. joined TT u ≡ false) own_is ((owners w I).live o.name.task)
+
+    pub chunk : (c : ChunkOf) × In (v.homes t).chunks c × In c.objects o
+    chunk = in_chunk (v.homes t).chunks o i
+
+    pub owner : v.owner o.at.chunk ≡ Some t
+    owner = ap v.owner (H.inside chunk.0 o chunk.1 chunk.2) ∙ H.owned chunk.0 chunk.1
+
+    pub near : o.at.offset < 1024
+    near = near_by t (rest_at w.homes t) refl o i
+
+    unheld : IsUnheld w.hands t
+    unheld j h =
+        let a : (heap_of (k w I) t).worker ≡ None = R in
+        let b : (heap_of (k w I) t).worker ≡ Some j = (I.stands.totals.hand j t).0 h in
+        absurd cc
+
+    -- the pool has the units of its chunk
+    pub measured : held_at w.pool o.at.chunk ≡ Some (record { owner = t; units = chunk.0.units })
+    measured = ap (held_at w.pool) (H.inside chunk.0 o chunk.1 chunk.2) ∙ measured_by t unheld (rest_at w.homes t) refl chunk.0 chunk.1

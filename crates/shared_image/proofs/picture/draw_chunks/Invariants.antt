@@ -1,0 +1,6 @@
+use Rattle.std.proofs.Common.{◌≡◌, map, take}
+use Rattle.shared_image.specs.Drawn.{drawn_chunk}
+use Rattle.shared_image.proofs.picture.draw_chunks.Given as goal
+
+abbrev pub invariant-loop-chunk : goal.invariant-loop-chunk
+invariant-loop-chunk l = l.chunks ≡ map drawn_chunk (take l.chunk-index l.in_use)

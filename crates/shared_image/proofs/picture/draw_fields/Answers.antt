@@ -1,0 +1,26 @@
+use Rattle.std.proofs.Common.{◌++◌, None, get_or, map, ap, ◌∙◌}
+use Rattle.std.proofs.lemmas.Option.{slice_get-get_or}
+use Rattle.heap_tree.specs.declared.state.State.TheVariants.{Ready}
+use Rattle.shared_tree.specs.declared.live.Live.{Live}
+use Rattle.shared_tree.specs.World.{World}
+use Rattle.shared_image.specs.Drawn.{drawn_field}
+use Rattle.shared_image.proofs.Numbers.{got_at}
+use Rattle.shared_image.proofs.Rounds.{fields_step, live_made}
+use Rattle.shared_image.proofs.picture.draw_fields.Goals as goal
+
+pub remembered-requires : goal.remembered-requires
+remembered-requires c =
+    let w : World = c.args.shared.now in
+    let xs = c.args.live.now in
+    let i = c.loop-task.task-index in
+    let is = slice_get-get_or xs i _ c.loop-task-test.true in
+    live_made w c.stands.ensures _ ((c.requires.each _).0 (got_at xs i _ is))
+
+pub loop-task-preserved : goal.loop-task-preserved
+loop-task-preserved c =
+    let w : World = c.args.shared.now in
+    let xs = c.args.live.now in
+    let i = c.loop-task.task-index in
+    let none : Live = record { number = 0; parent = None; state = Ready } in
+    let is = slice_get-get_or xs i none c.loop-task-test.true in
+    fields_step w c.stands.ensures xs i _ c.requires is c.loop-task.fields c.add_fields.new.fields c.in_ok-noted.noted c.loop-task.invariant c.in_ok-noted.ensures (c.in_ok-add_fields.ensures ∙ ap (λ zs. c.loop-task.fields ++ map (drawn_field (get_or xs i none).number) zs) c.as_slice.ensures)

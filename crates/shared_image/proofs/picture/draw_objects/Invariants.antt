@@ -1,0 +1,13 @@
+use Rattle.std.proofs.Common.{take}
+use Rattle.heap_image.specs.Picture.{ObjectBefore}
+use Rattle.core_relation.specs.Value.{In}
+use Rattle.shared_tree.specs.declared.live.InUse.{InUse}
+use Rattle.shared_tree.specs.Image.{AreAll, AreInWords, objects_of}
+use Rattle.shared_image.specs.Drawing.{AreObjectsOf}
+use Rattle.shared_image.proofs.picture.draw_objects.Given as goal
+
+abbrev pub invariant-loop-chunk : goal.invariant-loop-chunk
+invariant-loop-chunk l = record {
+  objects : AreAll ObjectBefore (AreObjectsOf l.shared (take l.chunk-index l.in_use)) l.objects;
+  words : (c : InUse) → In (take l.chunk-index l.in_use) c → AreInWords (objects_of l.shared c.number);
+}

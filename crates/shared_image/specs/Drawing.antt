@@ -1,0 +1,19 @@
+-- A picture as it is drawn: chunk by chunk, and task by task.
+use Rattle.std.specs.Prelude.{◌≡◌, List}
+use Rattle.image_check.specs.declared.line.Remembered.{Remembered}
+use Rattle.heap_image.specs.declared.picture.Picked.{Picked}
+use Rattle.core_relation.specs.Value.{In, Seen}
+use Rattle.shared_tree.specs.declared.live.InUse.{InUse}
+use Rattle.shared_tree.specs.declared.live.Live.{Live}
+use Rattle.shared_tree.specs.declared.noted.Field.{Field}
+use Rattle.shared_tree.specs.Image.{IsNoted, objects_of, shown}
+use Rattle.shared_tree.specs.World.{World}
+use Rattle.shared_image.specs.Drawn.{drawn_field, drawn_object}
+
+-- it is an object of one of these chunks
+abbrev pub AreObjectsOf : World → List InUse → Picked → Type 0
+AreObjectsOf w cs q = (c : InUse) × (o : Seen) × In cs c × In (objects_of w c.number) o × (q ≡ drawn_object (shown o))
+
+-- it is a field that the set of one of these tasks has
+abbrev pub AreFieldsOf : World → List Live → Remembered → Type 0
+AreFieldsOf w xs f = (x : Live) × (g : Field) × In xs x × IsNoted w x.number g × (f ≡ drawn_field x.number g)

@@ -1,0 +1,193 @@
+// A picture is drawn of the shared value.
+
+ghost use Rattle.std.specs.Prelude.{◌≡◌, ◌++◌, IfOk, OnOk, map};
+ghost use Rattle.chunk_pool.specs.Chunks.{AreChunks};
+ghost use Rattle.heap_image.specs.Picture.{ChunkBefore, FieldBefore, IsSoundPicture, ObjectBefore, TaskBefore};
+ghost use Rattle.shared_tree.specs.Image.{AreAll, ChunkBefore as InUseBefore, IsInUse, IsLive, LiveBefore};
+ghost use Rattle.shared_image.specs.Drawn.{AreHeldInWords, IsPictureOf, drawn_chunk, drawn_field, drawn_object, drawn_state, drawn_task};
+ghost use Rattle.shared_image.specs.Drawing.{AreFieldsOf, AreObjectsOf};
+
+use heap_image::{Picked, Picture};
+use heap_tree::State;
+use image_check::{Birth, Chunk, Remembered, State as DrawnState, Task};
+use listed::Listed;
+use shared_tree::{Field, InUse, Live, Seen, Shared};
+use std::alloc::{AllocError, Global};
+
+fn draw_state(state: State) -> DrawnState
+    ensures { result ≡ drawn_state state }
+{
+    match state {
+        State::Ready => DrawnState::Running,
+        State::Out => DrawnState::Running,
+        State::Waiting => DrawnState::Waiting,
+        State::Ended => DrawnState::Ended,
+        State::Joined => DrawnState::Ended,
+    }
+}
+
+fn draw_task(task: Live) -> Task
+    ensures { result ≡ drawn_task task }
+{
+    Task {
+        number: task.number as u64,
+        parent: match task.parent {
+            None => None,
+            Some(parent) => Some(parent as u64),
+        },
+        state: draw_state(task.state),
+    }
+}
+
+fn draw_chunk(chunk: InUse) -> Chunk
+    ensures { result ≡ drawn_chunk chunk }
+{
+    Chunk {
+        number: chunk.number as u64,
+        owner: chunk.owner as u64,
+        words: chunk.words,
+    }
+}
+
+fn draw_object(object: Seen) -> Picked
+    ensures { result ≡ drawn_object object }
+{
+    let Seen {
+        at,
+        birth,
+        mutable,
+        refs,
+        ints,
+    } = object;
+    Picked {
+        address: at,
+        birth: Birth {
+            task: birth.task as u64,
+            count: birth.count as u64,
+        },
+        mutable,
+        references: refs,
+        numbers: ints,
+    }
+}
+
+fn draw_field(task: u32, field: Field) -> Remembered
+    ensures { result ≡ drawn_field task field }
+{
+    Remembered {
+        task: task as u64,
+        address: field.object,
+        place: field.field as u64,
+    }
+}
+
+fn draw_tasks(alloc: Global, live: &[Live]) -> Result<Listed<Task>, AllocError>
+    ensures { IfOk result (λ tasks. tasks ≡ map drawn_task live.now) }
+{
+    let mut tasks = Listed::new(alloc);
+    for task in live {
+        tasks.push(draw_task(*task))?;
+    }
+    Ok(tasks)
+}
+
+fn draw_chunks(alloc: Global, in_use: &[InUse]) -> Result<Listed<Chunk>, AllocError>
+    ensures { IfOk result (λ chunks. chunks ≡ map drawn_chunk in_use.now) }
+{
+    let mut chunks = Listed::new(alloc);
+    for chunk in in_use {
+        chunks.push(draw_chunk(*chunk))?;
+    }
+    Ok(chunks)
+}
+
+// Draws objects behind others.
+fn add_objects(objects: &mut Listed<Picked>, seen: Listed<Seen>) -> Result<(), AllocError>
+    ensures { OnOk result (objects.new ≡ objects.old ++ map drawn_object seen) }
+{
+    let mut left = seen.into_vec();
+    left.reverse();
+    while let Some(object) = left.pop() {
+        objects.push(draw_object(object))?;
+    }
+    Ok(())
+}
+
+// The objects of these chunks.
+fn draw_objects(
+    alloc: Global,
+    shared: &Shared,
+    in_use: &[InUse],
+) -> Result<Listed<Picked>, AllocError>
+    requires { AreAll InUseBefore (IsInUse shared.now) in_use.now }
+    ensures objects { IfOk result (λ objects. AreAll ObjectBefore (AreObjectsOf shared.now in_use.now) objects) }
+    ensures words { IfOk result (λ objects. AreHeldInWords shared.now) }
+{
+    shared.stands();
+    let mut objects = Listed::new(alloc);
+    for chunk in in_use {
+        let seen = shared.objects(alloc, chunk.number)?;
+        add_objects(&mut objects, seen)?;
+    }
+    Ok(objects)
+}
+
+// Draws the fields that a task's set has behind others.
+fn add_fields(fields: &mut Listed<Remembered>, task: u32, noted: &[Field]) -> Result<(), AllocError>
+    ensures { OnOk result (fields.new ≡ fields.old ++ map (drawn_field task) noted.now) }
+{
+    for field in noted {
+        fields.push(draw_field(task, *field))?;
+    }
+    Ok(())
+}
+
+// The fields that the sets of these tasks have.
+fn draw_fields(
+    alloc: Global,
+    shared: &Shared,
+    live: &[Live],
+) -> Result<Listed<Remembered>, AllocError>
+    requires { AreAll LiveBefore (IsLive shared.now) live.now }
+    ensures { IfOk result (λ fields. AreAll FieldBefore (AreFieldsOf shared.now live.now) fields) }
+{
+    shared.stands();
+    let mut fields = Listed::new(alloc);
+    for task in live {
+        let noted = shared.remembered(alloc, task.number)?;
+        add_fields(&mut fields, task.number, noted.as_slice())?;
+    }
+    Ok(fields)
+}
+
+// The picture of all tasks that haven't joined and of all chunks in use.
+fn draw_all(
+    alloc: Global,
+    shared: &Shared,
+    live: &[Live],
+    in_use: &[InUse],
+) -> Result<Picture, AllocError>
+    requires live { AreAll LiveBefore (IsLive shared.now) live.now }
+    requires in_use { AreAll InUseBefore (IsInUse shared.now) in_use.now }
+    requires sized { AreChunks shared.now.pool.slots }
+    ensures drawn { IfOk result (λ p. IsPictureOf shared.now p) }
+    ensures sound { IfOk result (λ p. IsSoundPicture p) }
+{
+    shared.stands();
+    Ok(Picture {
+        tasks: draw_tasks(alloc, live)?,
+        chunks: draw_chunks(alloc, in_use)?,
+        objects: draw_objects(alloc, shared, in_use)?,
+        fields: draw_fields(alloc, shared, live)?,
+    })
+}
+
+/// The picture of a shared value, which is sound.
+pub fn draw(alloc: Global, shared: &Shared) -> Result<Picture, AllocError>
+    ensures drawn { IfOk result (λ p. IsPictureOf shared.now p) }
+    ensures sound { IfOk result (λ p. IsSoundPicture p) }
+{
+    let live = shared.live(alloc)?;
+    let in_use = shared.chunk_list(alloc)?;
+    draw_all(alloc, shared, live.as_slice(), in_use.as_slice())
+}
