@@ -22,7 +22,7 @@ use Rattle.image_check.specs.declared.cause.Fault.{Fault}
 use Rattle.image_check.specs.Fault.{image_fault, objects_in}
 use Rattle.command_line.specs.declared.line.Options.{Options}
 use Rattle.command_line.specs.declared.line.CommandLine.{CommandLine}
-use Rattle.command_line.specs.declared.line.CommandLine.TheVariants.{Check, Run, Replay, Model, Races, Make, Verify}
+use Rattle.command_line.specs.declared.line.CommandLine.TheVariants.{Check, Run, Replay, Model, Races, Image, Make, Verify}
 use Rattle.command_core.specs.declared.answer.Status.{Status}
 use Rattle.command_core.specs.declared.answer.Status.TheVariants.{ReadFault}
 use Rattle.command_core.specs.declared.answer.Answer.{Answer}
@@ -30,7 +30,7 @@ use Rattle.command_core.specs.declared.answer.Ran.{Ran}
 use Rattle.command_core.specs.Status.{status_of_end}
 use Rattle.command_core.specs.Input.{program_limit, trace_limit}
 use Rattle.command_core.specs.Runs.{IsWholeRun}
-use Rattle.command_core.specs.Answers.{IsText, WhereWithin, WhereProgram, AnswersText, AnswersProgram, AnswersRun, AnswersFault, WhereWhole, AnswersTrace, WhereTraced, AnswersTraced, IsReplay, IsModelled, IsRaceAnswer, limits_for, races_status, AnswersImage, AnswersMake, AnswersLine}
+use Rattle.command_core.specs.Answers.{IsText, WhereWithin, WhereProgram, AnswersText, AnswersProgram, AnswersRun, AnswersFault, WhereWhole, AnswersTrace, WhereTraced, AnswersTraced, IsReplay, IsModelled, IsRaceAnswer, IsImaged, limits_for, races_status, AnswersImage, AnswersMake, AnswersLine}
 use Rattle.command_core.specs.Delivery.{IsAnswered, Delivered}
 
 text : (named : Status) (bytes : List ℕ) (a : Answer) → IsAnswered named → IsText named bytes a → IsAnswered a.status
@@ -100,6 +100,7 @@ answered (Run file o) input a h = of_run o input a h
 answered (Replay file o) input a h = of_trace (IsReplay o) o.settings input a (λ p s entries k. whole p s o.report o.trace a k.0) h
 answered (Model file o) input a h = of_trace (IsModelled o) o.settings input a (λ p s entries k. text _ _ a (end k.end) k.text) h
 answered (Races file s) input a h = of_trace IsRaceAnswer s input a (λ p l entries k. text _ _ a (races_are k.races) k.text) h
+answered (Image file s) input a h = of_trace IsImaged s input a (λ p l entries k. text _ _ a tt k.text) h
 answered (Make seed size run) input a h = of_make seed size run a h
 answered (Verify file) input a h = image (image_fault input) (objects_in input) a h
 

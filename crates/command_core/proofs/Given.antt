@@ -1,5 +1,5 @@
 -- What a command gives where no fault rose.
-use Rattle.std.proofs.Common.{◌≡◌, ◌∙◌, ◌⊎◌, ℕ, List, true, subst, inl, inr, refl}
+use Rattle.std.proofs.Common.{◌≡◌, ◌∙◌, ◌⊎◌, ℕ, List, true, subst, sym, inl, inr, refl}
 use Rattle.std.specs.Prelude.{Option, Some, None, Result}
 use Rattle.hh_lang.specs.Form.{ProgramText}
 use Rattle.run_trace.specs.Entry.{Event}
@@ -13,12 +13,13 @@ use Rattle.trace_input.specs.declared.input.InputFault.TheVariants.{Source, BadL
 use Rattle.trace_input.specs.declared.input.TraceInput.{TraceInput}
 use Rattle.trace_input.specs.Input.{input_fault}
 use Rattle.command_line.specs.declared.line.Options.{Options}
-use Rattle.command_line.specs.declared.line.CommandLine.TheVariants.{Run, Replay, Model, Make}
-use Rattle.command_core.specs.declared.answer.Status.TheVariants.{NoMemory, Trace}
+use Rattle.command_line.specs.declared.line.CommandLine.TheVariants.{Run, Replay, Model, Image, Make}
+use Rattle.command_core.specs.declared.answer.Status.{Status}
+use Rattle.command_core.specs.declared.answer.Status.TheVariants.{Done, NoMemory, Trace}
 use Rattle.command_core.specs.declared.answer.Answer.{Answer}
 use Rattle.command_core.specs.declared.answer.Ran.{Ran}
-use Rattle.command_core.specs.Answers.{AnswersLine, AnswersProgram, AnswersRun, AnswersTrace, AnswersTraced, IsModelled, IsProgramInput, IsReplay, LeavesLine, WhereProgram, WhereTraced, WhereWhole, WhereWithin, limits_for, summary}
-use Rattle.command_core.specs.Laws.{GivesAll, HasProgram, IsEnd, MadeAreRun, NoFaultGivesAll, ProgramsAreRun, TracesAreReplayed}
+use Rattle.command_core.specs.Answers.{AnswersLine, AnswersProgram, AnswersRun, AnswersTrace, AnswersTraced, IsImaged, IsModelled, IsProgramInput, IsReplay, LeavesLine, WhereProgram, WhereTraced, WhereWhole, WhereWithin, limits_for, summary}
+use Rattle.command_core.specs.Laws.{GivesAll, HasProgram, IsEnd, MadeAreRun, NoFaultGivesAll, ProgramsAreRun, TracesAreDrawn, TracesAreReplayed}
 use Rattle.command_core.proofs.Deliveries.{gives_all}
 
 pub no_fault_gives_all : NoFaultGivesAll
@@ -47,38 +48,44 @@ made_are_run = λ seed size input p r before after is d none.
 
 -- TRACES
 
-abbrev EndsOrRefuses : Answer → Type 0
-EndsOrRefuses a = (a.status ≡ Trace) ⊎ IsEnd a.status
+-- the status says this, or that the trace is refused
+module _ (E : Status → Type 0) where
+  abbrev SaysOrRefuses : Answer → Type 0
+  SaysOrRefuses a = (a.status ≡ Trace) ⊎ E a.status
 
-whole_end : (P : Answer → Type 0) (r : Option RefusedAt) (a : Answer) → (P a → IsEnd a.status) → WhereWhole P r a → EndsOrRefuses a
-whole_end P None a f h = inr (f h)
-whole_end P (Some r) a f h = inl h.status
+  whole_end : (P : Answer → Type 0) (r : Option RefusedAt) (a : Answer) → (P a → E a.status) → WhereWhole P r a → SaysOrRefuses a
+  whole_end P None a f h = inr (f h)
+  whole_end P (Some r) a f h = inl h.status
 
-input_end : (P : TraceInput → Answer → Type 0) (input : List ℕ) (f : Option InputFault) (a : Answer) → ((t : TraceInput) → P t a → EndsOrRefuses a) → ((r : Refused) → f ≡ Some (Source r) → ⊥)
-    → WhereTraced P input f a → EndsOrRefuses a
-input_end P input None a g none h = g h.0 h.2
-input_end P input (Some (Source r)) a g none h = absurd (none r refl)
-input_end P input (Some (BadLine n)) a g none h = inl h.status
+  input_end : (P : TraceInput → Answer → Type 0) (input : List ℕ) (f : Option InputFault) (a : Answer) → ((t : TraceInput) → P t a → SaysOrRefuses a) → ((r : Refused) → f ≡ Some (Source r) → ⊥)
+      → WhereTraced P input f a → SaysOrRefuses a
+  input_end P input None a g none h = g h.0 h.2
+  input_end P input (Some (Source r)) a g none h = absurd (none r refl)
+  input_end P input (Some (BadLine n)) a g none h = inl h.status
 
-traced_end : (P : ProgramText → Limits → List Event → Answer → Type 0) (s : Limits) (input : List ℕ) (a : Answer)
-    → ((p : ProgramText) (l : Limits) (entries : List Event) → P p l entries a → IsEnd a.status) → HasProgram input → AnswersTraced P s input a → EndsOrRefuses a
-traced_end P s input a f has h =
-    input_end (AnswersTrace P s) input (input_fault input) a
-    (λ t. whole_end (P t.program (limits_for s t) t.trace.entries) (refused_as_run t.program (limits_for s t) t.trace.entries) a (f t.program (limits_for s t) t.trace.entries))
-    has.faultless
-    (subst (λ b. WhereWithin b (WhereTraced (AnswersTrace P s) input (input_fault input)) a) has.within h)
+  traced_end : (P : ProgramText → Limits → List Event → Answer → Type 0) (s : Limits) (input : List ℕ) (a : Answer)
+      → ((p : ProgramText) (l : Limits) (entries : List Event) → P p l entries a → E a.status) → HasProgram input → AnswersTraced P s input a → SaysOrRefuses a
+  traced_end P s input a f has h =
+      input_end (AnswersTrace P s) input (input_fault input) a
+      (λ t. whole_end (P t.program (limits_for s t) t.trace.entries) (refused_as_run t.program (limits_for s t) t.trace.entries) a (f t.program (limits_for s t) t.trace.entries))
+      has.faultless
+      (subst (λ b. WhereWithin b (WhereTraced (AnswersTrace P s) input (input_fault input)) a) has.within h)
 
-given_end : (P : Answer → Type 0) (r : Ran) (before after : Option (List ℕ)) → ((a : Answer) → P a → EndsOrRefuses a) → GivesAll P r before after → (r.status ≡ NoMemory) ⊎ ((r.status ≡ Trace) ⊎ IsEnd r.status)
-given_end P r before after f g = elim g [
-  | inl e ↦ inl e
-  | inr h ↦ inr (elim (f h.0 h.1) [
-    | inl e ↦ inl (h.2 ∙ e)
-    | inr e ↦ inr (e.0, h.2 ∙ e.1)
-  ])
-]
+  given_end : (P : Answer → Type 0) (r : Ran) (before after : Option (List ℕ)) → ((a : Answer) → P a → SaysOrRefuses a) → GivesAll P r before after → (r.status ≡ NoMemory) ⊎ ((r.status ≡ Trace) ⊎ E r.status)
+  given_end P r before after f g = elim g [
+    | inl e ↦ inl e
+    | inr h ↦ inr (elim (f h.0 h.1) [
+      | inl e ↦ inl (h.2 ∙ e)
+      | inr e ↦ inr (subst E (sym h.2) e)
+    ])
+  ]
 
 pub traces_are_replayed : TracesAreReplayed
 traces_are_replayed = λ file o input r before after has d none. elim d [
-  | inl replay ↦ given_end _ r before after (λ a. traced_end (IsReplay o) o.settings input a (λ p s entries h. (h.0.end, h.0.status)) has) (no_fault_gives_all (Replay file o) input r before after replay none)
-  | inr model ↦ given_end _ r before after (λ a. traced_end (IsModelled o) o.settings input a (λ p s entries h. (h.end, h.text.status)) has) (no_fault_gives_all (Model file o) input r before after model none)
+  | inl replay ↦ given_end IsEnd _ r before after (λ a. traced_end IsEnd (IsReplay o) o.settings input a (λ p s entries h. (h.0.end, h.0.status)) has) (no_fault_gives_all (Replay file o) input r before after replay none)
+  | inr model ↦ given_end IsEnd _ r before after (λ a. traced_end IsEnd (IsModelled o) o.settings input a (λ p s entries h. (h.end, h.text.status)) has) (no_fault_gives_all (Model file o) input r before after model none)
 ]
+
+pub traces_are_drawn : TracesAreDrawn
+traces_are_drawn = λ file l input r before after has d none.
+    given_end (λ status. status ≡ Done) _ r before after (λ a. traced_end (λ status. status ≡ Done) IsImaged l input a (λ p s entries h. h.text.status) has) (no_fault_gives_all (Image file l) input r before after d none)

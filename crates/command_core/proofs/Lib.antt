@@ -3,6 +3,7 @@ pub mod Texts
 pub mod Runs
 pub mod Traces
 pub mod ImagesTold
+pub mod Imaged
 pub mod Answered
 pub mod Deliveries
 pub mod Given

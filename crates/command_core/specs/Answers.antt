@@ -19,6 +19,11 @@ use Rattle.trace_input.specs.declared.input.InputFault.TheVariants.{Source as So
 use Rattle.trace_input.specs.declared.input.TraceInput.{TraceInput}
 use Rattle.trace_input.specs.Input.{input_fault, IsInput}
 use Rattle.shared_tree.specs.World.{World}
+use Rattle.shared_tree.specs.Stands.{IsWorld}
+use Rattle.heap_image.specs.declared.picture.Picture.{Picture}
+use Rattle.heap_image.specs.Picture.{IsSoundPicture}
+use Rattle.heap_image.specs.Text.{text_of}
+use Rattle.shared_image.specs.Drawn.{IsPictureOf}
 use Rattle.race_report.specs.declared.data.Race.{Race}
 use Rattle.race_report.specs.Accesses.{accesses}
 use Rattle.race_report.specs.Report.{IsReport}
@@ -28,7 +33,7 @@ use Rattle.image_check.specs.Cause.{text_of_cause as text_of_fault}
 use Rattle.image_check.specs.Fault.{image_fault, objects_in}
 use Rattle.command_line.specs.declared.line.Options.{Options}
 use Rattle.command_line.specs.declared.line.CommandLine.{CommandLine}
-use Rattle.command_line.specs.declared.line.CommandLine.TheVariants.{Check, Run, Replay, Model, Races, Make, Verify}
+use Rattle.command_line.specs.declared.line.CommandLine.TheVariants.{Check, Run, Replay, Model, Races, Image as ImageOf, Make, Verify}
 use Rattle.command_core.specs.declared.answer.Status.{Status}
 use Rattle.command_core.specs.declared.answer.Status.TheVariants.{Done, Words, Source, Trace, Races as RacesFound, Image}
 use Rattle.command_core.specs.declared.answer.Answer.{Answer}
@@ -154,6 +159,29 @@ pub record IsRaceAnswer (p : ProgramText) (s : Limits) (journal : List Event) (a
 abbrev pub AnswersRaces : Limits → List ℕ → Answer → Type 0
 AnswersRaces = AnswersTraced IsRaceAnswer
 
+-- IMAGE
+
+-- the text of a sound picture of a shared value
+pub record IsImageOf (w : World) (text : List ℕ) : Type 0 where
+  pub picture : Picture
+  pub draws : IsPictureOf w picture
+  pub sound : IsSoundPicture picture
+  pub written : text ≡ text_of picture
+
+-- the image of a shared value that stands, by a run of these entries
+pub record IsImaged (p : ProgramText) (s : Limits) (entries : List Event) (a : Answer) : Type 0 where
+  pub held : World
+  pub stands : IsWorld held
+  pub program : held.program ≡ p
+  pub settings : held.settings ≡ s
+  pub journal : held.journal.items ≡ entries
+  pub image : List ℕ
+  pub shows : IsImageOf held image
+  pub text : IsText Done image a
+
+abbrev pub AnswersImaging : Limits → List ℕ → Answer → Type 0
+AnswersImaging = AnswersTraced IsImaged
+
 -- VERIFY
 
 -- a refused image
@@ -185,6 +213,7 @@ AnswersLine (Run file options) input = AnswersRun options input
 AnswersLine (Replay file options) input = AnswersReplay options input
 AnswersLine (Model file options) input = AnswersModel options input
 AnswersLine (Races file limits) input = AnswersRaces limits input
+AnswersLine (ImageOf file limits) input = AnswersImaging limits input
 AnswersLine (Make seed size run) input = AnswersMake seed size run
 AnswersLine (Verify file) input = AnswersVerify input
 

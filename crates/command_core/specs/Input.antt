@@ -3,7 +3,7 @@ use Rattle.std.specs.Prelude.{◌≡◌, ℕ, ◌+◌, Bool, true, false, List, 
 use Rattle.outside_io.specs.Told.{Gives, with_more}
 use Rattle.image_check.specs.Fault.{image_limit}
 use Rattle.command_line.specs.declared.line.CommandLine.{CommandLine}
-use Rattle.command_line.specs.declared.line.CommandLine.TheVariants.{Check, Run, Replay, Model, Races, Make, Verify}
+use Rattle.command_line.specs.declared.line.CommandLine.TheVariants.{Check, Run, Replay, Model, Races, Image, Make, Verify}
 
 -- the most bytes of a program's text, and of a program with a trace
 abbrev pub program_limit : ℕ
@@ -18,6 +18,7 @@ limit_of (Run file options) = program_limit
 limit_of (Replay file options) = trace_limit
 limit_of (Model file options) = trace_limit
 limit_of (Races file limits) = trace_limit
+limit_of (Image file limits) = trace_limit
 limit_of (Make seed size run) = 0
 limit_of (Verify file) = image_limit
 
@@ -42,6 +43,7 @@ told_for left named (Run file options) = told left named file
 told_for left named (Replay file options) = told left named file
 told_for left named (Model file options) = told left named file
 told_for left named (Races file limits) = told left named file
+told_for left named (Image file limits) = told left named file
 told_for left named (Make seed size run) = Some []
 told_for left named (Verify file) = told left named file
 

@@ -1,21 +1,23 @@
 -- What the answers come to.
-use Rattle.std.specs.Prelude.{◌≡◌, ◌≢◌, ◌⊎◌, List, ℕ, Option, Some, true, nat_le, length}
+use Rattle.std.specs.Prelude.{◌≡◌, ◌≢◌, ◌≤◌, ◌⊎◌, List, ℕ, Option, Some, true, nat_le, length}
 use Rattle.outside_io.specs.Told.{with_more}
 use Rattle.hh_lang.specs.Form.{ProgramText}
+use Rattle.run_trace.specs.Settings.{Limits}
 use Rattle.run_ledger.specs.declared.data.RunEnd.{RunEnd}
 use Rattle.program_reader.specs.declared.cause.Refused.{Refused}
 use Rattle.program_make.specs.Text.{made_text}
 use Rattle.trace_input.specs.declared.input.InputFault.TheVariants.{Source}
 use Rattle.trace_input.specs.Input.{input_fault}
+use Rattle.image_check.specs.Fault.{image_limit}
 use Rattle.command_line.specs.declared.line.Options.{Options}
 use Rattle.command_line.specs.declared.line.CommandLine.{CommandLine}
-use Rattle.command_line.specs.declared.line.CommandLine.TheVariants.{Run, Replay, Model, Make}
+use Rattle.command_line.specs.declared.line.CommandLine.TheVariants.{Run, Replay, Model, Image, Make}
 use Rattle.command_core.specs.declared.answer.Status.{Status}
-use Rattle.command_core.specs.declared.answer.Status.TheVariants.{ReadFault, WriteFault, NoMemory, Trace}
+use Rattle.command_core.specs.declared.answer.Status.TheVariants.{Done, ReadFault, WriteFault, NoMemory, Trace}
 use Rattle.command_core.specs.declared.answer.Answer.{Answer}
 use Rattle.command_core.specs.declared.answer.Ran.{Ran}
 use Rattle.command_core.specs.Input.{trace_limit}
-use Rattle.command_core.specs.Answers.{AnswersLine, AnswersModel, AnswersProgram, AnswersReplay, IsProgramInput, summary}
+use Rattle.command_core.specs.Answers.{AnswersImaging, AnswersLine, AnswersModel, AnswersProgram, AnswersReplay, AnswersVerify, IsProgramInput, summary}
 use Rattle.command_core.specs.Delivery.{DeliversLine}
 use Rattle.command_core.specs.Status.{status_of_end}
 
@@ -62,6 +64,17 @@ TracesAreReplayed =
     (file : Option (List ℕ)) (o : Options) (input : List ℕ) (r : Ran) (before after : Option (List ℕ)) → HasProgram input
     → (DeliversLine (Replay file o) input r before after ⊎ DeliversLine (Model file o) input r before after) → NoFault r
     → (r.status ≡ NoMemory) ⊎ ((r.status ≡ Trace) ⊎ IsEnd r.status)
+
+-- the heaps that a trace leaves are drawn, whatever its end, or the trace is refused
+abbrev pub TracesAreDrawn : Type 0
+TracesAreDrawn =
+    (file : Option (List ℕ)) (l : Limits) (input : List ℕ) (r : Ran) (before after : Option (List ℕ)) → HasProgram input → DeliversLine (Image file l) input r before after → NoFault r
+    → (r.status ≡ NoMemory) ⊎ ((r.status ≡ Trace) ⊎ (r.status ≡ Done))
+
+-- what `image` writes of a whole run is verified by `verify`, unless it is too long for it
+abbrev pub ImagesAreVerified : Type 0
+ImagesAreVerified =
+    (s : Limits) (input : List ℕ) (a b : Answer) → AnswersImaging s input a → a.status ≡ Done → length a.bytes ≤ image_limit → AnswersVerify a.bytes b → b.status ≡ Done
 
 -- two answers write the same, with the same status
 pub record AreAlike (a b : Answer) : Type 0 where

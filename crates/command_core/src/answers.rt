@@ -8,6 +8,7 @@ ghost use Rattle.command_core.specs.Delivery.{IsWanted};
 
 use crate::answer::{Answer, Status};
 use crate::images::answer_verify;
+use crate::imaging::answer_image;
 use crate::input::PROGRAM_LIMIT;
 use crate::model::answer_model;
 use crate::races::answer_races;
@@ -90,6 +91,7 @@ pub(crate) fn answer_line<R: Threads + Wait + Sync, G: Gate>(
         CommandLine::Replay { file: _, options } => answer_replay(alloc, *options, input),
         CommandLine::Model { file: _, options } => Ok(answer_model(alloc, *options, input)?),
         CommandLine::Races { file: _, settings } => Ok(answer_races(alloc, *settings, input)?),
+        CommandLine::Image { file: _, settings } => Ok(answer_image(alloc, *settings, input)?),
         CommandLine::Make { seed, size, run } => {
             answer_make(rt, alloc, *seed, *size, *run, gate)
         }

@@ -123,6 +123,7 @@ pub(crate) fn read_input<S: Source>(
         CommandLine::Replay { file, options: _ } => read_file(alloc, source, file, TRACE_LIMIT),
         CommandLine::Model { file, options: _ } => read_file(alloc, source, file, TRACE_LIMIT),
         CommandLine::Races { file, settings: _ } => read_file(alloc, source, file, TRACE_LIMIT),
+        CommandLine::Image { file, settings: _ } => read_file(alloc, source, file, TRACE_LIMIT),
         CommandLine::Make {
             seed: _,
             size: _,

@@ -1,6 +1,6 @@
 // What the contract of the top call comes to.
 
-ghost use Rattle.command_core.specs.Laws.{MadeAreRun, ModelWritesTheSame, NoFaultGivesAll, ProgramsAreRun, TracesAreReplayed};
+ghost use Rattle.command_core.specs.Laws.{ImagesAreVerified, MadeAreRun, ModelWritesTheSame, NoFaultGivesAll, ProgramsAreRun, TracesAreDrawn, TracesAreReplayed};
 ghost use Rattle.command_core.specs.Status.{StatusesOfEnds};
 
 /// A command and its input, and no fault that rose: all bytes and the status of its answer, or want of memory.
@@ -21,6 +21,16 @@ pub fn made_are_run()
 /// `replay` and `model` with a program and its trace, and no fault that rose: an end of the run or a refused trace, or want of memory.
 pub fn traces_are_replayed()
     ensures { TracesAreReplayed }
+{}
+
+/// `image` with a program and its trace, and no fault that rose: the heaps that it leaves or a refused trace, or want of memory.
+pub fn traces_are_drawn()
+    ensures { TracesAreDrawn }
+{}
+
+/// What `image` writes of a whole run is verified by `verify`, unless it is too long for it.
+pub fn images_are_verified()
+    ensures { ImagesAreVerified }
 {}
 
 /// `model` writes what `replay` writes, with its status.

@@ -5,6 +5,7 @@ mod answer;
 mod answers;
 mod deliver;
 mod images;
+mod imaging;
 mod input;
 mod laws;
 mod model;
@@ -17,7 +18,7 @@ mod wanted;
 
 pub use answer::{Answer, Ran, Status};
 pub use laws::{
-    made_are_run, model_writes_the_same, no_fault_gives_all, programs_are_run, statuses_of_ends,
-    traces_are_replayed,
+    images_are_verified, made_are_run, model_writes_the_same, no_fault_gives_all, programs_are_run,
+    statuses_of_ends, traces_are_drawn, traces_are_replayed,
 };
 pub use top_call::command;

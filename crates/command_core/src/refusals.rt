@@ -3,13 +3,14 @@
 ghost use Rattle.std.specs.Prelude.{◌≡◌, IfOk};
 ghost use Rattle.std.specs.String.{string_bytes};
 ghost use Rattle.run_ledger.specs.Text.{refused_line};
-ghost use Rattle.command_core.specs.Answers.{IsText, AnswersFault, AnswersWords, AnswersRefused, source_line, bad_line, too_long};
+ghost use Rattle.command_core.specs.Answers.{IsText, AnswersFault, AnswersWords, AnswersRefused, source_line, bad_line, short_of, too_long};
 
 use crate::answer::{Answer, Status};
 use listed::Listed;
 use program_reader::{Cause, Refused};
 use run_ledger::RefusedAt;
 use run_report::refused_text;
+use run_trace::Entry;
 use std::alloc::{AllocError, Global};
 use trace_input::InputFault;
 
@@ -93,4 +94,13 @@ pub(crate) fn entry_refused(alloc: Global, refused: RefusedAt) -> Result<Answer,
 {
     let text = refused_text(alloc, refused)?;
     Ok(text_alone(alloc, Status::Trace, text))
+}
+
+/// The answer to a trace that isn't refused, but has no end of its run.
+pub(crate) fn trace_short(alloc: Global, journal: &[Entry]) -> Result<Answer, AllocError>
+    ensures { IfOk result (IsText Status.Trace (refused_line (short_of journal.now))) }
+{
+    let index = journal.len() as u64 + 1;
+    let cause = run_ledger::Refused::Short;
+    entry_refused(alloc, RefusedAt { index, cause })
 }

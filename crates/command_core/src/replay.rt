@@ -11,11 +11,10 @@ ghost use Rattle.command_core.specs.Runs.{IsReplayedRun, LeavesPrefix};
 
 use crate::answer::{Answer, Status};
 use crate::input::TRACE_LIMIT;
-use crate::refusals::{entry_refused, input_refused, too_long};
+use crate::refusals::{entry_refused, input_refused, too_long, trace_short};
 use crate::run::{amid, answer_ended};
 use crate::wanted::Wanted;
 use command_line::Options;
-use run_ledger::{Refused, RefusedAt};
 use shared_tree::Shared;
 use std::alloc::{AllocError, Global};
 use trace_input::{InputError, TraceInput, read_trace_input};
@@ -26,9 +25,7 @@ fn answer_short(alloc: Global, shared: Shared) -> Result<Answer, Wanted>
     ensures answer { IfOk result (IsText Status.Trace (refused_line (short_of shared.journal.items))) }
     ensures wanted { IfErr result (λ w. w ≡ Wanted.Amid shared.journal.items (without_journal shared)) }
 {
-    let index = shared.journal().len() as u64 + 1;
-    let cause = Refused::Short;
-    match entry_refused(alloc, RefusedAt { index, cause }) {
+    match trace_short(alloc, shared.journal()) {
         Ok(answer) => Ok(answer),
         Err(AllocError) => Err(amid(shared)),
     }

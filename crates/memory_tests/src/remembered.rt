@@ -57,17 +57,17 @@ fn are_fields(heap: &LeafHeap, sources: &[Source]) -> bool
     }
 }
 
-// What the sources of a set hold that points into a chunk, if they are fields of objects.
-fn target(
+// What the sources of a set hold that points into these chunks; None where they aren't all fields of objects.
+fn targets(
     alloc: Global,
     set: &Remembered,
     heap: &LeafHeap,
-    chunk: Chunk,
-) -> Result<Vec<Addr>, Fail> {
+    chunks: &[Chunk],
+) -> Option<Vec<Addr>> {
     if !are_fields(heap, set.sources()) {
-        return Err("no field")?;
+        return None;
     }
-    Ok(set.targets(alloc, heap, &[chunk])?)
+    set.targets(alloc, heap, chunks).ok()
 }
 
 // Leads the sources of a set that hold an old address to the new one, if they are fields of objects.
@@ -94,8 +94,9 @@ fn fields_rewritten(rt: HostRuntime) -> Result<(), Fail> {
     )?;
     let mut set = Remembered::new(alloc);
     set.note(at(7, 0), 0)?;
-    let targets = target(alloc, &set, &heap, Chunk::new(alloc, 9, 1)?)?;
-    assert!(rt; targets.as_slice() == [old].as_slice());
+    let collected = heap_of(alloc, &[Put::Chunk(9, 1)])?;
+    let found = targets(alloc, &set, &heap, collected.chunks()).ok_or("no field")?;
+    assert!(rt; found.as_slice() == [old].as_slice());
     for to in [new, other] {
         rewrite(&set, &mut heap, old, to)?;
         assert!(rt; holds(&heap, &[((7, 0), 0, Some((11, 0)))]));

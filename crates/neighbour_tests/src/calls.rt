@@ -1,4 +1,4 @@
-// Whole calls of `races` and `verify`, and replays of parallel loops, over sources and sinks in memory.
+// Whole calls of `races`, and replays of parallel loops, over sources and sinks in memory.
 
 use command_core::command;
 use outside_io::{EmptyGate, MemSink, MemSource};
@@ -20,15 +20,15 @@ const NO_FUNCTION: &str =
     "fn dbl\nadd i0 i0 i0\nret\nend\nfn main\nset i0 0\nset i1 10\npfor x\nout i0\nret\nend\n";
 
 // Two tasks write one field of the root's object, and a collection comes between.
-const COLLECTS: &str =
+pub(crate) const COLLECTS: &str =
     "fn left\nset i0 0\nset i1 14\nnewm r1 i0 i1\nputr r0 i0 r1\nnil r1\nnewm r2 i0 i1\nret\nend\nfn right\nset i0 0\nnil r1\nputr r0 i0 r1\nret\nend\nfn main\nset i0 1\nset i1 0\nnewm r0 i0 i1\npar left right\nset i2 0\ngetr r3 r0 i2\nnil r4\nsame i3 r3 r4\nout i3\nret\nend\ntrace 1\n0 took 0\n0 ran 0 2\n0 chunk 0\n0 ran 0 2\n0 took 1\n1 took 2\n0 ran 1 2\n0 chunk 1\n0 ran 1 2\n0 ran 1 1\n0 begin 1\n1 ran 2 3\n0 end 1 1 1 16\n0 ran 1 2\n1 ran 2 1\n1 took 0\n1 ran 0 5\n1 ran 0 1\n";
 
 // A task reads a field that a task beside it has written: the read is stopped.
-const ENTANGLES: &str =
+pub(crate) const ENTANGLES: &str =
     "fn left\nset i0 0\nset i1 1\nnewm r1 i0 i1\nputr r0 i0 r1\nret\nend\nfn right\nset i0 0\ngetr r1 r0 i0\nret\nend\nfn main\nset i0 1\nset i1 0\nnewm r0 i0 i1\npar left right\nret\nend\ntrace 2\n0 took 0\n0 ran 0 2\n0 chunk 0\n0 ran 0 2\n0 took 1\n0 ran 1 2\n0 chunk 1\n0 ran 1 2\n0 ran 1 1\n0 took 2\n0 ran 2 2\n";
 
 // A task reads what it wrote itself.
-const DISENTANGLED: &str =
+pub(crate) const DISENTANGLED: &str =
     "fn left\nset i0 0\nset i1 1\nnewm r1 i0 i1\nset i2 42\nputi r1 i0 i2\nputr r0 i0 r1\ngetr r2 r0 i0\ngeti i0 r2 i0\nret\nend\nfn right\nset i0 0\nret\nend\nfn main\nset i0 1\nset i1 0\nnewm r0 i0 i1\npar left right\nout i0\nret\nend\ntrace 2\n0 took 0\n0 ran 0 2\n0 chunk 0\n0 ran 0 2\n0 took 1\n0 ran 1 2\n0 chunk 1\n0 ran 1 4\n0 ran 1 1\n0 ran 1 2\n0 took 2\n0 ran 2 2\n0 took 0\n0 ran 0 1\n0 ran 0 1\n";
 
 // Two tasks swap into one field.
@@ -50,9 +50,17 @@ pub(crate) fn said<R: AllocGlobal + Threads + Wait + Sync>(
     line: &str,
     input: &str,
 ) -> Result<(u8, Vec<u8>), Fail> {
+    said_of(rt, line, input.as_bytes())
+}
+
+// The same where the input is bytes.
+pub(crate) fn said_of<R: AllocGlobal + Threads + Wait + Sync>(
+    rt: &R,
+    line: &str,
+    bytes: &[u8],
+) -> Result<(u8, Vec<u8>), Fail> {
     let alloc = rt.alloc();
     let words = words_of(alloc, line)?;
-    let bytes = input.as_bytes();
     let mut source = MemSource::new(
         bytes.to_vec(alloc)?,
         bytes.to_vec(alloc)?,
@@ -162,128 +170,6 @@ fn races_are_refused_as_traces_are(rt: HostRuntime) -> Result<(), Fail> {
     for (line, input, status, bytes) in cases {
         let (code, written) = said(&rt, line, input)?;
         assert_eq!(rt; code, status);
-        assert_eq!(rt; written.as_slice(), bytes.as_bytes());
-    }
-    Ok(())
-}
-
-#[test]
-fn images_are_verified(rt: HostRuntime) -> Result<(), Fail> {
-    let cases = [
-        (
-            "verify",
-            "image 1\ntask 0 - ended\nchunk 0 0 1024\nobject 1 0 0 mut 1 0 4\nobject 4 0 1 mut 0 1 5\nend: image 2\n",
-            0,
-            "end: verified 2\n",
-        ),
-        (
-            "verify",
-            "image 1\ntask 0 - ended\nchunk 0 0 1024\nobject 1 0 0 mut 1 0 5\nobject 4 0 1 mut 0 1 5\nend: image 2\n",
-            13,
-            "end: image refused line 4 ref\n",
-        ),
-        (
-            "verify",
-            "image 1\ntask 0 - ended\nchunk 0 0 1024\nobject 1 0 0 mut 1 0 0\nobject 3 0 1 mut 0 1 5\nend: image 2\n",
-            13,
-            "end: image refused line 5 place\n",
-        ),
-        (
-            "verify a.image",
-            "image 1\n# nothing\ntask 0 - ended\nend: image 0",
-            0,
-            "end: verified 0\n",
-        ),
-        ("verify", "", 13, "end: image refused line 1 line\n"),
-    ];
-    for (line, input, status, bytes) in cases {
-        let (code, written) = said(&rt, line, input)?;
-        assert_eq!(rt; code, status);
-        assert_eq!(rt; written.as_slice(), bytes.as_bytes());
-    }
-    Ok(())
-}
-
-// Lines behind `image 1` and three tasks: 0 waits for 1 and 2, of which 2 runs.
-#[test]
-fn each_cause_is_told(rt: HostRuntime) -> Result<(), Fail> {
-    let cases = [
-        (
-            "chunk 0 0 1024\nchunk 1 1 2048\nobject 1 0 0 mut 2 0 1025 0 # up\nobject 1025 1 0 imm 1 1 1 -7\nremembered 1 1 0\nend: image 2",
-            "end: verified 2\n",
-        ),
-        (
-            "chunk 1 0 1024\nchunk 0 0 1024\nend: image 0",
-            "end: image refused line 6 line\n",
-        ),
-        (
-            "chunk 0 0 1025\nend: image 0",
-            "end: image refused line 5 line\n",
-        ),
-        ("end: image 0\n\nx", "end: image refused line 7 line\n"),
-        ("chunk 0 0 1024", "end: image refused line 5 line\n"),
-        (
-            "task 4 3 ended\nend: image 0",
-            "end: image refused line 5 notask\n",
-        ),
-        (
-            "chunk 0 5 1024\nend: image 0",
-            "end: image refused line 5 notask\n",
-        ),
-        (
-            "chunk 0 0 1024\nobject 1 0 0 mut 0 0\nobject 3 0 0 mut 0 0\nend: image 2",
-            "end: image refused line 7 twice\n",
-        ),
-        (
-            "chunk 0 0 1024\nobject 1025 0 0 mut 0 0\nend: image 1",
-            "end: image refused line 6 nochunk\n",
-        ),
-        (
-            "chunk 0 0 1024\nobject 0 0 0 mut 0 0\nend: image 1",
-            "end: image refused line 6 nochunk\n",
-        ),
-        (
-            "chunk 0 0 1024\nobject 1023 0 0 mut 0 1 7\nend: image 1",
-            "end: image refused line 6 place\n",
-        ),
-        (
-            "chunk 0 2 1024\nobject 1 0 0 mut 0 0\nend: image 1",
-            "end: image refused line 6 running\n",
-        ),
-        (
-            "chunk 0 0 1024\nobject 1 0 0 mut 1 0 9\nend: image 1",
-            "end: image refused line 6 ref\n",
-        ),
-        (
-            "chunk 0 1 1024\nchunk 1 2 1024\nobject 1 0 0 mut 1 0 1030\nend: image 1",
-            "end: image refused line 7 cross\n",
-        ),
-        (
-            "chunk 0 0 1024\nchunk 1 2 1024\nobject 1 0 0 mut 1 0 1030\nend: image 1",
-            "end: image refused line 7 down\n",
-        ),
-        (
-            "chunk 0 0 1024\nchunk 1 2 1024\nobject 1 0 0 mut 1 0 1030\nremembered 2 1 0\nend: image 1",
-            "end: verified 1\n",
-        ),
-        (
-            "chunk 0 0 1024\nobject 1 0 0 mut 1 0 0\nremembered 2 1 1\nend: image 1",
-            "end: image refused line 7 field\n",
-        ),
-        (
-            "chunk 0 0 1024\nobject 1 0 0 mut 1 0 0\nremembered 0 1 0\nend: image 1",
-            "end: image refused line 7 field\n",
-        ),
-        (
-            "chunk 0 0 1024\nobject 1 0 0 mut 1 0 0\nend: image 2",
-            "end: image refused line 7 count\n",
-        ),
-    ];
-    for (lines, bytes) in cases {
-        let text = format!(in rt.alloc();
-            "image 1\ntask 0 - waiting\ntask 1 0 ended\ntask 2 0 running\n{lines}"
-        )?;
-        let (_, written) = said(&rt, "verify", text.as_str())?;
         assert_eq!(rt; written.as_slice(), bytes.as_bytes());
     }
     Ok(())

@@ -18,6 +18,12 @@ fn examples_are_answered(rt: HostRuntime) -> Result<(), Fail> {
             12,
             "race 0 0 ref 0 tasks 1 2 lines 7 12\nend: races 1\n",
         ),
+        (
+            "image",
+            RACE,
+            0,
+            "image 1\ntask 0 - waiting\ntask 1 0 ended\ntask 2 0 running\nchunk 0 0 1024\nchunk 1 1 1024\nobject 1 0 0 mut 1 0 1025\nobject 1025 1 0 mut 0 1 0\nremembered 1 1 0\nend: image 2\n",
+        ),
         ("verify", TWO_OBJECTS, 0, "end: verified 2\n"),
     ];
     for (line, input, status, bytes) in cases {

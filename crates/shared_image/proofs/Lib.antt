@@ -7,3 +7,4 @@ pub mod Sounds
 pub mod Orders
 pub mod Chunks
 pub mod Rounds
+pub mod Keeping

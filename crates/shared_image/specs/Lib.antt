@@ -1,3 +1,4 @@
 pub mod Drawn
 pub mod Laws
 pub mod Drawing
+pub mod Held

@@ -1,8 +1,14 @@
 // The laws of pictures, each the clause of a function that does nothing.
 
+ghost use Rattle.shared_image.specs.Held.{PicturesHaveJustKept};
 ghost use Rattle.shared_image.specs.Laws.{PicturesAreSound};
 
 /// A picture of a shared value is sound.
 pub fn pictures_are_sound()
     ensures { PicturesAreSound }
+{}
+
+/// Its objects are just those that the heaps handed back hold, as they stand in the machine's store.
+pub fn pictures_have_just_kept()
+    ensures { PicturesHaveJustKept }
 {}

@@ -58,7 +58,7 @@ fn a_call_without_memory(rt: HostRuntime) -> Result<(), Fail> {
     let mut part = root_of(rt.alloc(), &program, AMPLE)?;
     if run_local(&mut part, &program, 256, &EmptyGate, 0).is_err() {
         assert!(rt; (part.fresh, part.frames.next(), part.frames.depth()) == (1, 1, 1));
-        assert!(rt; part.frames.int(0) == 7);
+        assert!(rt; part.frames.int(0) == 7 && part.allocations == 0);
         assert!(rt; run_local(&mut part, &program, 200, &EmptyGate, 0).is_ok());
     }
     assert!(rt; (part.fresh, part.frames.next(), part.frames.depth()) == (3, 2, 1));

@@ -31,6 +31,12 @@ returns-in-Races-clause-input g c = rw c.in-Races.is c.read_file-in-Races.ensure
 pub returns-in-Races-clause-taken : goal.returns-in-Races-clause-taken
 returns-in-Races-clause-taken g c = rw c.in-Races.is (search rules)
 
+pub returns-in-Image-clause-input : goal.returns-in-Image-clause-input
+returns-in-Image-clause-input g c = rw c.in-Image.is c.read_file-in-Image.ensures.input
+
+pub returns-in-Image-clause-taken : goal.returns-in-Image-clause-taken
+returns-in-Image-clause-taken g c = rw c.in-Image.is (search rules)
+
 pub returns-in-Verify-clause-input : goal.returns-in-Verify-clause-input
 returns-in-Verify-clause-input g c = rw c.in-Verify.is c.read_file-in-Verify.ensures.input
 

@@ -1,0 +1,86 @@
+-- The objects of a picture are those that the heaps handed back hold.
+use Rattle.std.proofs.Common.{◌≡◌, ◌⊎◌, ℕ, Bool, true, false, Option, Some, None, List, [], ◌∷◌, map, slice_get, inl, inr, refl, ap, sym, subst, ◌∙◌}
+use Rattle.std.proofs.lemmas.Bool.{cases_Bool}
+use Rattle.object_layout.specs.declared.word.Addr.{Addr}
+use Rattle.object_layout.specs.Layout.{word_of_ref}
+use Rattle.hh_model.specs.declared.data.Name.{Name}
+use Rattle.hh_model.specs.declared.data.State.{State as Machine}
+use Rattle.hh_model.specs.Effect.{object_at}
+use Rattle.hh_model.specs.Step.{is_running, owner_of}
+use Rattle.run_ledger.specs.declared.data.Ledger.{Ledger}
+use Rattle.run_ledger.specs.Heaps.{heap_of, held_in}
+use Rattle.heap_tree.specs.Node.{state_of}
+use Rattle.ledger_steps.specs.Accounts.{own}
+use Rattle.core_relation.specs.Reads.{AllRead}
+use Rattle.core_relation.specs.Stands.{Place}
+use Rattle.core_relation.specs.Value.{In, Seen, Value, objects}
+use Rattle.core_relation.proofs.Members.{held_object, object_held}
+use Rattle.heap_image.specs.declared.picture.Picked.{Picked}
+use Rattle.heap_image.specs.declared.picture.Picture.{Picture}
+use Rattle.shared_tree.specs.HeldNames.{is_state_running}
+use Rattle.shared_tree.specs.Image.{shown}
+use Rattle.shared_tree.specs.Stands.{IsWorld}
+use Rattle.shared_tree.specs.World.{World, accounts, value_of}
+use Rattle.shared_tree.proofs.KeptNames.{handed_held}
+use Rattle.shared_image.specs.Drawn.{IsHandedBack, IsPictureOf, drawn_object}
+use Rattle.shared_image.specs.Held.{AreReferences, HasJustKept, IsKept, IsReference, StandsFor}
+use Rattle.shared_image.proofs.Known.{k, rests, runs, same}
+use Rattle.shared_image.proofs.Resting.{H, content}
+
+module _ (w : World) (I : IsWorld w) (p : Picture) (P : IsPictureOf w p) where
+  abbrev l : Ledger
+  l = accounts w
+
+  abbrev v : Value
+  v = value_of w
+
+  runs_now : (t : ℕ) → is_state_running (state_of w.tree t) ≡ is_running (slice_get l.machine.tasks t)
+  runs_now t = runs w I t ∙ ap (λ (m : Machine). is_running (slice_get m.tasks t)) (same w I)
+
+  drawn : (t : ℕ) → IsHandedBack w t → (o : Seen) → In (objects v t) o → In p.objects (drawn_object (shown o))
+  drawn t idle o i = (P.objects.each (drawn_object (shown o))).1 (t, o, idle, i, refl)
+
+  reference : (a : Addr) (n : Name) → Place v (k w I) n a → IsReference p l (word_of_ref (Some a)) (Some n)
+  reference a n place =
+      let u = own (k w I) n in
+      let owner : owner_of l.machine.tasks n.task ≡ u = ap (λ (m : Machine). owner_of m.tasks n.task) (sym (same w I)) in
+      elim (cases_Bool (is_state_running (state_of w.tree u))) [
+        | inl on ↦ inr (ap (λ z. is_running (slice_get l.machine.tasks z)) owner ∙ (sym (runs_now u) ∙ on))
+        | inr off ↦
+            let d = place.here (rests w I u off) in
+            inl (drawn_object (shown d.0), drawn u off d.0 d.1, ap (λ z. word_of_ref (Some z)) d.2.at, (ap (λ (z : Name). z.task) d.2.name, ap (λ (z : Name). z.count) d.2.name))
+      ]
+
+  references : (rs : List (Option Addr)) (xs : List (Option Name)) → AllRead (Place v (k w I)) rs xs → AreReferences p l (map word_of_ref rs) xs
+  references [] [] h = tt
+  references [] (x ∷ xs) h = absurd h
+  references (r ∷ rs) [] h = absurd h
+  references (None ∷ rs) (None ∷ xs) h = (refl, references rs xs h.1)
+  references (None ∷ rs) (Some n ∷ xs) h = absurd h.0
+  references (Some a ∷ rs) (None ∷ xs) h = absurd h.0
+  references (Some a ∷ rs) (Some n ∷ xs) h = (reference a n h.0, references rs xs h.1)
+
+  stands : (t : ℕ) (idle : IsHandedBack w t) (o : Seen) (i : In (objects v t) o) → StandsFor p l (drawn_object (shown o)) o.name
+  stands t idle o i =
+      let x = content w I t idle o i in
+      record {
+        object = x.0;
+        is = ap (λ (m : Machine). object_at m.store o.name) (sym (same w I)) ∙ x.1;
+        bears = (refl, refl);
+        mutable = x.2.mutable;
+        references = references o.refs x.0.refs x.2.refs;
+        numbers = x.2.ints;
+      }
+
+  pub just_kept : HasJustKept p l
+  just_kept = record {
+    each = λ q j.
+        let d = (P.objects.each q).0 j in
+        let held : In (held_in (heap_of (k w I) d.0)) d.1.name = object_held (v.homes d.0).chunks (heap_of (k w I) d.0) (H w I d.0 d.2 d.1 d.3).names d.1 d.3 in
+        (d.1.name, (d.0, sym (runs_now d.0) ∙ d.2, subst (λ ns. In ns d.1.name) (handed_held l d.0) held), subst (λ z. StandsFor p l z d.1.name) (sym d.4) (stands d.0 d.2 d.1 d.3));
+    all = λ n h.
+        let idle : IsHandedBack w h.0 = runs_now h.0 ∙ h.1 in
+        let names = (I.stands.homes.homes h.0 (rests w I h.0 idle)).names in
+        let o = held_object (v.homes h.0).chunks (heap_of (k w I) h.0) names n (subst (λ ns. In ns n) (sym (handed_held l h.0)) h.2) in
+        (drawn_object (shown o.0), drawn h.0 idle o.0 o.1, subst (StandsFor p l (drawn_object (shown o.0))) o.2 (stands h.0 idle o.0 o.1));
+  }

@@ -1,0 +1,50 @@
+-- The objects of a picture are those that the heaps handed back hold, as they stand in the machine's store.
+use Rattle.std.specs.Prelude.{◌≡◌, ◌⊎◌, ◌↔◌, ℕ, true, false, Option, Some, None, List, [], ◌∷◌, slice_get}
+use Rattle.listed.specs.Members.{In}
+use Rattle.hh_model.specs.declared.data.Name.{Name}
+use Rattle.hh_model.specs.declared.data.Object.{Object}
+use Rattle.hh_model.specs.Effect.{object_at}
+use Rattle.hh_model.specs.Step.{is_running, owner_of}
+use Rattle.run_ledger.specs.declared.data.Ledger.{Ledger}
+use Rattle.run_ledger.specs.Heaps.{heap_of, held_in}
+use Rattle.heap_image.specs.declared.picture.Picked.{Picked}
+use Rattle.heap_image.specs.declared.picture.Picture.{Picture}
+use Rattle.shared_tree.specs.Stands.{IsWorld}
+use Rattle.shared_tree.specs.World.{World, accounts}
+use Rattle.shared_image.specs.Drawn.{IsPictureOf}
+
+-- it bears the name
+abbrev pub Bears : Picked → Name → Type 0
+Bears q n = (q.birth.task ≡ n.task) × (q.birth.count ≡ n.count)
+
+-- a reference is nil for nil, and for a name the address of the object that bears it, or the name's owner runs
+abbrev pub IsReference : Picture → Ledger → ℕ → Option Name → Type 0
+IsReference p l v None = v ≡ 0
+IsReference p l v (Some n) = ((q : Picked) × In p.objects q × (q.address ≡ v) × Bears q n) ⊎ (is_running (slice_get l.machine.tasks (owner_of l.machine.tasks n.task)) ≡ true)
+
+abbrev pub AreReferences : Picture → Ledger → List ℕ → List (Option Name) → Type 0
+AreReferences p l [] [] = Unit {0}
+AreReferences p l [] (x ∷ xs) = ⊥
+AreReferences p l (v ∷ vs) [] = ⊥
+AreReferences p l (v ∷ vs) (x ∷ xs) = IsReference p l v x × AreReferences p l vs xs
+
+-- the object stands for that of the name
+pub record StandsFor (p : Picture) (l : Ledger) (q : Picked) (n : Name) : Type 0 where
+  pub object : Object
+  pub is : object_at l.machine.store n ≡ Some object
+  pub bears : Bears q n
+  pub mutable : q.mutable ≡ object.mutable
+  pub references : AreReferences p l q.references object.refs
+  pub numbers : q.numbers ≡ object.ints
+
+-- the heap of a task that doesn't run holds the name
+abbrev pub IsKept : Ledger → Name → Type 0
+IsKept l n = (t : ℕ) × (is_running (slice_get l.machine.tasks t) ≡ false) × In (held_in (heap_of l t)) n
+
+-- each object stands for a name that is kept, and each such name has an object
+pub record HasJustKept (p : Picture) (l : Ledger) : Type 0 where
+  pub each : (q : Picked) → In p.objects q → (n : Name) × IsKept l n × StandsFor p l q n
+  pub all : (n : Name) → IsKept l n → (q : Picked) × In p.objects q × StandsFor p l q n
+
+abbrev pub PicturesHaveJustKept : Type 0
+PicturesHaveJustKept = (w : World) (p : Picture) → IsWorld w → IsPictureOf w p → HasJustKept p (accounts w)
