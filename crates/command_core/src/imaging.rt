@@ -41,7 +41,10 @@ fn answer_trace(alloc: Global, settings: Settings, read: &TraceInput) -> Result<
     let TraceInput { program, trace } = read;
     let settings = settings.with_version(trace.version);
     match replay(alloc, program, settings, trace.entries.as_slice()) {
-        Ok(world) => answer_made(alloc, &world.into_shared()),
+        Ok(world) => {
+            let shared = world.into_shared();
+            answer_made(alloc, &shared)
+        }
         Err(ReplayStop::RefusedAt(refused)) => entry_refused(alloc, refused),
         Err(ReplayStop::NoMemory(_)) => Err(AllocError),
     }

@@ -1,10 +1,6 @@
 -- Walks up a tree that is given by each task's parent.
-use Rattle.std.specs.Prelude.{◌≡◌, ◌==◌, ◌||◌, ℕ, zero, suc, Bool, false, Option, Some, None}
-
--- what follows from a parent, or else this
-abbrev pub through : {A : Type 0} → Option ℕ → A → (ℕ → A) → A
-through None none go = none
-through (Some p) none go = go p
+use Rattle.std.specs.Prelude.{◌≡◌, ℕ, zero, suc, Option, Some, None}
+pub use Rattle.hh_model.specs.Step.{path_by, path_in, through}
 
 -- the task so many links above another
 abbrev pub ancestor : (ℕ → Option ℕ) → ℕ → ℕ → Option ℕ
@@ -23,11 +19,3 @@ depth_by par (suc more) t = through (par t) 0 (λ p. suc (depth_by par more p))
 -- a parent's number is below its child's, so the task's number is links enough
 abbrev pub depth_in : (ℕ → Option ℕ) → ℕ → ℕ
 depth_in par t = depth_by par t t
-
--- whether a is the task or is met on at most so many links up
-abbrev pub path_by : (ℕ → Option ℕ) → ℕ → ℕ → ℕ → Bool
-path_by par zero a t = a == t
-path_by par (suc more) a t = (a == t) || through (par t) false (path_by par more a)
-
-abbrev pub path_in : (ℕ → Option ℕ) → ℕ → ℕ → Bool
-path_in par a t = path_by par t a t

@@ -7,7 +7,7 @@ use std::test::Fail;
 
 /// A chunk of so many units for this owner is taken, and goes: its number stays in use.
 pub fn take(pool: &mut Pool, owner: u32, units: u32) -> Option<u32> {
-    if units > 1000 {
+    if units == 0 || units > 1000 {
         return None;
     }
     match pool.take(owner, units) {
@@ -18,7 +18,7 @@ pub fn take(pool: &mut Pool, owner: u32, units: u32) -> Option<u32> {
 
 /// A chunk of so many units is taken and handed back: what its number was, and its words.
 pub fn take_and_give(pool: &mut Pool, units: u32) -> Option<(u32, u32)> {
-    if units > 1000 {
+    if units == 0 || units > 1000 {
         return None;
     }
     let Ok(chunk) = pool.take(0, units) else {
@@ -34,7 +34,7 @@ pub fn take_and_give(pool: &mut Pool, units: u32) -> Option<(u32, u32)> {
 
 /// Whether so many units are more than are left.
 pub fn is_full(pool: &mut Pool, units: u32) -> bool {
-    units <= 1000 && matches!(pool.take(0, units), Err(NotTaken::Full))
+    0 < units && units <= 1000 && matches!(pool.take(0, units), Err(NotTaken::Full))
 }
 
 /// The owner of a number, if it is in use.

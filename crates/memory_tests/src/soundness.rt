@@ -5,7 +5,7 @@ ghost use Rattle.object_layout.specs.Cell.{IsBorn};
 ghost use Rattle.object_layout.specs.Place.{cell_at, IsCellAt};
 ghost use Rattle.task_frames.specs.Stack.{frames_of};
 ghost use Rattle.alloc_path.specs.Heap.{IsFresh};
-ghost use Rattle.leaf_copy_gc.specs.Survivors.{as_reference, held_by, outside, IsLive, IsSound};
+ghost use Rattle.leaf_copy_gc.specs.Survivors.{as_reference, held_by, outside, IsHeld, IsSound};
 
 use alloc_path::LeafHeap;
 use object_layout::{Addr, Chunk, is_born_at, next_at};
@@ -35,7 +35,7 @@ fn is_born_in(chunk: &Chunk, offset: u32) -> bool
 
 /// Whether an object that bears its birth name lies at an address of these chunks.
 pub fn is_live(chunks: &[Chunk], object: Addr) -> bool
-    ensures { IsTrue result → IsLive chunks.now object }
+    ensures { IsTrue result → IsHeld chunks.now object }
 {
     match chunks.split_first() {
         None => false,

@@ -17,7 +17,6 @@ use std::alloc::Global;
 fn is_closed(heap: &LeafHeap) -> bool
     ensures { IsTrue result → IsClosed heap.now.chunks }
 {
-    let _chunks = heap.chunks();
     is_fit_heap(heap)
 }
 
@@ -46,7 +45,11 @@ fn pool_of(alloc: Global, chunks: &[Chunk]) -> Option<Pool>
 {
     let mut pool = Pool::new(alloc, 1000);
     for chunk in chunks {
-        let Ok(taken) = pool.take(0, chunk.size() / 1024) else {
+        let units = chunk.size() / 1024;
+        if units == 0 {
+            return None;
+        }
+        let Ok(taken) = pool.take(0, units) else {
             return None;
         };
         if taken.number() != chunk.number() {

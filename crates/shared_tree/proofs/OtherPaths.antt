@@ -4,7 +4,6 @@ use Rattle.std.proofs.lemmas.Bool.{false≢true}
 use Rattle.std.proofs.lemmas.Option.{same_Some}
 use Rattle.listed.proofs.Members.{got_within}
 use Rattle.heap_tree.specs.Node.{Node, parent_in, parent_of as tree_parent, is_on_path as tree_path}
-use Rattle.heap_tree.specs.Walk.{path_by as tree_by, through as tree_through}
 use Rattle.hh_model.specs.declared.data.Task.{Task}
 use Rattle.hh_model.specs.Step.{is_on_path, parent_of, parents, path_by, through}
 use Rattle.run_ledger.specs.declared.data.Ledger.{Ledger}
@@ -14,16 +13,16 @@ use Rattle.shared_tree.specs.World.{World, accounts, node_of}
 use Rattle.shared_tree.specs.Stands.{IsWorld}
 use Rattle.shared_tree.proofs.Now.{stands_now}
 
-same_through : (f g : ℕ → Bool) → ((u : ℕ) → f u ≡ g u) → (o q : Option ℕ) → o ≡ q → tree_through o false f ≡ through q false g
+same_through : (f g : ℕ → Bool) → ((u : ℕ) → f u ≡ g u) → (o q : Option ℕ) → o ≡ q → through o false f ≡ through q false g
 same_through f g e None None h = refl
 same_through f g e None (Some u) h = absurd cc
 same_through f g e (Some u) None h = absurd cc
 same_through f g e (Some u) (Some z) h = e u ∙ ap g (same_Some u z h)
 
 -- the same parents make the same paths
-same_by : (f g : ℕ → Option ℕ) → ((u : ℕ) → f u ≡ g u) → (more a t : ℕ) → tree_by f more a t ≡ path_by g more a t
+same_by : (f g : ℕ → Option ℕ) → ((u : ℕ) → f u ≡ g u) → (more a t : ℕ) → path_by f more a t ≡ path_by g more a t
 same_by f g e zero a t = refl
-same_by f g e (suc more) a t = ap (λ b. (a == t) || b) (same_through (tree_by f more a) (path_by g more a) (λ u. same_by f g e more a u) (f t) (g t) (e t))
+same_by f g e (suc more) a t = ap (λ b. (a == t) || b) (same_through (path_by f more a) (path_by g more a) (λ u. same_by f g e more a u) (f t) (g t) (e t))
 
 abbrev seen_task : Option ℕ → Task → SeenNode
 seen_task worker x = record { parent = x.parent; state = state_by x.status worker }

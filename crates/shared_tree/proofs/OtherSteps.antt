@@ -30,7 +30,8 @@ use Rattle.run_ledger.specs.Steps.{task_steps, touched}
 use Rattle.ledger_steps.specs.Accounts.{Rests, own, rested}
 use Rattle.ledger_steps.specs.Last.{JustReads}
 use Rattle.task_machine.specs.declared.part.Private.{Private}
-use Rattle.task_machine.specs.Plan.{int_of, ref_of, same_reference}
+use Rattle.object_layout.specs.References.{same_reference}
+use Rattle.task_machine.specs.Plan.{int_of, ref_of}
 use Rattle.core_relation.specs.Value.{In, Value}
 use Rattle.core_relation.specs.Fits.{with_home}
 use Rattle.core_relation.specs.Reads.{Reads}

@@ -8,7 +8,7 @@ use Rattle.hh_model.specs.declared.data.Name.{Name}
 use Rattle.hh_model.specs.Effect.{same_name}
 use Rattle.run_ledger.specs.declared.data.Ledger.{Ledger}
 use Rattle.ledger_steps.specs.Accounts.{Rests, own}
-use Rattle.task_machine.specs.Plan.{same_reference}
+use Rattle.object_layout.specs.References.{same_reference}
 use Rattle.core_relation.specs.Value.{Lies, Seen, Value}
 use Rattle.core_relation.specs.Reads.{Reads}
 use Rattle.core_relation.specs.Stands.{Place, Stands}

@@ -27,7 +27,8 @@ use Rattle.run_ledger.specs.Steps.{owns, touched}
 use Rattle.ledger_steps.specs.Accounts.{rested}
 use Rattle.ledger_steps.specs.Last.{JustReads}
 use Rattle.task_machine.specs.declared.part.Private.{Private}
-use Rattle.task_machine.specs.Plan.{int_of, ref_of, same_reference}
+use Rattle.object_layout.specs.References.{same_reference}
+use Rattle.task_machine.specs.Plan.{int_of, ref_of}
 use Rattle.core_relation.specs.Fits.{with_home}
 use Rattle.core_relation.specs.Reads.{Reads}
 use Rattle.core_relation.specs.Stands.{Place}

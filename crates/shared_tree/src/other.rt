@@ -5,7 +5,7 @@ ghost use Rattle.object_layout.specs.Cell.{IsObject};
 ghost use Rattle.object_layout.specs.Chunks.{cell_of, object_of};
 ghost use Rattle.write_barrier.specs.Stored.{IsOwned};
 ghost use Rattle.hh_model.specs.Effect.{place_in};
-ghost use Rattle.task_machine.specs.Plan.{int_of, ref_of, same_reference};
+ghost use Rattle.task_machine.specs.Plan.{int_of, ref_of};
 ghost use Rattle.shared_tree.specs.Other.{object_named, or_frozen, or_range, other_step, reads_into, swaps, IsReadable};
 
 use crate::next::{field_index, number, reference};
@@ -14,7 +14,7 @@ use chunk_pool::Pool;
 use heap_tree::Tree;
 use hh_lang::{Instr, IntReg, RefReg};
 use hh_model::Trap;
-use object_layout::Addr;
+use object_layout::{Addr, is_same_reference};
 use task_machine::Private;
 
 /// What a step does with an object that another task owns.
@@ -50,17 +50,6 @@ pub(crate) fn named(part: &Private, instr: Instr) -> Option<Addr>
         Instr::Freeze(object) => reference(part, object),
         Instr::Cas(_, object, _, _, _) => reference(part, object),
         _ => None,
-    }
-}
-
-// Whether two references are both nil, or the same address.
-fn is_same(a: Option<Addr>, b: Option<Addr>) -> bool
-    ensures { result ≡ same_reference a b }
-{
-    match (a, b) {
-        (None, None) => true,
-        (Some(a), Some(b)) => a.chunk == b.chunk && a.offset == b.offset,
-        _ => false,
     }
 }
 
@@ -175,7 +164,7 @@ fn swapping(
 ) -> OtherStep
     ensures { result ≡ swaps register object held expected field value }
 {
-    if is_same(held, expected) {
+    if is_same_reference(held, expected) {
         OtherStep::Swaps(register, object, field, value)
     } else {
         OtherStep::SetsNumber(register, 0)

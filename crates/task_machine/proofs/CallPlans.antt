@@ -12,7 +12,8 @@ use Rattle.task_machine.specs.declared.part.Paused.TheVariants.{Shared, Due, Nee
 use Rattle.task_machine.specs.declared.plan.Plan.{Plan}
 use Rattle.task_machine.specs.declared.plan.Plan.TheVariants.{Pause, SetInt, SetReference, Return, New, Pack, WriteReference, WriteInt, Swap, Freeze}
 use Rattle.task_machine.specs.declared.plan.Spot.{Spot}
-use Rattle.task_machine.specs.Plan.{allocating, int_of, or_shared, own_in, planned, ref_of, same_reference, unless_frozen}
+use Rattle.object_layout.specs.References.{same_reference}
+use Rattle.task_machine.specs.Plan.{allocating, int_of, or_shared, own_in, planned, ref_of, unless_frozen}
 use Rattle.task_machine.specs.Run.{IsCall, IsCallPlan}
 
 abbrev Not : Plan → Type 0

@@ -7,12 +7,12 @@ ghost use Rattle.object_layout.specs.Place.{cell_at};
 ghost use Rattle.task_machine.specs.Plan.{own_in, planned, ref_of};
 ghost use Rattle.task_machine.specs.Ready.{IsReady, IsSafe, IsThere};
 
-use crate::arithmetic::{field_index, is_same};
+use crate::arithmetic::field_index;
 use crate::decide::SHARED;
 use crate::part::Private;
 use crate::plan::{Plan, Spot};
 use hh_lang::{Instr, IntReg, RefReg};
-use object_layout::{Chunk, header_at, int_at, ref_at};
+use object_layout::{Chunk, header_at, int_at, is_same_reference, ref_at};
 
 impl Private {
     /// The object that a register names, where it is the task's own; None for nil and for another task's.
@@ -159,7 +159,7 @@ impl Private {
         if !header.mutable {
             return SHARED;
         }
-        if is_same(ref_at(chunk, offset, at), self.reference(expected)) {
+        if is_same_reference(ref_at(chunk, offset, at), self.reference(expected)) {
             Plan::Swap(target, own, at, self.reference(value))
         } else {
             Plan::SetInt(target, 0)

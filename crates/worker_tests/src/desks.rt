@@ -1,31 +1,40 @@
 // Two workers at their desks, in one thread: the order of their turns is given.
-ghost use Rattle.std.specs.Prelude.{◌≡◌, ◌×◌, IfOk, IfSome};
+ghost use Rattle.std.specs.Prelude.{◌≡◌, IfOk, IfSome};
 ghost use Rattle.turn_lock.specs.Seats.{view};
 ghost use Rattle.turn_lock.specs.Turn.{identity};
-ghost use Rattle.worker_run.specs.Desks.{AreAllDesks, IsDesk};
-ghost use Rattle.worker_run.specs.Parts.{GoesWith};
+ghost use Rattle.worker_run.specs.Desks.{AreAllDesks, ChangesHand, FewThefts, IsDesk};
+ghost use Rattle.worker_run.specs.Parts.{ComesWith, GoesWith};
 
 use hh_lang::Program;
 use hh_model::End;
 use outside_io::EmptyGate;
 use run_ledger::RunEnd;
 use run_trace::{Entry, Settings, Version};
+use shared_tree::Shared;
+use std::alloc::Global;
 use std::sync::Wait;
 use std::test::Fail;
 use trace_input::read_trace_input;
 use turn_lock::Turn;
-use worker_run::{Bell, Desk, Next, Run, opened, prepare, take_turn};
+use worker_run::{Bell, Desk, Next, Ready, Run, opened, prepare, take_turn};
 use world_core::replay;
 
 const COLLECTS: &str =
     "fn left\nset i0 0\nset i1 14\nnewm r1 i0 i1\nputr r0 i0 r1\nnil r1\nnewm r2 i0 i1\nret\nend\nfn right\nset i0 0\nnil r1\nputr r0 i0 r1\nret\nend\nfn main\nset i0 1\nset i1 0\nnewm r0 i0 i1\npar left right\nset i2 0\ngetr r3 r0 i2\nnil r4\nsame i3 r3 r4\nout i3\nret\nend\ntrace 1\n0 took 0\n0 ran 0 2\n0 chunk 0\n0 ran 0 2\n0 took 1\n1 took 2\n0 ran 1 2\n0 chunk 1\n0 ran 1 2\n0 ran 1 1\n0 begin 1\n1 ran 2 3\n0 end 1 1 1 16\n0 ran 1 2\n1 ran 2 1\n1 took 0\n1 ran 0 5\n1 ran 0 1\n";
 
 // The desks of two workers.
-fn two_desks(turn: &Turn<Run>, program: &Program, mut desks: Vec<Desk>) -> Option<(Desk, Desk)>
-    requires { (s : _) × AreAllDesks (identity turn.now) program.now s desks.items }
+fn two_desks(
+    turn: &Turn<Run>,
+    program: &Program,
+    settings: Settings,
+    mut desks: Vec<Desk>,
+) -> Option<(Desk, Desk)>
+    requires { AreAllDesks (identity turn.now) program.now settings desks.items }
     ensures { IfSome result (λ d. IsDesk (identity turn.now) program.now d.0 × IsDesk (identity turn.now) program.now d.1) }
 {
-    let _ = (turn, program);
+    let _ = turn;
+    let _ = program;
+    let _ = settings;
     if desks.len() != 2 {
         return None;
     }
@@ -34,7 +43,31 @@ fn two_desks(turn: &Turn<Run>, program: &Program, mut desks: Vec<Desk>) -> Optio
     Some((first, second))
 }
 
-// The worker comes for its turn, and has it. While it takes its steps, or copies, the other one has the turn.
+// The worker takes its steps, or copies, while the other one has the turn.
+fn makes_ready<R: Wait>(
+    rt: &R,
+    turn: &Turn<Run>,
+    bell: &Bell,
+    program: &Program,
+    other: &mut Desk,
+    desk: &mut Desk,
+    next: Next,
+) -> Option<Ready>
+    requires other { IsDesk (identity turn.now) program.now other.old }
+    requires goes { GoesWith program.now desk.old.worker (view desk.old.seat) next }
+    requires few { FewThefts desk.old }
+    ensures other { IsDesk (identity turn.now) program.now other.new }
+    ensures still { (n : Next) → GoesWith program.now other.old.worker (view other.old.seat) n → GoesWith program.now other.new.worker (view other.new.seat) n }
+    ensures hand { ChangesHand desk.old desk.new }
+    ensures comes { IfSome result (ComesWith program.now desk.old.worker (view desk.old.seat)) }
+{
+    let run = turn.take(rt, &mut other.seat);
+    let ready = prepare(rt, bell, &EmptyGate, program, desk, next);
+    turn.give_same(&mut other.seat, run);
+    ready
+}
+
+// The worker comes for its turn, and has it.
 fn goes_on<R: Wait>(
     rt: &R,
     turn: &Turn<Run>,
@@ -52,10 +85,7 @@ fn goes_on<R: Wait>(
     ensures desk { IsDesk (identity turn.now) program.now desk.new }
     ensures goes { IfOk result (GoesWith program.now desk.new.worker (view desk.new.seat)) }
 {
-    let run = turn.take(rt, &mut other.seat);
-    let ready = prepare(rt, bell, &EmptyGate, program, desk, next);
-    turn.give_same(&mut other.seat, run);
-    match ready {
+    match makes_ready(rt, turn, bell, program, other, desk, next) {
         Some(ready) => Ok(take_turn(rt, turn, desk, program, ready)),
         None => Err(Fail::from("it has stopped")),
     }
@@ -72,7 +102,8 @@ fn drive<R: Wait>(
 ) -> Result<(), Fail>
     requires first { IsDesk (identity turn.now) program.now first.old }
     requires second { IsDesk (identity turn.now) program.now second.old }
-    ensures { IsDesk (identity turn.now) program.now first.new }
+    ensures first { IsDesk (identity turn.now) program.now first.new }
+    ensures second { IsDesk (identity turn.now) program.now second.new }
 {
     let bell = Bell::new();
     let mut to_first = Next::Idle;
@@ -87,6 +118,32 @@ fn drive<R: Wait>(
     Ok(())
 }
 
+// Whether the run's entries are legal, and how replaying them ends.
+fn replayed(
+    alloc: Global,
+    program: &Program,
+    settings: Settings,
+    entries: &[Entry],
+) -> Option<RunEnd> {
+    replay(alloc, program, settings, entries).ok()?.ended()
+}
+
+// The desks take the turns that the trace asks for; the answer is the value that they leave, and what a look then gives.
+fn at_desks<R: Wait>(
+    rt: &R,
+    alloc: Global,
+    program: &Program,
+    settings: Settings,
+    entries: &[Entry],
+) -> Result<(Shared, u64), Fail> {
+    let (turn, desks) = opened(alloc, program, settings)?;
+    let (mut first, mut second) = two_desks(&turn, program, settings, desks).ok_or("two desks")?;
+    drive(rt, &turn, program, &mut first, &mut second, entries)?;
+    let run = turn.take(rt, &mut first.seat);
+    let looked = turn.look(&mut second.seat);
+    Ok((run.paced.into_shared(), looked))
+}
+
 #[test]
 fn two_desks_in_one_thread(rt: HostRuntime) -> Result<(), Fail> {
     let input = read_trace_input(rt.alloc(), COLLECTS.as_bytes())
@@ -94,16 +151,15 @@ fn two_desks_in_one_thread(rt: HostRuntime) -> Result<(), Fail> {
         .ok_or("a program with a trace")?;
     let entries = input.trace.entries.as_slice();
     let settings = Settings::new(Version::One, 2, 1_000_000, 4096, 16, 8192);
-    let (turn, desks) = opened(rt.alloc(), &input.program, settings)?;
-    let (mut first, mut second) = two_desks(&turn, &input.program, desks).ok_or("two desks")?;
-    drive(&rt, &turn, &input.program, &mut first, &mut second, entries)?;
-    let shared = turn.take(&rt, &mut first.seat).paced.into_shared();
+    let (shared, looked) = at_desks(&rt, rt.alloc(), &input.program, settings, entries)?;
     assert_eq!(rt; shared.journal(), entries);
     assert_eq!(rt; shared.outputs(), [1].as_slice());
-    assert_eq!(rt; shared.ended(), Some(RunEnd::Machine(End::Done)));
-    let again = replay(rt.alloc(), &input.program, settings, shared.journal())
-        .ok()
-        .ok_or("a legal journal")?;
-    assert_eq!(rt; again.ended(), Some(RunEnd::Machine(End::Done)));
+    let done = Some(RunEnd::Machine(End::Done));
+    assert_eq!(rt; shared.ended(), done);
+    assert_eq!(rt;
+        replayed(rt.alloc(), &input.program, settings, shared.journal()),
+        done
+    );
+    assert_eq!(rt; looked, entries.len() as u64);
     Ok(())
 }

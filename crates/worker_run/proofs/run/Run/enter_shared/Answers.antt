@@ -50,7 +50,7 @@ returns-in-Ok-Over c =
     subst (RanTo c.args.self.paced c.ran.new.self c.args.worker c.args.part) c.in-Ok-Over.field-0-is c.in-Ok-Over.ensures.answered in
     let kind : Kind = Ran c.args.part.task (c.args.part.fresh + 1) in
     c.entered-in-Ok-Over.ensures c.args.self c.args.worker (HasPaused c.args.part Shared) kind (one c.args.self.paced c.ran.new.self c.args.worker kind a.enters a.others) c.requires.on
-    (λ on. ap (λ (o : Option RunEnd). is_some o) a.halts.1.0)
+    (λ on. ap (λ (o : Option RunEnd). is_some o) a.halts.1)
 
 pub returns-in-Ok-Done : goal.returns-in-Ok-Done
 returns-in-Ok-Done c =
@@ -60,7 +60,7 @@ returns-in-Ok-Done c =
     c.entered-in-Ok-Done.ensures c.args.self c.args.worker (HasPaused c.args.part Shared) kind (one c.args.self.paced c.ran.new.self c.args.worker kind a.enters a.others) c.requires.on
     (λ on. ap (λ (o : Option RunEnd). is_some o) a.done)
 
-pub returns-in-Err : goal.returns-in-Err
-returns-in-Err c =
+pub returns : goal.returns
+returns c =
     c.wanting.ensures c.args.self c.args.worker (HasPaused c.args.part Shared) (Some (Ran c.args.part.task (c.args.part.fresh + 1)))
     (unentered c.args.self.paced c.ran.new.self c.in-Err.failed.cause c.in-Err.ensures.same c.in-Err.ensures.still) (not_over c.args.self c.requires.on c.requires.goes)
