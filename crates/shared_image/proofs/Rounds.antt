@@ -1,6 +1,5 @@
 -- A picture grows chunk by chunk, and task by task.
 use Rattle.std.proofs.Common.{◌≡◌, ◌⊎◌, ℕ, ◌+◌, ◌*◌, ◌<◌, Option, Some, None, List, [], ◌∷◌, ◌++◌, length, map, option_map, slice_get, take, inl, inr, refl, sym, subst}
-use Rattle.std.proofs.lemmas.Option.{slice_get_within}
 use Rattle.listed.proofs.Members.{in_append_cases, in_append_left, in_append_right}
 use Rattle.chunk_pool.specs.declared.pool.Held.{Held}
 use Rattle.chunk_pool.specs.Chunks.{held_at}
@@ -110,9 +109,6 @@ module _ (w : World) (I : IsWorld w) where
           | inl j ↦ inl (X.0, X.1, j, X.3, X.4)
           | inr e ↦ inr (X.1, subst (λ (z : Live). IsNoted w z.number X.1) (sym e) X.3, subst (λ (z : Live). f ≡ drawn_field z.number X.1) (sym e) X.4)
         ]
-
-  pub live_made : (x : Live) → IsLive w x → x.number < length w.tree
-  live_made x L = slice_get_within w.tree x.number _ L.is
 
   -- THE WHOLE
   pub picture_of : (xs : List Live) (cs : List InUse) (os : List Picked) (fs : List Remembered) → AreAll LiveBefore (IsLive w) xs → AreAll InUseBefore (IsInUse w) cs → AreAll ObjectBefore (AreObjectsOf w cs) os → AreAll FieldBefore (AreFieldsOf w xs) fs

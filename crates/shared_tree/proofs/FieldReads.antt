@@ -6,6 +6,7 @@ use Rattle.std.specs.List.Sorted.{IsPermutation, IsSortedWithin}
 use Rattle.std.specs.Ordering.{nat_cmp, ordering_then, is_lt}
 use Rattle.std.specs.Prelude.{Contains}
 use Rattle.std.proofs.lemmas.Bool.{cases_eq, false≢true}
+use Rattle.std.proofs.lemmas.Option.{slice_get_past}
 use Rattle.std.proofs.lemmas.List.Sorted.{Contains-permutation, IsPermutation-sym}
 use Rattle.std.proofs.lemmas.Map.Keys.{IsDistinct-IsPermutation, IsDistinct-cons, IsDistinct-head, IsDistinct-tail}
 use Rattle.listed.proofs.Members.{In, any_from_in, contains_from_in, in_from_contains}
@@ -159,6 +160,15 @@ module _ (w : World) (I : IsWorld w) where
 
   word_once : (a b : Addr) → a.offset < 1024 → b.offset < 1024 → word_of_ref (Some a) ≡ word_of_ref (Some b) → (a.chunk ≡ b.chunk) × (a.offset ≡ b.offset)
   word_once a b na nb e = let f : a.chunk * 1024 + a.offset + 1 ≡ b.chunk * 1024 + b.offset + 1 = e in (omega (arith, na, nb, f), omega (arith, na, nb, f))
+
+  -- a task that wasn't made has none
+  pub none_noted : (t : ℕ) → length w.tree ≤ t → AreAll FieldBefore (IsNoted w t) []
+  none_noted t past =
+      let none : sources (value_of w) t ≡ [] = ap (λ o. (noted_in o).sources) (slice_get_past w.sets t (subst (λ n. n ≤ t) (sym I.noted) past)) in
+      record {
+        rising = tt;
+        each = λ f. ((λ i. absurd i), (λ h. absurd (subst (λ xs. HasItem xs h.0) none h.1)));
+      }
 
   module _ (t : ℕ) (set : SetOf) (is : slice_get w.sets t ≡ Some set) where
     abbrev ss : List Source

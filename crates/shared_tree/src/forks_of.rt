@@ -54,7 +54,7 @@ impl Shared {
     }
 
     // How many tasks there are.
-    fn made(&self) -> u32
+    pub(crate) fn made(&self) -> u32
         ensures { result ≡ length self.now.tree }
     {
         self.tree.made()

@@ -33,8 +33,8 @@ fn fields_of(alloc: Global, sources: &[Source]) -> Result<Vec<Field>, AllocError
 }
 
 impl Shared {
-    /// The fields that were noted to point down into the heap of a task, by rising object and field.
-    pub fn remembered(&self, alloc: Global, task: u32) -> Result<Listed<Field>, AllocError>
+    // The fields that a task's set has, in order.
+    fn noted_fields(&self, alloc: Global, task: u32) -> Result<Listed<Field>, AllocError>
         requires { task < length self.now.tree }
         ensures { IfOk result (λ fields. AreAll FieldBefore (IsNoted self.now task) fields) }
     {
@@ -42,5 +42,19 @@ impl Shared {
         let mut fields = fields_of(alloc, self.sets[task as usize].remembered.sources())?;
         fields.sort_unstable();
         Ok(Listed::from_vec(fields))
+    }
+
+    /// The fields that were noted to point down into the heap of a task, by rising object and field; none where there is no
+    /// such task.
+    #[tactic(auto, using(crate::proofs::FieldReads::none_noted))]
+    pub fn remembered(&self, alloc: Global, task: u32) -> Result<Listed<Field>, AllocError>
+        ensures { IfOk result (λ fields. AreAll FieldBefore (IsNoted self.now task) fields) }
+    {
+        self.stands();
+        if task < self.made() {
+            self.noted_fields(alloc, task)
+        } else {
+            Ok(Listed::new(alloc))
+        }
     }
 }

@@ -4,17 +4,8 @@ use Rattle.heap_tree.specs.declared.state.State.TheVariants.{Ready}
 use Rattle.shared_tree.specs.declared.live.Live.{Live}
 use Rattle.shared_tree.specs.World.{World}
 use Rattle.shared_image.specs.Drawn.{drawn_field}
-use Rattle.shared_image.proofs.Numbers.{got_at}
-use Rattle.shared_image.proofs.Rounds.{fields_step, live_made}
+use Rattle.shared_image.proofs.Rounds.{fields_step}
 use Rattle.shared_image.proofs.picture.draw_fields.Goals as goal
-
-pub remembered-requires : goal.remembered-requires
-remembered-requires c =
-    let w : World = c.args.shared.now in
-    let xs = c.args.live.now in
-    let i = c.loop-task.task-index in
-    let is = slice_get-get_or xs i _ c.loop-task-test.true in
-    live_made w c.stands.ensures _ ((c.requires.each _).0 (got_at xs i _ is))
 
 pub loop-task-preserved : goal.loop-task-preserved
 loop-task-preserved c =

@@ -5,7 +5,7 @@ use Rattle.shared_tree.specs.declared.noted.Field.{Field}
 use Rattle.shared_tree.specs.Image.{AreAll, FieldBefore, IsNoted, field_of}
 use Rattle.shared_tree.specs.World.{World, source_of}
 use Rattle.shared_tree.proofs.FieldReads.{noted_in_order}
-use Rattle.shared_tree.proofs.shared.Shared.remembered.Goals as goal
+use Rattle.shared_tree.proofs.shared.Shared.noted_fields.Goals as goal
 
 pub returns : goal.returns
 returns c =
