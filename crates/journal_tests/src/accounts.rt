@@ -26,6 +26,24 @@ fn names(alloc: Global, task: u32, counts: &[u32]) -> Result<Listed<Name>, Alloc
     Ok(names)
 }
 
+// A list of these references.
+fn references(alloc: Global, refs: &[Option<Name>]) -> Result<Listed<Option<Name>>, AllocError> {
+    let mut list = Listed::new(alloc);
+    for reference in refs {
+        list.push(*reference)?;
+    }
+    Ok(list)
+}
+
+// So many zeros.
+fn zeros(alloc: Global, count: usize) -> Result<Listed<i64>, AllocError> {
+    let mut list = Listed::new(alloc);
+    for _ in 0..count {
+        list.push(0)?;
+    }
+    Ok(list)
+}
+
 // An object of a task with these references, and so many number fields.
 fn object(
     alloc: Global,
@@ -33,11 +51,13 @@ fn object(
     refs: &[Option<Name>],
     ints: usize,
 ) -> Result<Object, AllocError> {
+    let refs = references(alloc, refs)?;
+    let ints = zeros(alloc, ints)?;
     Ok(Object {
         strand: Strand { task, joins: 0 },
         mutable: true,
-        refs: Listed::from_vec(refs.to_vec(alloc)?),
-        ints: Listed::from_vec(vec![in alloc; 0; ints]?),
+        refs,
+        ints,
     })
 }
 
@@ -132,20 +152,28 @@ fn reached(
     Ok(within(alloc, machine, heaps, task)?)
 }
 
+// The accounts of the two heaps.
+fn family_heaps(alloc: Global) -> Result<Listed<Heap>, AllocError> {
+    let root = heap(alloc, 0, &[1], &[0], &[])?;
+    let child = heap(alloc, 1, &[2], &[3, 0], &[1])?;
+    let mut heaps = Listed::new(alloc);
+    heaps.push_pair(root, child)?;
+    Ok(heaps)
+}
+
+// Whether just these are reached within the heap of a task of the family, in this order.
+fn are_reached(alloc: Global, task: u32, expected: &[Name]) -> Result<bool, Fail> {
+    let machine = family(alloc)?;
+    let heaps = family_heaps(alloc)?;
+    let names = reached(alloc, &machine, &heaps, task)?;
+    Ok(names.as_slice() == expected)
+}
+
 #[test]
 fn reached_within_heaps(rt: HostRuntime) -> Result<(), Fail> {
     let alloc = rt.alloc();
-    let machine = family(alloc)?;
-    let mut heaps = Listed::new(alloc);
-    heaps.push(heap(alloc, 0, &[1], &[0], &[])?)?;
-    heaps.push(heap(alloc, 1, &[2], &[3, 0], &[1])?)?;
-    let of_root = reached(alloc, &machine, &heaps, 0)?;
-    assert_eq!(rt; of_root.as_slice(), [name(0, 1), name(0, 0)].as_slice());
-    let of_child = reached(alloc, &machine, &heaps, 1)?;
-    assert_eq!(rt;
-        of_child.as_slice(),
-        [name(1, 2), name(1, 0), name(1, 1)].as_slice()
-    );
+    assert!(rt; are_reached(alloc, 0, &[name(0, 1), name(0, 0)])?);
+    assert!(rt; are_reached(alloc, 1, &[name(1, 2), name(1, 0), name(1, 1)])?);
     Ok(())
 }
 
@@ -176,28 +204,32 @@ fn lone_heap(alloc: Global) -> Result<Heap, AllocError> {
     Ok(heap)
 }
 
+// The words of a heap, its units, the chunks that a collection of it takes, and the words of its large objects, where its
+// words can be counted.
+fn counts(machine: &State, heap: &Heap) -> Option<(u64, u64, u64, u64)> {
+    if !is_countable(machine, heap) {
+        return None;
+    }
+    Some((
+        words_in(machine, heap),
+        units_in(machine, heap),
+        take_of(machine, heap),
+        words_sum(machine, heap.large.as_slice()),
+    ))
+}
+
 #[test]
 fn words_and_units(rt: HostRuntime) -> Result<(), Fail> {
     let alloc = rt.alloc();
     let machine = lone(alloc)?;
     let heap = lone_heap(alloc)?;
-    if !is_countable(&machine, &heap) {
-        return Err(Fail::new("words"));
-    }
-    assert_eq!(rt;
-        (words_in(&machine, &heap), units_in(&machine, &heap)),
-        (7607, 17)
+    assert!(rt; counts(&machine, &heap) == Some((7607, 17, 3, 6073)));
+    let words = (
+        words_at(&machine, name(0, 4)),
+        words_at(&machine, name(0, 8)),
     );
-    assert_eq!(rt; take_of(&machine, &heap), 3);
-    assert_eq!(rt; words_sum(&machine, heap.large.as_slice()), 6073);
-    assert_eq!(rt;
-        (
-            words_at(&machine, name(0, 4)),
-            words_at(&machine, name(0, 8))
-        ),
-        (3000, 0)
-    );
-    assert_eq!(rt; (units(1024), units(1025)), (1, 2));
+    assert!(rt; words == (3000, 0));
+    assert!(rt; units(1024) == 1 && units(1025) == 2);
     Ok(())
 }
 
@@ -211,34 +243,46 @@ fn collected_by_birth(rt: HostRuntime) -> Result<(), Fail> {
         return Err(Fail::new("words"));
     }
     let parts = collect(alloc, &machine, &heap)?;
-    assert_eq!(rt; (parts.taken, parts.given, parts.left), (2, 7, 4597));
+    assert!(rt; (parts.taken, parts.given, parts.left) == (2, 7, 4597));
     parts.put_into(&mut heap);
     let first = [name(0, 0), name(0, 1), name(0, 2)];
-    assert_eq!(rt; list(&heap, 0), first.as_slice());
-    assert_eq!(rt; list(&heap, 1), [name(0, 3)].as_slice());
-    assert_eq!(rt; heap.large.as_slice(), [name(0, 5), name(0, 6)].as_slice());
-    assert_eq!(rt; (heap.room, heap.since, heap.begun), (524, 0, None));
+    assert!(rt; list(&heap, 0) == first.as_slice());
+    assert!(rt; list(&heap, 1) == [name(0, 3)].as_slice());
+    assert!(rt; heap.large.as_slice() == [name(0, 5), name(0, 6)].as_slice());
+    assert!(rt; (heap.room, heap.since, heap.begun) == (524, 0, None));
     Ok(())
 }
 
-// The list that was filled last is emptied, and the room is 0.
+// Whether the lone heap has just what its snapshot has. The list that was filled last is emptied, and the room is 0.
+fn is_swept(heap: &Heap) -> bool {
+    heap.chunks.len() == 2
+        && list(heap, 0) == [name(0, 2)].as_slice()
+        && list(heap, 1) == [name(0, 0)].as_slice()
+        && heap.large.as_slice() == [name(0, 6)].as_slice()
+        && heap.room == 0
+        && heap.since == 77
+        && heap.swept
+}
+
+// Sweeps a heap whose words can be counted, and says how many units that gives back.
+fn swept(alloc: Global, machine: &State, heap: &mut Heap) -> Result<u64, Fail> {
+    if !is_countable(machine, heap) {
+        return Err(Fail::new("words"));
+    }
+    let parts = sweep(alloc, machine, heap)?;
+    let given = parts.given;
+    parts.put_into(heap);
+    Ok(given)
+}
+
 #[test]
 fn swept_by_snapshot(rt: HostRuntime) -> Result<(), Fail> {
     let alloc = rt.alloc();
     let machine = lone(alloc)?;
     let mut heap = lone_heap(alloc)?;
     heap.snapshot = names(alloc, 0, &[2, 0, 6])?;
-    if !is_countable(&machine, &heap) {
-        return Err(Fail::new("words"));
-    }
-    let parts = sweep(alloc, &machine, &heap)?;
-    assert_eq!(rt; parts.given, 6);
-    parts.put_into(&mut heap);
-    assert_eq!(rt; heap.chunks.len(), 2);
-    assert_eq!(rt; list(&heap, 0), [name(0, 2)].as_slice());
-    assert_eq!(rt; list(&heap, 1), [name(0, 0)].as_slice());
-    assert_eq!(rt; heap.large.as_slice(), [name(0, 6)].as_slice());
-    assert_eq!(rt; (heap.room, heap.since, heap.swept), (0, 77, true));
+    let given = swept(alloc, &machine, &mut heap)?;
+    assert!(rt; given == 6 && is_swept(&heap));
     Ok(())
 }
 
@@ -250,10 +294,10 @@ fn objects_are_placed(rt: HostRuntime) -> Result<(), Fail> {
     heap.reserved = 2;
     place(alloc, &mut heap, name(0, 0), 1024)?;
     put_last(alloc, &mut heap.chunks, name(0, 1))?;
-    assert_eq!(rt; list(&heap, 0), [name(0, 0), name(0, 1)].as_slice());
+    assert!(rt; list(&heap, 0) == [name(0, 0), name(0, 1)].as_slice());
     place(alloc, &mut heap, name(0, 2), 1025)?;
-    assert_eq!(rt; heap.large.as_slice(), [name(0, 2)].as_slice());
-    assert_eq!(rt; (heap.reserved, heap.room, heap.since), (0, 0, 2049));
+    assert!(rt; heap.large.as_slice() == [name(0, 2)].as_slice());
+    assert!(rt; (heap.reserved, heap.room, heap.since) == (0, 0, 2049));
     Ok(())
 }
 
@@ -295,23 +339,13 @@ fn children_join(rt: HostRuntime) -> Result<(), Fail> {
     }
     join(alloc, &mut heaps, 0, 1)?;
     let parent = heaps.get(0).ok_or("a parent")?;
-    assert_eq!(rt;
-        (list(parent, 0), list(parent, 1)),
-        ([name(1, 0)].as_slice(), [name(2, 0)].as_slice())
+    assert!(rt;
+        (list(parent, 0), list(parent, 1)) == ([name(1, 0)].as_slice(), [name(2, 0)].as_slice())
     );
-    assert_eq!(rt; list(parent, 2), [name(0, 0)].as_slice());
-    assert_eq!(rt;
-        parent.large.as_slice(),
-        [name(1, 1), name(2, 1), name(0, 1)].as_slice()
-    );
-    assert_eq!(rt;
-        (parent.room, parent.since, parent.worker),
-        (5, 35, Some(0))
-    );
+    assert!(rt; list(parent, 2) == [name(0, 0)].as_slice());
+    assert!(rt; parent.large.as_slice() == [name(1, 1), name(2, 1), name(0, 1)].as_slice());
+    assert!(rt; (parent.room, parent.since, parent.worker) == (5, 35, Some(0)));
     let right = heaps.get(2).ok_or("a child")?;
-    assert_eq!(rt;
-        (right.chunks.len(), right.since, right.worker),
-        (0, 0, None)
-    );
+    assert!(rt; (right.chunks.len(), right.since, right.worker) == (0, 0, None));
     Ok(())
 }

@@ -176,14 +176,8 @@ fn the_largest_object(rt: HostRuntime) -> Result<(), Fail> {
 #[test]
 fn the_deepest_calls(rt: HostRuntime) -> Result<(), Fail> {
     let recursion = "fn main / call main / end";
-    assert_eq!(rt;
-        run(rt.alloc(), recursion, 1022, "0:999")?.as_str(),
-        "goes on"
-    );
-    assert_eq!(rt;
-        run(rt.alloc(), recursion, 1022, "0:1000")?.as_str(),
-        "trap depth task 0 line 2"
-    );
+    assert!(rt; run(rt.alloc(), recursion, 1022, "0:999")?.as_str() == "goes on");
+    assert!(rt; run(rt.alloc(), recursion, 1022, "0:1000")?.as_str() == "trap depth task 0 line 2");
     Ok(())
 }
 
@@ -195,14 +189,11 @@ fn the_deepest_forks(rt: HostRuntime) -> Result<(), Fail> {
     for level in 0..999 {
         steps(&mut machine, 2 * level + 1, 1)?;
     }
-    assert_eq!(rt; told(rt.alloc(), &machine)?.as_str(), "goes on");
-    assert_eq!(rt; machine.state().tasks.len(), 2001);
+    assert!(rt; told(rt.alloc(), &machine)?.as_str() == "goes on");
+    assert!(rt; machine.state().tasks.len() == 2001);
     steps(&mut machine, 1999, 1)?;
-    assert_eq!(rt;
-        told(rt.alloc(), &machine)?.as_str(),
-        "trap depth task 1999 line 2"
-    );
-    assert_eq!(rt; machine.steps(), 1001);
+    assert!(rt; told(rt.alloc(), &machine)?.as_str() == "trap depth task 1999 line 2");
+    assert!(rt; machine.steps() == 1001);
     Ok(())
 }
 
@@ -213,9 +204,6 @@ const LOOP: &str = "\
 
 #[test]
 fn a_million_steps(rt: HostRuntime) -> Result<(), Fail> {
-    assert_eq!(rt;
-        run(rt.alloc(), LOOP, 1022, "0:1000000")?.as_str(),
-        "goes on"
-    );
+    assert!(rt; run(rt.alloc(), LOOP, 1022, "0:1000000")?.as_str() == "goes on");
     Ok(())
 }

@@ -94,8 +94,8 @@ fn an_ended_heap_is_written(rt: HostRuntime) -> Result<(), Fail> {
     let text = picture_text(rt.alloc(), &ended(rt.alloc())?)?;
     let wanted =
         b"image 1\ntask 0 - ended\nchunk 0 0 1024\nobject 1 0 0 mut 1 0 4\nobject 4 0 1 mut 0 1 5\nend: image 2\n";
-    assert_eq!(rt; text.as_slice(), wanted.as_slice());
-    assert_eq!(rt; verify(rt.alloc(), text.as_slice()).ok(), Some(2));
+    assert!(rt; text.as_slice() == wanted.as_slice());
+    assert!(rt; verify(rt.alloc(), text.as_slice()).ok() == Some(2));
     Ok(())
 }
 
@@ -104,7 +104,7 @@ fn a_remembered_field_is_written(rt: HostRuntime) -> Result<(), Fail> {
     let text = picture_text(rt.alloc(), &waiting(rt.alloc())?)?;
     let wanted =
         b"image 1\ntask 0 - waiting\ntask 1 0 running\ntask 2 0 ended\nchunk 0 0 1024\nchunk 3 1 1024\nchunk 4 2 2048\nobject 1 0 0 mut 2 1 0 3073 -9223372036854775808\nobject 4097 2 7 imm 2 0 1 4097\nremembered 1 1 1\nend: image 2\n";
-    assert_eq!(rt; text.as_slice(), wanted.as_slice());
-    assert_eq!(rt; verify(rt.alloc(), text.as_slice()).ok(), Some(2));
+    assert!(rt; text.as_slice() == wanted.as_slice());
+    assert!(rt; verify(rt.alloc(), text.as_slice()).ok() == Some(2));
     Ok(())
 }

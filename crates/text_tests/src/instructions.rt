@@ -132,10 +132,7 @@ fn each_instruction(rt: HostRuntime) -> Result<(), Fail> {
         (35, "ret", [0; 5]),
         (36, "ret", [0; 5]),
     ];
-    assert_eq!(rt;
-        code_of(rt.alloc(), EACH, 0)?.as_slice(),
-        expected.as_slice()
-    );
+    assert!(rt; code_of(rt.alloc(), EACH, 0)?.as_slice() == expected.as_slice());
     Ok(())
 }
 
@@ -188,22 +185,10 @@ fn functions_of_a_loop(rt: HostRuntime) -> Result<(), Fail> {
         (8, "call", [2, 0, 0, 0, 0]),
         (8, "ret", [0; 5]),
     ];
-    assert_eq!(rt;
-        code_of(rt.alloc(), DOUBLES, 1)?.as_slice(),
-        main.as_slice()
-    );
-    assert_eq!(rt;
-        code_of(rt.alloc(), DOUBLES, 2)?.as_slice(),
-        whole.as_slice()
-    );
-    assert_eq!(rt;
-        code_of(rt.alloc(), DOUBLES, 3)?.as_slice(),
-        left.as_slice()
-    );
-    assert_eq!(rt;
-        code_of(rt.alloc(), DOUBLES, 4)?.as_slice(),
-        right.as_slice()
-    );
+    assert!(rt; code_of(rt.alloc(), DOUBLES, 1)?.as_slice() == main.as_slice());
+    assert!(rt; code_of(rt.alloc(), DOUBLES, 2)?.as_slice() == whole.as_slice());
+    assert!(rt; code_of(rt.alloc(), DOUBLES, 3)?.as_slice() == left.as_slice());
+    assert!(rt; code_of(rt.alloc(), DOUBLES, 4)?.as_slice() == right.as_slice());
     assert!(rt; code_of(rt.alloc(), DOUBLES, 5)?.is_empty());
     Ok(())
 }

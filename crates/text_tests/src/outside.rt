@@ -39,22 +39,22 @@ impl Write for Flaky {
 fn a_reader_is_a_source(rt: HostRuntime) {
     let mut source = FileSource::new(&rt, Flaky { fails: false });
     let mut buf = [0u8; 4];
-    assert_eq!(rt; source.take(&mut buf), Err(Failed));
-    assert_eq!(rt; source.take(&mut buf), Ok(1));
-    assert_eq!(rt; buf[0], 7);
-    assert_eq!(rt; source.find("no file has this name"), Err(Failed));
+    assert!(rt; source.take(&mut buf) == Err(Failed));
+    assert!(rt; source.take(&mut buf) == Ok(1));
+    assert!(rt; buf[0] == 7);
+    assert!(rt; source.find("no file has this name") == Err(Failed));
 }
 
 #[test]
 fn a_writer_is_a_sink(rt: HostRuntime) -> Result<(), Fail> {
     let mut sink = OutSink::new(Flaky { fails: false });
-    assert_eq!(rt; sink.put(b"ab"), Err(Failed));
-    assert_eq!(rt; sink.put(b"ab"), Ok(1));
+    assert!(rt; sink.put(b"ab") == Err(Failed));
+    assert!(rt; sink.put(b"ab") == Ok(1));
     let mut bytes = Vec::new(rt.alloc());
     let mut sink = OutSink::new(&mut bytes);
-    assert_eq!(rt; sink.put(b"ab"), Ok(2));
+    assert!(rt; sink.put(b"ab") == Ok(2));
     drop(sink);
-    assert_eq!(rt; bytes.as_slice(), b"ab".as_slice());
+    assert!(rt; bytes.as_slice() == b"ab".as_slice());
     Ok(())
 }
 
@@ -63,13 +63,13 @@ fn sure_ends_never_fail(rt: HostRuntime) -> Result<(), Fail> {
     let alloc = rt.alloc();
     let mut source = SureSource::new(b"hello".to_vec(alloc)?, b"file".to_vec(alloc)?);
     let mut buf = [0u8; 3];
-    assert_eq!(rt; source.take(&mut buf), Ok(3));
-    assert_eq!(rt; &buf, b"hel");
-    assert_eq!(rt; source.left(), b"lo".as_slice());
-    assert_eq!(rt; source.find("a"), Ok(()));
-    assert_eq!(rt; source.left(), b"file".as_slice());
+    assert!(rt; source.take(&mut buf) == Ok(3));
+    assert!(rt; &buf == b"hel");
+    assert!(rt; source.left() == b"lo".as_slice());
+    assert!(rt; source.find("a") == Ok(()));
+    assert!(rt; source.left() == b"file".as_slice());
     let mut sink = SureSink;
-    assert_eq!(rt; sink.put(b"ab"), Ok(2));
+    assert!(rt; sink.put(b"ab") == Ok(2));
     Ok(())
 }
 
@@ -83,17 +83,17 @@ fn a_source_gives_its_bytes_and_fails_where_told(rt: HostRuntime) -> Result<(), 
         vec![in alloc; 2, 5]?,
     );
     let mut buf = [0u8; 8];
-    assert_eq!(rt; source.take(&mut buf), Ok(4));
-    assert_eq!(rt; &buf[..4], b"hell".as_slice());
-    assert_eq!(rt; source.take(&mut buf), Err(Failed));
-    assert_eq!(rt; source.left(), b"o".as_slice());
-    assert_eq!(rt; source.take(&mut buf), Ok(1));
-    assert_eq!(rt; source.take(&mut buf), Ok(0));
-    assert_eq!(rt; source.find("a"), Err(Failed));
-    assert_eq!(rt; source.left(), b"".as_slice());
-    assert_eq!(rt; source.find("a"), Ok(()));
-    assert_eq!(rt; source.take(&mut buf), Ok(4));
-    assert_eq!(rt; &buf[..4], b"file".as_slice());
+    assert!(rt; source.take(&mut buf) == Ok(4));
+    assert!(rt; &buf[..4] == b"hell".as_slice());
+    assert!(rt; source.take(&mut buf) == Err(Failed));
+    assert!(rt; source.left() == b"o".as_slice());
+    assert!(rt; source.take(&mut buf) == Ok(1));
+    assert!(rt; source.take(&mut buf) == Ok(0));
+    assert!(rt; source.find("a") == Err(Failed));
+    assert!(rt; source.left() == b"".as_slice());
+    assert!(rt; source.find("a") == Ok(()));
+    assert!(rt; source.take(&mut buf) == Ok(4));
+    assert!(rt; &buf[..4] == b"file".as_slice());
     Ok(())
 }
 
@@ -101,9 +101,9 @@ fn a_source_gives_its_bytes_and_fails_where_told(rt: HostRuntime) -> Result<(), 
 fn a_sink_keeps_what_it_took(rt: HostRuntime) -> Result<(), Fail> {
     let alloc = rt.alloc();
     let mut sink = MemSink::new(alloc, 3, vec![in alloc; 2]?);
-    assert_eq!(rt; sink.put(b"hello"), Ok(3));
-    assert_eq!(rt; sink.put(b"lo"), Err(Failed));
-    assert_eq!(rt; sink.put(b"lo"), Ok(2));
-    assert_eq!(rt; sink.written(), b"hello".as_slice());
+    assert!(rt; sink.put(b"hello") == Ok(3));
+    assert!(rt; sink.put(b"lo") == Err(Failed));
+    assert!(rt; sink.put(b"lo") == Ok(2));
+    assert!(rt; sink.written() == b"hello".as_slice());
     Ok(())
 }

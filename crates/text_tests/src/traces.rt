@@ -18,16 +18,16 @@ fn a_trace_is_read_and_written(rt: HostRuntime) -> Result<(), Fail> {
             entries: Listed::new(rt.alloc()),
         },
     };
-    assert_eq!(rt; trace.version, Version::Two);
+    assert!(rt; trace.version == Version::Two);
     let read = trace.entries.as_slice();
-    assert_eq!(rt; read.len(), 10);
-    assert_eq!(rt; read.get(1), Some(&Entry::new(63, Kind::Ran(7, 257))));
-    assert_eq!(rt; read.get(4), Some(&Entry::new(0, Kind::End(1, 2, 3, 4))));
-    assert_eq!(rt; read.get(8), Some(&Entry::new(1, Kind::Sweep(0, 5))));
+    assert!(rt; read.len() == 10);
+    assert!(rt; read.get(1) == Some(&Entry::new(63, Kind::Ran(7, 257))));
+    assert!(rt; read.get(4) == Some(&Entry::new(0, Kind::End(1, 2, 3, 4))));
+    assert!(rt; read.get(8) == Some(&Entry::new(1, Kind::Sweep(0, 5))));
     let written = trace_text(rt.alloc(), Version::One, trace.entries.as_slice())?;
     let wanted =
         b"trace 1\n0 took 0\n63 ran 7 257\n0 chunk 1\n0 begin 1\n0 end 1 2 3 4\n0 putoff 1\n1 mark 0\n1 some 0 1024\n1 sweep 0 5\n0 fuel\n";
-    assert_eq!(rt; written.as_slice(), wanted.as_slice());
+    assert!(rt; written.as_slice() == wanted.as_slice());
     Ok(())
 }
 
@@ -67,16 +67,13 @@ fn the_first_bad_line_is_told(rt: HostRuntime) {
 #[test]
 fn settings_of_versions(rt: HostRuntime) {
     let least = Settings::new(Version::One, 1, 1, 2, 16, 16);
-    assert_eq!(rt; (least.workers(), least.fuel(), least.chunks()), (1, 1, 2));
-    assert_eq!(rt; (least.leaf(), least.inner()), (16, 16));
-    assert_eq!(rt; least.version().field_limit(), 1022);
+    assert!(rt; (least.workers(), least.fuel(), least.chunks()) == (1, 1, 2));
+    assert!(rt; (least.leaf(), least.inner()) == (16, 16));
+    assert!(rt; least.version().field_limit() == 1022);
     let usual = Settings::usual();
-    assert_eq!(rt;
-        usual,
-        Settings::new(Version::Two, 1, 1000000, 4096, 4096, 8192)
-    );
-    assert_eq!(rt; usual.with_version(Version::One) == usual, false);
-    assert_eq!(rt; usual.version().field_limit(), 1000000);
+    assert!(rt; usual == Settings::new(Version::Two, 1, 1000000, 4096, 4096, 8192));
+    assert!(rt; usual.with_version(Version::One) != usual);
+    assert!(rt; usual.version().field_limit() == 1000000);
 }
 
 // How many functions and entries an input has, or its first fault.
@@ -101,55 +98,30 @@ fn bad(line: u32) -> Result<(usize, usize), InputError> {
 #[test]
 fn programs_end_where_traces_begin(rt: HostRuntime) {
     let alloc = rt.alloc();
-    assert_eq!(rt;
-        said(alloc, b"fn main\nend\ntrace 1\n0 took 0\n\n0 ran 0 1"),
-        Ok((1, 2))
-    );
-    assert_eq!(rt;
-        said(alloc, b"fn main\nend\n  trace 2 # the trace"),
-        Ok((1, 0))
-    );
-    assert_eq!(rt;
+    assert!(rt; said(alloc, b"fn main\nend\ntrace 1\n0 took 0\n\n0 ran 0 1") == Ok((1, 2)));
+    assert!(rt; said(alloc, b"fn main\nend\n  trace 2 # the trace") == Ok((1, 0)));
+    assert!(rt;
         said(
             alloc,
             b"fn trace\nend\nfn main\nend\n#trace\ntrace 1\n0 fuel\n"
-        ),
-        Ok((2, 1))
+        ) == Ok((2, 1))
     );
-    assert_eq!(rt; said(alloc, b"fn main\nend"), bad(2));
-    assert_eq!(rt; said(alloc, b"fn main\nend\n"), bad(3));
-    assert_eq!(rt; said(alloc, b""), source(1, Cause::NoMain));
-    assert_eq!(rt; said(alloc, b"trace 1"), source(1, Cause::NoMain));
-    assert_eq!(rt;
-        said(alloc, b"fn main\ntrace 1\nend"),
-        source(2, Cause::NoEnd)
-    );
-    assert_eq!(rt;
-        said(alloc, b"fn main\nend\nx\ntrace 9"),
-        source(3, Cause::Word)
-    );
-    assert_eq!(rt; said(alloc, b"fn main\nend\ntrace 9\nx"), bad(3));
-    assert_eq!(rt;
-        said(alloc, b"fn main\nend\ntrace 1\n0 took 0\ntrace 1"),
-        bad(5)
-    );
+    assert!(rt; said(alloc, b"fn main\nend") == bad(2));
+    assert!(rt; said(alloc, b"fn main\nend\n") == bad(3));
+    assert!(rt; said(alloc, b"") == source(1, Cause::NoMain));
+    assert!(rt; said(alloc, b"trace 1") == source(1, Cause::NoMain));
+    assert!(rt; said(alloc, b"fn main\ntrace 1\nend") == source(2, Cause::NoEnd));
+    assert!(rt; said(alloc, b"fn main\nend\nx\ntrace 9") == source(3, Cause::Word));
+    assert!(rt; said(alloc, b"fn main\nend\ntrace 9\nx") == bad(3));
+    assert!(rt; said(alloc, b"fn main\nend\ntrace 1\n0 took 0\ntrace 1") == bad(5));
 }
 
 #[test]
 fn newer_programs_have_no_older_trace(rt: HostRuntime) {
     let alloc = rt.alloc();
-    assert_eq!(rt; said(alloc, b"fn main\nfreeze r0\nend\ntrace 1\nx"), bad(4));
-    assert_eq!(rt; said(alloc, b"fn main\nfreeze r0\nend\ntrace 2\nx"), bad(5));
-    assert_eq!(rt;
-        said(alloc, b"fn main\ncas i0 r0 i0 r0 r0\nend\ntrace 1"),
-        bad(4)
-    );
-    assert_eq!(rt;
-        said(alloc, b"fn f\nend\nfn main\npfor f\nend\ntrace 1"),
-        bad(6)
-    );
-    assert_eq!(rt;
-        said(alloc, b"fn f\nend\nfn main\npfor f\nend\ntrace 2"),
-        Ok((5, 0))
-    );
+    assert!(rt; said(alloc, b"fn main\nfreeze r0\nend\ntrace 1\nx") == bad(4));
+    assert!(rt; said(alloc, b"fn main\nfreeze r0\nend\ntrace 2\nx") == bad(5));
+    assert!(rt; said(alloc, b"fn main\ncas i0 r0 i0 r0 r0\nend\ntrace 1") == bad(4));
+    assert!(rt; said(alloc, b"fn f\nend\nfn main\npfor f\nend\ntrace 1") == bad(6));
+    assert!(rt; said(alloc, b"fn f\nend\nfn main\npfor f\nend\ntrace 2") == Ok((5, 0)));
 }

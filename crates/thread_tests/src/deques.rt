@@ -33,24 +33,24 @@ fn vain(hand: &Hand, victim: u32) -> Option<u64> {
 #[test]
 fn newest_taken_back_and_oldest_stolen(rt: HostRuntime) -> Result<(), Fail> {
     let mut hands = Deques::new(rt.alloc(), 2)?;
-    assert_eq!(rt; hands.len(), 2);
+    assert!(rt; hands.len() == 2);
     let mut thief = hands.pop().ok_or("a second hand")?;
     let mut owner = hands.pop().ok_or("a first hand")?;
-    assert_eq!(rt; (owner.workers(), thief.workers()), (2, 2));
-    assert_eq!(rt; owner.next_own(), None);
-    assert_eq!(rt; stolen(&rt, &mut thief, 0), None);
-    assert_eq!(rt; (owner.empty_pops(), thief.empty_pops()), (1, 0));
-    assert_eq!(rt; (vain(&owner, 0), vain(&thief, 0)), (Some(0), Some(1)));
+    assert!(rt; (owner.workers(), thief.workers()) == (2, 2));
+    assert!(rt; owner.next_own() == None);
+    assert!(rt; stolen(&rt, &mut thief, 0) == None);
+    assert!(rt; (owner.empty_pops(), thief.empty_pops()) == (1, 0));
+    assert!(rt; (vain(&owner, 0), vain(&thief, 0)) == (Some(0), Some(1)));
     for task in 1..=200 {
         owner.put(task)?;
     }
-    assert_eq!(rt; owner.next_own(), Some(200));
-    assert_eq!(rt; stolen(&rt, &mut thief, 0), Some(1));
-    assert_eq!(rt; stolen(&rt, &mut thief, 1), None);
-    assert_eq!(rt; stolen(&rt, &mut owner, 0), Some(2));
-    assert_eq!(rt; owner.next_own(), Some(199));
-    assert_eq!(rt; (owner.empty_pops(), thief.empty_pops()), (1, 0));
-    assert_eq!(rt; (vain(&thief, 0), vain(&thief, 1)), (Some(1), Some(1)));
+    assert!(rt; owner.next_own() == Some(200));
+    assert!(rt; stolen(&rt, &mut thief, 0) == Some(1));
+    assert!(rt; stolen(&rt, &mut thief, 1) == None);
+    assert!(rt; stolen(&rt, &mut owner, 0) == Some(2));
+    assert!(rt; owner.next_own() == Some(199));
+    assert!(rt; (owner.empty_pops(), thief.empty_pops()) == (1, 0));
+    assert!(rt; (vain(&thief, 0), vain(&thief, 1)) == (Some(1), Some(1)));
     Ok(())
 }
 
@@ -112,7 +112,7 @@ fn four_workers_take_every_number_once(rt: HostRuntime) -> Result<(), Fail> {
             short_of_memory: false,
         })?;
     }
-    assert_eq!(rt; desks.len(), 4);
+    assert!(rt; desks.len() == 4);
     all_work(&rt, desks.as_mut_slice());
     let mut taken = Vec::new(rt.alloc());
     for desk in desks.iter() {
@@ -120,7 +120,7 @@ fn four_workers_take_every_number_once(rt: HostRuntime) -> Result<(), Fail> {
         taken.extend_from_slice(desk.taken.as_slice())?;
     }
     taken.sort()?;
-    assert_eq!(rt; taken.len(), 4000);
+    assert!(rt; taken.len() == 4000);
     for (at, task) in taken.iter().enumerate() {
         assert_eq!(rt; *task as usize, at);
     }

@@ -152,14 +152,11 @@ fn two_desks_in_one_thread(rt: HostRuntime) -> Result<(), Fail> {
     let entries = input.trace.entries.as_slice();
     let settings = Settings::new(Version::One, 2, 1_000_000, 4096, 16, 8192);
     let (shared, looked) = at_desks(&rt, rt.alloc(), &input.program, settings, entries)?;
-    assert_eq!(rt; shared.journal(), entries);
-    assert_eq!(rt; shared.outputs(), [1].as_slice());
+    assert!(rt; shared.journal() == entries);
+    assert!(rt; shared.outputs() == [1].as_slice());
     let done = Some(RunEnd::Machine(End::Done));
-    assert_eq!(rt; shared.ended(), done);
-    assert_eq!(rt;
-        replayed(rt.alloc(), &input.program, settings, shared.journal()),
-        done
-    );
-    assert_eq!(rt; looked, entries.len() as u64);
+    assert!(rt; shared.ended() == done);
+    assert!(rt; replayed(rt.alloc(), &input.program, settings, shared.journal()) == done);
+    assert!(rt; looked == entries.len() as u64);
     Ok(())
 }
