@@ -114,18 +114,16 @@ pub fn joined(
     right: EndedChild,
 ) -> Result<(), Fail> {
     make_room(parent, &left.side, &right.side)?;
-    if !have_ended(tree, parent.task, left.side.task, right.side.task) {
-        return Err("not ended")?;
-    }
-    if !are_in_use(pool, left.side.heap.chunks()) || !are_in_use(pool, right.side.heap.chunks()) {
-        return Err("not in use")?;
-    }
-    if !are_all_apart(
-        left.side.heap.chunks(),
-        right.side.heap.chunks(),
-        parent.heap.chunks(),
-    ) {
-        return Err("one number twice")?;
+    if !have_ended(tree, parent.task, left.side.task, right.side.task)
+        || !are_in_use(pool, left.side.heap.chunks())
+        || !are_in_use(pool, right.side.heap.chunks())
+        || !are_all_apart(
+            left.side.heap.chunks(),
+            right.side.heap.chunks(),
+            parent.heap.chunks(),
+        )
+    {
+        return Err("no join")?;
     }
     join(tree, pool, parent, frames, left, right);
     Ok(())
