@@ -7,7 +7,7 @@ ghost use Rattle.run_ledger.specs.Pace.{is_paced};
 ghost use Rattle.task_machine.specs.declared.part.Private.{Private as Part};
 ghost use Rattle.shared_tree.specs.Causes.{first_cause};
 ghost use Rattle.shared_tree.specs.Due.{IsHeld};
-ghost use Rattle.shared_tree.specs.Fits.{Fits};
+ghost use Rattle.shared_tree.specs.Fits.{AllFit, Fits};
 ghost use Rattle.shared_tree.specs.MarkCauses.{marking_cause};
 ghost use Rattle.shared_tree.specs.Stands.{IsWorld};
 ghost use Rattle.shared_tree.specs.World.{accounts, rest_at};
@@ -50,6 +50,7 @@ impl Paced {
         ensures program { IfOk result (λ s. s.program ≡ program.now) }
         ensures settings { IfOk result (λ s. s.settings ≡ settings) }
         ensures journal { IfOk result (λ s. s.journal.items ≡ []) }
+        ensures on { IfOk result (λ s. s.halted ≡ false) }
         ensures root { IfOk result (λ s. (r : RestOf) → rest_at s.homes 0 ≡ Some r → r.heap.chunks ≡ []) }
     {
         let shared = Shared::new(alloc, program, settings)?;
@@ -87,6 +88,21 @@ impl Paced {
         ensures fit { (k : ℕ) (p : Part) → Fits self.old k p → Fits self.new k p }
     {
         self.shared.reserve()
+    }
+
+    /// No more entries are to be made, since some worker has met want of memory. No other call depends on it, and none changes it.
+    pub fn halt(&mut self)
+        ensures same { self.new ≡ record self.old { halted = true } }
+        ensures fits { AllFit self.old self.new }
+    {
+        self.shared.halt();
+    }
+
+    /// Whether some worker has met want of memory.
+    pub fn halted(&self) -> bool
+        ensures { result ≡ self.now.halted }
+    {
+        self.shared.halted()
     }
 
     /// What the worker's next entry has to be.

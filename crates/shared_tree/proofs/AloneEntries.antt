@@ -84,7 +84,7 @@ module _ (w : World) (k : ℕ) (p : Private) (I : IsWorld w) (F : Fits w k p) (s
 
     pub printed_goes : GoesAlone w printed k p (record p { frames = with_next p.frames (p.frames.top.next + 1); fresh = 0 })
     printed_goes = record {
-      enters = record { journal = refl; program = refl; settings = refl };
+      enters = record { journal = refl; program = refl; settings = refl; halted = refl };
       goes = subst (λ (z : World). (accounts z).end ≡ None) printed_is (output_goes w k p I F shared last_free value line T j);
       fits = subst (λ (z : World). Fits z k (record p { frames = with_next p.frames (p.frames.top.next + 1); fresh = 0 })) printed_is (output_part w k p I F shared last_free value line T j);
       part = refl;
@@ -105,7 +105,7 @@ module _ (w : World) (k : ℕ) (p : Private) (I : IsWorld w) (F : Fits w k p) (s
 
     pub halts_alone : HaltsAlone w halted k p (record p { fresh = 0 })
     halts_alone = record {
-      enters = record { journal = refl; program = refl; settings = refl };
+      enters = record { journal = refl; program = refl; settings = refl; halted = refl };
       halts = (x, subst (λ (z : World). (accounts z).end ≡ Some (Machine x)) halted_is (halted_ends w k p I F shared last_free x other is j), other);
       fits = subst (λ (z : World). Fits z k (record p { fresh = 0 })) halted_is (halted_part w k p I F shared last_free x other is j);
       part = refl;
@@ -153,7 +153,7 @@ module _ (w : World) (k : ℕ) (p : Private) (I : IsWorld w) (F : Fits w k p) (s
 
     pub finishes_alone : FinishesAlone w finished k p
     finishes_alone = record {
-      enters = record { journal = refl; program = refl; settings = refl };
+      enters = record { journal = refl; program = refl; settings = refl; halted = refl };
       done = subst (λ (z : World). (accounts z).end ≡ Some (Machine Done)) finished_is (done_ends w k p I F shared last_free line T root j);
       rest = λ u. subst (λ (z : World). Rests (handed (accounts z)) u) finished_is (done_rests w k p I F shared last_free line T root j u);
       others = subst (λ (z : World). OthersFit w z k) finished_is (done_others w k p I F shared last_free line T root j);

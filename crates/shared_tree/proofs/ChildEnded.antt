@@ -229,7 +229,7 @@ module _ (w : World) (k : ℕ) (p : Private) (I : IsWorld w) (F : Fits w k p) (a
 
     pub alone_ends : EndsChild w ended_alone k p None
     alone_ends = record {
-      enters = record { journal = refl; program = refl; settings = refl };
+      enters = record { journal = refl; program = refl; settings = refl; halted = refl };
       goes = subst (λ (i : World). (accounts i).end ≡ None) ended_is ended_goes;
       resumed = subst (λ (i : World). None ≡ running_parent (accounts i).machine.tasks t) ended_is ended_resumed;
       others = subst (λ (i : World). OthersFit w i k) ended_is ended_others;

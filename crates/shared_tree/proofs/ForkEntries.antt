@@ -126,7 +126,7 @@ module _ (w : World) (k : ℕ) (p : Private) (I : IsWorld w) (F : Fits w k p) (a
     alone_forks a b ea eb =
         let long = steps.tree_long w I (steps.on w k p I F at_fork free) in
         record {
-          enters = record { journal = refl; program = refl; settings = refl };
+          enters = record { journal = refl; program = refl; settings = refl; halted = refl };
           left_is = ea ∙ long;
           right_is = eb ∙ ap (λ n. n + 1) long;
           goes = subst (λ (z : World). (accounts z).end ≡ None) forked_is (forked_goes w k p I F at_fork free left right number B shallow homes sets H N marks unmarked j);

@@ -97,7 +97,7 @@ module _ (w after : World) (P : SameButPlaces w after) where
   -- an entry made after it is one made before it
   pub places_ends : (then_ : World) (k : ℕ) (p : Private) (answer : Option ℕ) → EndsChild after then_ k p answer → EndsChild w then_ k p answer
   places_ends then_ k p answer E = record {
-    enters = record { journal = E.enters.journal ∙ ap (λ (z : World). z.journal.items ++ alone_event k p ∷ []) P.rest; program = E.enters.program ∙ ap (λ (z : World). z.program) P.rest; settings = E.enters.settings ∙ ap (λ (z : World). z.settings) P.rest };
+    enters = record { journal = E.enters.journal ∙ ap (λ (z : World). z.journal.items ++ alone_event k p ∷ []) P.rest; program = E.enters.program ∙ ap (λ (z : World). z.program) P.rest; settings = E.enters.settings ∙ ap (λ (z : World). z.settings) P.rest; halted = E.enters.halted ∙ ap (λ (z : World). z.halted) P.rest };
     goes = E.goes;
     resumed = E.resumed;
     others = λ u r ne G. E.others u r ne (places_fit u r G);

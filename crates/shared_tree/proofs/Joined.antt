@@ -292,7 +292,7 @@ module _ (w : World) (k : ℕ) (p : Private) (I : IsWorld w) (F : Fits w k p) (a
 
       pub alone_joins : EndsChild w joined_alone k p (Some q)
       alone_joins = record {
-        enters = record { journal = refl; program = refl; settings = refl };
+        enters = record { journal = refl; program = refl; settings = refl; halted = refl };
         goes = subst (λ (i : World). (accounts i).end ≡ None) joined_is joined_goes;
         resumed = subst (λ (i : World). Some q ≡ running_parent (accounts i).machine.tasks t) joined_is joined_resumed;
         others = subst (λ (i : World). OthersFit w i k) joined_is joined_others;

@@ -77,7 +77,7 @@ module _ (w : World) (k : ℕ) (p : Private) (I : IsWorld w) (F : Fits w k p) (s
 
     read_goes_so : GoesAlone w read_entered k p read_to
     read_goes_so = record {
-      enters = record { journal = refl; program = refl; settings = refl };
+      enters = record { journal = refl; program = refl; settings = refl; halted = refl };
       goes = subst (λ (z : World). (accounts z).end ≡ None) read_is (read_goes w k p I F shared free_so top T g read j);
       fits = subst (λ (z : World). Fits z k read_to) read_is (read_part w k p I F shared free_so top T g read j);
       part = refl;

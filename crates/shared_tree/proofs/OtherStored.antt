@@ -207,7 +207,7 @@ module _ (w : World) (k : ℕ) (p : Private) (I : IsWorld w) (F : Fits w k p) (s
 
             pub reference_goes : GoesAlone w stored k p q
             reference_goes = record {
-              enters = record { journal = refl; program = refl; settings = refl };
+              enters = record { journal = refl; program = refl; settings = refl; halted = refl };
               goes = subst (λ (y : World). (accounts y).end ≡ None) stored_is (written.written_goes w k p I F shared free n a foreign d refl size (with_field i value) (λ m e birth. refl) sets many top K made.0 made.1 made.2 space);
               fits = subst (λ (y : World). Fits y k q) stored_is (written.written_part w k p I F shared free n a foreign d refl size (with_field i value) (λ m e birth. refl) sets many top K made.0 made.1 made.2 space);
               part = refl;
@@ -276,7 +276,7 @@ module _ (w : World) (k : ℕ) (p : Private) (I : IsWorld w) (F : Fits w k p) (s
 
           pub number_goes : GoesAlone w stored_n k p q_n
           number_goes = record {
-            enters = record { journal = refl; program = refl; settings = refl };
+            enters = record { journal = refl; program = refl; settings = refl; halted = refl };
             goes = subst (λ (y : World). (accounts y).end ≡ None) stored_is_n (written.written_goes w k p I F shared free n a foreign d_n refl size_n (number_field i number) (λ m e birth. refl) w.sets refl top K made_n.0 made_n.1 made_n.2 space);
             fits = subst (λ (y : World). Fits y k q_n) stored_is_n (written.written_part w k p I F shared free n a foreign d_n refl size_n (number_field i number) (λ m e birth. refl) w.sets refl top K made_n.0 made_n.1 made_n.2 space);
             part = refl;

@@ -30,6 +30,7 @@ pub struct Left {
     outputs: Listed<i64>,
     steps: u64,
     end: Option<RunEnd>,
+    halted: bool,
 }
 
 impl Model for Left {
@@ -38,7 +39,7 @@ impl Model for Left {
 
     ghost Value = { World };
 
-    ghost view = { λ s. record { program = s.program; settings = s.settings; tree = s.tree; pool = s.pool; homes = s.homes; sets = s.sets.items; marks = s.marks; hands = s.hands; outputs = s.outputs; journal = record { items = []; room = 0 }; steps = s.steps; end = s.end } };
+    ghost view = { λ s. record { program = s.program; settings = s.settings; tree = s.tree; pool = s.pool; homes = s.homes; sets = s.sets.items; marks = s.marks; hands = s.hands; outputs = s.outputs; journal = record { items = []; room = 0 }; steps = s.steps; end = s.end; halted = s.halted } };
 }
 
 impl Left {
@@ -62,6 +63,13 @@ impl Left {
     {
         self.end
     }
+
+    /// Whether some worker has met want of memory.
+    pub fn halted(&self) -> bool
+        ensures { result ≡ self.now.halted }
+    {
+        self.halted
+    }
 }
 
 impl Shared {
@@ -83,6 +91,7 @@ impl Shared {
             journal,
             steps,
             end,
+            halted,
         } = self;
         let left = Left {
             program,
@@ -96,6 +105,7 @@ impl Shared {
             outputs,
             steps,
             end,
+            halted,
         };
         (journal.into_listed(), left)
     }

@@ -48,9 +48,9 @@ module _ (w after : World) (S : IsSame w after) where
   pub then_same : (last : World) → IsSame after last → IsSame w last
   then_same last T = record { journal = T.journal ∙ S.journal; program = T.program ∙ S.program; settings = T.settings ∙ S.settings; all = λ k p f. T.all k p (S.all k p f) }
 
-  pub then_one : (last : World) (k : ℕ) (kind : Kind) → EntersOne after last k kind → EntersOne w last k kind
-  then_one last k kind E = record {
-    enters = record { journal = E.enters.journal ∙ ap (λ (l : List Event). l ++ record { worker = k; kind = kind } ∷ []) S.journal; program = E.enters.program ∙ S.program; settings = E.enters.settings ∙ S.settings };
+  pub then_one : after.halted ≡ w.halted → (last : World) (k : ℕ) (kind : Kind) → EntersOne after last k kind → EntersOne w last k kind
+  then_one on last k kind E = record {
+    enters = record { journal = E.enters.journal ∙ ap (λ (l : List Event). l ++ record { worker = k; kind = kind } ∷ []) S.journal; program = E.enters.program ∙ S.program; settings = E.enters.settings ∙ S.settings; halted = E.enters.halted ∙ on };
     others = λ j p ne f. E.others j p ne (S.all j p f);
   }
 
@@ -93,16 +93,16 @@ none_over true end a b = absurd (false≢true (sym a))
 none_over false None a b = refl
 none_over false (Some e) a b = absurd cc
 
-pub not_over : (r : Run) → r.halted ≡ false → (accounts r.paced).end ≡ None → is_over r ≡ false
-not_over r on goes = none_over r.halted (accounts r.paced).end on goes
+pub not_over : (r : Run) → r.paced.halted ≡ false → (accounts r.paced).end ≡ None → is_over r ≡ false
+not_over r on goes = none_over r.paced.halted (accounts r.paced).end on goes
 
 over_parts : (halted : Bool) (end : Option RunEnd) → (halted || is_some end) ≡ false → (halted ≡ false) × (end ≡ None)
 over_parts true end h = absurd (false≢true (sym h))
 over_parts false None h = (refl, refl)
 over_parts false (Some e) h = absurd (false≢true (sym h))
 
-pub is_on : (r : Run) → is_over r ≡ false → (r.halted ≡ false) × ((accounts r.paced).end ≡ None)
-is_on r h = over_parts r.halted (accounts r.paced).end h
+pub is_on : (r : Run) → is_over r ≡ false → (r.paced.halted ≡ false) × ((accounts r.paced).end ≡ None)
+is_on r h = over_parts r.paced.halted (accounts r.paced).end h
 
 pub not_true : (b : Bool) → not b ≡ true → b ≡ false
 not_true true h = absurd (false≢true h)
@@ -113,20 +113,22 @@ not_false true h = refl
 not_false false h = absurd (false≢true (sym h))
 
 pub ended_over : (r : Run) → is_some (accounts r.paced).end ≡ true → is_over r ≡ true
-ended_over r h = by r.halted (is_some (accounts r.paced).end) h
+ended_over r h = by r.paced.halted (is_some (accounts r.paced).end) h
   where
     by : (a b : Bool) → b ≡ true → (a || b) ≡ true
     by true b h = refl
     by false b h = h
 
 pub goes_with : (after : Run) (next : Next) → IsWorld after.paced → (accounts after.paced).end ≡ None → EndsEntered after next (Entered after next)
-goes_with after next I none = λ r k ready kind E on follows. record { made = kind; is_next = refl; enters = E; world = I; on = on; follows = follows none }
+goes_with after next I none = λ r k ready kind E on follows. record { made = kind; is_next = refl; enters = E; world = I; on = E.enters.halted ∙ on; follows = follows none }
 
 pub stops_with : (after : Run) (next : Next) → IsWorld after.paced → is_some (accounts after.paced).end ≡ true → EndsEntered after next (Entered after Stop)
-stops_with after next I ended = λ r k ready kind E on follows. record { made = kind; is_next = refl; enters = E; world = I; on = on; follows = ended }
+stops_with after next I ended = λ r k ready kind E on follows. record { made = kind; is_next = refl; enters = E; world = I; on = E.enters.halted ∙ on; follows = ended }
 
-pub halts_with : (after : Run) → EndsHalted after (Same (record after { halted = true }) Stop)
-halts_with after = λ r k ready kind same on. (same, (refl, λ over. absurd (false≢true (sym on ∙ over))))
+pub halts_with : (after : Run) (w : World) → w ≡ record after.paced { halted = true } → AllFit after.paced w → EndsHalted after (Same (record { paced = w }) Stop)
+halts_with after w is all = λ r k ready kind same on.
+    let halts : IsSame after.paced w = record { journal = ap (λ (z : World). z.journal.items) is; program = ap (λ (z : World). z.program) is; settings = ap (λ (z : World). z.settings) is; all = all } in
+    (then_same r.paced after.paced same w halts, (ap (λ (z : World). is_over (record { paced = z })) is, λ over. absurd (false≢true (sym on ∙ over))))
 
 -- ---- THE SAME FROM THE VALUE BEFORE PLACE WAS MADE FOR AN ENTRY
 
@@ -160,7 +162,7 @@ module _ (r : Run) (after : World) (e : after ≡ record r.paced { journal = rec
   acts_then (Entered run next) A = record {
     made = A.made;
     is_next = same_kind ∙ A.is_next;
-    enters = then_one r.paced after (roomier r.paced after e all) run.paced k A.made A.enters;
+    enters = then_one r.paced after (roomier r.paced after e all) (ap (λ (z : World). z.halted) e) run.paced k A.made A.enters;
     world = A.world;
     on = A.on;
     follows = follows_then run.paced next A.follows;

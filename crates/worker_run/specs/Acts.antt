@@ -58,7 +58,7 @@ pub record MakesEntry (r run : Run) (k : ℕ) (ready : Ready) (kind : Option Kin
   pub is_next : kind ≡ Some made
   pub enters : EntersOne r.paced run.paced k made
   pub world : IsWorld run.paced
-  pub on : run.halted ≡ false
+  pub on : run.paced.halted ≡ false
   pub follows : Follows r.paced run.paced k ready next
 
 -- no entry is made where the run is over, or is now since memory was wanting: the worker stops; where the task that it came for
@@ -81,7 +81,7 @@ Acts r k ready acted = ActsFor r k ready (next_kind r k ready) acted
 
 -- an entry was made, and the worker may go on so as long as the run does
 abbrev pub EndsEntered : Run → Next → Acted → Type 0
-EndsEntered after next acted = (r : Run) (k : ℕ) (ready : Ready) (kind : Kind) → EntersOne r.paced after.paced k kind → after.halted ≡ false → (Goes after.paced → Follows r.paced after.paced k ready next)
+EndsEntered after next acted = (r : Run) (k : ℕ) (ready : Ready) (kind : Kind) → EntersOne r.paced after.paced k kind → r.paced.halted ≡ false → (Goes after.paced → Follows r.paced after.paced k ready next)
     → ActsFor r k ready (Some kind) acted
 
 -- none was made for want of memory
@@ -90,7 +90,7 @@ EndsHalted after acted = (r : Run) (k : ℕ) (ready : Ready) (kind : Option Kind
 
 -- an entry was made by which each part still fits, and the worker goes on with what it came with
 abbrev pub EndsPaid : Run → Ready → Acted → Type 0
-EndsPaid after ready acted = (r : Run) (k : ℕ) (kind : Kind) → IsWorld r.paced → Goes r.paced → is_wanting ready ≡ false → BringsTo r.paced k ready → EntersOne r.paced after.paced k kind → AllFit r.paced after.paced → after.halted ≡ false
+EndsPaid after ready acted = (r : Run) (k : ℕ) (kind : Kind) → IsWorld r.paced → Goes r.paced → is_wanting ready ≡ false → BringsTo r.paced k ready → EntersOne r.paced after.paced k kind → AllFit r.paced after.paced → r.paced.halted ≡ false
     → ActsFor r k ready (Some kind) acted
 
 -- the worker makes this entry, whatever it came with

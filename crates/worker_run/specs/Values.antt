@@ -27,7 +27,7 @@ FitsKept r k kept = Fits r.paced k kept.value
 
 -- no more entries are made: the run has ended, or some worker has met want of memory
 abbrev pub is_over : Run → Bool
-is_over r = r.halted || is_some (accounts r.paced).end
+is_over r = r.paced.halted || is_some (accounts r.paced).end
 
 -- no entry was made, and all is the same that workers rest on
 pub record IsSame (w after : World) : Type 0 where

@@ -39,7 +39,7 @@ impl Run {
         ensures { EndsHalted self result }
     {
         let mut run = self;
-        run.halted = true;
+        run.paced.halt();
         Acted::Same(run, Next::Stop)
     }
 
@@ -57,7 +57,7 @@ impl Run {
         requires room { 0 < self.paced.journal.room }
         requires worker { worker < self.paced.settings.workers }
         requires goes { (accounts self.paced).end ≡ None }
-        requires on { self.halted ≡ false }
+        requires on { self.paced.halted ≡ false }
         requires met { is_wanting ready ≡ false }
         requires brings { BringsTo self.paced worker ready }
         ensures { ActsFor self worker ready (going_kind self.paced worker ready) result }
@@ -75,7 +75,7 @@ impl Run {
         requires worker { worker < self.paced.settings.workers }
         requires goes { (accounts self.paced).end ≡ None }
         requires free { first_cause self.paced.end self.paced.steps self.paced.settings worker false ≡ None }
-        requires on { self.halted ≡ false }
+        requires on { self.paced.halted ≡ false }
         requires met { is_wanting ready ≡ false }
         requires brings { BringsTo self.paced worker ready }
         ensures { ActsFor self worker ready (owing_kind self.paced (owed_by self.paced worker) ready) result }
@@ -92,7 +92,7 @@ impl Run {
     fn act_next(self, worker: u32, ready: Ready) -> Acted
         requires worker { worker < self.paced.settings.workers }
         requires goes { (accounts self.paced).end ≡ None }
-        requires on { self.halted ≡ false }
+        requires on { self.paced.halted ≡ false }
         requires met { is_wanting ready ≡ false }
         requires brings { BringsTo self.paced worker ready }
         ensures { ActsFor self worker ready (going_kind self.paced worker ready) result }

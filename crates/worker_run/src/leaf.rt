@@ -24,7 +24,7 @@ impl Run {
         requires owes { owed_by self.paced worker ≡ OwedOf.Nothing }
         requires goes { (accounts self.paced).end ≡ None }
         requires paused { IsPaused self.paced worker part Paused.Due }
-        requires on { self.halted ≡ false }
+        requires on { self.paced.halted ≡ false }
         requires enough { is_pool_enough self.paced.settings (accounts self.paced) part.task ≡ true }
         requires fresh { part.fresh ≡ 0 }
         ensures { ActsAnyhow self worker (KindOf.Begin part.task) result }
@@ -49,7 +49,7 @@ impl Run {
         requires owes { owed_by self.paced worker ≡ OwedOf.Nothing }
         requires goes { (accounts self.paced).end ≡ None }
         requires paused { IsPaused self.paced worker part Paused.Due }
-        requires on { self.halted ≡ false }
+        requires on { self.paced.halted ≡ false }
         requires short { is_pool_enough self.paced.settings (accounts self.paced) part.task ≡ false }
         requires fresh { part.fresh ≡ 0 }
         ensures { ActsAnyhow self worker (KindOf.PutOff part.task) result }
@@ -69,7 +69,7 @@ impl Run {
         requires free { first_cause self.paced.end self.paced.steps self.paced.settings worker false ≡ None }
         requires owes { owed_by self.paced worker ≡ OwedOf.Nothing }
         requires goes { (accounts self.paced).end ≡ None }
-        requires on { self.halted ≡ false }
+        requires on { self.paced.halted ≡ false }
         requires paused { IsPaused self.paced worker part Paused.Due }
         requires fresh { part.fresh ≡ 0 }
         ensures { ActsAnyhow self worker (due_kind self.paced part.task) result }
@@ -86,7 +86,7 @@ impl Run {
         requires room { 0 < self.paced.journal.room }
         requires free { first_cause self.paced.end self.paced.steps self.paced.settings worker false ≡ None }
         requires owes { owed_by self.paced worker ≡ OwedOf.Nothing }
-        requires on { self.halted ≡ false }
+        requires on { self.paced.halted ≡ false }
         requires fits { FitsCopied self.paced worker copied.part copied.moved }
         ensures { ActsAnyhow self worker (KindOf.End copied.part.task copied.moved.taken copied.moved.given copied.moved.left) result }
     {

@@ -46,7 +46,7 @@ impl Run {
         requires goes { (accounts self.paced).end ≡ None }
         requires free { first_cause self.paced.end self.paced.steps self.paced.settings worker false ≡ None }
         requires owes { owed_by self.paced worker ≡ OwedOf.Mark task }
-        requires on { self.halted ≡ false }
+        requires on { self.paced.halted ≡ false }
         requires met { is_wanting ready ≡ false }
         requires brings { BringsTo self.paced worker ready }
         ensures { ActsFor self worker ready (Some (KindOf.Mark task)) result }
@@ -65,7 +65,7 @@ impl Run {
         requires goes { (accounts self.paced).end ≡ None }
         requires free { first_cause self.paced.end self.paced.steps self.paced.settings worker false ≡ None }
         requires owes { owed_by self.paced worker ≡ OwedOf.More task }
-        requires on { self.halted ≡ false }
+        requires on { self.paced.halted ≡ false }
         requires met { is_wanting ready ≡ false }
         requires brings { BringsTo self.paced worker ready }
         ensures { ActsFor self worker ready (Some (KindOf.More task marked_at_once)) result }
@@ -84,7 +84,7 @@ impl Run {
         requires goes { (accounts self.paced).end ≡ None }
         requires free { first_cause self.paced.end self.paced.steps self.paced.settings worker false ≡ None }
         requires owes { owed_by self.paced worker ≡ OwedOf.Sweep task }
-        requires on { self.halted ≡ false }
+        requires on { self.paced.halted ≡ false }
         requires met { is_wanting ready ≡ false }
         requires brings { BringsTo self.paced worker ready }
         ensures { ActsFor self worker ready (Some (KindOf.Sweep task (sweep_number (accounts self.paced).machine (heap_of (accounts self.paced) task)))) result }
@@ -103,7 +103,7 @@ impl Run {
         requires room { 0 < self.paced.journal.room }
         requires worker { worker < self.paced.settings.workers }
         requires goes { (accounts self.paced).end ≡ None }
-        requires on { self.halted ≡ false }
+        requires on { self.paced.halted ≡ false }
         requires spent { is_some (first_cause self.paced.end self.paced.steps self.paced.settings worker false) ≡ true }
         ensures { ActsAnyhow self worker KindOf.Fuel result }
     {

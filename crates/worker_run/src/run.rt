@@ -1,5 +1,5 @@
 //! The shared value in turns.
-ghost use Rattle.std.specs.Prelude.{◌≡◌, ◌<◌, ◌^◌, false, not, length};
+ghost use Rattle.std.specs.Prelude.{◌≡◌, ◌<◌, ◌^◌, not, length};
 ghost use Rattle.worker_run.specs.Values.{worker_of, setup_of, is_over, FitsKept};
 
 use hh_lang::Program;
@@ -13,8 +13,6 @@ use turn_lock::Kept;
 #[derive(Drop)]
 pub struct Run {
     pub paced: Paced,
-    /// Some worker has met want of memory.
-    pub halted: bool,
 }
 
 /// What no entry changes. No value of it is made.
@@ -49,12 +47,9 @@ impl Kept for Run {
 impl Run {
     /// Before the first entry.
     pub fn new(paced: Paced) -> Run
-        ensures { result ≡ record { paced = paced; halted = false } }
+        ensures { result ≡ record { paced = paced } }
     {
-        Run {
-            paced,
-            halted: false,
-        }
+        Run { paced }
     }
 
     // A list is never so long.
@@ -69,6 +64,6 @@ impl Run {
     pub fn goes_on(&self) -> bool
         ensures { result ≡ not (is_over self.now) }
     {
-        !self.halted && self.paced.ended().is_none()
+        !self.paced.halted() && self.paced.ended().is_none()
     }
 }

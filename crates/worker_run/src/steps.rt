@@ -31,7 +31,7 @@ impl Run {
         requires room { 0 < self.paced.journal.room }
         requires owes { owed_by self.paced worker ≡ OwedOf.Nothing }
         requires goes { (accounts self.paced).end ≡ None }
-        requires on { self.halted ≡ false }
+        requires on { self.paced.halted ≡ false }
         ensures { ActsAnyhow self worker (KindOf.Took task) result }
     {
         let mut run = self;
@@ -46,7 +46,7 @@ impl Run {
         requires room { 0 < self.paced.journal.room }
         requires owes { owed_by self.paced worker ≡ OwedOf.Nothing }
         requires goes { (accounts self.paced).end ≡ None }
-        requires on { self.halted ≡ false }
+        requires on { self.paced.halted ≡ false }
         ensures { ActsFor self worker (Ready.Found found) (brought_kind self.paced (Ready.Found found)) result }
     {
         match found {
@@ -60,7 +60,7 @@ impl Run {
         requires room { 0 < self.paced.journal.room }
         requires free { first_cause self.paced.end self.paced.steps self.paced.settings worker false ≡ None }
         requires owes { owed_by self.paced worker ≡ OwedOf.Nothing }
-        requires on { self.halted ≡ false }
+        requires on { self.paced.halted ≡ false }
         requires may { MayRun self.paced worker part }
         requires fresh { 0 < part.fresh }
         ensures { ActsAnyhow self worker (KindOf.Ran part.task part.fresh) result }
@@ -79,7 +79,7 @@ impl Run {
         requires free { first_cause self.paced.end self.paced.steps self.paced.settings worker false ≡ None }
         requires owes { owed_by self.paced worker ≡ OwedOf.Nothing }
         requires goes { (accounts self.paced).end ≡ None }
-        requires on { self.halted ≡ false }
+        requires on { self.paced.halted ≡ false }
         requires paused { IsPaused self.paced worker part Paused.Shared }
         ensures { ActsFor self worker (Ready.Paused part Paused.Shared) (Some (KindOf.Ran part.task (part.fresh + 1))) result }
     {
@@ -101,7 +101,7 @@ impl Run {
         requires free { first_cause self.paced.end self.paced.steps self.paced.settings worker false ≡ None }
         requires owes { owed_by self.paced worker ≡ OwedOf.Nothing }
         requires goes { (accounts self.paced).end ≡ None }
-        requires on { self.halted ≡ false }
+        requires on { self.paced.halted ≡ false }
         requires paused { IsPaused self.paced worker part Paused.NeedChunk }
         requires fresh { part.fresh ≡ 0 }
         ensures { ActsAnyhow self worker (KindOf.Chunk part.task) result }
@@ -121,7 +121,7 @@ impl Run {
         requires free { first_cause self.paced.end self.paced.steps self.paced.settings worker false ≡ None }
         requires owes { owed_by self.paced worker ≡ OwedOf.Nothing }
         requires goes { (accounts self.paced).end ≡ None }
-        requires on { self.halted ≡ false }
+        requires on { self.paced.halted ≡ false }
         requires paused { IsPaused self.paced worker part why }
         ensures { ActsFor self worker (Ready.Paused part why) (Some (paused_kind self.paced part why)) result }
     {
@@ -149,7 +149,7 @@ impl Run {
         requires goes { (accounts self.paced).end ≡ None }
         requires free { first_cause self.paced.end self.paced.steps self.paced.settings worker false ≡ None }
         requires owes { owed_by self.paced worker ≡ OwedOf.Nothing }
-        requires on { self.halted ≡ false }
+        requires on { self.paced.halted ≡ false }
         requires met { is_wanting ready ≡ false }
         requires brings { BringsTo self.paced worker ready }
         ensures { ActsFor self worker ready (brought_kind self.paced ready) result }

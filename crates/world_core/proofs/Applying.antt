@@ -119,6 +119,7 @@ module _ (w mid : World) (roomier : SameButRoomier w mid) (fit : AllFit w mid) w
       journal = R.enters.journal ∙ ap (λ (z : World). let js : List Event = z.journal.items in js ++ e ∷ []) roomier;
       program = R.enters.program ∙ ap (λ (z : World). z.program) roomier;
       settings = R.enters.settings ∙ ap (λ (z : World). z.settings) roomier;
+      halted = R.enters.halted ∙ ap (λ (z : World). z.halted) roomier;
     };
     holds = R.holds;
   }

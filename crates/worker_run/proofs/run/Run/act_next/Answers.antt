@@ -12,7 +12,7 @@ act_on-requires c =
       room = c.in-Ok.ensures.room;
       worker = subst (λ (s : Limits). c.args.worker < s.workers) (sym S.settings) c.requires.worker;
       goes = ap (λ (z : World). (accounts z).end) c.reserve.ensures.same ∙ c.requires.goes;
-      on = c.requires.on;
+      on = ap (λ (z : World). z.halted) c.reserve.ensures.same ∙ c.requires.on;
       met = c.requires.met;
       brings = brings_then c.args.self.paced c.reserve.new.self S c.args.worker c.args.ready c.requires.brings;
     }

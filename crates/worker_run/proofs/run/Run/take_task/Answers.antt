@@ -16,7 +16,7 @@ pub returns-in-Err : goal.returns-in-Err
 returns-in-Err c = λ ready. (
   unchanged c.args.self.paced c.took.new.self c.in-Err.ensures.same,
   (
-    ap (λ (w : World). is_over (record { paced = w; halted = c.args.self.halted })) c.in-Err.ensures.same ∙ not_over c.args.self c.requires.on c.requires.goes,
+    ap (λ (w : World). is_over (record { paced = w })) c.in-Err.ensures.same ∙ not_over c.args.self c.requires.on c.requires.goes,
     c.args.task,
     refl,
     ap is_some (sym c.took.ensures.refused ∙ ap cause_of c.in-Err.is),
