@@ -21,8 +21,8 @@ use Rattle.turn_lock.proofs.Laws.{first_there, new_are_all, kept_are_all}
 use Rattle.worker_run.specs.declared.desk.Desk.{Desk}
 use Rattle.worker_run.specs.declared.run.Run.{Run}
 use Rattle.worker_run.specs.declared.run.Setup.{Setup}
-use Rattle.worker_run.specs.Desks.{AreAllDesks, AreHands, AreNewDesks, HasOfEach, IsDesk, SameDesk, entries_of}
-use Rattle.worker_run.specs.Outcomes.{IsRun}
+use Rattle.worker_run.specs.Desks.{AreAllDesks, AreHands, AreNewDesks, HasOfEach, HaveStopped, IsDesk, SameDesk, entries_of}
+use Rattle.worker_run.specs.Outcomes.{IsRun, WasGivenBack}
 use Rattle.worker_run.specs.Parts.{Sight}
 use Rattle.worker_run.specs.Values.{FitsKept, journal_of, setup_of, worker_of}
 
@@ -135,6 +135,16 @@ module _ (z : TableId) (p : ProgramText) (s : Limits) (desks : List Desk) (seats
 
   pub program_at_end : IsLeftBy journal_of worker_of FitsKept setup_of value seats → value.paced.program ≡ p
   program_at_end left = ap (λ (x : Setup). x.program) (setup_at_end left)
+
+-- what the desks gave back, where the value handed on has the same journal
+pub was_given : (z : TableId) (p : ProgramText) (s : Limits) (desks : List Desk) (w last : World) → AreAllDesks z p s desks → HaveStopped desks → HasOfEach w.journal.items desks → last ≡ w → WasGivenBack p s last.journal.items
+was_given z p s desks w last all stopped each same = record {
+  turn = z;
+  desks = desks;
+  all = all;
+  stopped = stopped;
+  of_each = subst (λ (x : World). HasOfEach x.journal.items desks) (sym same) each;
+}
 
 -- a run of this program within these limits
 pub is_run : (p : ProgramText) (s : Limits) (w : World) → IsWorld w → w.program ≡ p → w.settings ≡ s → is_paced w.program w.settings w.journal.items ≡ true → IsRun p s w

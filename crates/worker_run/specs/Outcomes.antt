@@ -1,14 +1,18 @@
 -- What a run by workers leaves.
-use Rattle.std.specs.Prelude.{◌≡◌, Option, Some, None, true}
+use Rattle.std.specs.Prelude.{◌≡◌, List, Option, Some, None, true}
+use Rattle.atomic_table.specs.Seated.{TableId}
 use Rattle.hh_lang.specs.Form.{ProgramText}
+use Rattle.run_trace.specs.Entry.{Event}
 use Rattle.run_trace.specs.Settings.{Limits}
 use Rattle.run_ledger.specs.declared.data.RunEnd.{RunEnd}
 use Rattle.run_ledger.specs.Journals.{end_of, is_legal}
 use Rattle.run_ledger.specs.Pace.{is_paced}
 use Rattle.shared_tree.specs.Stands.{IsWorld}
 use Rattle.shared_tree.specs.World.{World}
+use Rattle.worker_run.specs.declared.desk.Desk.{Desk}
 use Rattle.worker_run.specs.declared.end.Finish.{Finish}
 use Rattle.worker_run.specs.declared.end.Finish.TheVariants.{Ended, NoMemory}
+use Rattle.worker_run.specs.Desks.{AreAllDesks, HasOfEach, HaveStopped}
 
 -- how a run finished whose journal has this end, or none
 abbrev pub finish_of : Option RunEnd → Finish
@@ -22,3 +26,12 @@ pub record IsRun (p : ProgramText) (s : Limits) (w : World) : Type 0 where
   pub legal : is_legal p s w.journal.items ≡ true
   pub paced : is_paced p s w.journal.items ≡ true
   pub stands : IsWorld w
+
+-- WHAT THE WORKERS GAVE BACK: at one turn each worker of a run of this program within these limits had a desk, where it took turns
+-- until the run was over; of each the journal has just the entries that its desk gave back, each once
+pub record WasGivenBack (p : ProgramText) (s : Limits) (journal : List Event) : Type 0 where
+  pub turn : TableId
+  pub desks : List Desk
+  pub all : AreAllDesks turn p s desks
+  pub stopped : HaveStopped desks
+  pub of_each : HasOfEach journal desks

@@ -3,7 +3,7 @@ ghost use Rattle.std.specs.Prelude.{◌≡◌, ◌<◌, ◌≤◌, ◌^◌, [], 
 ghost use Rattle.run_ledger.specs.Journals.{end_of};
 ghost use Rattle.turn_lock.specs.Turn.{identity};
 ghost use Rattle.worker_run.specs.Desks.{AreAllDesks, AreHands, AreNewDesks, HasOfEach, HasStopped, HaveStopped, IsDesk, SameDesk};
-ghost use Rattle.worker_run.specs.Outcomes.{finish_of, IsRun};
+ghost use Rattle.worker_run.specs.Outcomes.{finish_of, IsRun, WasGivenBack};
 
 use crate::bell::Bell;
 use crate::desk::Desk;
@@ -153,7 +153,8 @@ fn run_all<R: Threads + Wait + Sync, G: Gate>(
     settings: Settings,
     gate: &G,
 ) -> Result<Shared, AllocError>
-    ensures { IfOk result (IsRun program.now settings) }
+    ensures run { IfOk result (IsRun program.now settings) }
+    ensures gave { IfOk result (λ w. WasGivenBack program.now settings w.journal.items) }
 {
     let (turn, mut desks) = opened(alloc, program, settings)?;
     let seats = Vec::with_capacity(alloc, desks.len())?;
@@ -172,7 +173,8 @@ fn run_all<R: Threads + Wait + Sync, G: Gate>(
     Ok(shared)
 }
 
-/// Runs a program with workers in threads: its journal is legal and paced, and its order is that of the turns.
+/// Runs a program with workers in threads: its journal is legal and paced, its order is that of the turns, and of each worker
+/// it has just the entries that this one gave back.
 pub fn run_on_workers<R: Threads + Wait + Sync, G: Gate>(
     rt: &R,
     alloc: Global,
@@ -181,6 +183,7 @@ pub fn run_on_workers<R: Threads + Wait + Sync, G: Gate>(
     gate: &G,
 ) -> Outcome
     ensures run { IfSome result.shared (IsRun program.now settings) }
+    ensures gave { IfSome result.shared (λ w. WasGivenBack program.now settings w.journal.items) }
     ensures finish { IfSome result.shared (λ w. result.finish ≡ finish_of (end_of program.now settings w.journal.items)) }
     ensures none { IfNone result.shared (result.finish ≡ Finish.NoMemory) }
 {

@@ -1,9 +1,22 @@
-use Rattle.std.proofs.Common.{ap, ◌∙◌, ◌≡◌, true, subst, sym}
+use Rattle.std.proofs.Common.{rules, ◌≡◌, ◌++◌, List, take, drop, length, ap, subst, ◌∙◌}
 use Rattle.shared_tree.specs.World.{World}
-use Rattle.worker_run.proofs.Rows.{is_run}
+use Rattle.turn_lock.specs.Turn.{identity}
+use Rattle.worker_run.specs.declared.desk.Desk.{Desk}
+use Rattle.worker_run.specs.Desks.{HasOfEach}
+use Rattle.worker_run.proofs.Rows.{is_run, was_given, whole_written}
 use Rattle.worker_run.proofs.workers.run_all.Goals as goal
 
-pub returns : goal.returns
-returns g c =
+pub returns-clause-run : goal.returns-clause-run
+returns-clause-run g c =
     is_run c.args.program.now c.args.settings c.into_shared-shared.result c.stands.ensures (ap (λ (w : World). w.program) c.into_shared-shared.ensures.same ∙ c.close.ensures.program)
     (ap (λ (w : World). w.settings) c.into_shared-shared.ensures.same ∙ c.close.ensures.settings) c.into_shared-shared.ensures.paced
+
+pub returns-clause-gave : goal.returns-clause-gave
+returns-clause-gave g c =
+    let desks : List Desk = c.all_work.new.desks in
+    let opened : List Desk = c.in_ok-turn.desks.items in
+    let many : c.in_ok-turn.desks.len ≡ length opened = search rules in
+    let same : length desks ≡ length opened = search rules in
+    let whole : take c.in_ok-turn.desks.len (desks ++ drop (length desks) opened) ≡ desks = whole_written c.in_ok-turn.desks.len desks opened same many in
+    was_given (identity c.in_ok-turn.turn) c.args.program.now c.args.settings desks c.close.result c.into_shared-shared.result c.all_work.ensures.all c.all_work.ensures.over
+    (subst (HasOfEach c.close.result.journal.items) whole c.close.ensures.of_each) c.into_shared-shared.ensures.same
