@@ -10,7 +10,6 @@ use leaf_copy_gc::{Moved, ToChunks, copy};
 use object_layout::{Addr, Chunk};
 use outside_io::EmptyGate;
 use std::alloc::Global;
-use std::test::Fail;
 use task_frames::Frames;
 
 // Whether the heap, the frames and the roots are as a collection into one new chunk of this number asks.
@@ -39,11 +38,16 @@ pub fn collect(
     frames: &mut Frames,
     roots: &[Addr],
     number: u32,
-) -> Result<Moved, Fail> {
-    let mut to = ToChunks::reserve(alloc, heap, 1)?;
-    to.chunks.push(Chunk::new(alloc, number, 1)?)?;
+) -> Option<Moved> {
+    let Ok(mut to) = ToChunks::reserve(alloc, heap, 1) else {
+        return None;
+    };
+    let Ok(chunk) = Chunk::new(alloc, number, 1) else {
+        return None;
+    };
     if !is_ready(heap, frames, roots, number) {
-        return Err("not as a collection asks")?;
+        return None;
     }
-    Ok(copy(heap, frames, roots, to, &EmptyGate, 0, 3))
+    to.chunks.push_reserved(chunk);
+    Some(copy(heap, frames, roots, to, &EmptyGate, 0, 3))
 }

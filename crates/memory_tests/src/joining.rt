@@ -1,8 +1,9 @@
 // Forks and joins that were checked.
 
 ghost use Rattle.std.specs.Prelude.{◌++◌, IsTrue};
+ghost use Rattle.alloc_path.specs.Heap.{merged};
 ghost use Rattle.object_layout.specs.Chunks.{AreApart};
-ghost use Rattle.fork_join.specs.Joined.{AreInUse, HaveEnded};
+ghost use Rattle.fork_join.specs.Joined.{AreInUse, HasRoom, HaveEnded};
 
 use crate::soundness::is_fresh;
 use chunk_pool::Pool;
@@ -10,7 +11,6 @@ use fork_join::{Child, EndedChild, Side, finish, fork, join, make_room};
 use heap_tree::{State, Tree};
 use object_layout::Chunk;
 use std::alloc::Global;
-use std::test::Fail;
 use task_frames::Frames;
 
 // Whether the two are the left and the right child of one fork of the parent, and have ended while it waits.
@@ -76,35 +76,56 @@ fn are_all_apart(left: &[Chunk], right: &[Chunk], behind: &[Chunk]) -> bool
 }
 
 /// A worker takes a task, and it forks, if it may: its children begin the functions 5 and 6.
-pub fn forked(
-    alloc: Global,
-    tree: &mut Tree,
-    t: u32,
-    top: &Frames,
-) -> Result<(Child, Child), Fail> {
+pub fn forked(alloc: Global, tree: &mut Tree, t: u32, top: &Frames) -> Option<(Child, Child)> {
     if t >= tree.made() || tree.made() >= 100000 || tree.depth(t) >= 1000 {
-        return Err("no fork")?;
+        return None;
     }
     tree.set_state(t, State::Out);
     if tree.state(t) != Some(State::Out) {
-        return Err("not out")?;
+        return None;
     }
-    Ok(fork(alloc, tree, t, top, 5, 6)?)
+    fork(alloc, tree, t, top, 5, 6).ok()
 }
 
-/// A worker takes a child, and it ends: the parent that goes on.
-pub fn ended(tree: &mut Tree, t: u32) -> Result<Option<u32>, Fail> {
+/// Whether a task forks. Its children are let go.
+pub fn has_forked(alloc: Global, tree: &mut Tree, t: u32, top: &Frames) -> bool {
+    forked(alloc, tree, t, top).is_some()
+}
+
+/// A worker takes a child, and it ends: the parent that goes on. None where it is no child.
+pub fn ended(tree: &mut Tree, t: u32) -> Option<Option<u32>> {
     if t == 0 || t >= tree.made() {
-        return Err("no child")?;
+        return None;
     }
     tree.set_state(t, State::Out);
     if tree.state(t) != Some(State::Out) {
-        return Err("not out")?;
+        return None;
     }
-    Ok(finish(tree, t))
+    Some(finish(tree, t))
 }
 
-/// Joins two children with their parent, if they may be.
+// Makes places for a join, and says whether two children may be joined with their parent.
+fn prepare(tree: &Tree, pool: &Pool, parent: &mut Side, left: &Side, right: &Side) -> bool
+    ensures room { IsTrue result → HasRoom parent.new left.now right.now }
+    ensures ended { IsTrue result → HaveEnded tree.now parent.new.task left.now.task right.now.task }
+    ensures left_in_use { IsTrue result → AreInUse pool.now left.now.heap.chunks }
+    ensures right_in_use { IsTrue result → AreInUse pool.now right.now.heap.chunks }
+    ensures apart { IsTrue result → AreApart (merged parent.new.heap left.now.heap right.now.heap).chunks }
+{
+    let Ok(()) = make_room(parent, left, right) else {
+        return false;
+    };
+    have_ended(tree, parent.task, left.task, right.task)
+        && are_in_use(pool, left.heap.chunks())
+        && are_in_use(pool, right.heap.chunks())
+        && are_all_apart(
+            left.heap.chunks(),
+            right.heap.chunks(),
+            parent.heap.chunks(),
+        )
+}
+
+/// Joins two children with their parent, if they may be, and says whether it did.
 pub fn joined(
     tree: &mut Tree,
     pool: &mut Pool,
@@ -112,19 +133,10 @@ pub fn joined(
     frames: &mut Frames,
     left: EndedChild,
     right: EndedChild,
-) -> Result<(), Fail> {
-    make_room(parent, &left.side, &right.side)?;
-    if !have_ended(tree, parent.task, left.side.task, right.side.task)
-        || !are_in_use(pool, left.side.heap.chunks())
-        || !are_in_use(pool, right.side.heap.chunks())
-        || !are_all_apart(
-            left.side.heap.chunks(),
-            right.side.heap.chunks(),
-            parent.heap.chunks(),
-        )
-    {
-        return Err("no join")?;
+) -> bool {
+    if !prepare(tree, pool, parent, &left.side, &right.side) {
+        return false;
     }
     join(tree, pool, parent, frames, left, right);
-    Ok(())
+    true
 }

@@ -3,7 +3,6 @@
 use crate::soundness::is_fresh;
 use alloc_path::LeafHeap;
 use chunk_pool::{NotTaken, Pool};
-use std::test::Fail;
 
 /// A chunk of so many units for this owner is taken, and goes: its number stays in use.
 pub fn take(pool: &mut Pool, owner: u32, units: u32) -> Option<u32> {
@@ -53,14 +52,14 @@ pub fn relabel(pool: &mut Pool, number: u32, owner: u32) {
 }
 
 /// Adds a chunk of one unit to the heap of its owner, and says its number.
-pub fn add_taken(pool: &mut Pool, heap: &mut LeafHeap, owner: u32) -> Result<u32, Fail> {
+pub fn add_taken(pool: &mut Pool, heap: &mut LeafHeap, owner: u32) -> Option<u32> {
     let Ok(chunk) = pool.take(owner, 1) else {
-        return Err("not taken")?;
+        return None;
     };
     let number = chunk.number();
-    if !is_fresh(heap.chunks(), number) {
-        return Err("the number is taken")?;
+    if is_fresh(heap.chunks(), number) && heap.add(chunk).is_ok() {
+        Some(number)
+    } else {
+        None
     }
-    heap.add(chunk)?;
-    Ok(number)
 }

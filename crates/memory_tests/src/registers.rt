@@ -1,7 +1,7 @@
 // Frames at their limit, and registers of each.
 
 use object_layout::Addr;
-use std::test::Fail;
+use std::alloc::Global;
 use task_frames::{Frames, NotPushed};
 
 const NOWHERE: Option<Addr> = None;
@@ -11,52 +11,90 @@ const THERE: Option<Addr> = Some(Addr {
     offset: 9,
 });
 
-fn started(rt: &HostRuntime) -> Frames {
-    Frames::start(rt.alloc(), 4, &[0; 16], &[NOWHERE; 16])
+// A frame of the function 4 whose registers are empty.
+fn started(alloc: Global) -> Frames {
+    Frames::start(alloc, 4, &[0; 16], &[NOWHERE; 16])
+}
+
+// Whether so many calls have a place.
+fn can_push(frames: &mut Frames, calls: u32) -> bool {
+    for _ in 0..calls {
+        if frames.push(5).is_err() {
+            return false;
+        }
+    }
+    true
 }
 
 #[test]
-fn to_the_limit(rt: HostRuntime) -> Result<(), Fail> {
-    let mut frames = started(&rt);
-    for _ in 0..999 {
-        assert!(rt; frames.push(5).is_ok());
-    }
-    assert!(rt; frames.depth() == 1000);
-    assert!(rt; frames.push(6) == Err(NotPushed::Deep));
-    assert!(rt; frames.fun() == 5);
-    Ok(())
+fn to_the_limit(rt: HostRuntime) {
+    let mut frames = started(rt.alloc());
+    assert!(rt; can_push(&mut frames, 999) && frames.depth() == 1000);
+    assert!(rt; frames.push(6) == Err(NotPushed::Deep) && frames.fun() == 5);
+}
+
+// A number register, a reference register, and the top frame's function, its next instruction and its depth.
+type Top = (i64, Option<Addr>, u32, u32, u32);
+
+// All that of a top frame.
+fn top(frames: &Frames) -> Top {
+    let (number, reference) = (frames.int(15), frames.reference(0));
+    (
+        number,
+        reference,
+        frames.fun(),
+        frames.next(),
+        frames.depth(),
+    )
+}
+
+// The top frame within a call, and after it has written its registers and returned.
+fn call(frames: &mut Frames) -> Option<(Top, Top)> {
+    frames.set_int(15, -7);
+    frames.set_reference(0, THERE);
+    frames.set_next(2);
+    let Ok(()) = frames.push(8) else {
+        return None;
+    };
+    let within = top(frames);
+    frames.set_int(15, 3);
+    frames.set_reference(0, None);
+    frames.pop();
+    Some((within, top(frames)))
 }
 
 // A call begins with the registers of its caller, and leaves them as they were.
 #[test]
-fn registers_of_a_call(rt: HostRuntime) -> Result<(), Fail> {
-    let mut frames = started(&rt);
-    frames.set_int(15, -7);
-    frames.set_reference(0, THERE);
-    frames.set_next(2);
-    assert!(rt; frames.push(8).is_ok());
-    assert!(rt; (frames.int(15), frames.reference(0)) == (-7, THERE));
-    assert!(rt; (frames.fun(), frames.next(), frames.depth()) == (8, 0, 2));
-    frames.set_int(15, 3);
-    frames.set_reference(0, None);
-    frames.pop();
-    assert!(rt; (frames.int(15), frames.reference(0)) == (-7, THERE));
-    assert!(rt; (frames.fun(), frames.next(), frames.depth()) == (4, 2, 1));
-    Ok(())
+fn registers_of_a_call(rt: HostRuntime) {
+    let mut frames = started(rt.alloc());
+    let expected = ((-7, THERE, 8, 0, 2), (-7, THERE, 4, 2, 1));
+    assert!(rt; call(&mut frames) == Some(expected));
+}
+
+// Register 1 of the top frame, and of the oldest one, once that was written, read in two ways; and register 4 of the top
+// frame, once all its registers were written.
+fn written(
+    frames: &mut Frames,
+) -> Option<(Option<Addr>, Option<Addr>, Option<Addr>, Option<Addr>)> {
+    let Ok(()) = frames.push(8) else {
+        return None;
+    };
+    if frames.depth() != 2 {
+        return None;
+    }
+    frames.set_reference_in(0, 1, THERE);
+    if frames.depth() != 2 {
+        return None;
+    }
+    let (above, below) = (frames.reference(1), frames.reference_in(0, 1));
+    let among = frames.references_in(0)[1];
+    frames.set_references_in(1, &[THERE; 16]);
+    Some((above, below, among, frames.reference(4)))
 }
 
 // The oldest frame is frame 0.
 #[test]
-fn references_of_each(rt: HostRuntime) -> Result<(), Fail> {
-    let mut frames = started(&rt);
-    assert!(rt; frames.push(8).is_ok());
-    assert!(rt; frames.depth() == 2);
-    frames.set_reference_in(0, 1, THERE);
-    assert!(rt; frames.reference(1).is_none());
-    assert!(rt; frames.depth() == 2);
-    assert!(rt; frames.reference_in(0, 1) == THERE);
-    assert!(rt; frames.references_in(0)[1] == THERE);
-    frames.set_references_in(1, &[THERE; 16]);
-    assert!(rt; frames.reference(4) == THERE);
-    Ok(())
+fn references_of_each(rt: HostRuntime) {
+    let mut frames = started(rt.alloc());
+    assert!(rt; written(&mut frames) == Some((None, THERE, THERE, THERE)));
 }

@@ -1,4 +1,4 @@
-// Heaps of tests. Each call checks what it needs, and fails where that doesn't hold.
+// Heaps of tests. Each call checks what it needs, and says where that doesn't hold.
 
 ghost use Rattle.std.specs.Prelude.{IsTrue};
 ghost use Rattle.object_layout.specs.Cell.{IsObject};
@@ -9,7 +9,6 @@ use crate::soundness::{is_fresh, is_live};
 use alloc_path::{LeafHeap, New};
 use object_layout::{Addr, Birth, Chunk, Header};
 use std::alloc::Global;
-use std::test::Fail;
 use task_frames::Frames;
 
 const NOWHERE: Option<Addr> = None;
@@ -27,22 +26,21 @@ pub fn one_frame(alloc: Global) -> Frames {
     Frames::start(alloc, 0, &[0; 16], &[NOWHERE; 16])
 }
 
-// Adds an empty chunk.
-pub fn add(alloc: Global, heap: &mut LeafHeap, number: u32, units: u32) -> Result<(), Fail> {
-    if units == 0 || units > 1000 {
-        return Err("no such size")?;
+// Adds an empty chunk, and says whether it did.
+fn add(alloc: Global, heap: &mut LeafHeap, number: u32, units: u32) -> bool {
+    if units == 0 || units > 1000 || !is_fresh(heap.chunks(), number) {
+        return false;
     }
-    if !is_fresh(heap.chunks(), number) {
-        return Err("the number is taken")?;
+    match Chunk::new(alloc, number, units) {
+        Ok(chunk) => heap.add(chunk).is_ok(),
+        Err(_) => false,
     }
-    heap.add(Chunk::new(alloc, number, units)?)?;
-    Ok(())
 }
 
-// Places an object of task 3, and says where.
-pub fn place(heap: &mut LeafHeap, nrefs: u32, nints: u32, count: u32) -> Result<Addr, Fail> {
+// Places an object of task 3, and says whether it did.
+pub fn place(heap: &mut LeafHeap, nrefs: u32, nints: u32, count: u32) -> bool {
     if nrefs > 1000000 || nints > 1000000 {
-        return Err("too many fields")?;
+        return false;
     }
     let header = Header {
         nrefs,
@@ -50,10 +48,7 @@ pub fn place(heap: &mut LeafHeap, nrefs: u32, nints: u32, count: u32) -> Result<
         mutable: true,
     };
     let birth = Birth { task: 3, count };
-    match heap.place(New { header, birth })? {
-        Some(object) => Ok(object),
-        None => Err("no place")?,
-    }
+    matches!(heap.place(New { header, birth }), Ok(Some(_)))
 }
 
 /// An address in a table: the number of the chunk, and the offset.
@@ -70,24 +65,23 @@ pub enum Put {
     Lead(Spot, Spot),
 }
 
-fn put_in(alloc: Global, heap: &mut LeafHeap, what: Put) -> Result<(), Fail> {
+fn put_in(alloc: Global, heap: &mut LeafHeap, what: Put) -> bool {
     match what {
         Put::Chunk(number, units) => add(alloc, heap, number, units),
-        Put::Object(nrefs, nints, count) => {
-            place(heap, nrefs, nints, count)?;
-            Ok(())
-        }
+        Put::Object(nrefs, nints, count) => place(heap, nrefs, nints, count),
         Put::Lead(object, to) => lead(heap, at_spot(object), at_spot(to)),
     }
 }
 
 /// A heap into which these were put one behind the other.
-pub fn heap_of(alloc: Global, all: &[Put]) -> Result<LeafHeap, Fail> {
+pub fn heap_of(alloc: Global, all: &[Put]) -> Option<LeafHeap> {
     let mut heap = LeafHeap::new(alloc);
     for &what in all {
-        put_in(alloc, &mut heap, what)?;
+        if !put_in(alloc, &mut heap, what) {
+            return None;
+        }
     }
-    Ok(heap)
+    Some(heap)
 }
 
 /// An object as tests see it: where it lies, the count of its birth name, and where its first reference leads.
@@ -126,28 +120,22 @@ fn is_object(heap: &LeafHeap, object: Addr) -> bool
     is_live(heap.chunks(), object)
 }
 
-// Writes the first reference of an object.
-pub fn lead(heap: &mut LeafHeap, object: Addr, to: Addr) -> Result<(), Fail> {
-    if !is_object(heap, object) || to.offset >= 1024 {
-        return Err("no object")?;
-    }
-    if heap.own_header(object).nrefs == 0 {
-        return Err("no such field")?;
+// Writes the first reference of an object, and says whether it did.
+fn lead(heap: &mut LeafHeap, object: Addr, to: Addr) -> bool {
+    if !is_object(heap, object) || to.offset >= 1024 || heap.own_header(object).nrefs == 0 {
+        return false;
     }
     heap.own_set_ref(object, 0, Some(to));
-    Ok(())
+    true
 }
 
-/// Writes a number of an object.
-pub fn set_number(heap: &mut LeafHeap, object: Addr, field: u32, value: i64) -> Result<(), Fail> {
-    if !is_object(heap, object) {
-        return Err("no object")?;
-    }
-    if heap.own_header(object).nints <= field {
-        return Err("no such field")?;
+/// Writes a number of an object, and says whether it did.
+pub fn set_number(heap: &mut LeafHeap, object: Addr, field: u32, value: i64) -> bool {
+    if !is_object(heap, object) || heap.own_header(object).nints <= field {
+        return false;
     }
     heap.own_set_int(object, field, value);
-    Ok(())
+    true
 }
 
 /// A number of an object; None where no object has it.
@@ -158,13 +146,13 @@ pub fn number(heap: &LeafHeap, object: Addr, field: u32) -> Option<i64> {
     Some(heap.own_int(object, field))
 }
 
-/// Makes an object immutable.
-pub fn freeze(heap: &mut LeafHeap, object: Addr) -> Result<(), Fail> {
+/// Makes an object immutable, and says whether it did.
+pub fn freeze(heap: &mut LeafHeap, object: Addr) -> bool {
     if !is_object(heap, object) {
-        return Err("no object")?;
+        return false;
     }
     heap.freeze(object);
-    Ok(())
+    true
 }
 
 /// Whether an object is mutable.

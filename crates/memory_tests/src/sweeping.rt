@@ -3,7 +3,7 @@
 ghost use Rattle.std.specs.Prelude.{All, IfSome, IsSome, IsTrue};
 ghost use Rattle.chunk_pool.specs.Chunks.{held_at};
 ghost use Rattle.inner_mark_gc.specs.Snapshot.{IsClosed, IsHeld};
-ghost use Rattle.inner_mark_gc.specs.Marks.{IsOf};
+ghost use Rattle.inner_mark_gc.specs.Marks.{HasRoom, IsDone, IsOf};
 
 use crate::cells::is_fit_heap;
 use crate::soundness::is_live;
@@ -74,6 +74,53 @@ fn mark_all(marking: &mut Marking, heap: &LeafHeap, kept: &[Addr], step: u32) ->
     100
 }
 
+// Marks a heap from these roots and kept references, so many objects at a time, until nothing is left to mark, and says how
+// many calls marked that many.
+fn marked(
+    alloc: Global,
+    heap: &LeafHeap,
+    roots: &[Addr],
+    kept: &[Addr],
+    step: u32,
+) -> Option<(u32, Marking)>
+    requires closed { IsClosed heap.now.chunks }
+    requires roots { All (IsHeld heap.now.chunks) roots.now }
+    requires kept { All (IsHeld heap.now.chunks) kept.now }
+    ensures own { IfSome result (λ r. IsOf heap.now.chunks kept.now r.1) }
+    ensures done { IfSome result (λ r. IsDone r.1) }
+{
+    let Ok(mut marking) = Marking::begin(alloc, heap, roots) else {
+        return None;
+    };
+    let calls = mark_all(&mut marking, heap, kept, step);
+    if marking.ready(heap, kept) {
+        Some((calls, marking))
+    } else {
+        None
+    }
+}
+
+// Sweeps a heap, and says how many calls marked it, how many units were given back, if those were foretold, and how many are
+// then in use.
+fn sweep(
+    heap: &mut LeafHeap,
+    pool: &mut Pool,
+    marking: Marking,
+    calls: u32,
+) -> Option<(u32, u32, u32)>
+    requires done { IsDone marking }
+    requires room { HasRoom heap.old.chunks marking }
+    requires in_use { All (λ k. IsSome (held_at pool.old k.number)) heap.old.chunks }
+{
+    let would_give = marking.would_give(heap);
+    let given = marking.sweep(heap, pool);
+    if given == would_give {
+        Some((calls, given, pool.in_use()))
+    } else {
+        None
+    }
+}
+
 /// Marks a heap from these roots and kept references, so many objects at a time, and sweeps it, if all is as that asks.
 /// Says how many calls marked that many, how many units were given back, and how many are then in use.
 pub fn mark_and_sweep(
@@ -83,29 +130,14 @@ pub fn mark_and_sweep(
     kept: &[Addr],
     step: u32,
 ) -> Option<(u32, u32, u32)> {
-    if !is_closed(heap) {
-        return None;
-    }
-    if !are_objects(heap, roots) {
-        return None;
-    }
-    if !are_objects(heap, kept) {
+    if !is_closed(heap) || !are_objects(heap, roots) || !are_objects(heap, kept) {
         return None;
     }
     let Some(mut pool) = pool_of(alloc, heap.chunks()) else {
         return None;
     };
-    let Ok(mut marking) = Marking::begin(alloc, heap, roots) else {
-        return None;
-    };
-    let calls = mark_all(&mut marking, heap, kept, step);
-    if !marking.ready(heap, kept) {
-        return None;
+    match marked(alloc, heap, roots, kept, step) {
+        Some((calls, marking)) => sweep(heap, &mut pool, marking, calls),
+        None => None,
     }
-    let would_give = marking.would_give(heap);
-    let given = marking.sweep(heap, &mut pool);
-    if given != would_give {
-        return None;
-    }
-    Some((calls, given, pool.in_use()))
 }

@@ -5,8 +5,6 @@ use crate::scenes::{Put, Seen, Spot, at, at_spot, heap_of, holds, one_frame};
 use crate::sweeping::mark_and_sweep;
 use alloc_path::LeafHeap;
 use std::alloc::Global;
-use std::process::Abort;
-use std::test::Fail;
 
 // A heap, and what a marking from a root and an overwritten reference, so many objects at a time, and a sweep make of it.
 struct Case {
@@ -17,20 +15,33 @@ struct Case {
     // How many calls marked as many objects as they were to, how many units were given back, and how many are in use.
     swept: (u32, u32, u32),
     objects_after: &'static [Seen],
-    // The chunks, the words, and the words that are left in the chunk that is being filled.
-    left: (usize, u64, u32),
+    // The chunks, the words, the words that are left in the chunk that is being filled, and which chunk is reserved.
+    left: (usize, u64, u32, Option<usize>),
 }
 
-// Checks what comes of a case, and hands back the heap.
-fn check(rt: &impl Abort, alloc: Global, case: &Case) -> Result<LeafHeap, Fail> {
-    let mut heap = heap_of(alloc, case.heap)?;
+// Whether the heap is then as it should be.
+fn is_left(heap: &LeafHeap, case: &Case) -> bool {
+    let chunks = heap.chunks().len();
+    let left = (chunks, heap.words(), heap.room(), heap.reserved());
+    left == case.left && holds(heap, case.objects_after)
+}
+
+// Whether all that should comes of marking and sweeping the heap.
+fn is_swept(alloc: Global, heap: &mut LeafHeap, case: &Case) -> bool {
     let kept = case.kept.map(at_spot);
     let root = [at_spot(case.root)];
-    let swept = mark_and_sweep(alloc, &mut heap, &root, kept.as_slice(), case.step);
-    assert!(rt; swept == Some(case.swept));
-    assert!(rt; holds(&heap, case.objects_after));
-    assert!(rt; (heap.chunks().len(), heap.words(), heap.room()) == case.left);
-    Ok(heap)
+    let told = mark_and_sweep(alloc, heap, &root, kept.as_slice(), case.step);
+    told == Some(case.swept) && is_left(heap, case)
+}
+
+// The heap once it is swept, if it is as it should be.
+fn swept(alloc: Global, case: &Case) -> Option<LeafHeap> {
+    let mut heap = heap_of(alloc, case.heap)?;
+    if is_swept(alloc, &mut heap, case) {
+        Some(heap)
+    } else {
+        None
+    }
 }
 
 // Between two objects a hole is left.
@@ -47,21 +58,36 @@ const HOLE: Case = Case {
     step: 1,
     swept: (2, 0, 1),
     objects_after: &[((0, 0), 0, Some((0, 6))), ((0, 6), 2, None)],
-    left: (1, 7, 1014),
+    left: (1, 7, 1014, None),
 };
+
+// The counts of a collection of such a heap.
+fn collected(alloc: Global, heap: &mut LeafHeap) -> Option<(u32, u32, u32)> {
+    let mut frames = one_frame(alloc);
+    frames.set_reference(0, Some(at(0, 0)));
+    let moved = collect(alloc, heap, &mut frames, &[], 20)?;
+    Some((moved.taken, moved.given, moved.left))
+}
+
+const COLLECTED: &[Seen] = &[((20, 0), 0, Some((20, 3))), ((20, 3), 2, None)];
+
+// The words placed before a collection, its counts, and whether the heap has then just the objects that it should.
+fn with_hole(alloc: Global, heap: &mut LeafHeap) -> Option<(u64, (u32, u32, u32), bool)> {
+    let since = heap.since();
+    let counts = collected(alloc, heap)?;
+    Some((since, counts, holds(heap, COLLECTED)))
+}
+
+// The same of a heap in which a hole is left.
+fn collected_with_hole(alloc: Global) -> Option<(u64, (u32, u32, u32), bool)> {
+    let mut heap = swept(alloc, &HOLE)?;
+    with_hole(alloc, &mut heap)
+}
 
 // Then the heap is collected.
 #[test]
-fn a_hole_is_left(rt: HostRuntime) -> Result<(), Fail> {
-    let alloc = rt.alloc();
-    let mut heap = check(&rt, alloc, &HOLE)?;
-    assert!(rt; heap.since() == 10);
-    let mut frames = one_frame(alloc);
-    frames.set_reference(0, Some(at(0, 0)));
-    let moved = collect(alloc, &mut heap, &mut frames, &[], 20)?;
-    assert!(rt; (moved.taken, moved.given, moved.left) == (1, 1, 7));
-    assert!(rt; holds(&heap, &[((20, 0), 0, Some((20, 3))), ((20, 3), 2, None)]));
-    Ok(())
+fn a_hole_is_left(rt: HostRuntime) {
+    assert!(rt; collected_with_hole(rt.alloc()) == Some((10, (1, 1, 7), true)));
 }
 
 // A reference that was overwritten before the marking began is kept, and its object with it.
@@ -72,7 +98,7 @@ const KEPT: Case = Case {
     step: 64,
     swept: (0, 0, 1),
     objects_after: &[((0, 0), 0, Some((0, 0))), ((0, 3), 1, None)],
-    left: (1, 6, 1018),
+    left: (1, 6, 1018, None),
 };
 
 const NOT_KEPT: Case = Case {
@@ -82,7 +108,7 @@ const NOT_KEPT: Case = Case {
     step: 64,
     swept: (0, 0, 1),
     objects_after: &[((0, 0), 0, Some((0, 0)))],
-    left: (1, 3, 1018),
+    left: (1, 3, 1018, None),
 };
 
 const OVERWRITTEN: &[Put] = &[
@@ -110,15 +136,14 @@ const LARGE_OBJECTS: Case = Case {
     step: 64,
     swept: (0, 4, 4),
     objects_after: &[((1, 0), 2, None)],
-    left: (2, 1502, 0),
+    left: (2, 1502, 0, Some(1)),
 };
 
+const CASES: &[Case] = &[KEPT, NOT_KEPT, LARGE_OBJECTS];
+
 #[test]
-fn what_is_kept(rt: HostRuntime) -> Result<(), Fail> {
-    let alloc = rt.alloc();
-    check(&rt, alloc, &KEPT)?;
-    check(&rt, alloc, &NOT_KEPT)?;
-    let heap = check(&rt, alloc, &LARGE_OBJECTS)?;
-    assert!(rt; heap.reserved() == Some(1));
-    Ok(())
+fn what_is_kept(rt: HostRuntime) {
+    for case in CASES {
+        assert!(rt; swept(rt.alloc(), case).is_some());
+    }
 }

@@ -1,11 +1,11 @@
 // Writes of references into an object of a root that has two children.
 
-ghost use Rattle.std.specs.Prelude.{◌≡◌, ◌<◌, IsTrue, None, length, slice_index_or};
+ghost use Rattle.std.specs.Prelude.{◌≡◌, ◌<◌, IsTrue, None, Some, length, slice_index_or};
 ghost use Rattle.object_layout.specs.Cell.{IsPlace};
 ghost use Rattle.object_layout.specs.Chunks.{object_of};
 ghost use Rattle.write_barrier.specs.Stored.{IsOwned};
 
-use crate::joining::forked;
+use crate::joining::has_forked;
 use crate::pools::add_taken;
 use crate::scenes::{at, holds, one_frame, place};
 use crate::soundness::is_live;
@@ -14,7 +14,6 @@ use chunk_pool::Pool;
 use heap_tree::Tree;
 use object_layout::Addr;
 use std::alloc::Global;
-use std::test::Fail;
 use write_barrier::{SetOf, store};
 
 // Whether a reference, if it isn't nil, leads to a place in a chunk of a task of the tree.
@@ -53,55 +52,74 @@ struct Scene {
     tree: Tree,
     pool: Pool,
     heap: LeafHeap,
-    object: Addr,
     sets: Vec<SetOf>,
 }
 
+// Where the object lies.
+const OBJECT: Addr = Addr {
+    chunk: 0,
+    offset: 0,
+};
+
 // A root that has forked.
-fn family(alloc: Global) -> Result<Tree, Fail> {
-    let mut tree = Tree::new(alloc)?;
-    let _children = forked(alloc, &mut tree, 0, &one_frame(alloc))?;
-    Ok(tree)
-}
-
-// A heap with an object of one reference, in the chunk 0, which is the root's.
-fn root_heap(alloc: Global, pool: &mut Pool) -> Result<LeafHeap, Fail> {
-    let mut heap = LeafHeap::new(alloc);
-    add_taken(pool, &mut heap, 0)?;
-    place(&mut heap, 1, 0, 0)?;
-    Ok(heap)
-}
-
-// An empty set for each of the three heaps.
-fn three_sets(alloc: Global) -> Result<Vec<SetOf>, Fail> {
-    let mut sets = Vec::new(alloc);
-    for _ in 0..3 {
-        sets.push(SetOf::new(alloc))?;
+fn family(alloc: Global) -> Option<Tree> {
+    let Ok(mut tree) = Tree::new(alloc) else {
+        return None;
+    };
+    if has_forked(alloc, &mut tree, 0, &one_frame(alloc)) {
+        Some(tree)
+    } else {
+        None
     }
-    Ok(sets)
 }
 
+// Puts an object of one reference into a heap, in the chunk 0, which is the root's, and says whether it did.
+fn put_object(pool: &mut Pool, heap: &mut LeafHeap) -> bool {
+    add_taken(pool, heap, 0).is_some() && place(heap, 1, 0, 0)
+}
+
+// Adds an empty set for each of the three heaps, and says whether it did.
+fn add_sets(alloc: Global, sets: &mut Vec<SetOf>) -> bool {
+    let Ok(()) = sets.reserve(3) else {
+        return false;
+    };
+    sets.push_reserved(SetOf::new(alloc));
+    sets.push_reserved(SetOf::new(alloc));
+    sets.push_reserved(SetOf::new(alloc));
+    true
+}
+
+// The number of sources and of kept references of a set.
+fn count(set: &SetOf) -> (usize, usize) {
+    (set.remembered.sources().len(), set.kept.as_slice().len())
+}
+
+// Each change says whether it was made.
 impl Scene {
-    fn new(alloc: Global) -> Result<Scene, Fail> {
-        let mut pool = Pool::new(alloc, 4);
-        let heap = root_heap(alloc, &mut pool)?;
-        Ok(Scene {
-            tree: family(alloc)?,
-            pool,
-            heap,
-            object: at(0, 0),
-            sets: three_sets(alloc)?,
-        })
+    fn new(alloc: Global) -> Option<Scene> {
+        let tree = family(alloc)?;
+        let mut scene = Scene {
+            tree,
+            pool: Pool::new(alloc, 4),
+            heap: LeafHeap::new(alloc),
+            sets: Vec::new(alloc),
+        };
+        if scene.fill(alloc) { Some(scene) } else { None }
+    }
+
+    // Puts the object and the sets into it.
+    fn fill(&mut self, alloc: Global) -> bool {
+        put_object(&mut self.pool, &mut self.heap) && add_sets(alloc, &mut self.sets)
     }
 
     // Writes the reference of the object.
-    fn write(&mut self, value: Option<Addr>) -> Result<(), Fail> {
+    fn write(&mut self, value: Option<Addr>) -> bool {
         store_checked(
             &self.tree,
             &self.pool,
             &mut self.heap,
             &mut self.sets,
-            self.object,
+            OBJECT,
             value,
         )
     }
@@ -115,14 +133,25 @@ impl Scene {
 
     // The numbers of sources and of kept references of the three sets.
     fn counts(&self) -> Option<[(usize, usize); 3]> {
-        let [root, left, right] = self.sets.as_slice() else {
-            return None;
-        };
-        Some([root, left, right].map(|set| (
-            set.remembered.sources().len(),
-            set.kept.as_slice().len(),
-        )))
+        match self.sets.as_slice() {
+            [root, left, right] => Some([count(root), count(left), count(right)]),
+            _ => None,
+        }
     }
+}
+
+// Whether the first reference of an object may be written.
+fn may_store(tree: &Tree, pool: &Pool, heap: &LeafHeap, object: Addr, value: Option<Addr>) -> bool
+    ensures field { IsTrue result → 0 < length (object_of heap.now.chunks object).refs }
+    ensures place { IsTrue result → IsPlace value }
+    ensures object { IsTrue result → IsOwned (length tree.now) pool.now (Some object) }
+    ensures value { IsTrue result → IsOwned (length tree.now) pool.now value }
+    ensures overwritten { IsTrue result → IsOwned (length tree.now) pool.now (slice_index_or (object_of heap.now.chunks object).refs 0 None) }
+{
+    has_reference(heap, object)
+        && is_owned(tree, pool, Some(object))
+        && is_owned(tree, pool, value)
+        && is_owned(tree, pool, first_reference(heap, object))
 }
 
 // Writes the first reference of an object, if that may be.
@@ -133,47 +162,68 @@ fn store_checked(
     sets: &mut [SetOf],
     object: Addr,
     value: Option<Addr>,
-) -> Result<(), Fail> {
-    if !has_reference(heap, object) || sets.len() < tree.made() as usize {
-        return Err("no field or no set")?;
+) -> bool {
+    if sets.len() < tree.made() as usize || !may_store(tree, pool, heap, object, value) {
+        return false;
     }
-    if !is_owned(tree, pool, Some(object)) || !is_owned(tree, pool, value) {
-        return Err("not owned")?;
-    }
-    if !is_owned(tree, pool, first_reference(heap, object)) {
-        return Err("not owned")?;
-    }
-    store(tree, pool, heap, sets, object, 0, value)?;
-    Ok(())
+    store(tree, pool, heap, sets, object, 0, value).is_ok()
+}
+
+// The place behind eight words of a chunk of the left child.
+fn place_below(alloc: Global, pool: &mut Pool) -> Option<Addr> {
+    let mut heap = LeafHeap::new(alloc);
+    Some(at(add_taken(pool, &mut heap, 1)?, 8))
+}
+
+// Whether a reference that points down is written twice, and seen then; and what the sets hold.
+fn points_down(
+    alloc: Global,
+    scene: &mut Scene,
+) -> Option<([bool; 3], Option<[(usize, usize); 3]>)> {
+    let down = place_below(alloc, &mut scene.pool)?;
+    let first = scene.write(Some(down));
+    let seen = holds(&scene.heap, &[((0, 0), 0, Some((down.chunk, 8)))]);
+    let second = scene.write(Some(down));
+    Some(([first, seen, second], scene.counts()))
+}
+
+// The same of a new scene.
+fn points_down_in_new_scene(alloc: Global) -> Option<([bool; 3], Option<[(usize, usize); 3]>)> {
+    let mut scene = Scene::new(alloc)?;
+    points_down(alloc, &mut scene)
 }
 
 // The field is noted once in the set of the child into whose chunk it points.
 #[test]
-fn a_down_pointer_is_noted_once(rt: HostRuntime) -> Result<(), Fail> {
-    let alloc = rt.alloc();
-    let mut scene = Scene::new(alloc)?;
-    let down = at(add_taken(&mut scene.pool, &mut LeafHeap::new(alloc), 1)?, 8);
-    scene.write(Some(down))?;
-    assert!(rt; holds(&scene.heap, &[((0, 0), 0, Some((down.chunk, 8)))]));
-    scene.write(Some(down))?;
-    assert!(rt; scene.counts() == Some([(0, 0), (1, 0), (0, 0)]));
-    Ok(())
+fn a_down_pointer_is_noted_once(rt: HostRuntime) {
+    let noted = Some([(0, 0), (1, 0), (0, 0)]);
+    assert!(rt; points_down_in_new_scene(rt.alloc()) == Some(([true; 3], noted)));
+}
+
+// Whether a reference is written while the root's heap keeps or not, and so many are kept in its set alone then.
+fn keeps(scene: &mut Scene, value: Option<Addr>, keeps: bool, kept: usize) -> bool {
+    scene.set_keeps(keeps);
+    scene.write(value) && scene.counts() == Some([(0, kept), (0, 0), (0, 0)])
+}
+
+// Whether the reference that is overwritten is kept, each time that it should be.
+fn keeps_overwritten(scene: &mut Scene) -> bool {
+    keeps(scene, Some(OBJECT), false, 0)
+        && keeps(scene, Some(OBJECT), false, 0)
+        && keeps(scene, None, true, 1)
+        && keeps(scene, Some(OBJECT), true, 1)
+}
+
+// The same of a new scene.
+fn keeps_overwritten_in_new_scene(alloc: Global) -> bool {
+    match Scene::new(alloc) {
+        Some(mut scene) => keeps_overwritten(&mut scene),
+        None => false,
+    }
 }
 
 // Where the heap keeps, a reference into it that is overwritten is kept; nil isn't.
 #[test]
-fn an_overwritten_reference_is_kept(rt: HostRuntime) -> Result<(), Fail> {
-    let mut scene = Scene::new(rt.alloc())?;
-    let object = Some(scene.object);
-    for (value, keeps, kept) in [
-        (object, false, 0),
-        (object, false, 0),
-        (None, true, 1),
-        (object, true, 1),
-    ] {
-        scene.set_keeps(keeps);
-        scene.write(value)?;
-        assert!(rt; scene.counts() == Some([(0, kept), (0, 0), (0, 0)]));
-    }
-    Ok(())
+fn an_overwritten_reference_is_kept(rt: HostRuntime) {
+    assert!(rt; keeps_overwritten_in_new_scene(rt.alloc()));
 }
