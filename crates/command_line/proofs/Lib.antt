@@ -6,3 +6,4 @@ mod Ranges
 mod Rows
 mod Shapes
 mod Taken
+pub mod Plain

@@ -1,7 +1,7 @@
 // The command, as the parser of command lines wants it.
 
 ghost use Rattle.std.specs.Prelude.{◌≡◌, IfOk, false};
-ghost use Rattle.clap.specs.Words.{app_of, rule_of};
+ghost use Rattle.clap.specs.Words.{App, Rule, Shape, app_of, rule_of, with_rule, with_subcommand};
 ghost use Rattle.command_line.specs.Adds.{IsShaped};
 ghost use Rattle.command_line.specs.App.{app, check, runner, limited, run, replay, model, races, image, make, verify, bare, file, number, option, flag, workers, fuel, chunks, leaf, inner};
 
@@ -86,6 +86,17 @@ fn flag<'w>(alloc: Global, name: &'w str) -> Arg<'w>
     Arg::new(alloc, name).long(name).action(ArgAction::SetTrue)
 }
 
+// A command with an argument more, where it was made.
+fn with_argument<'w>(
+    whole: Result<Command<'w>, AllocError>,
+    argument: Arg<'w>,
+) -> Result<Command<'w>, AllocError>
+    requires { argument.global ≡ false }
+    ensures { (a : App) (r : Rule) → IfOk whole.entry (λ c. app_of c ≡ a) → rule_of argument.entry ≡ r → IfOk result (λ c. app_of c ≡ with_rule a r) }
+{
+    whole?.arg(argument)
+}
+
 fn check<'w>(alloc: Global) -> Result<Command<'w>, AllocError>
     ensures { IfOk result (IsShaped check) }
 {
@@ -96,15 +107,14 @@ fn check<'w>(alloc: Global) -> Result<Command<'w>, AllocError>
 fn runner<'w>(alloc: Global, name: &'w str) -> Result<Command<'w>, AllocError>
     ensures { IfOk result (IsShaped (runner name.entry.now)) }
 {
-    Command::new(alloc, name)
-        .arg(file(alloc))?
-        .arg(workers(alloc))?
-        .arg(fuel(alloc))?
-        .arg(chunks(alloc))?
-        .arg(leaf(alloc))?
-        .arg(inner(alloc))?
-        .arg(flag(alloc, "report"))?
-        .arg(flag(alloc, "trace"))
+    let whole = with_argument(Ok(Command::new(alloc, name)), file(alloc));
+    let whole = with_argument(whole, workers(alloc));
+    let whole = with_argument(whole, fuel(alloc));
+    let whole = with_argument(whole, chunks(alloc));
+    let whole = with_argument(whole, leaf(alloc));
+    let whole = with_argument(whole, inner(alloc));
+    let whole = with_argument(whole, flag(alloc, "report"));
+    with_argument(whole, flag(alloc, "trace"))
 }
 
 fn run<'w>(alloc: Global) -> Result<Command<'w>, AllocError>
@@ -129,13 +139,12 @@ fn model<'w>(alloc: Global) -> Result<Command<'w>, AllocError>
 fn limited<'w>(alloc: Global, name: &'w str) -> Result<Command<'w>, AllocError>
     ensures { IfOk result (IsShaped (limited name.entry.now)) }
 {
-    Command::new(alloc, name)
-        .arg(file(alloc))?
-        .arg(workers(alloc))?
-        .arg(fuel(alloc))?
-        .arg(chunks(alloc))?
-        .arg(leaf(alloc))?
-        .arg(inner(alloc))
+    let whole = with_argument(Ok(Command::new(alloc, name)), file(alloc));
+    let whole = with_argument(whole, workers(alloc));
+    let whole = with_argument(whole, fuel(alloc));
+    let whole = with_argument(whole, chunks(alloc));
+    let whole = with_argument(whole, leaf(alloc));
+    with_argument(whole, inner(alloc))
 }
 
 fn races<'w>(alloc: Global) -> Result<Command<'w>, AllocError>
@@ -153,10 +162,12 @@ fn image<'w>(alloc: Global) -> Result<Command<'w>, AllocError>
 fn make<'w>(alloc: Global) -> Result<Command<'w>, AllocError>
     ensures { IfOk result (IsShaped make) }
 {
-    Command::new(alloc, "make")
-        .arg(number(alloc, "SEED", 0, 4_294_967_295))?
-        .arg(number(alloc, "SIZE", 1, 1000))?
-        .arg(flag(alloc, "run"))
+    let whole = with_argument(
+        Ok(Command::new(alloc, "make")),
+        number(alloc, "SEED", 0, 4_294_967_295),
+    );
+    let whole = with_argument(whole, number(alloc, "SIZE", 1, 1000));
+    with_argument(whole, flag(alloc, "run"))
 }
 
 fn verify<'w>(alloc: Global) -> Result<Command<'w>, AllocError>
@@ -177,17 +188,26 @@ fn bare<'w>(alloc: Global) -> Command<'w>
         .subcommand_required(true)
 }
 
+// A command with a subcommand more, where both were made.
+fn with_command<'w>(
+    whole: Result<Command<'w>, AllocError>,
+    part: Result<Command<'w>, AllocError>,
+) -> Result<Command<'w>, AllocError>
+    ensures { (a : App) (s : Shape) → IfOk whole.entry (λ c. app_of c ≡ a) → IfOk part.entry (IsShaped s) → IfOk result (λ c. app_of c ≡ with_subcommand a s) }
+{
+    whole?.subcommand(part?)
+}
+
 /// The command with its subcommands.
 pub(crate) fn command<'w>(alloc: Global) -> Result<Command<'w>, AllocError>
     ensures { IfOk result (λ c. app_of c ≡ app) }
 {
-    bare(alloc)
-        .subcommand(check(alloc)?)?
-        .subcommand(run(alloc)?)?
-        .subcommand(replay(alloc)?)?
-        .subcommand(model(alloc)?)?
-        .subcommand(races(alloc)?)?
-        .subcommand(image(alloc)?)?
-        .subcommand(make(alloc)?)?
-        .subcommand(verify(alloc)?)
+    let whole = with_command(Ok(bare(alloc)), check(alloc));
+    let whole = with_command(whole, run(alloc));
+    let whole = with_command(whole, replay(alloc));
+    let whole = with_command(whole, model(alloc));
+    let whole = with_command(whole, races(alloc));
+    let whole = with_command(whole, image(alloc));
+    let whole = with_command(whole, make(alloc));
+    with_command(whole, verify(alloc))
 }

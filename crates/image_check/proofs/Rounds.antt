@@ -1,6 +1,6 @@
 -- A line more is checked.
-use Rattle.std.proofs.Common.{Bor, ◌≡◌, ◌+◌, ℕ, Bool, true, false, List, [], ◌∷◌, cond, length, refl, ap, sym, ◌∙◌}
-use Rattle.std.specs.Prelude.{Option, Some, None, not, is_some, MatchOption, ◌==◌}
+use Rattle.std.proofs.Common.{Bor, ◌≡◌, ◌+◌, ℕ, Bool, true, false, List, [], ◌∷◌, cond, length, refl, ap, sym, ◌∙◌, subst}
+use Rattle.std.specs.Prelude.{Option, Some, None, Result, Ok, Err, IfNone, IfOk, IsErr, IsOkAnd, MatchResult, not, is_some, MatchOption, ◌==◌}
 use Rattle.std.specs.List.{onto_first}
 use Rattle.text_lines.specs.Lines.{lines_of}
 use Rattle.image_check.specs.declared.read.Read.{Read}
@@ -9,7 +9,7 @@ use Rattle.image_check.specs.declared.cause.Cause.{Cause}
 use Rattle.image_check.specs.declared.cause.Fault.{Fault}
 use Rattle.image_check.specs.Line.{said_by}
 use Rattle.image_check.specs.Read.{nothing_read, after_line, whole_of}
-use Rattle.image_check.specs.Fault.{cause_on, is_last, or_later, fault_from, lines_fault, after_lines, objects_in}
+use Rattle.image_check.specs.Fault.{cause_on, is_last, or_later, fault_from, lines_fault, after_lines, objects_in, Answers}
 
 -- no text is without a line
 more_by : (x : ℕ) (ps : List (List ℕ)) → is_last (onto_first x ps) ≡ false
@@ -60,8 +60,19 @@ pub flipped : (a b : Bool) → a ≡ not b → b ≡ not a
 flipped a b e = twice b ∙ ap not (sym e)
 
 -- what the verifier answers
-pub answers_none : (text : List ℕ) (w : Whole) (r : Read) (o : Option Fault) → w ≡ whole_of text → r ≡ nothing_read → o ≡ fault_from w r 1 (lines_of text) → o ≡ None → lines_fault text ≡ None
-answers_none text w r o ew er e h = ap (λ x. fault_from x nothing_read 1 (lines_of text)) (sym ew) ∙ ap (λ x. fault_from w x 1 (lines_of text)) (sym er) ∙ sym e ∙ h
-
-pub answers_count : (text : List ℕ) (r s : Read) (n : ℕ) → r ≡ nothing_read → s ≡ after_lines r (lines_of text) → n ≡ length s.objects → n ≡ objects_in text
+answers_count : (text : List ℕ) (r s : Read) (n : ℕ) → r ≡ nothing_read → s ≡ after_lines r (lines_of text) → n ≡ length s.objects → n ≡ objects_in text
 answers_count text r s n er es e = e ∙ ap (λ x. length x.objects) es ∙ ap (λ x. length (after_lines x (lines_of text)).objects) er
+
+module _ (text : List ℕ) (w : Whole) (r s : Read) (n : ℕ) (ew : w ≡ whole_of text) (er : r ≡ nothing_read) (en : n ≡ length s.objects) where
+  same : (o : Option Fault) → o ≡ fault_from w r 1 (lines_of text) → lines_fault text ≡ o
+  same o e = ap (λ x. fault_from x nothing_read 1 (lines_of text)) (sym ew) ∙ ap (λ x. fault_from w x 1 (lines_of text)) (sym er) ∙ sym e
+
+  answers_one : (o : Option Fault) (a : Result ℕ Fault) → o ≡ fault_from w r 1 (lines_of text) → IfNone o (s ≡ after_lines r (lines_of text)) → Answers o n a → Answers (lines_fault text) (objects_in text) a
+  answers_one o (Ok count) e added h = (same o e ∙ h.0, h.1 ∙ answers_count text r s n er (subst (λ x. IfNone x (s ≡ after_lines r (lines_of text))) h.0 added) en)
+  answers_one o (Err f) e added h = same o e ∙ h
+
+  pub answers_by : {E F : Type 0} (f : Result (Option Fault) E) (a : Result (Result ℕ Fault) F) → IfOk f (λ o. o ≡ fault_from w r 1 (lines_of text))
+      → IfOk f (λ o. IfNone o (s ≡ after_lines r (lines_of text))) → MatchResult f (λ o. IsOkAnd a (Answers o n)) (λ x. IsErr a) → IfOk a (Answers (lines_fault text) (objects_in text))
+  answers_by (Ok o) (Ok b) e added is = answers_one o b e added is
+  answers_by f (Err y) e added is = tt
+  answers_by (Err x) (Ok b) e added is = absurd (cc)

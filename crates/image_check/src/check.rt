@@ -1,16 +1,16 @@
 // Checks images.
 
-ghost use Rattle.std.specs.Prelude.{◌≡◌, ◌≤◌, length, IfOk, IfErr, IfNone, Some, None};
+ghost use Rattle.std.specs.Prelude.{◌≡◌, ◌≤◌, length, IfOk, IfErr, IfNone, IsErr, IsOkAnd, MatchResult, Some, None};
 ghost use Rattle.text_lines.specs.Lines.{lines_of};
 ghost use Rattle.image_check.specs.Line.{said_by};
-ghost use Rattle.image_check.specs.Read.{after_line};
+ghost use Rattle.image_check.specs.Read.{after_line, nothing_had, whole_of};
 ghost use Rattle.image_check.specs.Fault.{cause_on, fault_from, after_lines, lines_fault, image_fault, image_limit, too_long, objects_in, Answers, Fails};
 
 use crate::cause::{Cause, Fault};
 use crate::faults::first_cause;
 use crate::line::read_line;
 use crate::read::Read;
-use crate::whole::{Whole, read_whole};
+use crate::whole::Whole;
 use std::alloc::{AllocError, Global};
 use text_lines::next_line;
 
@@ -83,17 +83,51 @@ fn check_lines(
     }
 }
 
+// What is answered to the first fault of a text that has so many objects.
+fn answer_to(
+    fault: Result<Option<Fault>, AllocError>,
+    objects: u64,
+) -> Result<Result<u64, Fault>, AllocError>
+    ensures { MatchResult fault (λ fault. IsOkAnd result (Answers fault objects)) (λ error. IsErr result) }
+{
+    match fault? {
+        Some(fault) => Ok(Err(fault)),
+        None => Ok(Ok(objects)),
+    }
+}
+
+// How many objects a text has, or its first fault, by what the whole text has.
+fn check_within(alloc: Global, whole: &Whole, text: &[u8]) -> Result<Result<u64, Fault>, AllocError>
+    requires sized { length text.now ≤ image_limit }
+    requires whole { whole.now ≡ whole_of text.now }
+    ensures { IfOk result (Answers (lines_fault text.now) (objects_in text.now)) }
+{
+    let mut read = Read::new(alloc);
+    let fault = check_lines(alloc, whole, &mut read, text);
+    answer_to(fault, read.objects.len() as u64)
+}
+
+// How many objects a text has, or its first fault; what the whole text has is read first.
+fn check_onto(
+    alloc: Global,
+    whole: &mut Whole,
+    text: &[u8],
+) -> Result<Result<u64, Fault>, AllocError>
+    requires sized { length text.now ≤ image_limit }
+    requires nothing { whole.old ≡ nothing_had }
+    ensures { IfOk result (Answers (lines_fault text.now) (objects_in text.now)) }
+{
+    whole.add_lines(alloc, text)?;
+    check_within(alloc, whole, text)
+}
+
 // How many objects a text has, or its first fault.
 fn check_text(alloc: Global, text: &[u8]) -> Result<Result<u64, Fault>, AllocError>
     requires { length text.now ≤ image_limit }
     ensures { IfOk result (Answers (lines_fault text.now) (objects_in text.now)) }
 {
-    let whole = read_whole(alloc, text)?;
-    let mut read = Read::new(alloc);
-    match check_lines(alloc, &whole, &mut read, text)? {
-        Some(fault) => Ok(Err(fault)),
-        None => Ok(Ok(read.objects.len() as u64)),
-    }
+    let mut whole = Whole::new(alloc);
+    check_onto(alloc, &mut whole, text)
 }
 
 /// Checks the text of an image. It answers how many objects there are, or the first fault.

@@ -1,9 +1,10 @@
 -- Reading on over the bytes of a text.
 use Rattle.std.proofs.Common.{◌≡◌, ◌<◌, ◌≤◌, ◌+◌, ◌++◌, ◌^◌, ℕ, Bool, true, false, cond, List, [], ◌∷◌, length, take, drop, arith, refl, ap, sym, subst, ◌∙◌, nat_lt, nat_eq}
-use Rattle.std.specs.Prelude.{Option, Some, None, Result, Ok, ◌==◌, codes}
+use Rattle.std.specs.Prelude.{Option, Some, None, IfNone, ◌==◌, codes}
 use Rattle.std.specs.List.{position_or_len, onto_first}
 use Rattle.std.proofs.lemmas.List.{drop_all}
-use Rattle.hh_lang.specs.Form.{ProgramText, IsProgram}
+use Rattle.hh_lang.specs.Form.{IsProgram}
+use Rattle.hh_lang.specs.declared.program.Fun.{Fun}
 use Rattle.program_reader.specs.declared.cause.Cause.{Cause}
 use Rattle.program_reader.specs.declared.cause.Refused.{Refused}
 use Rattle.program_reader.specs.declared.head.Head.{Head}
@@ -94,11 +95,18 @@ module _ (o : Outline) (text : List ℕ) (r : Reader) (n end : ℕ) (rest : List
         let all = ap (λ p. entry_names p.functions) a.follows.whole in
         is_program o s.done (names ∙ all) a.sound.done (main t) small
 
-    -- and the text is this program
-    pub reads : last ≡ true → o ≡ outline_of text → ◌≡◌ {A = Result ProgramText Refused} (Ok (program_in o s.done)) (reading_of text)
-    reads t same_outline =
-        let a = ended t in
-        let functions = functions_done o text s (n + 1) a (closed t) in
-        ap (λ fs. Ok (program_in o fs)) functions
-        ∙ ap (λ q. Ok (program_in q (functions_from q 1 (lines_of text)))) same_outline
-        ∙ ap (λ f. unless_refused f (program_of text)) (sym (no_fault o text s (n + 1) a))
+    -- and those of the text, which has no fault
+    pub done : last ≡ true → s.done ≡ functions_from o 1 (lines_of text)
+    done t = functions_done o text s (n + 1) (ended t) (closed t)
+
+    pub faultless : last ≡ true → None ≡ first_fault text
+    faultless t = sym (no_fault o text s (n + 1) (ended t))
+
+-- what a text is read as, by its first fault and its functions
+pub read_as : (o : Outline) (text : List ℕ) (fault : Option Refused) (functions : List Fun) → o ≡ outline_of text → fault ≡ first_fault text → IfNone fault (functions ≡ functions_from o 1 (lines_of text))
+    → unless_refused fault (program_in o functions) ≡ reading_of text
+read_as o text None functions same e h =
+    ap (λ fs. unless_refused None (program_in o fs)) h
+    ∙ ap (λ q. unless_refused None (program_in q (functions_from q 1 (lines_of text)))) same
+    ∙ ap (λ f. unless_refused f (program_of text)) e
+read_as o text (Some r) functions same e h = ap (λ f. unless_refused f (program_of text)) e

@@ -1,6 +1,7 @@
 // What the first word of a line says.
 
 ghost use Rattle.std.specs.Prelude.{◌≡◌};
+ghost use Rattle.std.specs.Str.{bytes_eq};
 ghost use Rattle.program_reader.specs.Head.{number_verb, object_verb, flow_verb, verb_of, or_order, head_of_word};
 
 use hh_lang::Operator;
@@ -49,27 +50,33 @@ pub(crate) enum Head {
     Unknown,
 }
 
+fn is_word(word: &[u8], text: &[u8]) -> bool
+    ensures { result ≡ bytes_eq word.now text.now }
+{
+    word == text
+}
+
 // An instruction on numbers.
 fn number_verb_of(word: &[u8]) -> Option<Verb>
     ensures { result ≡ number_verb word.now }
 {
-    if word == b"set".as_slice() {
+    if is_word(word, b"set") {
         Some(Verb::Set)
-    } else if word == b"mov".as_slice() {
+    } else if is_word(word, b"mov") {
         Some(Verb::Mov)
-    } else if word == b"add".as_slice() {
+    } else if is_word(word, b"add") {
         Some(Verb::Calc(Operator::Add))
-    } else if word == b"sub".as_slice() {
+    } else if is_word(word, b"sub") {
         Some(Verb::Calc(Operator::Sub))
-    } else if word == b"mul".as_slice() {
+    } else if is_word(word, b"mul") {
         Some(Verb::Calc(Operator::Mul))
-    } else if word == b"div".as_slice() {
+    } else if is_word(word, b"div") {
         Some(Verb::Calc(Operator::Div))
-    } else if word == b"rem".as_slice() {
+    } else if is_word(word, b"rem") {
         Some(Verb::Calc(Operator::Rem))
-    } else if word == b"lt".as_slice() {
+    } else if is_word(word, b"lt") {
         Some(Verb::Calc(Operator::Lt))
-    } else if word == b"eq".as_slice() {
+    } else if is_word(word, b"eq") {
         Some(Verb::Calc(Operator::Eq))
     } else {
         None
@@ -80,31 +87,31 @@ fn number_verb_of(word: &[u8]) -> Option<Verb>
 fn object_verb_of(word: &[u8]) -> Option<Verb>
     ensures { result ≡ object_verb word.now }
 {
-    if word == b"movr".as_slice() {
+    if is_word(word, b"movr") {
         Some(Verb::Movr)
-    } else if word == b"nil".as_slice() {
+    } else if is_word(word, b"nil") {
         Some(Verb::Nil)
-    } else if word == b"same".as_slice() {
+    } else if is_word(word, b"same") {
         Some(Verb::Same)
-    } else if word == b"newm".as_slice() {
+    } else if is_word(word, b"newm") {
         Some(Verb::Newm)
-    } else if word == b"pack".as_slice() {
+    } else if is_word(word, b"pack") {
         Some(Verb::Pack)
-    } else if word == b"getr".as_slice() {
+    } else if is_word(word, b"getr") {
         Some(Verb::Getr)
-    } else if word == b"geti".as_slice() {
+    } else if is_word(word, b"geti") {
         Some(Verb::Geti)
-    } else if word == b"putr".as_slice() {
+    } else if is_word(word, b"putr") {
         Some(Verb::Putr)
-    } else if word == b"puti".as_slice() {
+    } else if is_word(word, b"puti") {
         Some(Verb::Puti)
-    } else if word == b"cntr".as_slice() {
+    } else if is_word(word, b"cntr") {
         Some(Verb::Cntr)
-    } else if word == b"cnti".as_slice() {
+    } else if is_word(word, b"cnti") {
         Some(Verb::Cnti)
-    } else if word == b"freeze".as_slice() {
+    } else if is_word(word, b"freeze") {
         Some(Verb::Freeze)
-    } else if word == b"cas".as_slice() {
+    } else if is_word(word, b"cas") {
         Some(Verb::Cas)
     } else {
         None
@@ -115,19 +122,19 @@ fn object_verb_of(word: &[u8]) -> Option<Verb>
 fn flow_verb_of(word: &[u8]) -> Option<Verb>
     ensures { result ≡ flow_verb word.now }
 {
-    if word == b"jmp".as_slice() {
+    if is_word(word, b"jmp") {
         Some(Verb::Jmp)
-    } else if word == b"jz".as_slice() {
+    } else if is_word(word, b"jz") {
         Some(Verb::Jz)
-    } else if word == b"call".as_slice() {
+    } else if is_word(word, b"call") {
         Some(Verb::Call)
-    } else if word == b"par".as_slice() {
+    } else if is_word(word, b"par") {
         Some(Verb::Par)
-    } else if word == b"pfor".as_slice() {
+    } else if is_word(word, b"pfor") {
         Some(Verb::Pfor)
-    } else if word == b"ret".as_slice() {
+    } else if is_word(word, b"ret") {
         Some(Verb::Ret)
-    } else if word == b"out".as_slice() {
+    } else if is_word(word, b"out") {
         Some(Verb::Out)
     } else {
         None
@@ -150,11 +157,11 @@ fn verb_of_word(word: &[u8]) -> Option<Verb>
 pub(crate) fn head_of(word: &[u8]) -> Head
     ensures { result ≡ head_of_word word.now }
 {
-    if word == b"fn".as_slice() {
+    if is_word(word, b"fn") {
         Head::Begin
-    } else if word == b"end".as_slice() {
+    } else if is_word(word, b"end") {
         Head::End
-    } else if word == b"lab".as_slice() {
+    } else if is_word(word, b"lab") {
         Head::Label
     } else {
         match verb_of_word(word) {

@@ -9,6 +9,7 @@ mod loops;
 mod names;
 mod operands;
 mod outline;
+mod plain;
 mod read;
 mod reader;
 mod sense;

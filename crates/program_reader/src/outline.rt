@@ -1,10 +1,10 @@
 // The names of the functions and of the loops of a text.
 
-ghost use Rattle.std.specs.Prelude.{◌≡◌, ◌≤◌, length, IfOk, OnOk, option_copied};
+ghost use Rattle.std.specs.Prelude.{◌≡◌, ◌≤◌, length, OnOk, option_copied};
 ghost use Rattle.text_lines.specs.Lines.{words_of};
 ghost use Rattle.program_reader.specs.Head.{head_of_words, operands_of};
 ghost use Rattle.program_reader.specs.Sense.{IsSmall};
-ghost use Rattle.program_reader.specs.Around.{begun_name, looped_name, noted_if, outline_of};
+ghost use Rattle.program_reader.specs.Around.{begun_name, looped_name, no_names, noted_if, outline_line, outline_of};
 
 use crate::head::{Head, Verb, head_of};
 use crate::names::Table;
@@ -59,8 +59,15 @@ fn read_looped(head: Head, rest: &[u8]) -> Option<&[u8]>
 }
 
 impl<'a> Outline<'a> {
-    ghost use Rattle.program_reader.specs.Sense.{IsSmall};
-    ghost use Rattle.program_reader.specs.Around.{outline_line};
+    /// No names.
+    pub(crate) fn new(alloc: Global) -> Outline<'a>
+        ensures { result ≡ no_names }
+    {
+        Outline {
+            functions: Table::new(alloc),
+            loops: Table::new(alloc),
+        }
+    }
 
     // Notes what a line names.
     fn add_line(&mut self, line: &'a [u8], number: u32) -> Result<(), AllocError>
@@ -70,27 +77,24 @@ impl<'a> Outline<'a> {
         note_if(&mut self.functions, read_begun(head, rest), number)?;
         note_if(&mut self.loops, read_looped(head, rest), number)
     }
-}
 
-/// The names of the functions and of the loops of a text.
-pub(crate) fn read_outline<'a>(alloc: Global, text: &'a [u8]) -> Result<Outline<'a>, AllocError>
-    requires { length text.now ≤ 16777216 }
-    ensures value { IfOk result (λ o. o ≡ outline_of text.now) }
-    ensures small { IfOk result IsSmall }
-{
-    let mut outline = Outline {
-        functions: Table::new(alloc),
-        loops: Table::new(alloc),
-    };
-    let mut rest = text;
-    let mut number: u32 = 1;
-    loop {
-        let end = line_end(rest);
-        outline.add_line(&rest[..end], number)?;
-        if end == rest.len() {
-            return Ok(outline);
+    /// Notes what the lines of a text name.
+    pub(crate) fn add_lines(&mut self, text: &'a [u8]) -> Result<(), AllocError>
+        requires sized { length text.now ≤ 16777216 }
+        requires nothing { self.old ≡ no_names }
+        ensures value { OnOk result (self.new ≡ outline_of text.now) }
+        ensures small { OnOk result (IsSmall self.new) }
+    {
+        let mut rest = text;
+        let mut number: u32 = 1;
+        loop {
+            let end = line_end(rest);
+            self.add_line(&rest[..end], number)?;
+            if end == rest.len() {
+                return Ok(());
+            }
+            rest = behind(rest, end);
+            number += 1;
         }
-        rest = behind(rest, end);
-        number += 1;
     }
 }

@@ -1,15 +1,17 @@
 // Reads a whole text.
 
-ghost use Rattle.std.specs.Prelude.{◌≡◌, ◌≤◌, [], length, codes, IfOk};
+ghost use Rattle.std.specs.Prelude.{◌≡◌, ◌≤◌, [], length, codes, IfOk, IfNone};
 ghost use Rattle.hh_lang.specs.Form.{IsProgram};
+ghost use Rattle.text_lines.specs.Lines.{lines_of};
 ghost use Rattle.program_reader.specs.Sense.{IsSmall};
-ghost use Rattle.program_reader.specs.Program.{reading_of, loops_from, number_of};
+ghost use Rattle.program_reader.specs.Around.{no_names, outline_of};
+ghost use Rattle.program_reader.specs.Fault.{first_fault};
+ghost use Rattle.program_reader.specs.Program.{reading_of, unless_refused, functions_from, loops_from, number_of};
 ghost use Rattle.program_reader.specs.Reading.{program_in, nothing_read};
 
 use crate::cause::Refused;
 use crate::labels::Labels;
 use crate::loops::{add_loops, number_in};
-use crate::outline::read_outline;
 use crate::reader::Reader;
 use crate::sense::Outline;
 use hh_lang::{Fun, Program};
@@ -47,14 +49,38 @@ fn finish(
     Ok(Program::new(functions, number_in(outline, b"main")))
 }
 
-/// Reads a program: the program that the text is, or the first line with a fault and the first cause
-/// on it. The error is want of memory.
-pub fn read_program(alloc: Global, text: &[u8]) -> Result<Result<Program, Refused>, AllocError>
-    requires { length text.now ≤ 16777216 }
-    ensures { IfOk result (λ reading. reading ≡ reading_of text.now) }
+// The reading of a text that has this first fault, or else these functions.
+fn reading_by(
+    alloc: Global,
+    outline: &Outline<'_>,
+    fault: Option<Refused>,
+    functions: Listed<Fun>,
+) -> Result<Result<Program, Refused>, AllocError>
+    requires small { IsSmall outline.now }
+    requires form { IfNone fault (IsProgram (program_in outline.now functions)) }
+    ensures { IfOk result (λ reading. reading ≡ unless_refused fault (program_in outline.now functions)) }
 {
-    let outline = read_outline(alloc, text)?;
-    let mut reader = new_reader(alloc);
+    match fault {
+        Some(refused) => Ok(Err(refused)),
+        None => Ok(Ok(finish(alloc, outline, functions)?)),
+    }
+}
+
+// Takes the lines of a text up to its first fault.
+fn read_lines<'a>(
+    alloc: Global,
+    outline: &Outline<'_>,
+    reader: &mut Reader<'a>,
+    text: &'a [u8],
+) -> Result<Option<Refused>, AllocError>
+    requires sized { length text.now ≤ 16777216 }
+    requires outline { outline.now ≡ outline_of text.now }
+    requires small { IsSmall outline.now }
+    requires nothing { reader.old ≡ nothing_read }
+    ensures fault { IfOk result (λ fault. fault ≡ first_fault text.now) }
+    ensures form { IfOk result (λ fault. IfNone fault (IsProgram (program_in outline.now reader.new.done))) }
+    ensures functions { IfOk result (λ fault. IfNone fault (reader.new.done ≡ functions_from outline.now 1 (lines_of text.now))) }
+{
     let mut rest = text;
     let mut number: u32 = 1;
     loop {
@@ -62,18 +88,58 @@ pub fn read_program(alloc: Global, text: &[u8]) -> Result<Result<Program, Refuse
         let last = end == rest.len();
         let below = behind(rest, end);
         let line = &rest[..end];
-        match reader.read_line(alloc, &outline, number, line, last, below)? {
+        match reader.read_line(alloc, outline, number, line, last, below)? {
             Some(cause) => {
-                return Ok(Err(Refused {
+                return Ok(Some(Refused {
                     line: number,
                     cause,
                 }));
             }
-            None if last => return Ok(Ok(finish(alloc, &outline, reader.done)?)),
+            None if last => return Ok(None),
             None => {
                 rest = below;
                 number += 1;
             }
         }
     }
+}
+
+// Reads the program of a text of which this is the outline.
+fn read_by(
+    alloc: Global,
+    outline: &Outline<'_>,
+    text: &[u8],
+) -> Result<Result<Program, Refused>, AllocError>
+    requires sized { length text.now ≤ 16777216 }
+    requires outline { outline.now ≡ outline_of text.now }
+    requires small { IsSmall outline.now }
+    ensures { IfOk result (λ reading. reading ≡ reading_of text.now) }
+{
+    let mut reader = new_reader(alloc);
+    let fault = read_lines(alloc, outline, &mut reader, text)?;
+    reading_by(alloc, outline, fault, reader.done)
+}
+
+// Reads the program of a text; what its lines name is read first.
+fn read_onto<'a>(
+    alloc: Global,
+    outline: &mut Outline<'a>,
+    text: &'a [u8],
+) -> Result<Result<Program, Refused>, AllocError>
+    requires sized { length text.now ≤ 16777216 }
+    requires nothing { outline.old ≡ no_names }
+    ensures { IfOk result (λ reading. reading ≡ reading_of text.now) }
+{
+    outline.add_lines(text)?;
+    read_by(alloc, outline, text)
+}
+
+/// Reads a program: the program that the text is, or the first line with a fault and the first cause
+/// on it. The error is want of memory.
+pub fn read_program(alloc: Global, text: &[u8]) -> Result<Result<Program, Refused>, AllocError>
+    requires { length text.now ≤ 16777216 }
+    ensures { IfOk result (λ reading. reading ≡ reading_of text.now) }
+{
+    let mut outline = Outline::new(alloc);
+    read_onto(alloc, &mut outline, text)
 }

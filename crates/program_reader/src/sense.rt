@@ -2,12 +2,13 @@
 
 ghost use Rattle.std.specs.Prelude.{◌≡◌, ◌<◌, ◌+◌, ◌*◌, ◌^◌, length};
 ghost use Rattle.text_lines.specs.Lines.{words_of};
-ghost use Rattle.program_reader.specs.Sense.{plain, plain_one, plain_two, plain_three, plain_five, jump, jump_on_zero, call, fork, loop_over, order_alone, order_one, order_two, order_of, only_name, named, alone, sense_of, IsSmall};
+ghost use Rattle.program_reader.specs.Sense.{plain, jump, jump_on_zero, call, fork, loop_over, order_alone, order_one, order_two, order_of, only_name, named, alone, sense_of, IsSmall};
 
 use crate::head::{Head, Verb};
 use crate::names::{Table, is_name_word};
-use crate::operands::{read_field_count, read_int_register, read_only_name, read_ref_register};
-use hh_lang::{Instr, IntReg, Operator, read_i64};
+use crate::operands::{read_int_register, read_only_name};
+use crate::plain::{read_plain_five, read_plain_one, read_plain_three, read_plain_two};
+use hh_lang::{Instr, IntReg};
 use text_lines::next_word;
 
 /// What the operands of a line say.
@@ -28,109 +29,6 @@ pub(crate) enum Sense {
 pub(crate) struct Outline<'a> {
     pub functions: Table<'a>,
     pub loops: Table<'a>,
-}
-
-// An instruction with one operand that names nothing.
-fn read_plain_one(verb: Verb, a: &[u8]) -> Option<Instr>
-    ensures { result ≡ plain_one verb a.now }
-{
-    match verb {
-        Verb::Nil => Some(Instr::Nil(read_ref_register(a)?)),
-        Verb::Freeze => Some(Instr::Freeze(read_ref_register(a)?)),
-        Verb::Out => Some(Instr::Out(read_int_register(a)?)),
-        _ => None,
-    }
-}
-
-// An instruction with two operands that names nothing.
-fn read_plain_two(verb: Verb, a: &[u8], b: &[u8]) -> Option<Instr>
-    ensures { result ≡ plain_two verb a.now b.now }
-{
-    match verb {
-        Verb::Set => Some(Instr::Set(read_int_register(a)?, read_i64(b)?)),
-        Verb::Mov => Some(Instr::Mov(read_int_register(a)?, read_int_register(b)?)),
-        Verb::Movr => Some(Instr::Movr(read_ref_register(a)?, read_ref_register(b)?)),
-        Verb::Cntr => Some(Instr::Cntr(read_int_register(a)?, read_ref_register(b)?)),
-        Verb::Cnti => Some(Instr::Cnti(read_int_register(a)?, read_ref_register(b)?)),
-        _ => None,
-    }
-}
-
-// An instruction with three operands, of which the first two are number registers.
-fn read_calculation(operator: Operator, a: &[u8], b: &[u8], c: &[u8]) -> Option<Instr>
-    ensures { result ≡ plain_three (Verb.Calc operator) a.now b.now c.now }
-{
-    let target = read_int_register(a)?;
-    let left = read_int_register(b)?;
-    let right = read_int_register(c)?;
-    Some(Instr::Calc(operator, target, left, right))
-}
-
-// An instruction with three operands.
-fn read_plain_three(verb: Verb, a: &[u8], b: &[u8], c: &[u8]) -> Option<Instr>
-    ensures { result ≡ plain_three verb a.now b.now c.now }
-{
-    match verb {
-        Verb::Calc(operator) => read_calculation(operator, a, b, c),
-        Verb::Same => Some(Instr::Same(
-            read_int_register(a)?,
-            read_ref_register(b)?,
-            read_ref_register(c)?,
-        )),
-        Verb::Newm => Some(Instr::Newm(
-            read_ref_register(a)?,
-            read_int_register(b)?,
-            read_int_register(c)?,
-        )),
-        Verb::Pack => Some(Instr::Pack(
-            read_ref_register(a)?,
-            read_field_count(b)?,
-            read_field_count(c)?,
-        )),
-        Verb::Getr => Some(Instr::Getr(
-            read_ref_register(a)?,
-            read_ref_register(b)?,
-            read_int_register(c)?,
-        )),
-        Verb::Geti => Some(Instr::Geti(
-            read_int_register(a)?,
-            read_ref_register(b)?,
-            read_int_register(c)?,
-        )),
-        Verb::Putr => Some(Instr::Putr(
-            read_ref_register(a)?,
-            read_int_register(b)?,
-            read_ref_register(c)?,
-        )),
-        Verb::Puti => Some(Instr::Puti(
-            read_ref_register(a)?,
-            read_int_register(b)?,
-            read_int_register(c)?,
-        )),
-        _ => None,
-    }
-}
-
-// A compare and swap.
-fn read_cas(a: &[u8], b: &[u8], c: &[u8], d: &[u8], e: &[u8]) -> Option<Instr>
-    ensures { result ≡ plain_five Verb.Cas a.now b.now c.now d.now e.now }
-{
-    let target = read_int_register(a)?;
-    let object = read_ref_register(b)?;
-    let index = read_int_register(c)?;
-    let expected = read_ref_register(d)?;
-    let value = read_ref_register(e)?;
-    Some(Instr::Cas(target, object, index, expected, value))
-}
-
-// An instruction with five operands.
-fn read_plain_five(verb: Verb, a: &[u8], b: &[u8], c: &[u8], d: &[u8], e: &[u8]) -> Option<Instr>
-    ensures { result ≡ plain_five verb a.now b.now c.now d.now e.now }
-{
-    match verb {
-        Verb::Cas => read_cas(a, b, c, d, e),
-        _ => None,
-    }
 }
 
 fn plainly(instr: Option<Instr>) -> Sense

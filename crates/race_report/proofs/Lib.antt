@@ -16,3 +16,4 @@ pub mod Exact
 pub mod SeenLabels
 pub mod Reported
 pub mod StepCounts
+pub mod Watched

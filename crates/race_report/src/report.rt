@@ -27,8 +27,23 @@ fn races_of(
 {
     let _workers = settings.workers();
     let kept = scan(alloc, program, settings.version().field_limit(), journal)?;
-    let races = races_in(alloc, kept)?;
-    Ok(races)
+    races_in(alloc, &kept)
+}
+
+// Whether a journal has no refused entry.
+fn check_journal(
+    alloc: Global,
+    program: &Program,
+    settings: Settings,
+    journal: &[Entry],
+) -> Result<(), ReplayError>
+    ensures legal { OnOk result (first_refused program.now settings journal.now ≡ None) }
+    ensures fails { IfErr result (ReplayFails (first_refused program.now settings journal.now)) }
+{
+    match replayed(alloc, program, settings, journal) {
+        Ok(_book) => Ok(()),
+        Err(error) => Err(error),
+    }
 }
 
 /// The races of a legal journal, with or without an end: for each field that has one its pair, in the order of the fields. Of all
@@ -43,7 +58,7 @@ pub fn races(
     ensures report { IfOk result (λ races. IsReport (machine_of program.now settings journal.now).edges (accesses program.now (field_limit settings.version) (tasks_of journal.now)) races.items) }
     ensures fails { IfErr result (ReplayFails (first_refused program.now settings journal.now)) }
 {
-    let _book = replayed(alloc, program, settings, journal)?;
+    check_journal(alloc, program, settings, journal)?;
     match races_of(alloc, program, settings, journal) {
         Ok(races) => Ok(races),
         Err(AllocError) => Err(ReplayError::NoMemory),

@@ -5,7 +5,7 @@ ghost use Rattle.std.specs.BTreeMap as tree;
 ghost use Rattle.run_ledger.specs.Journals.{tasks_in, tasks_of};
 ghost use Rattle.hh_model.specs.Step.{step};
 ghost use Rattle.race_report.specs.Accesses.{with_some};
-ghost use Rattle.race_report.specs.Watch.{Key, key_cmp, kept_from, seen, seen_of};
+ghost use Rattle.race_report.specs.Watch.{Key, key_cmp, kept_from, seen, seen_from, seen_of};
 ghost use Rattle.race_report.specs.Scan.{Follows};
 
 use crate::access::access_of;
@@ -103,6 +103,40 @@ fn steps_in(kind: Kind) -> Steps
     }
 }
 
+/// The steps of a journal.
+fn take_entries(
+    alloc: Global,
+    program: &Program,
+    machine: &mut Machine,
+    kept: &mut BTreeMap<((u32, u32), (u32, u32)), Watch>,
+    journal: &[Entry],
+) -> Result<(), AllocError>
+    requires program { machine.old.program ≡ program.now }
+    requires few { machine.old.steps + length (tasks_of journal.now) < 2 ^ 30 }
+    ensures { OnOk result ((q : Key) → tree.get key_cmp kept.new q ≡ kept_from q (tree.get key_cmp kept.old q) (seen_from program.now machine.old.state (tasks_of journal.now))) }
+{
+    for entry in journal {
+        let ran = steps_in(entry.kind());
+        take_steps(alloc, program, machine, kept, ran.task, ran.count)?;
+    }
+    Ok(())
+}
+
+/// The steps of a journal, from the start.
+fn scan_onto(
+    alloc: Global,
+    program: &Program,
+    field_limit: u32,
+    kept: &mut BTreeMap<((u32, u32), (u32, u32)), Watch>,
+    journal: &[Entry],
+) -> Result<(), AllocError>
+    requires { length (tasks_of journal.now) < 2 ^ 30 }
+    ensures { OnOk result ((q : Key) → tree.get key_cmp kept.new q ≡ kept_from q (tree.get key_cmp kept.old q) (seen program.now field_limit (tasks_of journal.now))) }
+{
+    let mut machine = Machine::start(alloc, program, field_limit)?;
+    take_entries(alloc, program, &mut machine, kept, journal)
+}
+
 /// What is kept of each field after the steps of a journal.
 pub(crate) fn scan(
     alloc: Global,
@@ -114,12 +148,8 @@ pub(crate) fn scan(
     ensures kept { IfOk result (λ kept. (q : Key) → tree.get key_cmp kept q ≡ kept_from q None (seen program.now field_limit (tasks_of journal.now))) }
     ensures ordered { IfOk result (λ kept. tree.IsOrdered key_cmp kept) }
 {
-    let mut machine = Machine::start(alloc, program, field_limit)?;
     let mut kept = BTreeMap::new(alloc);
-    for entry in journal {
-        let ran = steps_in(entry.kind());
-        take_steps(alloc, program, &mut machine, &mut kept, ran.task, ran.count)?;
-    }
+    scan_onto(alloc, program, field_limit, &mut kept, journal)?;
     let _count = kept.len();
     Ok(kept)
 }

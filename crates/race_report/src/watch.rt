@@ -1,9 +1,9 @@
 // What is kept of each field while accesses come.
 
-ghost use Rattle.std.specs.Prelude.{◌≡◌, [], ◌∷◌, ◌++◌, Option, None, not, false, ◌&&◌, OnOk, IfOk, option_copied};
+ghost use Rattle.std.specs.Prelude.{◌≡◌, [], ◌∷◌, ◌++◌, Option, None, not, false, ◌&&◌, OnOk, IfOk, option_copied, option_map, if◌then◌else◌};
 ghost use Rattle.std.specs.BTreeMap as tree;
 ghost use Rattle.std.specs.BTreeMap.{values};
-ghost use Rattle.race_report.specs.Labels.{label_precedes};
+ghost use Rattle.race_report.specs.Labels.{allows, label_precedes};
 ghost use Rattle.race_report.specs.Ways.{has_alike};
 ghost use Rattle.race_report.specs.Watch.{clash, clashes, first_clash, bound_with, with_first, with_access, bound_for, race_of, found_by, watch_with, nothing_yet, or_nothing, Key, key_of, key_cmp, kept_with, races_in};
 
@@ -146,22 +146,40 @@ impl Open {
     }
 }
 
+/// The race of an access with the first of earlier ones that it races with.
+fn race_with(known: &Open, seen: &Seen) -> Option<Race>
+    ensures { result ≡ (if allows (bound_for known.now seen.now.access) seen.now.label then None else option_map (λ first. race_of first.access seen.now.access) (first_clash known.now.earlier seen.now)) }
+{
+    let bound = known.bound_for(seen.access);
+    if allows(bound.label.as_slice(), bound.strict, seen.label.as_slice()) {
+        return None;
+    }
+    match first_clash(known.earlier.as_slice(), seen) {
+        Some(first) => Some(race_of(first.access, seen.access)),
+        None => None,
+    }
+}
+
+/// What is kept of a field of which no two accesses race, with one access more.
+fn open_with(alloc: Global, mut known: Open, seen: Seen) -> Result<Watch, AllocError>
+    ensures { IfOk result (λ w. w ≡ watch_with (Watch.Open known) seen) }
+{
+    match race_with(&known, &seen) {
+        Some(race) => Ok(Watch::Found(race)),
+        None => {
+            known.add(alloc, seen)?;
+            Ok(Watch::Open(known))
+        }
+    }
+}
+
 /// What is kept of a field with one access more.
 pub(crate) fn watch_with(alloc: Global, watch: Watch, seen: Seen) -> Result<Watch, AllocError>
     ensures { IfOk result (λ w. w ≡ watch_with watch seen) }
 {
     match watch {
         Watch::Found(race) => Ok(Watch::Found(race)),
-        Watch::Open(mut open) => {
-            let bound = open.bound_for(seen.access);
-            if !allows(bound.label.as_slice(), bound.strict, seen.label.as_slice()) {
-                if let Some(first) = first_clash(open.earlier.as_slice(), &seen) {
-                    return Ok(Watch::Found(race_of(first.access, seen.access)));
-                }
-            }
-            open.add(alloc, seen)?;
-            Ok(Watch::Open(open))
-        }
+        Watch::Open(open) => open_with(alloc, open, seen),
     }
 }
 
@@ -194,9 +212,9 @@ pub(crate) fn keep(
 /// The races that were found, in the order of their fields.
 pub(crate) fn races_in(
     alloc: Global,
-    kept: BTreeMap<((u32, u32), (u32, u32)), Watch>,
+    kept: &BTreeMap<((u32, u32), (u32, u32)), Watch>,
 ) -> Result<Vec<Race>, AllocError>
-    ensures { IfOk result (λ races. races.items ≡ races_in (values kept)) }
+    ensures { IfOk result (λ races. races.items ≡ races_in (values kept.now)) }
 {
     let mut races = Vec::new(alloc);
     for watch in kept.values() {

@@ -1,13 +1,13 @@
 use Rattle.std.proofs.Common.{◌≤◌, ◌+◌, length}
 use Rattle.text_lines.specs.Lines.{lines_of}
 use Rattle.program_reader.proofs.Rounds.{IsReading}
-use Rattle.program_reader.proofs.read.read_program.Given as goal
+use Rattle.program_reader.proofs.read.read_lines.Given as goal
 
-abbrev pub invariant-loop-reader : goal.invariant-loop-reader
-invariant-loop-reader l = record {
+abbrev pub invariant-loop-cause : goal.invariant-loop-cause
+invariant-loop-cause l = record {
   reading : IsReading l.outline l.text l.reader l.number (lines_of l.rest);
   fits : l.number + length l.rest ≤ length l.text + 1;
 }
 
-abbrev pub decreases-loop-reader : goal.decreases-loop-reader
-decreases-loop-reader l = length l.rest
+abbrev pub decreases-loop-cause : goal.decreases-loop-cause
+decreases-loop-cause l = length l.rest
