@@ -4,6 +4,10 @@
 #[cfg(test)]
 mod accounts;
 #[cfg(test)]
+mod joins;
+#[cfg(test)]
+mod machines;
+#[cfg(test)]
 mod orders;
 #[cfg(test)]
 mod outputs;

@@ -1,20 +1,26 @@
 // Entries that could be refused for two causes: which one comes first. And what a refused entry stops.
 
-use crate::programs::{COLLECTS, MARKS, PRINTS, SWEEPS, TO_BEGIN, TO_FORK, limits};
-use crate::refusals::told;
+use crate::programs::{
+    COLLECTS, Limits, MARKS, PRINTS, SWEEPS, TO_BEGIN, TO_FORK, TOOK, read, settings,
+};
+use crate::refusals::{Case, is_told};
 use run_journal::{ApplyError, Book};
 use run_ledger::Refused;
-use run_trace::Settings;
+use run_trace::Entry;
 use std::alloc::Global;
-use std::test::Fail;
-use trace_input::read_trace_input;
+use trace_input::TraceInput;
 
 // It forks, and makes no object.
 const FORKS: &str = "fn kid\nret\nend\nfn main\npar kid kid\nret\nend\n";
 
 // COLLECTS, up to its left child's first object.
 const TO_FIRST: &str =
-    "0 took 0\n0 ran 0 2\n0 chunk 0\n0 ran 0 2\n0 took 1\n1 took 2\n0 ran 1 2\n0 chunk 1\n";
+    "trace 1\n0 took 0\n0 ran 0 2\n0 chunk 0\n0 ran 0 2\n0 took 1\n1 took 2\n0 ran 1 2\n0 chunk 1\n";
+
+const BEGUN: &str = "0 begin 1\n";
+
+// MARKS is swept where it waits.
+const SWEPT: &str = "0 mark 0\n0 some 0 64\n0 sweep 0 0\n";
 
 // MARKS is swept while the left child runs, and both children join.
 const TO_JOIN: &str =
@@ -22,228 +28,212 @@ const TO_JOIN: &str =
 
 // SWEEPS is swept at its fork, and holds 502 words then.
 const TO_SWEPT: &str =
-    "0 took 0\n0 ran 0 2\n0 chunk 0\n0 ran 0 3\n0 chunk 0\n0 ran 0 2\n0 mark 0\n0 some 0 64\n0 sweep 0 1\n";
+    "trace 1\n0 took 0\n0 ran 0 2\n0 chunk 0\n0 ran 0 3\n0 chunk 0\n0 ran 0 2\n0 mark 0\n0 some 0 64\n0 sweep 0 1\n";
 
-// Of a run the fuel and the most chunks; its program; its journal in three parts; where it is refused, and why.
-type Case = (
-    u64,
-    u32,
-    &'static str,
-    &'static str,
-    &'static str,
-    &'static str,
-    &'static str,
-);
+const ONE_STEP: Limits = (2, 1, 99, 16, 16);
 
-const CASES: [Case; 24] = [
+const FEW_STEPS: Limits = (2, 9, 99, 16, 16);
+
+const MANY_STEPS: Limits = (2, 99, 99, 16, 16);
+
+const THREE_CHUNKS: Limits = (2, 99, 3, 16, 16);
+
+const TWO_CHUNKS: Limits = (2, 99, 2, 16, 16);
+
+// The limits for SWEEPS: a leaf collection is due after 4,096 words, an inner one at 1,000.
+const LARGE: Limits = (2, 99, 99, 4096, 1000);
+
+const CASES: &[Case] = &[
     (
-        1,
-        99,
+        ONE_STEP,
         PRINTS,
-        "0 took 0\n0 ran 0 2\n",
-        "0 fuel\n",
-        "5 took 9\n",
-        "4 over",
-    ),
-    (9, 99, PRINTS, "0 took 0\n", "", "2 fuel\n", "2 noworker"),
-    (9, 99, PRINTS, "0 took 0\n", "", "2 ran 1 1\n", "2 noworker"),
-    (9, 99, PRINTS, "0 took 0\n", "", "0 took 0\n", "2 notready"),
-    (
-        99,
-        99,
-        COLLECTS,
-        TO_BEGIN,
-        "0 begin 1\n",
-        "1 chunk 1\n",
-        "12 notout",
+        &[TOOK, "0 ran 0 2\n0 fuel\n5 took 9\n"],
+        "end: trace refused entry 4 over\n",
     ),
     (
-        99,
-        99,
-        COLLECTS,
-        TO_BEGIN,
-        "0 begin 1\n",
-        "1 begin 1\n",
-        "12 notout",
-    ),
-    (
-        99,
-        99,
-        COLLECTS,
-        TO_BEGIN,
-        "0 begin 1\n",
-        "1 putoff 1\n",
-        "12 notout",
-    ),
-    (
-        99,
-        99,
-        COLLECTS,
-        TO_BEGIN,
-        "",
-        "1 end 1 9 9 9\n",
-        "11 notout",
-    ),
-    (99, 99, COLLECTS, TO_BEGIN, "", "1 chunk 1\n", "11 notout"),
-    (
-        99,
-        99,
-        COLLECTS,
-        TO_BEGIN,
-        "0 begin 1\n",
-        "0 chunk 1\n",
-        "12 collecting",
-    ),
-    (
-        99,
-        99,
-        COLLECTS,
-        TO_BEGIN,
-        "0 begin 1\n",
-        "0 putoff 1\n",
-        "12 collecting",
-    ),
-    (
-        99,
-        3,
-        COLLECTS,
-        TO_BEGIN,
-        "0 begin 1\n",
-        "0 begin 1\n",
-        "12 collecting",
-    ),
-    (99, 2, COLLECTS, TO_FIRST, "", "0 begin 1\n", "9 notdue 0"),
-    (
-        9,
-        99,
+        FEW_STEPS,
         PRINTS,
-        "0 took 0\n",
-        "",
-        "0 end 0 9 9 9\n",
-        "2 notcollecting",
+        &[TOOK, "2 fuel\n"],
+        "end: trace refused entry 2 noworker\n",
     ),
     (
-        99,
-        99,
+        FEW_STEPS,
+        PRINTS,
+        &[TOOK, "2 ran 1 1\n"],
+        "end: trace refused entry 2 noworker\n",
+    ),
+    (
+        FEW_STEPS,
+        PRINTS,
+        &[TOOK, "0 took 0\n"],
+        "end: trace refused entry 2 notready\n",
+    ),
+    (
+        MANY_STEPS,
         COLLECTS,
-        TO_BEGIN,
-        "0 begin 1\n",
-        "0 end 1 2 3 4\n",
-        "12 count 2 1",
+        &[TO_BEGIN, BEGUN, "1 chunk 1\n"],
+        "end: trace refused entry 12 notout\n",
     ),
     (
-        99,
-        99,
+        MANY_STEPS,
         COLLECTS,
-        TO_BEGIN,
-        "0 begin 1\n",
-        "0 end 1 1 9 4\n",
-        "12 count 9 1",
+        &[TO_BEGIN, BEGUN, "1 begin 1\n"],
+        "end: trace refused entry 12 notout\n",
     ),
     (
-        99,
-        99,
+        MANY_STEPS,
+        COLLECTS,
+        &[TO_BEGIN, BEGUN, "1 putoff 1\n"],
+        "end: trace refused entry 12 notout\n",
+    ),
+    (
+        MANY_STEPS,
+        COLLECTS,
+        &[TO_BEGIN, "1 end 1 9 9 9\n"],
+        "end: trace refused entry 11 notout\n",
+    ),
+    (
+        MANY_STEPS,
+        COLLECTS,
+        &[TO_BEGIN, "1 chunk 1\n"],
+        "end: trace refused entry 11 notout\n",
+    ),
+    (
+        MANY_STEPS,
+        COLLECTS,
+        &[TO_BEGIN, BEGUN, "0 chunk 1\n"],
+        "end: trace refused entry 12 collecting\n",
+    ),
+    (
+        MANY_STEPS,
+        COLLECTS,
+        &[TO_BEGIN, BEGUN, "0 putoff 1\n"],
+        "end: trace refused entry 12 collecting\n",
+    ),
+    (
+        THREE_CHUNKS,
+        COLLECTS,
+        &[TO_BEGIN, BEGUN, BEGUN],
+        "end: trace refused entry 12 collecting\n",
+    ),
+    (
+        TWO_CHUNKS,
+        COLLECTS,
+        &[TO_FIRST, BEGUN],
+        "end: trace refused entry 9 notdue 0\n",
+    ),
+    (
+        FEW_STEPS,
+        PRINTS,
+        &[TOOK, "0 end 0 9 9 9\n"],
+        "end: trace refused entry 2 notcollecting\n",
+    ),
+    (
+        MANY_STEPS,
+        COLLECTS,
+        &[TO_BEGIN, BEGUN, "0 end 1 2 3 4\n"],
+        "end: trace refused entry 12 count 2 1\n",
+    ),
+    (
+        MANY_STEPS,
+        COLLECTS,
+        &[TO_BEGIN, BEGUN, "0 end 1 1 9 4\n"],
+        "end: trace refused entry 12 count 9 1\n",
+    ),
+    (
+        MANY_STEPS,
         MARKS,
-        TO_FORK,
-        "0 took 1\n",
-        "0 some 1 1\n",
-        "6 notwaiting",
+        &[TO_FORK, "0 took 1\n0 some 1 1\n"],
+        "end: trace refused entry 6 notwaiting\n",
     ),
     (
-        99,
-        99,
+        MANY_STEPS,
         MARKS,
-        TO_FORK,
-        TO_JOIN,
-        "0 sweep 0 9\n",
-        "15 notwaiting",
+        &[TO_FORK, TO_JOIN, "0 sweep 0 9\n"],
+        "end: trace refused entry 15 notwaiting\n",
     ),
     (
-        99,
-        99,
+        MANY_STEPS,
         MARKS,
-        TO_FORK,
-        "0 mark 0\n0 some 0 64\n0 sweep 0 0\n",
-        "0 some 0 1\n",
-        "8 swept",
+        &[TO_FORK, SWEPT, "0 some 0 1\n"],
+        "end: trace refused entry 8 swept\n",
     ),
     (
-        99,
-        99,
+        MANY_STEPS,
         MARKS,
-        TO_FORK,
-        "0 mark 0\n0 some 0 64\n0 sweep 0 0\n",
-        "0 sweep 0 9\n",
-        "8 swept",
+        &[TO_FORK, SWEPT, "0 sweep 0 9\n"],
+        "end: trace refused entry 8 swept\n",
     ),
-    (99, 99, SWEEPS, TO_SWEPT, "", "0 mark 0\n", "10 swept"),
     (
-        99,
-        99,
+        LARGE,
+        SWEEPS,
+        &[TO_SWEPT, "0 mark 0\n"],
+        "end: trace refused entry 10 swept\n",
+    ),
+    (
+        MANY_STEPS,
         FORKS,
-        "0 took 0\n0 ran 0 1\n",
-        "",
-        "0 some 0 1\n",
-        "3 notmarking",
+        &[TOOK, "0 ran 0 1\n0 some 0 1\n"],
+        "end: trace refused entry 3 notmarking\n",
     ),
-    (99, 99, MARKS, TO_FORK, "", "0 sweep 0 9\n", "5 notmarking"),
     (
-        99,
-        99,
+        MANY_STEPS,
         MARKS,
-        TO_FORK,
-        "0 mark 0\n0 some 0 1\n",
-        "0 sweep 0 9\n",
-        "7 left 1",
+        &[TO_FORK, "0 sweep 0 9\n"],
+        "end: trace refused entry 5 notmarking\n",
+    ),
+    (
+        MANY_STEPS,
+        MARKS,
+        &[TO_FORK, "0 mark 0\n0 some 0 1\n0 sweep 0 9\n"],
+        "end: trace refused entry 7 left 1\n",
     ),
 ];
 
-// A leaf collection is due after 16 words, or for SWEEPS after 4,096; an inner one at 16 words, or at 1,000.
-fn settings(program: &str, fuel: u64, chunks: u32) -> Settings {
-    if program == SWEEPS {
-        return limits(2, fuel, chunks, 4096, 1000);
+#[test]
+fn first_cause_is_told(rt: HostRuntime) {
+    for &case in CASES {
+        assert!(rt; is_told(rt.alloc(), case), "{}", case.3);
     }
-    limits(2, fuel, chunks, 16, 16)
 }
 
-// Whether a case is refused where it should be, and why.
-fn is_told(
-    alloc: Global,
-    (fuel, chunks, program, before, then, refused, cause): Case,
-) -> Result<bool, Fail> {
-    let rest = format!(in alloc; "{then}{refused}")?;
-    let settings = settings(program, fuel, chunks);
-    let text = told(alloc, settings, program, before, rest.as_str())?;
-    let line = format!(in alloc; "end: trace refused entry {cause}\n")?;
-    Ok(text.as_str() == line.as_str())
+// The second entry is refused, and then each is.
+const STOPPED: &[&str] = &["trace 1\n0 took 0\n0 ran 0 3\n0 ran 0 2\n5 fuel\n"];
+
+const ANSWERS: &[Result<(), ApplyError>] = &[
+    Ok(()),
+    Err(ApplyError::Refused(Refused::Long(2))),
+    Err(ApplyError::Refused(Refused::Stopped)),
+    Err(ApplyError::Refused(Refused::Stopped)),
+];
+
+// Whether a book answers so to the entries, one behind the other, and is stopped from the first refused one on.
+fn answers(book: &mut Book, entries: &[Entry], expected: &[Result<(), ApplyError>]) -> bool {
+    for (entry, answer) in entries.iter().zip(expected) {
+        if book.apply(*entry) != *answer || book.is_stopped() != answer.is_err() {
+            return false;
+        }
+    }
+    entries.len() == expected.len()
+}
+
+// The same of a new book of a program that was read with the entries.
+fn answers_in_new_book(alloc: Global, read: &TraceInput) -> bool {
+    match Book::open(alloc, &read.program, settings(FEW_STEPS)) {
+        Ok(mut book) => answers(&mut book, read.trace.entries.as_slice(), ANSWERS),
+        Err(_) => false,
+    }
+}
+
+// The same of the program and the entries of a text.
+fn stops(alloc: Global, program: &str, journal: &[&str]) -> bool {
+    match read(alloc, program, journal) {
+        Some(read) => answers_in_new_book(alloc, &read),
+        None => false,
+    }
 }
 
 #[test]
-fn first_cause_is_told(rt: HostRuntime) -> Result<(), Fail> {
-    for case in CASES {
-        assert!(rt; is_told(rt.alloc(), case)?);
-    }
-    Ok(())
-}
-
-#[test]
-fn refused_entry_stops(rt: HostRuntime) -> Result<(), Fail> {
-    let alloc = rt.alloc();
-    let input = format!(in alloc; "{PRINTS}trace 1\n0 took 0\n0 ran 0 3\n0 ran 0 2\n5 fuel\n")?;
-    if input.len() > 16_777_216 {
-        return Err(Fail::new("long"));
-    }
-    let read = read_trace_input(alloc, input.as_bytes())?;
-    let mut book = Book::open(alloc, &read.program, limits(2, 9, 99, 16, 16))?;
-    let answers = [
-        Ok(()),
-        Err(ApplyError::Refused(Refused::Long(2))),
-        Err(ApplyError::Refused(Refused::Stopped)),
-        Err(ApplyError::Refused(Refused::Stopped)),
-    ];
-    for (entry, answer) in read.trace.entries.as_slice().iter().zip(answers) {
-        assert_eq!(rt; book.apply(*entry), answer);
-        assert_eq!(rt; book.is_stopped(), answer.is_err());
-    }
-    Ok(())
+fn refused_entry_stops(rt: HostRuntime) {
+    assert!(rt; stops(rt.alloc(), PRINTS, STOPPED));
 }

@@ -1,7 +1,7 @@
 // Programs that freeze objects, and that compare and swap.
 
-use crate::runs::run;
-use std::test::Fail;
+use crate::runs::{Run, runs_as};
+use hh_model::{End, Trap};
 
 const WRITE_FROZEN: &str =
     "fn main / set i0 0 / set i1 1 / newm r0 i0 i1 / freeze r0 / puti r0 i0 i1 / ret / end";
@@ -30,25 +30,45 @@ const SWAPS_OF_ONE_TASK: &str = "\
     set i2 0 / cas i3 r0 i2 r2 r0 / out i3 / cas i3 r0 i2 r1 r0 / out i3 / getr r3 r0 i2 / \
     same i4 r3 r0 / out i4 / ret / end";
 
-// A program, the order of its tasks, and what comes of it.
-const RUNS: [(&str, &str, &str); 7] = [
-    (WRITE_FROZEN, "0:5", "trap frozen task 0 line 6"),
-    (FREEZE_ANOTHERS, "0:4 1:1", "trap frozen task 1 line 2"),
-    (READ_FROZEN, "0:9 1:4 2:4 0:3", "18 done"),
-    (TWO_SWAPS, "0:4 1:6 2:6 0:4", "1 1 done"),
-    (TWO_SWAPS, "0:4 2:6 1:6 0:4", "1 0 done"),
-    (SWAP_AT_NIL, "0:1", "trap nil task 0 line 2"),
-    (SWAPS_OF_ONE_TASK, "0:15", "1 0 1 1 done"),
+const DONE: Option<End> = Some(End::Done);
+
+const RUNS: &[Run] = &[
+    (
+        WRITE_FROZEN,
+        &[(0, 5)],
+        (&[], Some(End::Trapped(Trap::Frozen, 0, 6))),
+    ),
+    (
+        FREEZE_ANOTHERS,
+        &[(0, 4), (1, 1)],
+        (&[], Some(End::Trapped(Trap::Frozen, 1, 2))),
+    ),
+    (
+        READ_FROZEN,
+        &[(0, 9), (1, 4), (2, 4), (0, 3)],
+        (&[18], DONE),
+    ),
+    (
+        TWO_SWAPS,
+        &[(0, 4), (1, 6), (2, 6), (0, 4)],
+        (&[1, 1], DONE),
+    ),
+    (
+        TWO_SWAPS,
+        &[(0, 4), (2, 6), (1, 6), (0, 4)],
+        (&[1, 0], DONE),
+    ),
+    (
+        SWAP_AT_NIL,
+        &[(0, 1)],
+        (&[], Some(End::Trapped(Trap::Nil, 0, 2))),
+    ),
+    (SWAPS_OF_ONE_TASK, &[(0, 15)], (&[1, 0, 1, 1], DONE)),
 ];
 
 #[test]
-fn frozen_and_swapped(rt: HostRuntime) -> Result<(), Fail> {
-    for (text, trace, expected) in RUNS {
-        assert_eq!(rt;
-            run(rt.alloc(), text, 1022, trace)?.as_str(),
-            expected,
-            "{text}"
-        );
+fn frozen_and_swapped(rt: HostRuntime) {
+    for &run in RUNS {
+        assert!(rt; runs_as(rt.alloc(), run), "{:?}: {}", run.1, run.0);
     }
-    Ok(())
 }

@@ -1,9 +1,10 @@
 // Programs with the order of their tasks, their outputs and their ends.
 
-use crate::runs::{run, steps, told};
+use crate::runs::{Run, comes_to, is_at, runs_as, takes};
 use crate::texts::program;
-use hh_model::Machine;
-use std::test::Fail;
+use hh_lang::Program;
+use hh_model::{End, Machine, Trap};
+use std::alloc::Global;
 
 const SEVEN: &str = "fn main / set i0 7 / out i0 / ret / end";
 
@@ -93,117 +94,159 @@ const OPERATORS: &str = "\
     out i2 / mul i2 i0 i1 / out i2 / lt i2 i0 i1 / out i2 / lt i2 i0 i0 / out i2 / eq i2 i0 i0 / \
     out i2 / eq i2 i0 i1 / out i2 / ret / end";
 
-// A program, the order of its tasks, and what comes of it.
-const RUNS: [(&str, &str, &str); 17] = [
-    (SEVEN, "0:2 0:1", "7 done"),
-    (FORK_AND_SUM, "0:2 1:3 2:3 0:2 0:1", "36 done"),
-    (
-        ENTANGLED_READ,
-        "0:4 1:2 1:2 1:1 2:2",
-        "entangled reader 2 owner 1",
-    ),
-    (ENTANGLED_READ, "0:4 2:2 2:1 1:4 1:1 0:1", "done"),
-    (HUNDRED_OBJECTS, "0:404", "done"),
-    (OWN_DOWN_POINTER, "0:4 1:9 2:2 0:2", "42 done"),
-    (LIFTED_ENTRY, "0:5 1:1 3:1 4:7 1:5 2:1 0:5", "7 done"),
-    (
-        CLEARED_WHILE_COLLECTING,
-        "0:4 1:5 2:3 1:2 2:1 0:6",
-        "1 done",
-    ),
-    (SELF_REFERENCE, "0:6 0:5 0:1 0:1", "1 1 done"),
-    (OVERWRITTEN_BEFORE_MARK, "0:11 1:6 2:1 0:1 0:1", "5 done"),
-    (
-        JOINED_CHILDS_OBJECT,
-        "0:4 1:1 3:5 4:1 1:1 2:2",
-        "entangled reader 2 owner 1",
-    ),
-    (ENDLESS_LIST, "0:502", "goes on"),
-    (MARK_AND_SWEEP, "0:7 1:2 2:2 0:1", "0 0 done"),
-    (
-        LEAST_NUMBER,
-        "0:10",
-        "-9223372036854775808 0 9223372036854775807 trap div task 0 line 11",
-    ),
-    (CALL_AND_RETURN, "0:17", "4 11 4 12 4 done"),
-    (PACKED, "0:18", "2 3 -7 1 0 done"),
-    (OPERATORS, "0:19", "-3 -1 9 -14 1 0 1 0 done"),
-];
-
-#[test]
-fn runs_of_programs(rt: HostRuntime) -> Result<(), Fail> {
-    for (text, trace, expected) in RUNS {
-        assert_eq!(rt;
-            run(rt.alloc(), text, 1022, trace)?.as_str(),
-            expected,
-            "{text}"
-        );
-    }
-    Ok(())
-}
-
-// The most fields, numbers of references and numbers, and what comes of it.
-const LARGEST: [(u32, &str, &str); 6] = [
-    (1022, "set i0 0 / set i1 1022", "goes on"),
-    (1022, "set i0 0 / set i1 1023", "trap size task 0 line 4"),
-    (1000000, "set i0 0 / set i1 1023", "goes on"),
-    (1000000, "set i0 0 / set i1 1000000", "goes on"),
-    (
-        1000000,
-        "set i0 0 / set i1 1000001",
-        "trap size task 0 line 4",
-    ),
-    (
-        1000000,
-        "set i0 1 / set i1 1000000",
-        "trap size task 0 line 4",
-    ),
-];
-
-#[test]
-fn the_largest_object(rt: HostRuntime) -> Result<(), Fail> {
-    for (limit, counts, expected) in LARGEST {
-        let text = format!(in rt.alloc(); "fn main / {counts} / newm r0 i0 i1 / ret / end")?;
-        assert_eq!(rt;
-            run(rt.alloc(), &text, limit, "0:3")?.as_str(),
-            expected,
-            "{counts}"
-        );
-    }
-    Ok(())
-}
-
-#[test]
-fn the_deepest_calls(rt: HostRuntime) -> Result<(), Fail> {
-    let recursion = "fn main / call main / end";
-    assert!(rt; run(rt.alloc(), recursion, 1022, "0:999")?.as_str() == "goes on");
-    assert!(rt; run(rt.alloc(), recursion, 1022, "0:1000")?.as_str() == "trap depth task 0 line 2");
-    Ok(())
-}
-
-#[test]
-fn the_deepest_forks(rt: HostRuntime) -> Result<(), Fail> {
-    let forks = program(rt.alloc(), "fn main / par main main / end")?;
-    let mut machine = Machine::start(rt.alloc(), &forks, 1022)?;
-    steps(&mut machine, 0, 1)?;
-    for level in 0..999 {
-        steps(&mut machine, 2 * level + 1, 1)?;
-    }
-    assert!(rt; told(rt.alloc(), &machine)?.as_str() == "goes on");
-    assert!(rt; machine.state().tasks.len() == 2001);
-    steps(&mut machine, 1999, 1)?;
-    assert!(rt; told(rt.alloc(), &machine)?.as_str() == "trap depth task 1999 line 2");
-    assert!(rt; machine.steps() == 1001);
-    Ok(())
-}
-
 // Each turn of the loop calls, makes an object, and writes a field of each kind.
 const LOOP: &str = "\
     fn f / newm r1 i1 i1 / puti r1 i0 i1 / putr r1 i0 r0 / movr r0 r1 / ret / end / \
     fn main / set i1 1 / lab a / call f / jmp a / end";
 
+const RECURSION: &str = "fn main / call main / end";
+
+const DONE: Option<End> = Some(End::Done);
+
+const RUNS: &[Run] = &[
+    (SEVEN, &[(0, 2), (0, 1)], (&[7], DONE)),
+    (
+        FORK_AND_SUM,
+        &[(0, 2), (1, 3), (2, 3), (0, 2), (0, 1)],
+        (&[36], DONE),
+    ),
+    (
+        ENTANGLED_READ,
+        &[(0, 4), (1, 2), (1, 2), (1, 1), (2, 2)],
+        (&[], Some(End::Entangled(2, 1))),
+    ),
+    (
+        ENTANGLED_READ,
+        &[(0, 4), (2, 2), (2, 1), (1, 4), (1, 1), (0, 1)],
+        (&[], DONE),
+    ),
+    (HUNDRED_OBJECTS, &[(0, 404)], (&[], DONE)),
+    (
+        OWN_DOWN_POINTER,
+        &[(0, 4), (1, 9), (2, 2), (0, 2)],
+        (&[42], DONE),
+    ),
+    (
+        LIFTED_ENTRY,
+        &[(0, 5), (1, 1), (3, 1), (4, 7), (1, 5), (2, 1), (0, 5)],
+        (&[7], DONE),
+    ),
+    (
+        CLEARED_WHILE_COLLECTING,
+        &[(0, 4), (1, 5), (2, 3), (1, 2), (2, 1), (0, 6)],
+        (&[1], DONE),
+    ),
+    (
+        SELF_REFERENCE,
+        &[(0, 6), (0, 5), (0, 1), (0, 1)],
+        (&[1, 1], DONE),
+    ),
+    (
+        OVERWRITTEN_BEFORE_MARK,
+        &[(0, 11), (1, 6), (2, 1), (0, 1), (0, 1)],
+        (&[5], DONE),
+    ),
+    (
+        JOINED_CHILDS_OBJECT,
+        &[(0, 4), (1, 1), (3, 5), (4, 1), (1, 1), (2, 2)],
+        (&[], Some(End::Entangled(2, 1))),
+    ),
+    (ENDLESS_LIST, &[(0, 502)], (&[], None)),
+    (
+        MARK_AND_SWEEP,
+        &[(0, 7), (1, 2), (2, 2), (0, 1)],
+        (&[0, 0], DONE),
+    ),
+    (
+        LEAST_NUMBER,
+        &[(0, 10)],
+        (
+            &[-9223372036854775808, 0, 9223372036854775807],
+            Some(End::Trapped(Trap::Div, 0, 11)),
+        ),
+    ),
+    (CALL_AND_RETURN, &[(0, 17)], (&[4, 11, 4, 12, 4], DONE)),
+    (PACKED, &[(0, 18)], (&[2, 3, -7, 1, 0], DONE)),
+    (OPERATORS, &[(0, 19)], (&[-3, -1, 9, -14, 1, 0, 1, 0], DONE)),
+    (RECURSION, &[(0, 999)], (&[], None)),
+    (
+        RECURSION,
+        &[(0, 1000)],
+        (&[], Some(End::Trapped(Trap::Depth, 0, 2))),
+    ),
+    (LOOP, &[(0, 1_000_000)], (&[], None)),
+];
+
 #[test]
-fn a_million_steps(rt: HostRuntime) -> Result<(), Fail> {
-    assert!(rt; run(rt.alloc(), LOOP, 1022, "0:1000000")?.as_str() == "goes on");
-    Ok(())
+fn runs_of_programs(rt: HostRuntime) {
+    for &run in RUNS {
+        assert!(rt; runs_as(rt.alloc(), run), "{:?}: {}", run.1, run.0);
+    }
+}
+
+const SIZE_TRAP: Option<End> = Some(End::Trapped(Trap::Size, 0, 4));
+
+// The most fields, the lines that set the numbers of references and of numbers, and how the run has ended.
+const LARGEST: &[(u32, &str, Option<End>)] = &[
+    (1022, "set i0 0 / set i1 1022", None),
+    (1022, "set i0 0 / set i1 1023", SIZE_TRAP),
+    (1000000, "set i0 0 / set i1 1023", None),
+    (1000000, "set i0 0 / set i1 1000000", None),
+    (1000000, "set i0 0 / set i1 1000001", SIZE_TRAP),
+    (1000000, "set i0 1 / set i1 1000000", SIZE_TRAP),
+];
+
+fn is_as_large(alloc: Global, limit: u32, counts: &str, end: Option<End>) -> bool {
+    let text = ["fn main / ", counts, " / newm r0 i0 i1 / ret / end"];
+    comes_to(alloc, &text, limit, &[(0, 3)], (&[], end))
+}
+
+#[test]
+fn the_largest_object(rt: HostRuntime) {
+    for &(limit, counts, end) in LARGEST {
+        assert!(rt;
+            is_as_large(rt.alloc(), limit, counts, end),
+            "{limit}: {counts}"
+        );
+    }
+}
+
+// The left child of the root forks, and then the left child of each task that has forked.
+fn forks_below(machine: &mut Machine<'_>) -> bool {
+    for level in 0..999 {
+        if !takes(machine, (2 * level + 1, 1)) {
+            return false;
+        }
+    }
+    true
+}
+
+// A thousand forks below one another are taken, and the next one isn't.
+fn forks_to_the_end(machine: &mut Machine<'_>) -> bool {
+    takes(machine, (0, 1))
+        && forks_below(machine)
+        && is_at(machine, (&[], None))
+        && machine.state().tasks.len() == 2001
+        && takes(machine, (1999, 1))
+        && is_at(machine, (&[], Some(End::Trapped(Trap::Depth, 1999, 2))))
+        && machine.steps() == 1001
+}
+
+fn run_forks(alloc: Global, program: &Program) -> bool {
+    match Machine::start(alloc, program, 1022) {
+        Ok(mut machine) => forks_to_the_end(&mut machine),
+        Err(_) => false,
+    }
+}
+
+fn deepest_forks(alloc: Global) -> bool {
+    match program(alloc, &["fn main / par main main / end"]) {
+        Some(program) => run_forks(alloc, &program),
+        None => false,
+    }
+}
+
+#[test]
+fn the_deepest_forks(rt: HostRuntime) {
+    assert!(rt; deepest_forks(rt.alloc()));
 }

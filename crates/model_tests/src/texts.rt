@@ -1,22 +1,37 @@
 // Small programs as texts: `/` stands between lines.
 
 use hh_lang::Program;
+use listed::Listed;
 use program_reader::read_program;
 use std::alloc::Global;
-use std::test::Fail;
 
-/// The program of a text.
-pub(crate) fn program(alloc: Global, text: &str) -> Result<Program, Fail> {
-    let mut lines = String::new(alloc);
-    for line in text.split('/') {
-        lines.push_str(line)?;
-        lines.push('\n')?;
+// Adds a text to lines, and says whether it did.
+fn add(lines: &mut Listed<u8>, text: &str) -> bool {
+    for byte in text.bytes() {
+        if lines.push(if byte == b'/' { b'\n' } else { byte }).is_err() {
+            return false;
+        }
     }
-    if lines.len() > 16_777_216 {
-        return Err("long")?;
+    true
+}
+
+fn add_all(lines: &mut Listed<u8>, parts: &[&str]) -> bool {
+    for part in parts {
+        if !add(lines, part) {
+            return false;
+        }
     }
-    match read_program(alloc, lines.as_bytes())? {
-        Ok(program) => Ok(program),
-        Err(_) => Err("no program")?,
+    add(lines, "/")
+}
+
+/// The program of a text that has these parts.
+pub(crate) fn program(alloc: Global, parts: &[&str]) -> Option<Program> {
+    let mut lines = Listed::new(alloc);
+    if !add_all(&mut lines, parts) || lines.len() > 16_777_216 {
+        return None;
+    }
+    match read_program(alloc, lines.as_slice()) {
+        Ok(read) => read.ok(),
+        Err(_) => None,
     }
 }

@@ -3,13 +3,20 @@
 ghost use Rattle.std.specs.Prelude.{◌≡◌, None};
 ghost use Rattle.task_machine.specs.Ready.{FitsSome};
 
-use crate::parts::{AMPLE, Setup, program_of, root_of};
+use crate::parts::{AMPLE, Pause, Setup, pause, program_of, root_of};
 use hh_lang::Program;
 use listed::Listed;
-use outside_io::EmptyGate;
 use std::alloc::Global;
-use std::test::Fail;
-use task_machine::{Begun, Paused, Private, run_local};
+use task_machine::{Begun, Paused, Private};
+
+// Two objects of 16 words, before the second of which a collection is due.
+const TWO_OBJECTS: &str = "fn main\nset i1 14\nnewm r0 i0 i1\nnewm r1 i0 i1\nout i1\nend";
+
+const DUE_SOON: Setup = Setup {
+    leaf: 16,
+    fields: 1022,
+    units: 1,
+};
 
 // A collection begins and ends, and another entry begins: what it had taken.
 fn collected(alloc: Global, program: &Program, part: &mut Private) -> Option<Begun>
@@ -17,8 +24,6 @@ fn collected(alloc: Global, program: &Program, part: &mut Private) -> Option<Beg
     requires idle { part.old.begun ≡ None }
     ensures fits { FitsSome program.now part.new }
     ensures idle { part.new.begun ≡ None }
-    ensures fresh { part.new.fresh ≡ 0 }
-    ensures limit { part.new.field_limit ≡ part.old.field_limit }
 {
     part.begin_collection(Begun {
         roots: Listed::new(alloc),
@@ -30,37 +35,105 @@ fn collected(alloc: Global, program: &Program, part: &mut Private) -> Option<Beg
     begun
 }
 
+// A part's pause, and how many words it has placed then.
+type Placed = (Option<Pause>, u64);
+
+// A part's pause before a collection, whether that was made and what it left, its allocations, and its pause after it.
+fn around_collection(
+    alloc: Global,
+    program: &Program,
+    part: &mut Private,
+) -> (Placed, bool, u64, u32, Placed)
+    requires fits { FitsSome program.now part.old }
+    requires idle { part.old.begun ≡ None }
+{
+    let due = pause(part, program, 256);
+    let placed = part.heap.since();
+    let made = collected(alloc, program, part).is_some();
+    let (left, allocations) = (part.heap.since(), part.allocations);
+    let shared = pause(part, program, 256);
+    (
+        (due, placed),
+        made,
+        left,
+        allocations,
+        (shared, part.heap.since()),
+    )
+}
+
+// Whether both pauses and the collection are as they should be.
+fn collects(alloc: Global, program: &Program) -> bool {
+    match root_of(alloc, program, DUE_SOON) {
+        Some(mut part) => {
+            let (due, made, left, allocations, shared) = around_collection(
+                alloc, program, &mut part,
+            );
+            due == (Some((Paused::Due, 2, 0)), 16)
+                && made
+                && left == 0
+                && allocations == 1
+                && shared == (Some((Paused::Shared, 1, 0)), 16)
+        }
+        None => false,
+    }
+}
+
+fn collects_two_objects(alloc: Global) -> bool {
+    match program_of(alloc, TWO_OBJECTS) {
+        Some(program) => collects(alloc, &program),
+        None => false,
+    }
+}
+
 #[test]
-fn a_due_collection(rt: HostRuntime) -> Result<(), Fail> {
-    let alloc = rt.alloc();
-    let program = program_of(
-        alloc,
-        "fn main\nset i1 14\nnewm r0 i0 i1\nnewm r1 i0 i1\nout i1\nend",
-    )?;
-    let mut part = root_of(alloc, &program, Setup { leaf: 16, ..AMPLE })?;
-    assert!(rt; run_local(&mut part, &program, 256, &EmptyGate, 0)? == Paused::Due);
-    assert!(rt; (part.fresh, part.heap.since()) == (2, 16));
-    assert!(rt; collected(alloc, &program, &mut part).is_some());
-    assert!(rt; part.heap.since() == 0 && part.allocations == 1);
-    assert!(rt; run_local(&mut part, &program, 256, &EmptyGate, 0)? == Paused::Shared);
-    assert!(rt; (part.fresh, part.heap.since()) == (1, 16));
-    Ok(())
+fn a_due_collection(rt: HostRuntime) {
+    assert!(rt; collects_two_objects(rt.alloc()));
+}
+
+const CALL: &str = "fn f\nend\nfn main\nset i0 7\ncall f\nout i0\nend";
+
+// The steps since the last entry, the next instruction, and the number of frames.
+fn stand(part: &Private) -> (u32, u32, u32) {
+    (part.fresh, part.frames.next(), part.frames.depth())
+}
+
+// Whether the part stands before the call, and the call is taken when there is memory.
+fn calls_later(program: &Program, part: &mut Private) -> bool
+    requires fits { FitsSome program.now part.old }
+    requires idle { part.old.begun ≡ None }
+{
+    stand(part) == (1, 1, 1)
+        && part.frames.int(0) == 7
+        && part.allocations == 0
+        && pause(part, program, 200).is_some()
+}
+
+// Whether the call is taken, now or later.
+fn calls(program: &Program, part: &mut Private) -> bool
+    requires fits { FitsSome program.now part.old }
+    requires idle { part.old.begun ≡ None }
+{
+    let called = pause(part, program, 256).is_some();
+    (called || calls_later(program, part)) && stand(part) == (3, 2, 1)
+}
+
+fn root_calls(alloc: Global, program: &Program) -> bool {
+    match root_of(alloc, program, AMPLE) {
+        Some(mut part) => calls(program, &mut part),
+        None => false,
+    }
+}
+
+fn call_is_taken(alloc: Global) -> bool {
+    match program_of(alloc, CALL) {
+        Some(program) => root_calls(alloc, &program),
+        None => false,
+    }
 }
 
 // Where the call's frame has no memory (as with `rt try --test --fail-alloc`), the part stands before the call, and the call is
 // taken when there is memory.
 #[test]
-fn a_call_without_memory(rt: HostRuntime) -> Result<(), Fail> {
-    let program = program_of(
-        rt.alloc(),
-        "fn f\nend\nfn main\nset i0 7\ncall f\nout i0\nend",
-    )?;
-    let mut part = root_of(rt.alloc(), &program, AMPLE)?;
-    if run_local(&mut part, &program, 256, &EmptyGate, 0).is_err() {
-        assert!(rt; (part.fresh, part.frames.next(), part.frames.depth()) == (1, 1, 1));
-        assert!(rt; part.frames.int(0) == 7 && part.allocations == 0);
-        assert!(rt; run_local(&mut part, &program, 200, &EmptyGate, 0).is_ok());
-    }
-    assert!(rt; (part.fresh, part.frames.next(), part.frames.depth()) == (3, 2, 1));
-    Ok(())
+fn a_call_without_memory(rt: HostRuntime) {
+    assert!(rt; call_is_taken(rt.alloc()));
 }

@@ -1,9 +1,12 @@
 // Each private instruction, and each way to a shared step.
 
-use crate::parts::{AMPLE, pause_of, program_of, root_of};
-use outside_io::EmptyGate;
-use std::test::Fail;
-use task_machine::{Paused, run_local};
+ghost use Rattle.std.specs.Prelude.{◌≡◌, None};
+ghost use Rattle.task_machine.specs.Ready.{FitsSome};
+
+use crate::parts::{AMPLE, Pause, pause, pause_of, program_of, root_of};
+use hh_lang::Program;
+use std::alloc::Global;
+use task_machine::{Paused, Private};
 
 // Each private instruction once, and then an output.
 const EVERY: &str = "\
@@ -43,44 +46,94 @@ call twice
 out i0
 end";
 
-#[test]
-fn every_instruction(rt: HostRuntime) -> Result<(), Fail> {
-    let program = program_of(rt.alloc(), EVERY)?;
-    let mut part = root_of(rt.alloc(), &program, AMPLE)?;
-    let why = run_local(&mut part, &program, 256, &EmptyGate, 0)?;
-    assert_eq!(rt; why, Paused::Shared);
-    assert_eq!(rt; (part.fresh, part.allocations), (27, 2));
-    let expected = [24, 6, 6, 6, 0, 1, 1, 1, 6, 1, 2, 1, 0, 0, 0, 0];
+// The number registers at the end.
+const REGISTERS: [i64; 16] = [24, 6, 6, 6, 0, 1, 1, 1, 6, 1, 2, 1, 0, 0, 0, 0];
+
+// The first number register that doesn't hold what it should.
+fn wrong_register(part: &Private, expected: &[i64; 16]) -> Option<u32> {
     for i in 0..16 {
-        assert_eq!(rt; part.frames.int(i), expected[i as usize], "i{i}");
+        if part.frames.int(i) != expected[i as usize] {
+            return Some(i);
+        }
     }
-    assert_eq!(rt; part.heap.since(), 4 + 5);
-    Ok(())
+    None
+}
+
+// Why and when a part pauses, how many objects it has allocated, of how many words, and its first wrong register.
+type Outcome = (Option<Pause>, u32, u64, Option<u32>);
+
+fn run_part(part: &mut Private, program: &Program) -> Outcome
+    requires fits { FitsSome program.now part.old }
+    requires idle { part.old.begun ≡ None }
+{
+    let pause = pause(part, program, 256);
+    (
+        pause,
+        part.allocations,
+        part.heap.since(),
+        wrong_register(part, &REGISTERS),
+    )
+}
+
+fn run_root(alloc: Global, program: &Program) -> Option<Outcome> {
+    match root_of(alloc, program, AMPLE) {
+        Some(mut part) => Some(run_part(&mut part, program)),
+        None => None,
+    }
+}
+
+fn run_every(alloc: Global) -> Option<Outcome> {
+    match program_of(alloc, EVERY) {
+        Some(program) => run_root(alloc, &program),
+        None => None,
+    }
+}
+
+#[test]
+fn every_instruction(rt: HostRuntime) {
+    let outcome = run_every(rt.alloc());
+    assert!(rt;
+        outcome == Some((Some((Paused::Shared, 27, 24)), 2, 4 + 5, None)),
+        "{outcome:?}"
+    );
 }
 
 // A program that pauses at a shared step, and after how many private ones.
-const SHARED: [(&str, &str); 11] = [
-    ("fn main\nout i0\nend", "shared 0 0"),
-    ("fn kid\nend\nfn main\npar kid kid\nend", "shared 0 0"),
-    ("fn main\nend", "shared 0 0"),
-    ("fn main\ngetr r0 r1 i0\nend", "shared 0 0"),
-    ("fn main\ncnti i0 r1\nend", "shared 0 0"),
-    ("fn main\ndiv i1 i0 i0\nend", "shared 0 0"),
-    ("fn main\nset i1 -1\nnewm r0 i0 i1\nend", "shared 1 0"),
-    ("fn main\nset i1 1023\nnewm r0 i0 i1\nend", "shared 1 0"),
-    ("fn main\nnewm r0 i0 i0\ngeti i1 r0 i0\nend", "shared 1 0"),
+const SHARED: &[(&str, Pause)] = &[
+    ("fn main\nout i0\nend", (Paused::Shared, 0, 0)),
+    (
+        "fn kid\nend\nfn main\npar kid kid\nend",
+        (Paused::Shared, 0, 0),
+    ),
+    ("fn main\nend", (Paused::Shared, 0, 0)),
+    ("fn main\ngetr r0 r1 i0\nend", (Paused::Shared, 0, 0)),
+    ("fn main\ncnti i0 r1\nend", (Paused::Shared, 0, 0)),
+    ("fn main\ndiv i1 i0 i0\nend", (Paused::Shared, 0, 0)),
+    (
+        "fn main\nset i1 -1\nnewm r0 i0 i1\nend",
+        (Paused::Shared, 1, 0),
+    ),
+    (
+        "fn main\nset i1 1023\nnewm r0 i0 i1\nend",
+        (Paused::Shared, 1, 0),
+    ),
+    (
+        "fn main\nnewm r0 i0 i0\ngeti i1 r0 i0\nend",
+        (Paused::Shared, 1, 0),
+    ),
     (
         "fn main\nset i1 1\nnewm r0 i0 i1\nfreeze r0\nputi r0 i0 i1\nend",
-        "shared 3 0",
+        (Paused::Shared, 3, 0),
     ),
-    ("fn main\ncall main\nend", "shared 999 0"),
+    ("fn main\ncall main\nend", (Paused::Shared, 999, 0)),
 ];
 
 #[test]
-fn shared_steps(rt: HostRuntime) -> Result<(), Fail> {
-    for (text, expected) in SHARED {
-        let told = pause_of(rt.alloc(), text, AMPLE, 1000)?;
-        assert_eq!(rt; told.as_str(), expected, "{text}");
+fn shared_steps(rt: HostRuntime) {
+    for &(text, pause) in SHARED {
+        assert!(rt;
+            pause_of(rt.alloc(), text, AMPLE, 1000) == Some(pause),
+            "{text}"
+        );
     }
-    Ok(())
 }

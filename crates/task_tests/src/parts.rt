@@ -1,6 +1,6 @@
 // Programs from texts, the root's part of each, and what comes of its steps.
 
-ghost use Rattle.std.specs.Prelude.{◌≡◌, ◌<◌, ◌^◌, IfOk, None};
+ghost use Rattle.std.specs.Prelude.{◌≡◌, ◌<◌, ◌^◌, IfSome, None};
 ghost use Rattle.task_machine.specs.Ready.{FitsSome};
 
 use hh_lang::Program;
@@ -8,7 +8,6 @@ use object_layout::Chunk;
 use outside_io::EmptyGate;
 use program_reader::read_program;
 use std::alloc::Global;
-use std::test::Fail;
 use task_machine::{Paused, Private, run_local};
 
 /// A root before its first step: words until a collection, the most fields of an object, and the units of its chunk; 0 for none.
@@ -26,58 +25,67 @@ pub(crate) const AMPLE: Setup = Setup {
     units: 1,
 };
 
+/// Why a part pauses, after how many steps since its last entry, and what i0 holds then.
+pub(crate) type Pause = (Paused, u32, i64);
+
 /// The program of a text.
-pub(crate) fn program_of(alloc: Global, text: &str) -> Result<Program, Fail> {
+pub(crate) fn program_of(alloc: Global, text: &str) -> Option<Program> {
     if text.len() > 10_000 {
-        return Err("a long text")?;
+        return None;
     }
-    match read_program(alloc, text.as_bytes())? {
-        Ok(program) => Ok(program),
-        Err(_) => Err("no program")?,
+    match read_program(alloc, text.as_bytes()) {
+        Ok(read) => read.ok(),
+        Err(_) => None,
     }
 }
 
 /// The root before its first step.
-pub(crate) fn root_of(alloc: Global, program: &Program, setup: Setup) -> Result<Private, Fail>
-    ensures fits { IfOk result (λ part. FitsSome program.now part) }
-    ensures idle { IfOk result (λ part. part.begun ≡ None) }
-    ensures limit { IfOk result (λ part. part.field_limit ≡ setup.fields) }
-    ensures fresh { IfOk result (λ part. part.fresh ≡ 0) }
-    ensures few { IfOk result (λ part. part.allocations ≡ 0) }
+pub(crate) fn root_of(alloc: Global, program: &Program, setup: Setup) -> Option<Private>
+    ensures fits { IfSome result (λ part. FitsSome program.now part) }
+    ensures idle { IfSome result (λ part. part.begun ≡ None) }
 {
     let mut part = Private::root(alloc, program, setup.leaf, setup.fields);
     if setup.units == 0 || setup.units > 100 {
-        return Ok(part);
+        return Some(part);
     }
-    let chunk = Chunk::new(alloc, 7, setup.units)?;
+    let chunk = Chunk::new(alloc, 7, setup.units).ok()?;
     match part.add_chunk(chunk) {
-        Ok(()) => Ok(part),
-        Err(_) => Err("no memory")?,
+        Ok(()) => Some(part),
+        Err(_) => None,
     }
 }
 
-fn word_of(why: Paused) -> &'static str {
-    match why {
-        Paused::Shared => "shared",
-        Paused::Due => "due",
-        Paused::NeedChunk => "need",
-        Paused::Spent => "spent",
+/// Takes a part's private steps within a budget; None for want of memory, or where a number is above what tests need.
+pub(crate) fn pause(part: &mut Private, program: &Program, budget: u32) -> Option<Pause>
+    requires fits { FitsSome program.now part.old }
+    requires idle { part.old.begun ≡ None }
+    ensures fits { FitsSome program.now part.new }
+    ensures idle { part.new.begun ≡ None }
+{
+    if part.field_limit >= 1 << 20 || budget > 1000 {
+        return None;
+    }
+    if part.fresh > 1000 || part.allocations > 1000 {
+        return None;
+    }
+    match run_local(part, program, budget, &EmptyGate, 0) {
+        Ok(why) => Some((why, part.fresh, part.frames.int(0))),
+        Err(_) => None,
     }
 }
 
-/// Why the root of a text pauses within a budget, after how many steps, and what i0 holds then.
-pub(crate) fn pause_of(
-    alloc: Global,
-    text: &str,
-    setup: Setup,
-    budget: u32,
-) -> Result<String, Fail> {
-    let program = program_of(alloc, text)?;
-    let mut part = root_of(alloc, &program, setup)?;
-    if setup.fields >= 1 << 20 || budget > 1000 {
-        return Err("no such setup")?;
+// The same of the root of a program.
+fn root_pause(alloc: Global, program: &Program, setup: Setup, budget: u32) -> Option<Pause> {
+    match root_of(alloc, program, setup) {
+        Some(mut part) => pause(&mut part, program, budget),
+        None => None,
     }
-    let why = run_local(&mut part, &program, budget, &EmptyGate, 0)?;
-    let (word, number) = (word_of(why), part.frames.int(0));
-    Ok(format!(in alloc; "{word} {} {number}", part.fresh)?)
+}
+
+/// The same of the root of a text.
+pub(crate) fn pause_of(alloc: Global, text: &str, setup: Setup, budget: u32) -> Option<Pause> {
+    match program_of(alloc, text) {
+        Some(program) => root_pause(alloc, &program, setup, budget),
+        None => None,
+    }
 }

@@ -1,7 +1,7 @@
 // Why a task's private steps pause: the first reason that fits.
 
-use crate::parts::{AMPLE, Setup, pause_of};
-use std::test::Fail;
+use crate::parts::{AMPLE, Pause, Setup, pause_of};
+use task_machine::Paused;
 
 // A due collection comes with the second object.
 const TWO_OBJECTS: &str = "fn main\nset i1 14\nnewm r0 i0 i1\nnewm r0 i0 i1\nend";
@@ -52,30 +52,32 @@ const SMALL_CHUNK: Setup = Setup {
 };
 
 // A program, its setup and budget; why it pauses, after how many steps, and its i0.
-const PAUSES: [(&str, Setup, u32, &str); 16] = [
-    (ENDLESS, NO_CHUNK, 5, "spent 5 2"),
-    (ENDLESS, NO_CHUNK, 0, "spent 0 0"),
-    (TWO_OBJECTS, AMPLE, 256, "shared 3 0"),
-    (TWO_OBJECTS, AMPLE, 3, "shared 3 0"),
-    (TWO_OBJECTS, DUE_SOON, 256, "due 2 0"),
-    (TWO_OBJECTS, DUE_SOON, 2, "due 2 0"),
-    (TWO_OBJECTS, DUE_LATER, 256, "shared 3 0"),
-    (TWO_OBJECTS, NO_CHUNK, 256, "need 1 0"),
-    (TWO_OBJECTS, NO_CHUNK, 1, "need 1 0"),
-    (TWO_CHUNKS, DUE_SOON, 256, "due 2 0"),
-    (TWO_CHUNKS, AMPLE, 256, "need 2 0"),
-    (TOO_LARGE, DUE_SOON, 3, "shared 3 0"),
-    (TOO_LARGE_FIRST, NO_CHUNK, 256, "shared 1 0"),
-    (LARGE_OBJECT, LARGE, 256, "shared 3 5"),
-    (LARGE_OBJECT, SMALL_CHUNK, 256, "need 1 0"),
-    (LONG_LOOP, NO_CHUNK, 256, "shared 256 0"),
+const PAUSES: &[(&str, Setup, u32, Pause)] = &[
+    (ENDLESS, NO_CHUNK, 5, (Paused::Spent, 5, 2)),
+    (ENDLESS, NO_CHUNK, 0, (Paused::Spent, 0, 0)),
+    (TWO_OBJECTS, AMPLE, 256, (Paused::Shared, 3, 0)),
+    (TWO_OBJECTS, AMPLE, 3, (Paused::Shared, 3, 0)),
+    (TWO_OBJECTS, DUE_SOON, 256, (Paused::Due, 2, 0)),
+    (TWO_OBJECTS, DUE_SOON, 2, (Paused::Due, 2, 0)),
+    (TWO_OBJECTS, DUE_LATER, 256, (Paused::Shared, 3, 0)),
+    (TWO_OBJECTS, NO_CHUNK, 256, (Paused::NeedChunk, 1, 0)),
+    (TWO_OBJECTS, NO_CHUNK, 1, (Paused::NeedChunk, 1, 0)),
+    (TWO_CHUNKS, DUE_SOON, 256, (Paused::Due, 2, 0)),
+    (TWO_CHUNKS, AMPLE, 256, (Paused::NeedChunk, 2, 0)),
+    (TOO_LARGE, DUE_SOON, 3, (Paused::Shared, 3, 0)),
+    (TOO_LARGE_FIRST, NO_CHUNK, 256, (Paused::Shared, 1, 0)),
+    (LARGE_OBJECT, LARGE, 256, (Paused::Shared, 3, 5)),
+    (LARGE_OBJECT, SMALL_CHUNK, 256, (Paused::NeedChunk, 1, 0)),
+    (LONG_LOOP, NO_CHUNK, 256, (Paused::Shared, 256, 0)),
 ];
 
 #[test]
-fn pauses(rt: HostRuntime) -> Result<(), Fail> {
-    for (text, setup, budget, expected) in PAUSES {
-        let told = pause_of(rt.alloc(), text, setup, budget)?;
-        assert_eq!(rt; told.as_str(), expected, "{text}");
+fn pauses(rt: HostRuntime) {
+    for &(text, setup, budget, pause) in PAUSES {
+        let (leaf, units) = (setup.leaf, setup.units);
+        assert!(rt;
+            pause_of(rt.alloc(), text, setup, budget) == Some(pause),
+            "leaf {leaf}, units {units}, budget {budget}: {text}"
+        );
     }
-    Ok(())
 }

@@ -1,105 +1,125 @@
+// Words that are command lines or not, and what they ask for.
+
 use command_line::{CommandLine, FileName, Options, read_command_line};
 use run_trace::Settings;
 use std::alloc::{AllocError, Global};
-use std::test::Fail;
 
-// Words, with a bar between them, and what they ask for.
-static TAKEN: [(&str, &str); 34] = [
-    ("check", "check None"),
-    ("check|a.hh", "check Some(\"a.hh\")"),
-    ("check|help", "check Some(\"help\")"),
-    ("check|--|--workers", "check Some(\"--workers\")"),
-    ("run", "run None 1 1000000 4096 4096 8192 false false"),
+// What words ask for: the command, its file, its numbers and its switches.
+type Meaning = (&'static str, Option<&'static str>, [u64; 5], [bool; 2]);
+
+// The numbers and the switches that a command has where no word changes them, or where it has none.
+const USUAL: [u64; 5] = [1, 1000000, 4096, 4096, 8192];
+
+const NONE: [u64; 5] = [0; 5];
+
+const OFF: [bool; 2] = [false; 2];
+
+// Words, with a bar between them, and what they ask for. The numbers are the workers, the steps, the chunks, and the words of
+// a leaf and of an inner heap; or the seed and the size. The switches are those for a report and for a trace; or for a run.
+// Zeros and `false` fill the places that a command doesn't have.
+const TAKEN: &[(&str, Meaning)] = &[
+    ("check", ("check", None, NONE, OFF)),
+    ("check|a.hh", ("check", Some("a.hh"), NONE, OFF)),
+    ("check|help", ("check", Some("help"), NONE, OFF)),
     (
-        "run|",
-        "run Some(\"\") 1 1000000 4096 4096 8192 false false",
+        "check|--|--workers",
+        ("check", Some("--workers"), NONE, OFF),
     ),
-    (
-        "run|-",
-        "run Some(\"-\") 1 1000000 4096 4096 8192 false false",
-    ),
+    ("run", ("run", None, USUAL, OFF)),
+    ("run|", ("run", Some(""), USUAL, OFF)),
+    ("run|-", ("run", Some("-"), USUAL, OFF)),
     (
         "run|--workers|4|--report",
-        "run None 4 1000000 4096 4096 8192 true false",
+        ("run", None, [4, 1000000, 4096, 4096, 8192], [true, false]),
     ),
     (
         "replay|a.hh|--leaf=16",
-        "replay Some(\"a.hh\") 1 1000000 4096 16 8192 false false",
+        ("replay", Some("a.hh"), [1, 1000000, 4096, 16, 8192], OFF),
     ),
-    ("make|1|1", "make 1 1 false"),
-    ("make|0|1000", "make 0 1000 false"),
-    ("make|4294967295|+007", "make 4294967295 7 false"),
-    ("make|1|1|--run", "make 1 1 true"),
-    ("make|--run|1|1", "make 1 1 true"),
-    ("model", "model None 1 1000000 4096 4096 8192 false false"),
+    ("make|1|1", ("make", None, [1, 1, 0, 0, 0], OFF)),
+    ("make|0|1000", ("make", None, [0, 1000, 0, 0, 0], OFF)),
+    (
+        "make|4294967295|+007",
+        ("make", None, [4294967295, 7, 0, 0, 0], OFF),
+    ),
+    (
+        "make|1|1|--run",
+        ("make", None, [1, 1, 0, 0, 0], [true, false]),
+    ),
+    (
+        "make|--run|1|1",
+        ("make", None, [1, 1, 0, 0, 0], [true, false]),
+    ),
+    ("model", ("model", None, USUAL, OFF)),
     (
         "model|a.hh|--report",
-        "model Some(\"a.hh\") 1 1000000 4096 4096 8192 true false",
+        ("model", Some("a.hh"), USUAL, [true, false]),
     ),
     (
         "model|--trace|a.hh",
-        "model Some(\"a.hh\") 1 1000000 4096 4096 8192 false true",
+        ("model", Some("a.hh"), USUAL, [false, true]),
     ),
     (
         "model|--workers=1|--fuel=1|--chunks=2|--leaf=16|--inner=16",
-        "model None 1 1 2 16 16 false false",
+        ("model", None, [1, 1, 2, 16, 16], OFF),
     ),
     (
         "model|--workers|64|--fuel|1000000000|--chunks|65536|--leaf|1000000|--inner|1000000",
-        "model None 64 1000000000 65536 1000000 1000000 false false",
+        (
+            "model",
+            None,
+            [64, 1000000000, 65536, 1000000, 1000000],
+            OFF,
+        ),
     ),
     (
         "model|--workers|2|p|--leaf|32|--report|--trace",
-        "model Some(\"p\") 2 1000000 4096 32 8192 true true",
+        (
+            "model",
+            Some("p"),
+            [2, 1000000, 4096, 32, 8192],
+            [true, true],
+        ),
     ),
     (
         "model|--inner|64",
-        "model None 1 1000000 4096 4096 64 false false",
+        ("model", None, [1, 1000000, 4096, 4096, 64], OFF),
     ),
     (
         "model|--fuel|5",
-        "model None 1 5 4096 4096 8192 false false",
+        ("model", None, [1, 5, 4096, 4096, 8192], OFF),
     ),
     (
         "model|--chunks|3",
-        "model None 1 1000000 3 4096 8192 false false",
+        ("model", None, [1, 1000000, 3, 4096, 8192], OFF),
     ),
     (
         "model|--workers|+5",
-        "model None 5 1000000 4096 4096 8192 false false",
+        ("model", None, [5, 1000000, 4096, 4096, 8192], OFF),
     ),
     (
         "model|--workers|007",
-        "model None 7 1000000 4096 4096 8192 false false",
+        ("model", None, [7, 1000000, 4096, 4096, 8192], OFF),
     ),
-    (
-        "model|--",
-        "model None 1 1000000 4096 4096 8192 false false",
-    ),
-    (
-        "model|--|--report",
-        "model Some(\"--report\") 1 1000000 4096 4096 8192 false false",
-    ),
-    (
-        "model|--workers|1|",
-        "model Some(\"\") 1 1000000 4096 4096 8192 false false",
-    ),
-    ("races", "races None 1 1000000 4096 4096 8192"),
+    ("model|--", ("model", None, USUAL, OFF)),
+    ("model|--|--report", ("model", Some("--report"), USUAL, OFF)),
+    ("model|--workers|1|", ("model", Some(""), USUAL, OFF)),
+    ("races", ("races", None, USUAL, OFF)),
     (
         "races|--workers|2|p|--inner=16",
-        "races Some(\"p\") 2 1000000 4096 4096 16",
+        ("races", Some("p"), [2, 1000000, 4096, 4096, 16], OFF),
     ),
-    ("image", "image None 1 1000000 4096 4096 8192"),
+    ("image", ("image", None, USUAL, OFF)),
     (
         "image|p|--leaf=16|--workers|2",
-        "image Some(\"p\") 2 1000000 4096 16 8192",
+        ("image", Some("p"), [2, 1000000, 4096, 16, 8192], OFF),
     ),
-    ("verify", "verify None"),
-    ("verify|a.image", "verify Some(\"a.image\")"),
+    ("verify", ("verify", None, NONE, OFF)),
+    ("verify|a.image", ("verify", Some("a.image"), NONE, OFF)),
 ];
 
 // Words that are no command line.
-static REFUSED: [&str; 55] = [
+const REFUSED: &[&str] = &[
     "",
     "walk",
     "help",
@@ -164,86 +184,113 @@ fn name<'w>(file: &Option<FileName<'w>>) -> Option<&'w str> {
     }
 }
 
-fn run_shown(
-    alloc: Global,
-    command: &str,
-    file: &Option<FileName>,
-    options: Options,
-) -> Result<String, AllocError> {
-    let settings = options.settings;
-    format!(in alloc;
-        "{command} {:?} {} {} {} {} {} {} {}",
-        name(file),
-        settings.workers(),
+fn limits(settings: Settings) -> [u64; 5] {
+    [
+        u64::from(settings.workers()),
         settings.fuel(),
-        settings.chunks(),
-        settings.leaf(),
-        settings.inner(),
-        options.report,
-        options.trace
-    )
+        u64::from(settings.chunks()),
+        u64::from(settings.leaf()),
+        u64::from(settings.inner()),
+    ]
 }
 
-fn limited_shown(
-    alloc: Global,
-    command: &str,
-    file: &Option<FileName>,
-    settings: Settings,
-) -> Result<String, AllocError> {
-    format!(in alloc;
-        "{command} {:?} {} {} {} {} {}",
-        name(file),
-        settings.workers(),
-        settings.fuel(),
-        settings.chunks(),
-        settings.leaf(),
-        settings.inner()
-    )
+fn switches(options: Options) -> [bool; 2] {
+    [options.report, options.trace]
 }
 
-fn shown(alloc: Global, line: &CommandLine) -> Result<String, AllocError> {
+// The name of a command, and its file.
+fn named<'w>(line: &CommandLine<'w>) -> (&'static str, Option<&'w str>) {
     match line {
-        CommandLine::Check { file } => format!(in alloc; "check {:?}", name(file)),
-        CommandLine::Run { file, options } => run_shown(alloc, "run", file, *options),
-        CommandLine::Replay { file, options } => run_shown(alloc, "replay", file, *options),
-        CommandLine::Model { file, options } => run_shown(alloc, "model", file, *options),
-        CommandLine::Verify { file } => format!(in alloc; "verify {:?}", name(file)),
-        CommandLine::Races { file, settings } => limited_shown(alloc, "races", file, *settings),
-        CommandLine::Image { file, settings } => limited_shown(alloc, "image", file, *settings),
-        CommandLine::Make { seed, size, run } => {
-            format!(in alloc; "make {} {} {}", *seed, *size, *run)
-        }
+        CommandLine::Check { file } => ("check", name(file)),
+        CommandLine::Run { file, .. } => ("run", name(file)),
+        CommandLine::Replay { file, .. } => ("replay", name(file)),
+        CommandLine::Model { file, .. } => ("model", name(file)),
+        CommandLine::Races { file, .. } => ("races", name(file)),
+        CommandLine::Image { file, .. } => ("image", name(file)),
+        CommandLine::Make { .. } => ("make", None),
+        CommandLine::Verify { file } => ("verify", name(file)),
     }
 }
 
-// What the words ask for, as a text.
-fn said(alloc: Global, bars: &str) -> Result<String, AllocError> {
+// The numbers and the switches of a command.
+fn values(line: &CommandLine) -> ([u64; 5], [bool; 2]) {
+    match line {
+        CommandLine::Run { options, .. }
+        | CommandLine::Replay { options, .. }
+        | CommandLine::Model { options, .. } => (limits(options.settings), switches(*options)),
+        CommandLine::Races { settings, .. } | CommandLine::Image { settings, .. } => {
+            (limits(*settings), OFF)
+        }
+        CommandLine::Make { seed, size, run } => {
+            ([u64::from(*seed), u64::from(*size), 0, 0, 0], [*run, false])
+        }
+        _ => (NONE, OFF),
+    }
+}
+
+fn means(line: &CommandLine, meaning: &Meaning) -> bool {
+    let (command, file, numbers, switches) = meaning;
+    named(line) == (*command, *file) && values(line) == (*numbers, *switches)
+}
+
+fn is_taken(alloc: Global, words: &[String], meaning: &Meaning) -> bool {
+    match read_command_line(alloc, words) {
+        Ok(Some(line)) => means(&line, meaning),
+        _ => false,
+    }
+}
+
+fn is_refused(alloc: Global, words: &[String]) -> bool {
+    match read_command_line(alloc, words) {
+        Ok(line) => line.is_none(),
+        Err(_) => false,
+    }
+}
+
+// Adds a word, and says whether it did.
+fn add_word(alloc: Global, words: &mut Vec<String>, word: &str) -> bool {
+    match String::from_str(alloc, word) {
+        Ok(word) => words.push(word).is_ok(),
+        Err(_) => false,
+    }
+}
+
+// The words with a bar between them.
+fn words_of(alloc: Global, bars: &str) -> Result<Vec<String>, AllocError> {
     let mut words = Vec::new(alloc);
     for word in bars.split('|') {
-        words.push(String::from_str(alloc, word)?)?;
+        if !add_word(alloc, &mut words, word) {
+            return Err(AllocError);
+        }
     }
-    match read_command_line(alloc, words.as_slice())? {
-        Some(line) => shown(alloc, &line),
-        None => String::from_str(alloc, "refused"),
+    Ok(words)
+}
+
+fn are_taken(alloc: Global, bars: &str, meaning: &Meaning) -> bool {
+    match words_of(alloc, bars) {
+        Ok(words) => is_taken(alloc, words.as_slice(), meaning),
+        Err(_) => false,
+    }
+}
+
+fn are_refused(alloc: Global, bars: &str) -> bool {
+    match words_of(alloc, bars) {
+        Ok(words) => is_refused(alloc, words.as_slice()),
+        Err(_) => false,
     }
 }
 
 #[test]
-fn words_that_are_taken(rt: HostRuntime) -> Result<(), Fail> {
-    for (words, meaning) in TAKEN.iter() {
-        let text = said(rt.alloc(), words)?;
-        assert_eq!(rt; text.as_str(), *meaning);
+fn words_that_are_taken(rt: HostRuntime) {
+    for (words, meaning) in TAKEN {
+        assert!(rt; are_taken(rt.alloc(), words, meaning), "{words}");
     }
-    Ok(())
 }
 
 #[test]
-fn words_that_are_refused(rt: HostRuntime) -> Result<(), Fail> {
-    for words in REFUSED.iter() {
-        let text = said(rt.alloc(), words)?;
-        assert_eq!(rt; text.as_str(), "refused");
+fn words_that_are_refused(rt: HostRuntime) {
+    for words in REFUSED {
+        assert!(rt; are_refused(rt.alloc(), words), "{words}");
     }
-    let none: Vec<String> = Vec::new(rt.alloc());
-    assert!(rt; read_command_line(rt.alloc(), none.as_slice())?.is_none());
-    Ok(())
+    assert!(rt; is_refused(rt.alloc(), &[]));
 }

@@ -4,107 +4,165 @@ use heap_image::{Picked, Picture, picture_text};
 use image_check::{Birth, Chunk, Remembered, State, Task, verify};
 use listed::Listed;
 use std::alloc::{AllocError, Global};
-use std::test::Fail;
 
-// An object with its fields.
-fn picked(
-    alloc: Global,
-    address: u64,
-    birth: (u64, u64),
-    mutable: bool,
-    references: &[u64],
-    numbers: &[i64],
-) -> Result<Picked, AllocError> {
-    let (task, count) = birth;
+// An object of a table: its address, its birth, whether it can change, its references and its numbers.
+type Row = (u64, (u64, u64), bool, &'static [u64], &'static [i64]);
+
+// A picture as a table, and its text.
+struct Drawn {
+    tasks: &'static [Task],
+    chunks: &'static [Chunk],
+    objects: &'static [Row],
+    fields: &'static [Remembered],
+    text: &'static [u8],
+}
+
+// A list of these items.
+fn list_of<T: Copy>(alloc: Global, items: &[T]) -> Result<Listed<T>, AllocError> {
+    Ok(Listed::from_vec(items.to_vec(alloc)?))
+}
+
+fn picked(alloc: Global, row: Row) -> Result<Picked, AllocError> {
+    let (address, (task, count), mutable, references, numbers) = row;
+    let references = list_of(alloc, references)?;
+    let numbers = list_of(alloc, numbers)?;
     Ok(Picked {
         address,
         birth: Birth { task, count },
         mutable,
-        references: Listed::from_vec(references.to_vec(alloc)?),
-        numbers: Listed::from_vec(numbers.to_vec(alloc)?),
+        references,
+        numbers,
     })
+}
+
+// Adds an object, and says whether it did.
+fn add_object(alloc: Global, objects: &mut Listed<Picked>, row: Row) -> bool {
+    match picked(alloc, row) {
+        Ok(object) => objects.push(object).is_ok(),
+        Err(_) => false,
+    }
+}
+
+fn objects_of(alloc: Global, rows: &[Row]) -> Result<Listed<Picked>, AllocError> {
+    let mut objects = Listed::new(alloc);
+    for row in rows {
+        if !add_object(alloc, &mut objects, *row) {
+            return Err(AllocError);
+        }
+    }
+    Ok(objects)
+}
+
+fn picture_of(alloc: Global, drawn: &Drawn) -> Result<Picture, AllocError> {
+    let tasks = list_of(alloc, drawn.tasks)?;
+    let chunks = list_of(alloc, drawn.chunks)?;
+    let fields = list_of(alloc, drawn.fields)?;
+    let objects = objects_of(alloc, drawn.objects)?;
+    Ok(Picture {
+        tasks,
+        chunks,
+        objects,
+        fields,
+    })
+}
+
+// Whether a text is as it should be, and how many objects the verifier finds in it.
+fn verified(alloc: Global, text: &[u8], drawn: &Drawn) -> (bool, Option<u64>) {
+    (text == drawn.text, verify(alloc, text).ok())
+}
+
+// The same of the text of a picture; none where there is no memory for it.
+fn written(alloc: Global, picture: &Picture, drawn: &Drawn) -> Option<(bool, Option<u64>)> {
+    match picture_text(alloc, picture) {
+        Ok(text) => Some(verified(alloc, text.as_slice(), drawn)),
+        Err(_) => None,
+    }
+}
+
+// The same, once the picture is made.
+fn drawn_and_written(alloc: Global, drawn: &Drawn) -> Option<(bool, Option<u64>)> {
+    match picture_of(alloc, drawn) {
+        Ok(picture) => written(alloc, &picture, drawn),
+        Err(_) => None,
+    }
 }
 
 // Two objects of a task that has ended.
-fn ended(alloc: Global) -> Result<Picture, AllocError> {
-    let task = Task {
+const ENDED: Drawn = Drawn {
+    tasks: &[Task {
         number: 0,
         parent: None,
         state: State::Ended,
-    };
-    let chunk = Chunk {
+    }],
+    chunks: &[Chunk {
         number: 0,
         owner: 0,
         words: 1024,
-    };
-    let first = picked(alloc, 1, (0, 0), true, &[4], &[])?;
-    let second = picked(alloc, 4, (0, 1), true, &[], &[5])?;
-    Ok(Picture {
-        tasks: Listed::from_vec([task].to_vec(alloc)?),
-        chunks: Listed::from_vec([chunk].to_vec(alloc)?),
-        objects: Listed::from_vec(Vec::from_array(alloc, [first, second])?),
-        fields: Listed::new(alloc),
-    })
+    }],
+    objects: &[(1, (0, 0), true, &[4], &[]), (4, (0, 1), true, &[], &[5])],
+    fields: &[],
+    text: b"image 1\ntask 0 - ended\nchunk 0 0 1024\nobject 1 0 0 mut 1 0 4\nobject 4 0 1 mut 0 1 5\nend: image 2\n",
+};
+
+#[test]
+fn an_ended_heap_is_written(rt: HostRuntime) {
+    assert!(rt; drawn_and_written(rt.alloc(), &ENDED) == Some((true, Some(2))));
 }
 
 // A task with a child that runs, and a child that has ended.
-fn tasks(alloc: Global) -> Result<Listed<Task>, AllocError> {
-    let of = |number: u64, parent: Option<u64>, state: State| Task {
-        number,
-        parent,
-        state,
-    };
-    let tasks = [
-        of(0, None, State::Waiting),
-        of(1, Some(0), State::Running),
-        of(2, Some(0), State::Ended),
-    ];
-    Ok(Listed::from_vec(tasks.to_vec(alloc)?))
-}
+const TASKS: &[Task] = &[
+    Task {
+        number: 0,
+        parent: None,
+        state: State::Waiting,
+    },
+    Task {
+        number: 1,
+        parent: Some(0),
+        state: State::Running,
+    },
+    Task {
+        number: 2,
+        parent: Some(0),
+        state: State::Ended,
+    },
+];
 
-fn chunks(alloc: Global) -> Result<Listed<Chunk>, AllocError> {
-    let of = |number: u64, owner: u64, words: u64| Chunk {
-        number,
-        owner,
-        words,
-    };
-    let chunks = [of(0, 0, 1024), of(3, 1, 1024), of(4, 2, 2048)];
-    Ok(Listed::from_vec(chunks.to_vec(alloc)?))
-}
+const CHUNKS: &[Chunk] = &[
+    Chunk {
+        number: 0,
+        owner: 0,
+        words: 1024,
+    },
+    Chunk {
+        number: 3,
+        owner: 1,
+        words: 1024,
+    },
+    Chunk {
+        number: 4,
+        owner: 2,
+        words: 2048,
+    },
+];
 
 // A field that leads into a running heap, and an object of a child that leads up.
-fn waiting(alloc: Global) -> Result<Picture, AllocError> {
-    let first = picked(alloc, 1, (0, 0), true, &[0, 3073], &[i64::MIN])?;
-    let second = picked(alloc, 4097, (2, 7), false, &[1, 4097], &[])?;
-    let field = Remembered {
+const WAITING: Drawn = Drawn {
+    tasks: TASKS,
+    chunks: CHUNKS,
+    objects: &[
+        (1, (0, 0), true, &[0, 3073], &[i64::MIN]),
+        (4097, (2, 7), false, &[1, 4097], &[]),
+    ],
+    fields: &[Remembered {
         task: 1,
         address: 1,
         place: 1,
-    };
-    Ok(Picture {
-        tasks: tasks(alloc)?,
-        chunks: chunks(alloc)?,
-        objects: Listed::from_vec(Vec::from_array(alloc, [first, second])?),
-        fields: Listed::from_vec([field].to_vec(alloc)?),
-    })
-}
+    }],
+    text: b"image 1\ntask 0 - waiting\ntask 1 0 running\ntask 2 0 ended\nchunk 0 0 1024\nchunk 3 1 1024\nchunk 4 2 2048\nobject 1 0 0 mut 2 1 0 3073 -9223372036854775808\nobject 4097 2 7 imm 2 0 1 4097\nremembered 1 1 1\nend: image 2\n",
+};
 
 #[test]
-fn an_ended_heap_is_written(rt: HostRuntime) -> Result<(), Fail> {
-    let text = picture_text(rt.alloc(), &ended(rt.alloc())?)?;
-    let wanted =
-        b"image 1\ntask 0 - ended\nchunk 0 0 1024\nobject 1 0 0 mut 1 0 4\nobject 4 0 1 mut 0 1 5\nend: image 2\n";
-    assert!(rt; text.as_slice() == wanted.as_slice());
-    assert!(rt; verify(rt.alloc(), text.as_slice()).ok() == Some(2));
-    Ok(())
-}
-
-#[test]
-fn a_remembered_field_is_written(rt: HostRuntime) -> Result<(), Fail> {
-    let text = picture_text(rt.alloc(), &waiting(rt.alloc())?)?;
-    let wanted =
-        b"image 1\ntask 0 - waiting\ntask 1 0 running\ntask 2 0 ended\nchunk 0 0 1024\nchunk 3 1 1024\nchunk 4 2 2048\nobject 1 0 0 mut 2 1 0 3073 -9223372036854775808\nobject 4097 2 7 imm 2 0 1 4097\nremembered 1 1 1\nend: image 2\n";
-    assert!(rt; text.as_slice() == wanted.as_slice());
-    assert!(rt; verify(rt.alloc(), text.as_slice()).ok() == Some(2));
-    Ok(())
+fn a_remembered_field_is_written(rt: HostRuntime) {
+    assert!(rt; drawn_and_written(rt.alloc(), &WAITING) == Some((true, Some(2))));
 }

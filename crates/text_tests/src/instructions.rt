@@ -2,10 +2,9 @@
 
 ghost use Rattle.std.specs.Prelude.{◌<◌};
 
-use hh_lang::{Instr, Operator};
+use hh_lang::{Fun, Instr, IntReg, Operator, Program, RefReg};
 use program_reader::read_program;
 use std::alloc::Global;
-use std::test::Fail;
 
 fn name_of(operator: Operator) -> &'static str {
     match operator {
@@ -19,75 +18,97 @@ fn name_of(operator: Operator) -> &'static str {
     }
 }
 
-// Up to three registers or counts.
-fn three(a: usize, b: usize, c: usize) -> [i64; 5]
-    requires first { a < 17 }
-    requires second { b < 17 }
-    requires third { c < 17 }
-{
-    [a as i64, b as i64, c as i64, 0, 0]
+// The number of a register, among those of numbers or those of references.
+fn number(register: IntReg) -> i64 {
+    register.index() as i64
+}
+
+fn reference(register: RefReg) -> i64 {
+    register.index() as i64
 }
 
 // An instruction on numbers or on what comes next.
 fn number_parts(instr: &Instr) -> (&'static str, [i64; 5]) {
     match instr {
-        Instr::Set(d, k) => ("set", [d.index() as i64, *k, 0, 0, 0]),
-        Instr::Mov(d, a) => ("mov", three(d.index(), a.index(), 0)),
-        Instr::Calc(op, d, a, b) => (name_of(*op), three(d.index(), a.index(), b.index())),
+        Instr::Set(d, k) => ("set", [number(*d), *k, 0, 0, 0]),
+        Instr::Mov(d, a) => ("mov", [number(*d), number(*a), 0, 0, 0]),
+        Instr::Calc(op, d, a, b) => {
+            let operands = [number(*d), number(*a), number(*b), 0, 0];
+            (name_of(*op), operands)
+        }
         Instr::Jmp(place) => ("jmp", [*place as i64, 0, 0, 0, 0]),
-        Instr::Jz(a, place) => ("jz", [a.index() as i64, *place as i64, 0, 0, 0]),
+        Instr::Jz(a, place) => ("jz", [number(*a), *place as i64, 0, 0, 0]),
         Instr::Call(f) => ("call", [*f as i64, 0, 0, 0, 0]),
         Instr::Par(f, g) => ("par", [*f as i64, *g as i64, 0, 0, 0]),
-        Instr::Out(a) => ("out", three(a.index(), 0, 0)),
+        Instr::Out(a) => ("out", [number(*a), 0, 0, 0, 0]),
         _ => ("ret", [0; 5]),
     }
 }
 
-// An instruction on references, or another one.
+// An instruction on references, or one of the above.
+fn reference_parts(instr: &Instr) -> (&'static str, [i64; 5]) {
+    match instr {
+        Instr::Movr(d, a) => ("movr", [reference(*d), reference(*a), 0, 0, 0]),
+        Instr::Nil(d) => ("nil", [reference(*d), 0, 0, 0, 0]),
+        Instr::Same(d, a, b) => ("same", [number(*d), reference(*a), reference(*b), 0, 0]),
+        Instr::Newm(d, a, b) => ("newm", [reference(*d), number(*a), number(*b), 0, 0]),
+        Instr::Pack(d, r, i) => {
+            let (references, numbers) = (r.count() as i64, i.count() as i64);
+            ("pack", [reference(*d), references, numbers, 0, 0])
+        }
+        Instr::Freeze(o) => ("freeze", [reference(*o), 0, 0, 0, 0]),
+        Instr::Cntr(d, o) => ("cntr", [number(*d), reference(*o), 0, 0, 0]),
+        Instr::Cnti(d, o) => ("cnti", [number(*d), reference(*o), 0, 0, 0]),
+        _ => number_parts(instr),
+    }
+}
+
+// An instruction on an object's field, or one of the above.
 fn parts(instr: &Instr) -> (&'static str, [i64; 5]) {
     match instr {
-        Instr::Movr(d, a) => ("movr", three(d.index(), a.index(), 0)),
-        Instr::Nil(d) => ("nil", three(d.index(), 0, 0)),
-        Instr::Same(d, a, b) => ("same", three(d.index(), a.index(), b.index())),
-        Instr::Newm(d, a, b) => ("newm", three(d.index(), a.index(), b.index())),
-        Instr::Pack(d, r, i) => ("pack", three(d.index(), r.count(), i.count())),
-        Instr::Freeze(o) => ("freeze", three(o.index(), 0, 0)),
-        Instr::Getr(d, o, k) => ("getr", three(d.index(), o.index(), k.index())),
-        Instr::Geti(d, o, k) => ("geti", three(d.index(), o.index(), k.index())),
-        Instr::Putr(o, k, v) => ("putr", three(o.index(), k.index(), v.index())),
-        Instr::Puti(o, k, v) => ("puti", three(o.index(), k.index(), v.index())),
-        Instr::Cntr(d, o) => ("cntr", three(d.index(), o.index(), 0)),
-        Instr::Cnti(d, o) => ("cnti", three(d.index(), o.index(), 0)),
+        Instr::Getr(d, o, k) => ("getr", [reference(*d), reference(*o), number(*k), 0, 0]),
+        Instr::Geti(d, o, k) => ("geti", [number(*d), reference(*o), number(*k), 0, 0]),
+        Instr::Putr(o, k, v) => ("putr", [reference(*o), number(*k), reference(*v), 0, 0]),
+        Instr::Puti(o, k, v) => ("puti", [reference(*o), number(*k), number(*v), 0, 0]),
         Instr::Cas(d, o, k, e, v) => {
-            let [first, second, third, ..] = three(d.index(), o.index(), k.index());
-            (
-                "cas",
-                [first, second, third, e.index() as i64, v.index() as i64],
-            )
+            let (old, new) = (reference(*e), reference(*v));
+            ("cas", [number(*d), reference(*o), number(*k), old, new])
         }
-        _ => number_parts(instr),
+        _ => reference_parts(instr),
     }
 }
 
 // The line, the name and the operands, followed by zeros.
 type Read = (u32, &'static str, [i64; 5]);
 
-// The code of a function of a program; none where there is no such function.
-fn code_of(alloc: Global, text: &[u8], function: usize) -> Result<Vec<Read>, Fail> {
-    let mut code = Vec::new(alloc);
-    if text.len() > 16777216 {
-        return Err("long")?;
-    }
-    let Ok(program) = read_program(alloc, text)? else {
-        return Err("refused")?;
-    };
-    if let Some(fun) = program.functions().get(function) {
-        for line in fun.code.as_slice() {
-            let (name, operands) = parts(&line.instr);
-            code.push((line.number, name, operands))?;
+// Whether the code of a function is just this.
+fn is_code(fun: &Fun, expected: &[Read]) -> bool {
+    for (line, read) in fun.code.as_slice().iter().zip(expected) {
+        let (name, operands) = parts(&line.instr);
+        if (line.number, name, operands) != *read {
+            return false;
         }
     }
-    Ok(code)
+    fun.code.len() == expected.len()
+}
+
+// The same of the function of a program; no code where there is no such function.
+fn has_code(program: &Program, function: usize, expected: &[Read]) -> bool {
+    match program.functions().get(function) {
+        Some(fun) => is_code(fun, expected),
+        None => expected.is_empty(),
+    }
+}
+
+// The same, once the program is read.
+fn is_read(alloc: Global, text: &[u8], function: usize, expected: &[Read]) -> bool {
+    if text.len() > 16777216 {
+        return false;
+    }
+    match read_program(alloc, text) {
+        Ok(Ok(program)) => has_code(&program, function, expected),
+        _ => false,
+    }
 }
 
 const EACH: &[u8] =
@@ -97,98 +118,104 @@ lab here\njmp there\njz i1 here\ncall g\npar main g\nout i9\n\nlab there\nmovr r
 newm r4 i5 i6\npack r7 16 0\ngetr r1 r2 i3\ngeti i4 r5 i6\nputr r7 i8 r9\nputi r10 i11 i12\ncntr i13 r14\n\
 cnti i15 r0\nfreeze r3\ncas i1 r2 i3 r4 r5\nret\r\nend\nfn g\nend";
 
+const EACH_READ: &[Read] = &[
+    (3, "set", [0, i64::MIN, 0, 0, 0]),
+    (4, "set", [15, 0, 0, 0, 0]),
+    (5, "set", [1, 7, 0, 0, 0]),
+    (6, "mov", [1, 2, 0, 0, 0]),
+    (7, "add", [3, 4, 5, 0, 0]),
+    (8, "sub", [6, 7, 8, 0, 0]),
+    (9, "mul", [9, 10, 11, 0, 0]),
+    (10, "div", [12, 13, 14, 0, 0]),
+    (11, "rem", [15, 0, 1, 0, 0]),
+    (12, "lt", [2, 3, 4, 0, 0]),
+    (13, "eq", [5, 6, 7, 0, 0]),
+    (15, "jmp", [16, 0, 0, 0, 0]),
+    (16, "jz", [1, 11, 0, 0, 0]),
+    (17, "call", [1, 0, 0, 0, 0]),
+    (18, "par", [0, 1, 0, 0, 0]),
+    (19, "out", [9, 0, 0, 0, 0]),
+    (22, "movr", [1, 2, 0, 0, 0]),
+    (23, "nil", [15, 0, 0, 0, 0]),
+    (24, "same", [1, 2, 3, 0, 0]),
+    (25, "newm", [4, 5, 6, 0, 0]),
+    (26, "pack", [7, 16, 0, 0, 0]),
+    (27, "getr", [1, 2, 3, 0, 0]),
+    (28, "geti", [4, 5, 6, 0, 0]),
+    (29, "putr", [7, 8, 9, 0, 0]),
+    (30, "puti", [10, 11, 12, 0, 0]),
+    (31, "cntr", [13, 14, 0, 0, 0]),
+    (32, "cnti", [15, 0, 0, 0, 0]),
+    (33, "freeze", [3, 0, 0, 0, 0]),
+    (34, "cas", [1, 2, 3, 4, 5]),
+    (35, "ret", [0; 5]),
+    (36, "ret", [0; 5]),
+];
+
 #[test]
-fn each_instruction(rt: HostRuntime) -> Result<(), Fail> {
-    let expected: [Read; 31] = [
-        (3, "set", [0, i64::MIN, 0, 0, 0]),
-        (4, "set", [15, 0, 0, 0, 0]),
-        (5, "set", [1, 7, 0, 0, 0]),
-        (6, "mov", [1, 2, 0, 0, 0]),
-        (7, "add", [3, 4, 5, 0, 0]),
-        (8, "sub", [6, 7, 8, 0, 0]),
-        (9, "mul", [9, 10, 11, 0, 0]),
-        (10, "div", [12, 13, 14, 0, 0]),
-        (11, "rem", [15, 0, 1, 0, 0]),
-        (12, "lt", [2, 3, 4, 0, 0]),
-        (13, "eq", [5, 6, 7, 0, 0]),
-        (15, "jmp", [16, 0, 0, 0, 0]),
-        (16, "jz", [1, 11, 0, 0, 0]),
-        (17, "call", [1, 0, 0, 0, 0]),
-        (18, "par", [0, 1, 0, 0, 0]),
-        (19, "out", [9, 0, 0, 0, 0]),
-        (22, "movr", [1, 2, 0, 0, 0]),
-        (23, "nil", [15, 0, 0, 0, 0]),
-        (24, "same", [1, 2, 3, 0, 0]),
-        (25, "newm", [4, 5, 6, 0, 0]),
-        (26, "pack", [7, 16, 0, 0, 0]),
-        (27, "getr", [1, 2, 3, 0, 0]),
-        (28, "geti", [4, 5, 6, 0, 0]),
-        (29, "putr", [7, 8, 9, 0, 0]),
-        (30, "puti", [10, 11, 12, 0, 0]),
-        (31, "cntr", [13, 14, 0, 0, 0]),
-        (32, "cnti", [15, 0, 0, 0, 0]),
-        (33, "freeze", [3, 0, 0, 0, 0]),
-        (34, "cas", [1, 2, 3, 4, 5]),
-        (35, "ret", [0; 5]),
-        (36, "ret", [0; 5]),
-    ];
-    assert!(rt; code_of(rt.alloc(), EACH, 0)?.as_slice() == expected.as_slice());
-    Ok(())
+fn each_instruction(rt: HostRuntime) {
+    assert!(rt; is_read(rt.alloc(), EACH, 0, EACH_READ));
 }
 
 const DOUBLES: &[u8] =
     b"fn dbl\nadd i0 i0 i0\nret\nend\nfn main\nset i0 0\nset i1 10\npfor dbl\nout i0\npfor dbl\nret\nend";
 
+const MAIN: &[Read] = &[
+    (6, "set", [0, 0, 0, 0, 0]),
+    (7, "set", [1, 10, 0, 0, 0]),
+    (8, "call", [2, 0, 0, 0, 0]),
+    (9, "out", [0, 0, 0, 0, 0]),
+    (10, "call", [2, 0, 0, 0, 0]),
+    (11, "ret", [0; 5]),
+    (12, "ret", [0; 5]),
+];
+
+const WHOLE: &[Read] = &[
+    (8, "lt", [14, 0, 1, 0, 0]),
+    (8, "jz", [14, 13, 0, 0, 0]),
+    (8, "set", [13, 1, 0, 0, 0]),
+    (8, "add", [14, 0, 13, 0, 0]),
+    (8, "eq", [14, 14, 1, 0, 0]),
+    (8, "jz", [14, 9, 0, 0, 0]),
+    (8, "call", [0, 0, 0, 0, 0]),
+    (8, "nil", [0, 0, 0, 0, 0]),
+    (8, "ret", [0; 5]),
+    (8, "par", [3, 4, 0, 0, 0]),
+    (8, "add", [0, 0, 1, 0, 0]),
+    (8, "nil", [0, 0, 0, 0, 0]),
+    (8, "ret", [0; 5]),
+    (8, "set", [0, 0, 0, 0, 0]),
+    (8, "nil", [0, 0, 0, 0, 0]),
+    (8, "ret", [0; 5]),
+];
+
+const LEFT: &[Read] = &[
+    (8, "set", [13, 2, 0, 0, 0]),
+    (8, "sub", [14, 1, 0, 0, 0]),
+    (8, "div", [14, 14, 13, 0, 0]),
+    (8, "add", [1, 0, 14, 0, 0]),
+    (8, "call", [2, 0, 0, 0, 0]),
+    (8, "ret", [0; 5]),
+];
+
+const RIGHT: &[Read] = &[
+    (8, "set", [13, 2, 0, 0, 0]),
+    (8, "sub", [14, 1, 0, 0, 0]),
+    (8, "div", [14, 14, 13, 0, 0]),
+    (8, "add", [0, 0, 14, 0, 0]),
+    (8, "call", [2, 0, 0, 0, 0]),
+    (8, "ret", [0; 5]),
+];
+
 // A loop becomes a call of three functions behind the others: the whole, its left half and its right half.
+const FUNCTIONS: &[(usize, &[Read])] = &[(1, MAIN), (2, WHOLE), (3, LEFT), (4, RIGHT), (5, &[])];
+
 #[test]
-fn functions_of_a_loop(rt: HostRuntime) -> Result<(), Fail> {
-    let main: [Read; 7] = [
-        (6, "set", [0, 0, 0, 0, 0]),
-        (7, "set", [1, 10, 0, 0, 0]),
-        (8, "call", [2, 0, 0, 0, 0]),
-        (9, "out", [0, 0, 0, 0, 0]),
-        (10, "call", [2, 0, 0, 0, 0]),
-        (11, "ret", [0; 5]),
-        (12, "ret", [0; 5]),
-    ];
-    let whole: [Read; 16] = [
-        (8, "lt", [14, 0, 1, 0, 0]),
-        (8, "jz", [14, 13, 0, 0, 0]),
-        (8, "set", [13, 1, 0, 0, 0]),
-        (8, "add", [14, 0, 13, 0, 0]),
-        (8, "eq", [14, 14, 1, 0, 0]),
-        (8, "jz", [14, 9, 0, 0, 0]),
-        (8, "call", [0, 0, 0, 0, 0]),
-        (8, "nil", [0, 0, 0, 0, 0]),
-        (8, "ret", [0; 5]),
-        (8, "par", [3, 4, 0, 0, 0]),
-        (8, "add", [0, 0, 1, 0, 0]),
-        (8, "nil", [0, 0, 0, 0, 0]),
-        (8, "ret", [0; 5]),
-        (8, "set", [0, 0, 0, 0, 0]),
-        (8, "nil", [0, 0, 0, 0, 0]),
-        (8, "ret", [0; 5]),
-    ];
-    let left: [Read; 6] = [
-        (8, "set", [13, 2, 0, 0, 0]),
-        (8, "sub", [14, 1, 0, 0, 0]),
-        (8, "div", [14, 14, 13, 0, 0]),
-        (8, "add", [1, 0, 14, 0, 0]),
-        (8, "call", [2, 0, 0, 0, 0]),
-        (8, "ret", [0; 5]),
-    ];
-    let right: [Read; 6] = [
-        (8, "set", [13, 2, 0, 0, 0]),
-        (8, "sub", [14, 1, 0, 0, 0]),
-        (8, "div", [14, 14, 13, 0, 0]),
-        (8, "add", [0, 0, 14, 0, 0]),
-        (8, "call", [2, 0, 0, 0, 0]),
-        (8, "ret", [0; 5]),
-    ];
-    assert!(rt; code_of(rt.alloc(), DOUBLES, 1)?.as_slice() == main.as_slice());
-    assert!(rt; code_of(rt.alloc(), DOUBLES, 2)?.as_slice() == whole.as_slice());
-    assert!(rt; code_of(rt.alloc(), DOUBLES, 3)?.as_slice() == left.as_slice());
-    assert!(rt; code_of(rt.alloc(), DOUBLES, 4)?.as_slice() == right.as_slice());
-    assert!(rt; code_of(rt.alloc(), DOUBLES, 5)?.is_empty());
-    Ok(())
+fn functions_of_a_loop(rt: HostRuntime) {
+    for (function, expected) in FUNCTIONS {
+        assert!(rt;
+            is_read(rt.alloc(), DOUBLES, *function, expected),
+            "{function}"
+        );
+    }
 }

@@ -1,33 +1,49 @@
 // Lists and lists with room.
 
 use listed::{Listed, Roomy};
-use std::test::Fail;
 
-#[test]
-fn items_come_and_go(rt: HostRuntime) -> Result<(), Fail> {
-    let mut list = Listed::new(rt.alloc());
-    list.push(3)?;
-    list.push_pair(5, 7)?;
+// Adds three items and changes two, and says whether the list has them.
+fn is_filled(list: &mut Listed<i32>) -> bool {
+    let Ok(()) = list.push(3) else {
+        return false;
+    };
+    let Ok(()) = list.push_pair(5, 7) else {
+        return false;
+    };
     *list.at_mut(1) = 6;
     list.set(0, 2);
-    assert!(rt; list.as_slice() == [2, 6, 7].as_slice());
-    assert!(rt; list.pop() == Some(7));
-    assert!(rt; list.get(1).copied() == Some(6));
-    assert!(rt; list.get(2).copied() == None);
+    list.as_slice() == [2, 6, 7].as_slice()
+}
+
+// Takes the third item off and drops the second, and says whether the list gives them so.
+fn is_emptied(list: &mut Listed<i32>) -> bool {
+    let last = list.pop();
+    let left = (list.get(1).copied(), list.get(2).copied());
     list.truncate(1);
-    assert!(rt; list.len() == 1);
-    assert!(rt; !list.is_empty());
-    Ok(())
+    (last, left) == (Some(7), (Some(6), None)) && list.len() == 1 && !list.is_empty()
 }
 
 #[test]
-fn room_is_used(rt: HostRuntime) -> Result<(), Fail> {
-    let mut list = Roomy::new(rt.alloc());
-    list.reserve(2)?;
+fn items_come_and_go(rt: HostRuntime) {
+    let mut list = Listed::new(rt.alloc());
+    let (filled, emptied) = (is_filled(&mut list), is_emptied(&mut list));
+    assert!(rt; (filled, emptied) == (true, true));
+}
+
+// Adds two items in room that it makes, takes one off, and says whether the list has them and gives it.
+fn is_used(list: &mut Roomy<i32>) -> bool {
+    let Ok(()) = list.reserve(2) else {
+        return false;
+    };
     list.push_reserved(1);
     list.push_reserved(2);
-    assert!(rt; list.as_slice() == [1, 2].as_slice());
-    assert!(rt; list.pop() == Some(2));
-    assert!(rt; list.into_listed().as_slice() == [1].as_slice());
-    Ok(())
+    list.as_slice() == [1, 2].as_slice() && list.pop() == Some(2)
+}
+
+#[test]
+fn room_is_used(rt: HostRuntime) {
+    let mut list = Roomy::new(rt.alloc());
+    let used = is_used(&mut list);
+    let left = list.into_listed();
+    assert!(rt; used && left.as_slice() == [1].as_slice());
 }
