@@ -18,7 +18,7 @@ pub(crate) const SMALL: u32 = 1024;
 pub(crate) const BASE: usize = 1 << 63;
 
 /// An object to be placed: its kind and its birth name.
-#[derive(Clone, Copy, PartialEq, Eq, Debug)]
+#[derive(Clone, Copy)]
 pub struct New {
     pub header: Header,
     pub birth: Birth,

@@ -10,14 +10,14 @@ use std::alloc::{AllocError, Global};
 use std::marker::Model;
 
 /// What the pool keeps of a chunk in use: the task that owns it, and its units of 1,024 words.
-#[derive(Clone, Copy, Debug, PartialEq, Eq)]
+#[derive(Clone, Copy)]
 pub struct Held {
     pub owner: u32,
     pub units: u32,
 }
 
 /// Why no chunk was taken.
-#[derive(Clone, Copy, Debug, PartialEq, Eq)]
+#[derive(Clone, Copy)]
 pub enum NotTaken {
     /// The units in use and those asked for are more than the limit.
     Full,

@@ -10,7 +10,7 @@ use run_trace::Entry;
 use shared_tree::Left;
 
 /// How a call ended.
-#[derive(Clone, Copy, PartialEq, Eq, Debug)]
+#[derive(Clone, Copy)]
 pub enum Status {
     /// A run is done; or a program was read or made.
     Done,

@@ -22,7 +22,7 @@ const IMAGE_LIMIT: usize = 16777216;
 const PIECE: usize = 4096;
 
 /// Why an input couldn't be read.
-#[derive(Clone, Copy, PartialEq, Eq, Debug)]
+#[derive(Clone, Copy)]
 pub enum ReadError {
     /// The source failed.
     Fault,

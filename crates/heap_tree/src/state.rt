@@ -1,7 +1,7 @@
 // Where a task stands.
 
 /// Where a task stands.
-#[derive(Clone, Copy, Debug, PartialEq, Eq)]
+#[derive(Clone, Copy, PartialEq, Eq)]
 pub enum State {
     /// It may be taken by a worker.
     Ready,

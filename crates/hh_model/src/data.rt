@@ -4,21 +4,21 @@ use listed::Listed;
 
 /// Where an object was allocated: its task, and how many objects that task had allocated before. Names are ordered by task,
 /// then by count.
-#[derive(Clone, Copy, PartialEq, Eq, PartialOrd, Ord, Hash, Debug)]
+#[derive(Clone, Copy, PartialEq, Eq, PartialOrd, Ord, Hash)]
 pub struct Name {
     pub task: u32,
     pub count: u32,
 }
 
 /// A piece of a task: the task, and how many of its forks had joined when it began.
-#[derive(Clone, Copy, PartialEq, Eq)]
+#[derive(Clone, Copy)]
 pub struct Strand {
     pub task: u32,
     pub joins: u32,
 }
 
 /// An edge of the graph of forks and joins.
-#[derive(Clone, Copy, PartialEq, Eq)]
+#[derive(Clone, Copy)]
 pub struct Edge {
     pub source: Strand,
     pub target: Strand,
@@ -80,7 +80,7 @@ pub struct Task {
 }
 
 /// Why an instruction couldn't be done.
-#[derive(Clone, Copy, PartialEq, Eq, Debug)]
+#[derive(Clone, Copy, PartialEq, Eq)]
 pub enum Trap {
     /// The reference is nil.
     Nil,
@@ -97,7 +97,7 @@ pub enum Trap {
 }
 
 /// How a run ended.
-#[derive(Clone, Copy, PartialEq, Eq, Debug)]
+#[derive(Clone, Copy, PartialEq, Eq)]
 pub enum End {
     /// The root returned from its last frame.
     Done,

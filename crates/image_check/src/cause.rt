@@ -4,7 +4,7 @@ ghost use Rattle.std.specs.Prelude.{◌≡◌};
 ghost use Rattle.image_check.specs.Cause.{text_of_cause};
 
 /// Why a line is refused, in the order in which causes on one line come.
-#[derive(Clone, Copy, PartialEq, Eq, Debug)]
+#[derive(Clone, Copy, PartialEq, Eq)]
 pub enum Cause {
     /// More than 16,777,216 bytes; it is told of line 0.
     TooLong,
@@ -33,7 +33,7 @@ pub enum Cause {
 }
 
 /// The first line with a fault, counted from 1, and the first cause on it. A text of too many bytes has line 0.
-#[derive(Clone, Copy, PartialEq, Eq, Debug)]
+#[derive(Clone, Copy)]
 pub struct Fault {
     pub line: u32,
     pub cause: Cause,

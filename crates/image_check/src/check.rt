@@ -24,7 +24,7 @@ const TOO_LONG: Fault = Fault {
 };
 
 /// Why an image isn't verified.
-#[derive(Clone, Copy, PartialEq, Eq, Debug)]
+#[derive(Clone, Copy)]
 pub enum VerifyError {
     /// Its first fault.
     Refused(Fault),

@@ -4,7 +4,7 @@ ghost use Rattle.std.specs.Prelude.{◌≡◌, ◌-◌, ◌<◌, ◌≤◌, leng
 ghost use Rattle.image_check.specs.Links.{depth_at, far_at, AreLinks, IsUp, next_far, new_link};
 
 /// How the path of a task goes on to the root: by places in the order in which the tasks came.
-#[derive(Clone, Copy, PartialEq, Eq, Debug)]
+#[derive(Clone, Copy)]
 pub(crate) struct Link {
     /// How many links lead to the root.
     pub depth: usize,

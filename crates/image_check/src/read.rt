@@ -11,7 +11,7 @@ use crate::tasks::Tasks;
 use std::alloc::{AllocError, Global};
 
 /// Where a line belongs: kinds in their order, and in a kind by numbers.
-#[derive(Clone, Copy, PartialEq, Eq, Debug)]
+#[derive(Clone, Copy)]
 pub struct Position {
     pub kind: u64,
     pub first: u64,
@@ -20,7 +20,7 @@ pub struct Position {
 }
 
 /// Where an object ends in its chunk.
-#[derive(Clone, Copy, PartialEq, Eq, Debug)]
+#[derive(Clone, Copy)]
 pub struct Extent {
     pub chunk: u64,
     pub past: u64,

@@ -3,7 +3,7 @@
 use object_layout::{Addr, Birth, Chunk};
 
 /// An object that survives: its birth name, and where it lay.
-#[derive(Clone, Copy, PartialEq, Eq, PartialOrd, Ord, Debug)]
+#[derive(Clone, Copy, PartialEq, Eq, PartialOrd, Ord)]
 pub struct Survivor {
     pub birth: Birth,
     pub old: Addr,

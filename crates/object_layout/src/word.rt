@@ -5,21 +5,21 @@ ghost use Rattle.object_layout.specs.Cell.{IsPlace, IsRef};
 ghost use Rattle.object_layout.specs.Layout.{word_of_ref, ref_of_word, word_of_birth, birth_of_word, header_word, nrefs_of, nints_of, mutable_of, gone_of};
 
 /// Where an object lies: a chunk's number, and the word of that chunk at which the object begins.
-#[derive(Clone, Copy, PartialEq, Eq, PartialOrd, Ord, Hash, Debug)]
+#[derive(Clone, Copy, PartialEq, Eq, PartialOrd, Ord, Hash)]
 pub struct Addr {
     pub chunk: u32,
     pub offset: u32,
 }
 
 /// The name of an object: the task that made it, and how many that task had made before.
-#[derive(Clone, Copy, PartialEq, Eq, PartialOrd, Ord, Hash, Debug)]
+#[derive(Clone, Copy, PartialEq, Eq, PartialOrd, Ord)]
 pub struct Birth {
     pub task: u32,
     pub count: u32,
 }
 
 /// The kind of an object: how many references and numbers it has, and whether they may be written.
-#[derive(Clone, Copy, PartialEq, Eq, Debug)]
+#[derive(Clone, Copy, PartialEq, Eq)]
 pub struct Header {
     pub nrefs: u32,
     pub nints: u32,

@@ -1,7 +1,7 @@
 // The gate that workers pass.
 
 /// The places of a worker's way at which it passes the gate.
-#[derive(Clone, Copy, PartialEq, Eq, Debug)]
+#[derive(Clone, Copy)]
 pub enum Point {
     /// Before it runs instructions of its own.
     BeforeLocal,

@@ -4,7 +4,7 @@ ghost use Rattle.std.specs.Prelude.{◌≡◌};
 ghost use Rattle.program_reader.specs.Cause.{text_of_cause};
 
 /// Why a line is refused, in the order in which causes on one line come.
-#[derive(Clone, Copy, PartialEq, Eq, Debug)]
+#[derive(Clone, Copy, PartialEq, Eq)]
 pub enum Cause {
     /// More bytes came than the limit. The caller, who knows the limit, answers this at line 0.
     TooLong,
@@ -29,7 +29,7 @@ pub enum Cause {
 }
 
 /// The first line with a fault, counted from 1, and the first cause on it.
-#[derive(Clone, Copy, PartialEq, Eq, Debug)]
+#[derive(Clone, Copy)]
 pub struct Refused {
     pub line: u32,
     pub cause: Cause,

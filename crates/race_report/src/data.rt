@@ -5,7 +5,7 @@ use hh_model::{Name, Strand};
 use listed::Listed;
 
 /// A field of an object. Fields are ordered by name, then references before numbers, then by index.
-#[derive(Clone, Copy, PartialEq, Eq, PartialOrd, Ord, Debug)]
+#[derive(Clone, Copy)]
 pub struct Field {
     pub name: Name,
     /// Whether it is a number field; else it is a reference field.
@@ -15,7 +15,7 @@ pub struct Field {
 }
 
 /// What a step does to a field.
-#[derive(Clone, Copy, PartialEq, Eq)]
+#[derive(Clone, Copy)]
 pub struct Access {
     /// The strand that takes the step; its task is the step's.
     pub strand: Strand,
@@ -29,7 +29,7 @@ pub struct Access {
 }
 
 /// Two accesses of a field that race: for each its task and line.
-#[derive(Clone, Copy, PartialEq, Eq, Debug)]
+#[derive(Clone, Copy)]
 pub struct Race {
     /// The task and the count of the object's name.
     pub task: u32,

@@ -14,7 +14,7 @@ use std::sync::ledger::{Blank, Ledger};
 
 /// A read of an object that a concurrent task may have made: the reader, and the task that owns the
 /// object's chunk now.
-#[derive(Clone, Copy, Debug, PartialEq, Eq)]
+#[derive(Clone, Copy, PartialEq, Eq)]
 pub struct Stop {
     pub reader: u32,
     pub owner: u32,

@@ -13,7 +13,7 @@ use std::collections::HashSet;
 use std::marker::Model;
 
 /// A reference field of an object: where the object lies, and which of its references it is.
-#[derive(Clone, Copy, PartialEq, Eq, Hash, Debug)]
+#[derive(Clone, Copy, PartialEq, Eq, Hash)]
 pub struct Source {
     pub object: Addr,
     pub field: u32,

@@ -13,7 +13,7 @@ use run_ledger::Refused;
 use run_trace::{Entry, Kind};
 
 /// Why an entry wasn't entered.
-#[derive(Clone, Copy, PartialEq, Eq, Debug)]
+#[derive(Clone, Copy, PartialEq, Eq)]
 pub enum ApplyError {
     /// It is refused for this cause, the first in their order.
     Refused(Refused),

@@ -12,7 +12,7 @@ use ledger_heaps::words_in;
 use run_ledger::Heap;
 
 /// What is held in the heaps of tasks that don't run.
-#[derive(Clone, Copy, PartialEq, Eq, Debug)]
+#[derive(Clone, Copy)]
 pub struct Kept {
     /// How many objects.
     pub objects: u64,

@@ -12,7 +12,7 @@ use run_trace::{Entry, Settings};
 use std::alloc::Global;
 
 /// Why a journal isn't that of a whole run.
-#[derive(Clone, Copy, PartialEq, Eq, Debug)]
+#[derive(Clone, Copy)]
 pub enum ReplayError {
     /// This entry is the first that is refused; or none is, and the journal stops before an end of the run: then the number
     /// is one past its last entry, and the cause `Short`.

@@ -4,7 +4,7 @@ use hh_model::{End, Name, State, Strand};
 use listed::Listed;
 
 /// How a run ended.
-#[derive(Clone, Copy, PartialEq, Eq, Debug)]
+#[derive(Clone, Copy, PartialEq, Eq)]
 pub enum RunEnd {
     /// The machine ended.
     Machine(End),
@@ -15,7 +15,7 @@ pub enum RunEnd {
 }
 
 /// Why an entry is refused.
-#[derive(Clone, Copy, PartialEq, Eq, Debug)]
+#[derive(Clone, Copy, PartialEq, Eq)]
 pub enum Refused {
     /// The run has ended.
     Over,
@@ -69,7 +69,7 @@ pub enum Refused {
 }
 
 /// The first entry of a journal that is refused: its number, counted from 1, and why.
-#[derive(Clone, Copy, PartialEq, Eq, Debug)]
+#[derive(Clone, Copy)]
 pub struct RefusedAt {
     pub index: u64,
     pub cause: Refused,
@@ -117,7 +117,7 @@ pub struct Ledger {
 }
 
 /// What a run came to, in counts.
-#[derive(Clone, Copy, PartialEq, Eq, Debug)]
+#[derive(Clone, Copy)]
 pub struct Report {
     /// The tasks made, the first one too.
     pub tasks: u64,
@@ -145,7 +145,7 @@ pub struct Report {
 }
 
 /// A worker's previous entry, as far as the pace of inner collections asks.
-#[derive(Clone, Copy, PartialEq, Eq)]
+#[derive(Clone, Copy)]
 pub enum Previous {
     /// None, or no steps.
     Other,
@@ -165,7 +165,7 @@ pub struct WorkerPace {
 }
 
 /// What the pace of inner collections demands of a worker's next entry.
-#[derive(Clone, Copy, PartialEq, Eq, Debug)]
+#[derive(Clone, Copy)]
 pub enum Owed {
     /// The marking of this task's heap is to begin.
     Mark(u32),

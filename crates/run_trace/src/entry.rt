@@ -6,7 +6,7 @@ ghost use Rattle.run_trace.specs.Entry.{IsKind};
 use std::marker::Model;
 
 /// What an entry says. Tasks are named by their numbers.
-#[derive(Clone, Copy, PartialEq, Eq, Debug)]
+#[derive(Clone, Copy, PartialEq, Eq)]
 pub enum Kind {
     /// The worker takes the task, which is ready.
     Took(u32),
@@ -31,7 +31,7 @@ pub enum Kind {
 }
 
 /// One atomic step of a run, and the worker that made it: 0 to 63.
-#[derive(Clone, Copy, PartialEq, Eq, Debug)]
+#[derive(Clone, Copy, PartialEq, Eq)]
 pub struct Entry {
     worker: u32,
     kind: Kind,

@@ -7,7 +7,7 @@ use std::marker::Model;
 
 /// The version of a run's trace: under the first one an object has at most 1,022 fields, and `freeze`, `cas` and parallel
 /// loops aren't there.
-#[derive(Clone, Copy, PartialEq, Eq, Debug)]
+#[derive(Clone, Copy, PartialEq, Eq)]
 pub enum Version {
     One,
     Two,
@@ -37,7 +37,7 @@ impl Version {
 
 /// The limits of a run: 1 to 64 workers; fuel in steps, 1 to 1,000,000,000; the most chunks in use, 2 to 65,536; the words
 /// that make a leaf heap due for a collection and those that let a waiting heap be marked, both 16 to 1,000,000.
-#[derive(Clone, Copy, PartialEq, Eq, Debug)]
+#[derive(Clone, Copy, PartialEq, Eq)]
 pub struct Settings {
     version: Version,
     workers: u32,

@@ -21,7 +21,7 @@ pub struct Trace {
 }
 
 /// Why a text couldn't be read.
-#[derive(Clone, Copy, PartialEq, Eq, Debug)]
+#[derive(Clone, Copy)]
 pub enum TraceError {
     /// The line of this number isn't of the form; it is the first such line.
     BadLine(u32),

@@ -3,7 +3,7 @@
 use run_ledger::Refused;
 
 /// Why a call made no entry.
-#[derive(Clone, Copy, PartialEq, Eq, Debug)]
+#[derive(Clone, Copy)]
 pub enum NotEntered {
     /// The entry is refused.
     Refuses(Refused),

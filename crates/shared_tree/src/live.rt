@@ -12,7 +12,7 @@ use listed::Listed;
 use std::alloc::{AllocError, Global};
 
 /// A task that hasn't joined.
-#[derive(Clone, Copy, Debug, PartialEq, Eq)]
+#[derive(Clone, Copy)]
 pub struct Live {
     pub number: u32,
     pub parent: Option<u32>,
@@ -20,7 +20,7 @@ pub struct Live {
 }
 
 /// A chunk in use: its number, its owner and its words.
-#[derive(Clone, Copy, Debug, PartialEq, Eq)]
+#[derive(Clone, Copy)]
 pub struct InUse {
     pub number: u32,
     pub owner: u32,

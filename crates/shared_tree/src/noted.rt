@@ -12,7 +12,7 @@ use std::alloc::{AllocError, Global};
 
 /// A reference field of the object at an address, which is told as a number. Fields are ordered by the object, then by the
 /// field.
-#[derive(Clone, Copy, Debug, PartialEq, Eq, PartialOrd, Ord)]
+#[derive(Clone, Copy, PartialEq, Eq, PartialOrd, Ord)]
 pub struct Field {
     pub object: u64,
     pub field: u32,

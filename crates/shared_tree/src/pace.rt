@@ -14,14 +14,14 @@ use run_ledger::Owed;
 use std::alloc::{AllocError, Global};
 
 /// A fork: the task that forked, and a child of it, the left one where its number is known.
-#[derive(Clone, Copy, PartialEq, Eq, Debug)]
+#[derive(Clone, Copy)]
 pub struct Fork {
     pub task: u32,
     pub left: u32,
 }
 
 /// A worker's previous entry, as far as the pace asks.
-#[derive(Clone, Copy, PartialEq, Eq, Debug)]
+#[derive(Clone, Copy)]
 pub enum Previous {
     /// None, or no steps.
     Other,

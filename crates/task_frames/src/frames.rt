@@ -20,7 +20,7 @@ pub struct Frame {
 }
 
 /// Why no frame was pushed.
-#[derive(Clone, Copy, Debug, PartialEq, Eq)]
+#[derive(Clone, Copy, PartialEq, Eq)]
 pub enum NotPushed {
     /// There are 1,000 frames.
     Deep,

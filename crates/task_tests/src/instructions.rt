@@ -92,10 +92,7 @@ fn run_every(alloc: Global) -> Option<Outcome> {
 #[test]
 fn every_instruction(rt: HostRuntime) {
     let outcome = run_every(rt.alloc());
-    assert!(rt;
-        outcome == Some((Some((Paused::Shared, 27, 24)), 2, 4 + 5, None)),
-        "{outcome:?}"
-    );
+    assert!(rt; outcome == Some((Some((Paused::Shared, 27, 24)), 2, 4 + 5, None)));
 }
 
 // A program that pauses at a shared step, and after how many private ones.

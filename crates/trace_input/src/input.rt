@@ -21,7 +21,7 @@ pub struct TraceInput {
 }
 
 /// The first fault of an input; those of the program come before those of the trace.
-#[derive(Clone, Copy, PartialEq, Eq, Debug)]
+#[derive(Clone, Copy)]
 pub enum InputFault {
     /// The program is refused.
     Source(Refused),
@@ -30,7 +30,7 @@ pub enum InputFault {
 }
 
 /// Why an input couldn't be read.
-#[derive(Clone, Copy, PartialEq, Eq, Debug)]
+#[derive(Clone, Copy)]
 pub enum InputError {
     /// Its first fault.
     Fault(InputFault),

@@ -4,7 +4,7 @@ use run_ledger::RunEnd;
 use shared_tree::Shared;
 
 /// How a run finished.
-#[derive(Clone, Copy, PartialEq, Eq, Debug)]
+#[derive(Clone, Copy)]
 pub enum Finish {
     /// Its journal ends so.
     Ended(RunEnd),

@@ -19,7 +19,7 @@ use std::alloc::{AllocError, Global};
 use std::marker::Model;
 
 /// Why an entry wasn't applied. The world has stopped then.
-#[derive(Clone, Copy, PartialEq, Eq, Debug)]
+#[derive(Clone, Copy)]
 pub enum NotApplied {
     /// The world had stopped: an earlier entry was refused, or found no memory.
     Stopped,
