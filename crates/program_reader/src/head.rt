@@ -1,10 +1,10 @@
 // What the first word of a line says.
 
 ghost use Rattle.std.specs.Prelude.{◌≡◌};
-ghost use Rattle.std.specs.Str.{bytes_eq};
 ghost use Rattle.program_reader.specs.Head.{number_verb, object_verb, flow_verb, verb_of, or_order, head_of_word};
 
 use hh_lang::Operator;
+use text_lines::word_is;
 
 /// The word that an instruction begins with.
 #[derive(Clone, Copy)]
@@ -50,33 +50,27 @@ pub(crate) enum Head {
     Unknown,
 }
 
-fn is_word(word: &[u8], text: &[u8]) -> bool
-    ensures { result ≡ bytes_eq word.now text.now }
-{
-    word == text
-}
-
 // An instruction on numbers.
 fn number_verb_of(word: &[u8]) -> Option<Verb>
     ensures { result ≡ number_verb word.now }
 {
-    if is_word(word, b"set") {
+    if word_is(word, b"set") {
         Some(Verb::Set)
-    } else if is_word(word, b"mov") {
+    } else if word_is(word, b"mov") {
         Some(Verb::Mov)
-    } else if is_word(word, b"add") {
+    } else if word_is(word, b"add") {
         Some(Verb::Calc(Operator::Add))
-    } else if is_word(word, b"sub") {
+    } else if word_is(word, b"sub") {
         Some(Verb::Calc(Operator::Sub))
-    } else if is_word(word, b"mul") {
+    } else if word_is(word, b"mul") {
         Some(Verb::Calc(Operator::Mul))
-    } else if is_word(word, b"div") {
+    } else if word_is(word, b"div") {
         Some(Verb::Calc(Operator::Div))
-    } else if is_word(word, b"rem") {
+    } else if word_is(word, b"rem") {
         Some(Verb::Calc(Operator::Rem))
-    } else if is_word(word, b"lt") {
+    } else if word_is(word, b"lt") {
         Some(Verb::Calc(Operator::Lt))
-    } else if is_word(word, b"eq") {
+    } else if word_is(word, b"eq") {
         Some(Verb::Calc(Operator::Eq))
     } else {
         None
@@ -87,31 +81,31 @@ fn number_verb_of(word: &[u8]) -> Option<Verb>
 fn object_verb_of(word: &[u8]) -> Option<Verb>
     ensures { result ≡ object_verb word.now }
 {
-    if is_word(word, b"movr") {
+    if word_is(word, b"movr") {
         Some(Verb::Movr)
-    } else if is_word(word, b"nil") {
+    } else if word_is(word, b"nil") {
         Some(Verb::Nil)
-    } else if is_word(word, b"same") {
+    } else if word_is(word, b"same") {
         Some(Verb::Same)
-    } else if is_word(word, b"newm") {
+    } else if word_is(word, b"newm") {
         Some(Verb::Newm)
-    } else if is_word(word, b"pack") {
+    } else if word_is(word, b"pack") {
         Some(Verb::Pack)
-    } else if is_word(word, b"getr") {
+    } else if word_is(word, b"getr") {
         Some(Verb::Getr)
-    } else if is_word(word, b"geti") {
+    } else if word_is(word, b"geti") {
         Some(Verb::Geti)
-    } else if is_word(word, b"putr") {
+    } else if word_is(word, b"putr") {
         Some(Verb::Putr)
-    } else if is_word(word, b"puti") {
+    } else if word_is(word, b"puti") {
         Some(Verb::Puti)
-    } else if is_word(word, b"cntr") {
+    } else if word_is(word, b"cntr") {
         Some(Verb::Cntr)
-    } else if is_word(word, b"cnti") {
+    } else if word_is(word, b"cnti") {
         Some(Verb::Cnti)
-    } else if is_word(word, b"freeze") {
+    } else if word_is(word, b"freeze") {
         Some(Verb::Freeze)
-    } else if is_word(word, b"cas") {
+    } else if word_is(word, b"cas") {
         Some(Verb::Cas)
     } else {
         None
@@ -122,19 +116,19 @@ fn object_verb_of(word: &[u8]) -> Option<Verb>
 fn flow_verb_of(word: &[u8]) -> Option<Verb>
     ensures { result ≡ flow_verb word.now }
 {
-    if is_word(word, b"jmp") {
+    if word_is(word, b"jmp") {
         Some(Verb::Jmp)
-    } else if is_word(word, b"jz") {
+    } else if word_is(word, b"jz") {
         Some(Verb::Jz)
-    } else if is_word(word, b"call") {
+    } else if word_is(word, b"call") {
         Some(Verb::Call)
-    } else if is_word(word, b"par") {
+    } else if word_is(word, b"par") {
         Some(Verb::Par)
-    } else if is_word(word, b"pfor") {
+    } else if word_is(word, b"pfor") {
         Some(Verb::Pfor)
-    } else if is_word(word, b"ret") {
+    } else if word_is(word, b"ret") {
         Some(Verb::Ret)
-    } else if is_word(word, b"out") {
+    } else if word_is(word, b"out") {
         Some(Verb::Out)
     } else {
         None
@@ -157,11 +151,11 @@ fn verb_of_word(word: &[u8]) -> Option<Verb>
 pub(crate) fn head_of(word: &[u8]) -> Head
     ensures { result ≡ head_of_word word.now }
 {
-    if is_word(word, b"fn") {
+    if word_is(word, b"fn") {
         Head::Begin
-    } else if is_word(word, b"end") {
+    } else if word_is(word, b"end") {
         Head::End
-    } else if is_word(word, b"lab") {
+    } else if word_is(word, b"lab") {
         Head::Label
     } else {
         match verb_of_word(word) {

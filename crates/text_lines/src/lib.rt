@@ -6,4 +6,4 @@ mod lines;
 mod words;
 
 pub use lines::{line_end, next_line};
-pub use words::{behind, next_word};
+pub use words::{behind, next_word, word_is};

@@ -2,6 +2,7 @@
 
 ghost use Rattle.std.specs.Prelude.{◌≡◌, ◌≤◌, ◌<◌, [], ◌∷◌, length, take, drop, MatchOption, IfSome, ◌+◌};
 ghost use Rattle.std.specs.List.{position_or_len};
+ghost use Rattle.std.specs.Str.{bytes_eq};
 ghost use Rattle.text_lines.specs.Lines.{is_blank, runs_of, words_of};
 
 fn is_blank_byte(byte: u8) -> bool
@@ -65,4 +66,11 @@ pub fn next_word(line: &[u8]) -> Option<(&[u8], &[u8])>
         return None;
     }
     Some((word, rest))
+}
+
+/// Whether a word is this text.
+pub fn word_is(word: &[u8], text: &[u8]) -> bool
+    ensures { result ≡ bytes_eq word.now text.now }
+{
+    word == text
 }
