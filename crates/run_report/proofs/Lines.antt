@@ -64,8 +64,3 @@ at_entry index Stopped ne = refl
 pub refused_is : (r : RefusedAt) (text : List ℕ) → (r.cause ≡ Short → ⊥) → text ≡ join_with_byte 32 (cause_words r.cause)
     → codes "end: trace refused entry " ++ (decimal r.index ++ 32 ∷ (text ++ 10 ∷ [])) ≡ refused_line r
 refused_is r text ne e = rw (at_entry r.index r.cause ne, before_cause (decimal r.index) r.cause, e) (simp append_assoc)
-
--- five texts that are these lines
-pub five_lines : (a b c d e a' b' c' d' e' : List ℕ) → a ≡ a' → b ≡ b' → c ≡ c' → d ≡ d' → e ≡ e'
-    → a ++ (b ++ (c ++ (d ++ e))) ≡ a' ++ b' ++ c' ++ d' ++ e'
-five_lines a b c d e a' b' c' d' e' p q r s t = rw (p, q, r, s, t) (simp append_assoc)

@@ -1,6 +1,7 @@
 // A journal replayed, with the totals of its entries.
 
 ghost use Rattle.std.specs.Prelude.{◌≡◌, Option, None, false, IfOk, OnOk, IfErr};
+ghost use Rattle.run_trace.specs.Settings.{AreLimits};
 ghost use Rattle.run_ledger.specs.Entries.{refusal, after};
 ghost use Rattle.run_ledger.specs.Journals.{opening, ledger_of, first_refused};
 ghost use Rattle.run_journal.specs.Book.{FailsFor};
@@ -53,6 +54,33 @@ fn enter(book: &mut Book, totals: Totals, entry: Entry) -> Result<Totals, ApplyE
     }
 }
 
+// Enters the entries of a journal into the accounts of a run before its first entry, and adds up what they count.
+fn enter_all(book: &mut Book, journal: &[Entry]) -> Result<Totals, ReplayError>
+    requires limits { AreLimits book.old.limits }
+    requires first { book.old.ledger ≡ opening book.old.program book.old.limits }
+    requires open { book.old.stopped ≡ false }
+    ensures book { OnOk result (book.new ≡ record book.old { ledger = ledger_of book.old.program book.old.limits journal.now }) }
+    ensures totals { IfOk result (λ t. t ≡ totals_from book.old.program book.old.limits (opening book.old.program book.old.limits) journal.now) }
+    ensures legal { OnOk result (first_refused book.old.program book.old.limits journal.now ≡ None) }
+    ensures fails { IfErr result (ReplayFails (first_refused book.old.program book.old.limits journal.now)) }
+{
+    let mut totals = Totals::none();
+    let mut index = 1;
+    for entry in journal {
+        match enter(book, totals, *entry) {
+            Ok(sums) => {
+                totals = sums;
+                index += 1;
+            }
+            Err(ApplyError::Refused(cause)) => {
+                return Err(ReplayError::RefusedAt(RefusedAt { index, cause }));
+            }
+            Err(ApplyError::NoMemory) => return Err(ReplayError::NoMemory),
+        }
+    }
+    Ok(totals)
+}
+
 /// The accounts of a legal journal, and the totals of its entries.
 pub(crate) fn count<'p>(
     alloc: Global,
@@ -69,21 +97,10 @@ pub(crate) fn count<'p>(
         return Err(ReplayError::NoMemory);
     };
     let _workers = settings.workers();
-    let mut totals = Totals::none();
-    let mut index = 1;
-    for entry in journal {
-        match enter(&mut book, totals, *entry) {
-            Ok(sums) => {
-                totals = sums;
-                index += 1;
-            }
-            Err(ApplyError::Refused(cause)) => {
-                return Err(ReplayError::RefusedAt(RefusedAt { index, cause }));
-            }
-            Err(ApplyError::NoMemory) => return Err(ReplayError::NoMemory),
-        }
+    match enter_all(&mut book, journal) {
+        Ok(totals) => Ok(Counted { book, totals }),
+        Err(error) => Err(error),
     }
-    Ok(Counted { book, totals })
 }
 
 /// The report of accounts, of so many entries with these totals.

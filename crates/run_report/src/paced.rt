@@ -3,7 +3,7 @@
 ghost use Rattle.std.specs.Prelude.{◌≡◌, ◌||◌, Option, None, false, IfOk, OnOk};
 ghost use Rattle.run_ledger.specs.Entries.{is_fuel};
 ghost use Rattle.run_ledger.specs.Journals.{first_refused};
-ghost use Rattle.run_ledger.specs.Pace.{idle, pace_opening, pace_of, pace_after, is_mark_of, is_more_of, is_sweep_of, gives, owed, is_paced};
+ghost use Rattle.run_ledger.specs.Pace.{idle, pace_opening, pace_of, pace_after, is_mark_of, is_more_of, is_sweep_of, gives, owed, is_paced_from, is_paced};
 
 use hh_lang::Program;
 use listed::Listed;
@@ -104,6 +104,27 @@ fn is_given(book: &Book, paces: &Listed<WorkerPace>, entry: Entry) -> bool
     is_fuel(entry.kind()) || gives(owed(book, paces, entry.worker()), entry.kind())
 }
 
+// Whether each entry gives what its worker owes. They are entered up to the first that doesn't.
+fn are_given(
+    book: &mut Book,
+    paces: &mut Listed<WorkerPace>,
+    journal: &[Entry],
+) -> Result<bool, AllocError>
+    requires { book.old.stopped ≡ false }
+    ensures { IfOk result (λ given. given ≡ is_paced_from book.old.program book.old.limits book.old.ledger paces.old journal.now) }
+{
+    for entry in journal {
+        if !is_given(book, paces, *entry) {
+            return Ok(false);
+        }
+        if book.apply(*entry).is_err() {
+            return Err(AllocError);
+        }
+        note(book, paces, *entry)?;
+    }
+    Ok(true)
+}
+
 /// Whether each entry of a journal gives what its worker owes to the pace of inner collections.
 pub fn is_paced(
     alloc: Global,
@@ -116,14 +137,5 @@ pub fn is_paced(
 {
     let mut book = Book::open(alloc, program, settings)?;
     let mut paces = opening(alloc, settings)?;
-    for entry in journal {
-        if !is_given(&book, &paces, *entry) {
-            return Ok(false);
-        }
-        if book.apply(*entry).is_err() {
-            return Err(AllocError);
-        }
-        note(&book, &mut paces, *entry)?;
-    }
-    Ok(true)
+    are_given(&mut book, &mut paces, journal)
 }

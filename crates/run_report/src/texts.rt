@@ -1,27 +1,28 @@
 // The lines that are written of a run, and its exit status.
 
-ghost use Rattle.std.specs.Prelude.{◌≡◌, ◌∷◌, ◌++◌, [], IfOk, OnOk, codes};
+ghost use Rattle.std.specs.Prelude.{◌≡◌, ◌≢◌, ◌∷◌, ◌++◌, [], IfOk, OnOk, codes};
 ghost use Rattle.std.specs.String.{string_bytes};
 ghost use Rattle.std.specs.List.{join_with_byte};
 ghost use Rattle.run_ledger.specs.Text.{trap_word, machine_end_words, end_words, end_line, machine_status, cause_words, refused_words, refused_line, report_lines, line, output_lines};
 ghost use Rattle.std.specs.Fmt.{decimal, signed_decimal};
 ghost use Rattle.run_ledger.specs.Text.{end_status as status_of};
+ghost use Rattle.run_report.specs.Words.{number_words};
 
 use hh_model::{End, Trap};
 use run_ledger::{Refused, RefusedAt, Report, RunEnd};
 use std::alloc::{AllocError, Global};
 
 // The word for why an instruction couldn't be done.
-fn trap_name(alloc: Global, trap: Trap) -> Result<String, AllocError>
-    ensures { IfOk result (λ text. string_bytes text ≡ trap_word trap) }
+fn trap_name(trap: Trap) -> &'static str
+    ensures { result.now ≡ trap_word trap }
 {
     match trap {
-        Trap::Nil => format!(in alloc; "nil"),
-        Trap::Range => format!(in alloc; "range"),
-        Trap::Frozen => format!(in alloc; "frozen"),
-        Trap::Div => format!(in alloc; "div"),
-        Trap::Size => format!(in alloc; "size"),
-        Trap::Depth => format!(in alloc; "depth"),
+        Trap::Nil => "nil",
+        Trap::Range => "range",
+        Trap::Frozen => "frozen",
+        Trap::Div => "div",
+        Trap::Size => "size",
+        Trap::Depth => "depth",
     }
 }
 
@@ -32,7 +33,7 @@ fn machine_end_text(alloc: Global, end: End) -> Result<String, AllocError>
     match end {
         End::Done => format!(in alloc; "done"),
         End::Trapped(trap, task, line) => {
-            let name = trap_name(alloc, trap)?;
+            let name = trap_name(trap);
             format!(in alloc; "trap {name} task {task} line {line}")
         }
         End::Entangled(reader, owner) => {
@@ -76,94 +77,130 @@ pub fn end_status(end: RunEnd) -> u8
     }
 }
 
+// The numbers of a cause.
+#[derive(Clone, Copy)]
+enum Numbers {
+    None,
+    One(u64),
+    Two(u64, u64),
+}
+
+// The word of a cause, and its numbers.
+fn cause_parts(cause: Refused) -> (&'static str, Numbers)
+    ensures { cause_words cause ≡ result.0.now ∷ number_words result.1 }
+{
+    match cause {
+        Refused::Over => ("over", Numbers::None),
+        Refused::Spent(steps) => ("spent", Numbers::One(steps)),
+        Refused::NoWorker => ("noworker", Numbers::None),
+        Refused::NotReady => ("notready", Numbers::None),
+        Refused::Holding(task) => ("holding", Numbers::One(task as u64)),
+        Refused::NotOut => ("notout", Numbers::None),
+        Refused::Collecting => ("collecting", Numbers::None),
+        Refused::NotCollecting => ("notcollecting", Numbers::None),
+        Refused::NotWaiting => ("notwaiting", Numbers::None),
+        Refused::Swept => ("swept", Numbers::None),
+        Refused::Marking => ("marking", Numbers::None),
+        Refused::NotMarking => ("notmarking", Numbers::None),
+        Refused::Long(steps) => ("long", Numbers::One(steps as u64)),
+        Refused::Due(since) => ("due", Numbers::One(since)),
+        Refused::NotNeeded(room) => ("notneeded", Numbers::One(room as u64)),
+        Refused::NotDue(words) => ("notdue", Numbers::One(words)),
+        Refused::PoolShort(chunks) => ("poolshort", Numbers::One(chunks as u64)),
+        Refused::PoolEnough(chunks) => ("poolenough", Numbers::One(chunks as u64)),
+        Refused::Marked => ("marked", Numbers::None),
+        Refused::Left(marked) => ("left", Numbers::One(marked as u64)),
+        Refused::Count(said, is) => ("count", Numbers::Two(said as u64, is as u64)),
+        Refused::NotSpent(steps) => ("notspent", Numbers::One(steps)),
+        Refused::Short => ("short", Numbers::None),
+        Refused::Stopped => ("stopped", Numbers::None),
+    }
+}
+
 // A cause and its numbers, with a space between each two.
 fn cause_text(alloc: Global, cause: Refused) -> Result<String, AllocError>
     ensures { IfOk result (λ text. string_bytes text ≡ join_with_byte 32 (cause_words cause)) }
 {
-    match cause {
-        Refused::Over => format!(in alloc; "over"),
-        Refused::Spent(steps) => format!(in alloc; "spent {steps}"),
-        Refused::NoWorker => format!(in alloc; "noworker"),
-        Refused::NotReady => format!(in alloc; "notready"),
-        Refused::Holding(task) => format!(in alloc; "holding {task}"),
-        Refused::NotOut => format!(in alloc; "notout"),
-        Refused::Collecting => format!(in alloc; "collecting"),
-        Refused::NotCollecting => format!(in alloc; "notcollecting"),
-        Refused::NotWaiting => format!(in alloc; "notwaiting"),
-        Refused::Swept => format!(in alloc; "swept"),
-        Refused::Marking => format!(in alloc; "marking"),
-        Refused::NotMarking => format!(in alloc; "notmarking"),
-        Refused::Long(steps) => format!(in alloc; "long {steps}"),
-        Refused::Due(since) => format!(in alloc; "due {since}"),
-        Refused::NotNeeded(room) => format!(in alloc; "notneeded {room}"),
-        Refused::NotDue(words) => format!(in alloc; "notdue {words}"),
-        Refused::PoolShort(chunks) => format!(in alloc; "poolshort {chunks}"),
-        Refused::PoolEnough(chunks) => format!(in alloc; "poolenough {chunks}"),
-        Refused::Marked => format!(in alloc; "marked"),
-        Refused::Left(marked) => format!(in alloc; "left {marked}"),
-        Refused::Count(said, is) => format!(in alloc; "count {said} {is}"),
-        Refused::NotSpent(steps) => format!(in alloc; "notspent {steps}"),
-        Refused::Short => format!(in alloc; "short"),
-        Refused::Stopped => format!(in alloc; "stopped"),
+    let (word, numbers) = cause_parts(cause);
+    match numbers {
+        Numbers::None => format!(in alloc; "{word}"),
+        Numbers::One(number) => format!(in alloc; "{word} {number}"),
+        Numbers::Two(said, is) => format!(in alloc; "{word} {said} {is}"),
     }
+}
+
+// The end line where this entry is refused.
+fn entry_text(alloc: Global, refused: RefusedAt) -> Result<String, AllocError>
+    requires { refused.cause ≢ Refused.Short }
+    ensures { IfOk result (λ text. string_bytes text ≡ refused_line refused) }
+{
+    let cause = cause_text(alloc, refused.cause)?;
+    format!(in alloc; "end: trace refused entry {} {cause}\n", refused.index)
 }
 
 /// The end line where an entry is refused, with its line feed.
 pub fn refused_text(alloc: Global, refused: RefusedAt) -> Result<String, AllocError>
     ensures { IfOk result (λ text. string_bytes text ≡ refused_line refused) }
 {
-    let cause = cause_text(alloc, refused.cause)?;
     match refused.cause {
         Refused::Short => format!(in alloc; "end: trace refused short\n"),
-        _ => format!(in alloc; "end: trace refused entry {} {cause}\n", refused.index),
+        _ => entry_text(alloc, refused),
     }
 }
 
-// The report's line on the run's length.
-fn length_line(alloc: Global, tasks: u64, steps: u64, turns: u64) -> Result<String, AllocError>
-    ensures { IfOk result (λ text. string_bytes text ≡ line (codes "report tasks" ∷ decimal tasks ∷ codes "steps" ∷ decimal steps ∷ codes "turns" ∷ decimal turns ∷ [])) }
+// Adds the report's line on the run's length to a text.
+fn add_length(text: &mut String, tasks: u64, steps: u64, turns: u64) -> Result<(), AllocError>
+    ensures { OnOk result (string_bytes text.new ≡ string_bytes text.old ++ line (codes "report tasks" ∷ decimal tasks ∷ codes "steps" ∷ decimal steps ∷ codes "turns" ∷ decimal turns ∷ [])) }
 {
-    format!(in alloc; "report tasks {tasks} steps {steps} turns {turns}\n")
+    write!(text, "report tasks {tasks} steps {steps} turns {turns}\n")
 }
 
-// The report's line on leaf collections.
-fn leaf_line(alloc: Global, leaf: u64, putoff: u64, freed: u64) -> Result<String, AllocError>
-    ensures { IfOk result (λ text. string_bytes text ≡ line (codes "report leaf" ∷ decimal leaf ∷ codes "putoff" ∷ decimal putoff ∷ codes "freed" ∷ decimal freed ∷ [])) }
+// Adds the report's line on leaf collections.
+fn add_leaf(text: &mut String, leaf: u64, putoff: u64, freed: u64) -> Result<(), AllocError>
+    ensures { OnOk result (string_bytes text.new ≡ string_bytes text.old ++ line (codes "report leaf" ∷ decimal leaf ∷ codes "putoff" ∷ decimal putoff ∷ codes "freed" ∷ decimal freed ∷ [])) }
 {
-    format!(in alloc; "report leaf {leaf} putoff {putoff} freed {freed}\n")
+    write!(text, "report leaf {leaf} putoff {putoff} freed {freed}\n")
 }
 
-// The report's line on sweeps.
-fn inner_line(alloc: Global, inner: u64, freed: u64) -> Result<String, AllocError>
-    ensures { IfOk result (λ text. string_bytes text ≡ line (codes "report inner" ∷ decimal inner ∷ codes "freed" ∷ decimal freed ∷ [])) }
+// Adds the report's line on sweeps.
+fn add_inner(text: &mut String, inner: u64, freed: u64) -> Result<(), AllocError>
+    ensures { OnOk result (string_bytes text.new ≡ string_bytes text.old ++ line (codes "report inner" ∷ decimal inner ∷ codes "freed" ∷ decimal freed ∷ [])) }
 {
-    format!(in alloc; "report inner {inner} freed {freed}\n")
+    write!(text, "report inner {inner} freed {freed}\n")
 }
 
-// The report's line on chunks.
-fn chunks_line(alloc: Global, chunks: u64, peak: u64) -> Result<String, AllocError>
-    ensures { IfOk result (λ text. string_bytes text ≡ line (codes "report chunks" ∷ decimal chunks ∷ codes "peak" ∷ decimal peak ∷ [])) }
+// Adds the report's line on chunks.
+fn add_chunks(text: &mut String, chunks: u64, peak: u64) -> Result<(), AllocError>
+    ensures { OnOk result (string_bytes text.new ≡ string_bytes text.old ++ line (codes "report chunks" ∷ decimal chunks ∷ codes "peak" ∷ decimal peak ∷ [])) }
 {
-    format!(in alloc; "report chunks {chunks} peak {peak}\n")
+    write!(text, "report chunks {chunks} peak {peak}\n")
 }
 
-// The report's line on what is held at the end.
-fn held_line(alloc: Global, held: u64, words: u64) -> Result<String, AllocError>
-    ensures { IfOk result (λ text. string_bytes text ≡ line (codes "report held" ∷ decimal held ∷ codes "words" ∷ decimal words ∷ [])) }
+// Adds the report's line on what is held at the end.
+fn add_held(text: &mut String, held: u64, words: u64) -> Result<(), AllocError>
+    ensures { OnOk result (string_bytes text.new ≡ string_bytes text.old ++ line (codes "report held" ∷ decimal held ∷ codes "words" ∷ decimal words ∷ [])) }
 {
-    format!(in alloc; "report held {held} words {words}\n")
+    write!(text, "report held {held} words {words}\n")
+}
+
+// Adds the lines of the report to a text.
+fn add_report(text: &mut String, report: Report) -> Result<(), AllocError>
+    ensures { OnOk result (string_bytes text.new ≡ string_bytes text.old ++ report_lines report) }
+{
+    add_length(text, report.tasks, report.steps, report.turns)?;
+    add_leaf(text, report.leaf, report.putoff, report.leaf_freed)?;
+    add_inner(text, report.inner, report.inner_freed)?;
+    add_chunks(text, report.chunks, report.peak)?;
+    add_held(text, report.held, report.words)
 }
 
 /// The lines of the report.
 pub fn report_text(alloc: Global, report: Report) -> Result<String, AllocError>
     ensures { IfOk result (λ text. string_bytes text ≡ report_lines report) }
 {
-    let length = length_line(alloc, report.tasks, report.steps, report.turns)?;
-    let leaf = leaf_line(alloc, report.leaf, report.putoff, report.leaf_freed)?;
-    let inner = inner_line(alloc, report.inner, report.inner_freed)?;
-    let chunks = chunks_line(alloc, report.chunks, report.peak)?;
-    let held = held_line(alloc, report.held, report.words)?;
-    format!(in alloc; "{length}{leaf}{inner}{chunks}{held}")
+    let mut text = String::new(alloc);
+    add_report(&mut text, report)?;
+    Ok(text)
 }
 
 /// The lines of what a run has written out.

@@ -1,19 +1,18 @@
 // What a journal comes to: its report, and all that is written of its run.
 
-ghost use Rattle.std.specs.Prelude.{◌≡◌, Option, Some, None, false, IfOk, OnOk, IfErr, length};
-ghost use Rattle.std.specs.String.{string_bytes};
-ghost use Rattle.run_ledger.specs.Journals.{first_refused, end_of, refused_as_run};
+ghost use Rattle.std.specs.Prelude.{◌≡◌, ◌++◌, Option, Some, None, false, IfOk, OnOk, IfErr};
+ghost use Rattle.run_ledger.specs.Journals.{opening, ledger_of, first_refused, end_of, refused_as_run};
 ghost use Rattle.run_ledger.specs.Report.{report_of};
-ghost use Rattle.run_ledger.specs.Text.{out_text};
+ghost use Rattle.run_ledger.specs.Text.{end_words, end_line, out_text};
 ghost use Rattle.run_journal.specs.Replay.{ReplayFails};
+ghost use Rattle.run_report.specs.Totals.{totals_from};
 ghost use Rattle.run_report.specs.Written.{report_part, trace_part, text_from};
 
 use crate::counting::{Counted, count, report};
 use crate::texts::{end_text, outputs_text, report_text};
-use crate::totals::Totals;
 use hh_lang::Program;
 use listed::Listed;
-use run_journal::{Book, ReplayError};
+use run_journal::ReplayError;
 use run_ledger::{Refused, RefusedAt, Report, RunEnd};
 use run_trace::{Entry, Settings, Version, trace_text};
 use std::alloc::{AllocError, Global};
@@ -42,38 +41,47 @@ pub fn report_of(
     }
 }
 
-// The lines of the report, where it is asked for.
-fn report_lines(
+// Adds the lines of the report to a text, where it is asked for.
+fn add_report(
     alloc: Global,
+    text: &mut Vec<u8>,
     asked: bool,
-    book: &Book,
+    counted: &Counted,
     turns: usize,
-    totals: Totals,
-) -> Result<String, AllocError>
-    requires { book.now.stopped ≡ false }
-    ensures { IfOk result (λ text. string_bytes text ≡ report_part asked book.now.ledger turns totals) }
+) -> Result<(), AllocError>
+    requires { counted.now.book.stopped ≡ false }
+    ensures { OnOk result (text.new.items ≡ text.old.items ++ report_part asked counted.now.book.ledger turns counted.now.totals) }
 {
-    if asked {
-        report_text(alloc, report(book, turns, totals))
-    } else {
-        Ok(String::new(alloc))
+    if !asked {
+        return Ok(());
     }
+    let lines = report_text(alloc, report(&counted.book, turns, counted.totals))?;
+    text.extend_from_slice(lines.as_bytes())
 }
 
-// The trace, where it is asked for.
-fn trace_lines(
+// Adds the trace to a text, where it is asked for.
+fn add_trace(
     alloc: Global,
+    text: &mut Vec<u8>,
     asked: bool,
     version: Version,
     journal: &[Entry],
-) -> Result<Vec<u8>, AllocError>
-    ensures { IfOk result (λ text. text.items ≡ trace_part asked version journal.now) }
+) -> Result<(), AllocError>
+    ensures { OnOk result (text.new.items ≡ text.old.items ++ trace_part asked version journal.now) }
 {
-    if asked {
-        trace_text(alloc, version, journal)
-    } else {
-        Ok(Vec::new(alloc))
+    if !asked {
+        return Ok(());
     }
+    let trace = trace_text(alloc, version, journal)?;
+    text.extend_from_slice(trace.as_slice())
+}
+
+// Adds the end line to a text.
+fn add_end(alloc: Global, text: &mut Vec<u8>, end: RunEnd) -> Result<(), AllocError>
+    ensures { OnOk result (text.new.items ≡ text.old.items ++ end_line (end_words end)) }
+{
+    let line = end_text(alloc, end)?;
+    text.extend_from_slice(line.as_bytes())
 }
 
 // All that is written of a run that ended so.
@@ -90,12 +98,52 @@ fn written(
     ensures { IfOk result (λ text. text.items ≡ text_from version counted.now.book.ledger counted.now.totals report trace journal.now end) }
 {
     let mut text = outputs_text(alloc, counted.book.outputs())?;
-    let report = report_lines(alloc, report, &counted.book, journal.len(), counted.totals)?;
-    text.extend_from_slice(report.as_bytes())?;
-    let trace = trace_lines(alloc, trace, version, journal)?;
-    text.extend_from_slice(trace.as_slice())?;
-    text.extend_from_slice(end_text(alloc, end)?.as_bytes())?;
+    add_report(alloc, &mut text, report, counted, journal.len())?;
+    add_trace(alloc, &mut text, trace, version, journal)?;
+    add_end(alloc, &mut text, end)?;
     Ok(text)
+}
+
+// How a run ended, and all that is written of it, by its accounts and the totals of its journal.
+fn whole_of(
+    alloc: Global,
+    counted: &Counted,
+    settings: Settings,
+    journal: &[Entry],
+    report: bool,
+    trace: bool,
+) -> Result<WholeRun, ReplayError>
+    requires limits { counted.now.book.limits ≡ settings }
+    requires open { counted.now.book.stopped ≡ false }
+    requires ledger { counted.now.book.ledger ≡ ledger_of counted.now.book.program settings journal.now }
+    requires totals { counted.now.totals ≡ totals_from counted.now.book.program settings (opening counted.now.book.program settings) journal.now }
+    requires legal { first_refused counted.now.book.program settings journal.now ≡ None }
+    ensures whole { OnOk result (refused_as_run counted.now.book.program settings journal.now ≡ None) }
+    ensures end { IfOk result (λ run. end_of counted.now.book.program settings journal.now ≡ Some run.end) }
+    ensures text { IfOk result (λ run. run.text ≡ out_text counted.now.book.program settings report trace journal.now) }
+    ensures fails { IfErr result (ReplayFails (refused_as_run counted.now.book.program settings journal.now)) }
+{
+    let Some(end) = counted.book.end() else {
+        return Err(ReplayError::RefusedAt(RefusedAt {
+            index: journal.len() as u64 + 1,
+            cause: Refused::Short,
+        }));
+    };
+    match written(
+        alloc,
+        counted,
+        settings.version(),
+        journal,
+        end,
+        report,
+        trace,
+    ) {
+        Ok(text) => Ok(WholeRun {
+            end,
+            text: Listed::from_vec(text),
+        }),
+        Err(_) => Err(ReplayError::NoMemory),
+    }
 }
 
 /// How the run of a journal ended, and all that is written of it, where the journal is legal and has an end: with the report
@@ -114,27 +162,7 @@ pub fn whole_run(
     ensures fails { IfErr result (ReplayFails (refused_as_run program.now settings journal.now)) }
 {
     let counted = count(alloc, program, settings, journal)?;
-    let Some(end) = counted.book.end() else {
-        return Err(ReplayError::RefusedAt(RefusedAt {
-            index: journal.len() as u64 + 1,
-            cause: Refused::Short,
-        }));
-    };
-    match written(
-        alloc,
-        &counted,
-        settings.version(),
-        journal,
-        end,
-        report,
-        trace,
-    ) {
-        Ok(text) => Ok(WholeRun {
-            end,
-            text: Listed::from_vec(text),
-        }),
-        Err(_) => Err(ReplayError::NoMemory),
-    }
+    whole_of(alloc, &counted, settings, journal, report, trace)
 }
 
 /// All that is written of the run of a journal that has an end.

@@ -1,45 +1,14 @@
-use Rattle.std.proofs.Common.{rules, subst, sym, arith}
-use Rattle.run_trace.specs.Settings.{AreLimits}
-use Rattle.run_report.proofs.Sums.{at_first, at_next, at_end, few_next, accounts_on, refused_on}
+use Rattle.std.proofs.Common.{◌∙◌, ap, subst}
+use Rattle.run_ledger.specs.Journals.{opening, first_refused}
+use Rattle.run_journal.specs.Opened.{Opened}
+use Rattle.run_journal.specs.Replay.{ReplayFails}
+use Rattle.run_report.specs.Totals.{totals_from}
 use Rattle.run_report.proofs.counting.count.Goals as goal
 
-pub loop-entry-init : goal.loop-entry-init
-loop-entry-init c = record {
-  program = search rules;
-  limits = search rules;
-  stopped = search rules;
-  index = search rules;
-  accounts = search rules;
-  refused = search rules;
-  at = at_first c.args.journal.now c.in-Ok.book c.none-totals.result c.none-totals.ensures (search rules);
-}
+pub returns-in-Ok-enter_all-clause-totals : goal.returns-in-Ok-enter_all-clause-totals
+returns-in-Ok-enter_all-clause-totals c =
+    c.in-Ok-enter_all.ensures.totals ∙ ap (λ (b : Opened). totals_from b.program b.limits (opening b.program b.limits) c.args.journal.now) c.in-Ok.ensures
 
-pub enter-requires-clause-few : goal.enter-requires-clause-few
-enter-requires-clause-few c none =
-    let l = c.loop-entry in
-    let e = l.invariant.index in
-    let f = l.auto.index-fits in
-    few_next c.args.journal.now l.book l.entry-index c.entry-item.result c.loop-entry-test.true c.entry-item.is none l.totals l.invariant.at
-    (subst AreLimits (sym l.invariant.limits) c.workers-workers.ensures.range) (omega (arith, e, f))
-
-pub loop-entry-preserved : goal.loop-entry-preserved
-loop-entry-preserved c =
-    let l = c.loop-entry in
-    let k = c.in-Ok-enter in
-    let i = l.invariant in
-    record {
-      program = search rules;
-      limits = search rules;
-      stopped = search rules;
-      index = search rules;
-      accounts = accounts_on c.args.journal.now l.book c.enter.new.book l.entry-index c.entry-item.result c.loop-entry-test.true c.entry-item.is k.ensures.entered i.accounts;
-      refused = refused_on c.args.journal.now l.book c.enter.new.book l.entry-index c.entry-item.result c.loop-entry-test.true c.entry-item.is k.ensures.entered l.index k.ensures.legal i.refused;
-      at =
-          at_next c.args.journal.now l.book l.entry-index c.entry-item.result c.loop-entry-test.true c.entry-item.is k.ensures.legal l.totals i.at c.enter.new.book k.sums k.ensures.entered
-          k.ensures.counts;
-    }
-
-pub returns-clause-totals : goal.returns-clause-totals
-returns-clause-totals c =
-    let i = c.loop-entry.invariant in
-    at_end c.args.journal.now c.loop-entry.book c.loop-entry.entry-index c.loop-entry.totals c.args.program.now c.args.settings c.loop-entry-test.false i.program i.limits i.at
+pub returns-clause-fails : goal.returns-clause-fails
+returns-clause-fails c =
+    subst (λ (b : Opened). ReplayFails (first_refused b.program b.limits c.args.journal.now) c.in-Err.error) c.in-Ok.ensures c.in-Err.ensures.fails

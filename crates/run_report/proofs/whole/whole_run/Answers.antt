@@ -1,12 +1,25 @@
-use Rattle.std.proofs.Common.{◌∙◌, sym, ap}
+use Rattle.std.proofs.Common.{◌≡◌, ◌∙◌, Some, ap, subst, sym, IfOk, IfErr}
+use Rattle.run_ledger.specs.Journals.{opening, end_of, refused_as_run}
+use Rattle.run_ledger.specs.Text.{out_text}
 use Rattle.run_journal.specs.Opened.{Opened}
-use Rattle.run_report.proofs.Writing.{whole_text}
+use Rattle.run_journal.specs.Replay.{ReplayFails}
+use Rattle.run_report.specs.Totals.{totals_from}
 use Rattle.run_report.proofs.whole.whole_run.Goals as goal
 
-pub returns-in-Ok-clause-text : goal.returns-in-Ok-clause-text
-returns-in-Ok-clause-text c =
-    let counted = c.in_ok-counted.counted in
-    c.from_vec.ensures
-    ∙ (c.in-Ok.ensures
-    ∙ whole_text c.args.program.now c.args.settings c.args.journal.now c.args.report c.args.trace _ counted.book.ledger counted.totals c.in-Some.end c.version.ensures
-    (ap (λ (o : Opened). o.ledger) c.in_ok-counted.ensures.book) c.in_ok-counted.ensures.totals (sym c.in-Some.ensures))
+pub whole_of-requires-clause-totals : goal.whole_of-requires-clause-totals
+whole_of-requires-clause-totals c =
+    c.in_ok-counted.ensures.totals
+    ∙ sym (ap (λ (o : Opened). totals_from o.program c.args.settings (opening o.program c.args.settings) c.args.journal.now) c.in_ok-counted.ensures.book)
+
+pub returns-clause-end : goal.returns-clause-end
+returns-clause-end c =
+    subst (λ (o : Opened). IfOk c.whole_of.result (λ run. end_of o.program c.args.settings c.args.journal.now ≡ Some run.end)) c.in_ok-counted.ensures.book c.whole_of.ensures.end
+
+pub returns-clause-text : goal.returns-clause-text
+returns-clause-text c =
+    subst (λ (o : Opened). IfOk c.whole_of.result (λ run. run.text ≡ out_text o.program c.args.settings c.args.report c.args.trace c.args.journal.now)) c.in_ok-counted.ensures.book
+    c.whole_of.ensures.text
+
+pub returns-clause-fails : goal.returns-clause-fails
+returns-clause-fails c =
+    subst (λ (o : Opened). IfErr c.whole_of.result (ReplayFails (refused_as_run o.program c.args.settings c.args.journal.now))) c.in_ok-counted.ensures.book c.whole_of.ensures.fails

@@ -1,12 +1,12 @@
 use Rattle.std.proofs.Common.{◌≡◌, ◌+◌, drop, false}
 use Rattle.run_ledger.specs.Journals.{after_all, ledger_of, first_refused_from, first_refused}
 use Rattle.run_report.proofs.Sums.{IsAt}
-use Rattle.run_report.proofs.counting.count.Given as goal
+use Rattle.run_report.proofs.counting.enter_all.Given as goal
 
 abbrev pub invariant-loop-entry : goal.invariant-loop-entry
 invariant-loop-entry l = record {
-  program : l.book.program ≡ l.fn.program;
-  limits : l.book.limits ≡ l.fn.settings;
+  program : l.book.program ≡ l.fn.book.program;
+  limits : l.book.limits ≡ l.fn.book.limits;
   stopped : l.book.stopped ≡ false;
   index : l.index ≡ l.entry-index + 1;
   accounts : after_all l.book.program l.book.limits l.book.ledger (drop l.entry-index l.journal) ≡ ledger_of l.book.program l.book.limits l.journal;
