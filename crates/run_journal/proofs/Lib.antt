@@ -1,5 +1,4 @@
 pub mod Holds
-pub mod Joined
 pub mod Keeps
 pub mod Machines
 pub mod Numbers

@@ -11,7 +11,7 @@ ghost use Rattle.run_journal.specs.Book.{Standing, Steady, Agrees};
 
 use hh_lang::Program;
 use hh_model::{Machine, State, Status};
-use ledger_heaps::{take_of, words_in};
+use ledger_heaps::{fresh, take_of, words_in};
 use listed::Listed;
 use run_ledger::{Heap, RunEnd};
 use run_trace::Settings;
@@ -51,25 +51,6 @@ impl<'p> Model for Accounts<'p> {
     ghost invariant = { λ a. (a.machine.steps ≤ a.steps) × (a.machine.program ≡ a.program.now) };
 }
 
-/// A heap that holds nothing.
-pub(crate) fn fresh_heap(alloc: Global) -> Heap
-    ensures { result ≡ fresh }
-{
-    Heap {
-        chunks: Listed::new(alloc),
-        large: Listed::new(alloc),
-        reserved: 0,
-        room: 0,
-        since: 0,
-        worker: None,
-        begun: None,
-        survivors: Listed::new(alloc),
-        snapshot: Listed::new(alloc),
-        marked: None,
-        swept: false,
-    }
-}
-
 /// How many units hold so many words.
 pub(crate) fn units_of(words: usize) -> usize
     ensures value { result ≡ units words }
@@ -99,7 +80,7 @@ impl<'p> Accounts<'p> {
     {
         let machine = Machine::start(alloc, program, limits.version().field_limit())?;
         let mut heaps = Listed::new(alloc);
-        heaps.push(fresh_heap(alloc))?;
+        heaps.push(fresh(alloc))?;
         Ok(Accounts {
             alloc,
             program,

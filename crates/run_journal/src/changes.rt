@@ -9,8 +9,8 @@ ghost use Rattle.run_ledger.specs.Heaps.{is_small, heap_of, with_heap, collected
 ghost use Rattle.ledger_heaps.specs.Parts.{with_collected, with_swept};
 ghost use Rattle.run_journal.specs.Book.{Steady, Agrees};
 
-use crate::accounts::{Accounts, fresh_heap, units_of};
-use ledger_heaps::{Collected, Swept, collect, sweep, within};
+use crate::accounts::{Accounts, units_of};
+use ledger_heaps::{Collected, Swept, collect, fresh, sweep, within};
 use listed::Listed;
 use run_ledger::RunEnd;
 use std::alloc::AllocError;
@@ -141,7 +141,7 @@ impl<'p> Accounts<'p> {
     {
         match self.heap(task) {
             Some(heap) => collect(self.alloc, self.machine.state(), heap),
-            None => collect(self.alloc, self.machine.state(), &fresh_heap(self.alloc)),
+            None => collect(self.alloc, self.machine.state(), &fresh(self.alloc)),
         }
     }
 
@@ -163,7 +163,7 @@ impl<'p> Accounts<'p> {
     {
         match self.heap(task) {
             Some(heap) => sweep(self.alloc, self.machine.state(), heap),
-            None => sweep(self.alloc, self.machine.state(), &fresh_heap(self.alloc)),
+            None => sweep(self.alloc, self.machine.state(), &fresh(self.alloc)),
         }
     }
 

@@ -1,7 +1,7 @@
 // A journal replayed on the machine that never collects.
 
 ghost use Rattle.std.specs.Prelude.{◌≡◌, Option, Some, None, false, IfOk, OnOk, IfErr};
-ghost use Rattle.run_ledger.specs.Journals.{ledger_of, end_of, first_refused, refused_as_run};
+ghost use Rattle.run_ledger.specs.Journals.{after_all, ledger_of, end_of, first_refused_from, first_refused, refused_as_run};
 ghost use Rattle.run_journal.specs.Replay.{ReplayFails};
 
 use crate::book::Book;
@@ -21,6 +21,26 @@ pub enum ReplayError {
     NoMemory,
 }
 
+// Enters the entries of a journal.
+fn enter_all(book: &mut Book, journal: &[Entry]) -> Result<(), ReplayError>
+    requires { book.old.stopped ≡ false }
+    ensures book { OnOk result (book.new ≡ record book.old { ledger = after_all book.old.program book.old.limits book.old.ledger journal.now }) }
+    ensures legal { OnOk result (first_refused_from book.old.program book.old.limits book.old.ledger 1 journal.now ≡ None) }
+    ensures fails { IfErr result (ReplayFails (first_refused_from book.old.program book.old.limits book.old.ledger 1 journal.now)) }
+{
+    let mut index = 1;
+    for entry in journal {
+        match book.apply(*entry) {
+            Ok(()) => index += 1,
+            Err(ApplyError::Refused(cause)) => {
+                return Err(ReplayError::RefusedAt(RefusedAt { index, cause }));
+            }
+            Err(ApplyError::NoMemory) => return Err(ReplayError::NoMemory),
+        }
+    }
+    Ok(())
+}
+
 /// The accounts of a legal journal: how its run ended, if it did, what it has written out, and more.
 pub fn replayed<'p>(
     alloc: Global,
@@ -35,17 +55,13 @@ pub fn replayed<'p>(
     let Ok(mut book) = Book::open(alloc, program, settings) else {
         return Err(ReplayError::NoMemory);
     };
-    let mut index = 1;
-    for entry in journal {
-        match book.apply(*entry) {
-            Ok(()) => index += 1,
-            Err(ApplyError::Refused(cause)) => {
-                return Err(ReplayError::RefusedAt(RefusedAt { index, cause }));
-            }
-            Err(ApplyError::NoMemory) => return Err(ReplayError::NoMemory),
+    match enter_all(&mut book, journal) {
+        Ok(()) => Ok(book),
+        Err(error) => {
+            drop(book);
+            Err(error)
         }
     }
-    Ok(book)
 }
 
 /// How the run of a journal ended, where the journal is legal and has an end.
@@ -60,7 +76,9 @@ pub fn model_replay(
     ensures fails { IfErr result (ReplayFails (refused_as_run program.now settings journal.now)) }
 {
     let book = replayed(alloc, program, settings, journal)?;
-    match book.end() {
+    let end = book.end();
+    drop(book);
+    match end {
         Some(end) => Ok(end),
         None => Err(ReplayError::RefusedAt(RefusedAt {
             index: journal.len() as u64 + 1,

@@ -1,19 +1,18 @@
 // The steps of tasks, with what they change of the accounts.
 
 ghost use Rattle.hh_model.specs.Effect.{row_of};
-ghost use Rattle.std.specs.Prelude.{◌≡◌, ℕ, ◌+◌, ◌<◌, ◌^◌, Option, Some, None, true, false, length, slice_get, slice_set, OnOk, IfOk};
-ghost use Rattle.run_ledger.specs.Heaps.{heap_of, in_use, or_fresh, fresh, with_heap, let_go, merged, emptied};
+ghost use Rattle.std.specs.Prelude.{◌≡◌, ℕ, ◌+◌, ◌<◌, ◌^◌, Option, Some, None, true, false, length, slice_get, OnOk};
+ghost use Rattle.run_ledger.specs.Heaps.{heap_of, in_use, or_fresh, with_heap, let_go};
 ghost use Rattle.run_ledger.specs.Steps.{allocated_in, allocated_by, is_in_need, task_step, at_fork, at_join, join_heaps, moved_to, settled};
 ghost use Rattle.hh_model.specs.Step.{step, is_joined, is_waiting};
 ghost use Rattle.run_journal.specs.Book.{Steady, Forks, Joins, AreOwned, ArePaired, left_of, next_large, used_after, went_on};
 
-use crate::accounts::{Accounts, fresh_heap};
+use crate::accounts::Accounts;
 use hh_model::{Machine, Name, State, Status};
-use ledger_heaps::{merge, place, within};
+use ledger_heaps::{fresh, join, place, within};
 use listed::Listed;
 use run_ledger::{Heap, RunEnd};
 use std::alloc::{AllocError, Global};
-use std::mem;
 
 // How many objects a task has allocated.
 fn objects_of(machine: &Machine, t: u32) -> usize
@@ -164,7 +163,7 @@ fn fork_heaps(
 ) -> Result<(), AllocError>
     ensures { OnOk result (Forks heaps.old heaps.new t names) }
 {
-    heaps.push_pair(fresh_heap(alloc), fresh_heap(alloc))?;
+    heaps.push_pair(fresh(alloc), fresh(alloc))?;
     if (t as usize) < heaps.len() {
         let heap = heaps.at_mut(t as usize);
         heap.worker = None;
@@ -173,32 +172,6 @@ fn fork_heaps(
         heap.swept = false;
     }
     Ok(())
-}
-
-// Takes a heap out, and leaves one that holds nothing.
-fn take_heap(alloc: Global, heaps: &mut Listed<Heap>, at: usize) -> Heap
-    requires { at < length heaps.old }
-    ensures heap { slice_get heaps.old at ≡ Some result }
-    ensures rest { heaps.new ≡ slice_set heaps.old at fresh }
-{
-    mem::replace(heaps.at_mut(at), fresh_heap(alloc))
-}
-
-// Merges two heaps into one that stands in the list.
-fn merge_into(
-    alloc: Global,
-    heaps: &mut Listed<Heap>,
-    parent: usize,
-    left: &mut Heap,
-    right: &mut Heap,
-) -> Result<(), AllocError>
-    requires there { parent < length heaps.old }
-    requires since { (or_fresh (slice_get heaps.old parent)).since + left.old.since + right.old.since < 2 ^ 64 }
-    ensures parent { OnOk result (heaps.new ≡ slice_set heaps.old parent (merged (or_fresh (slice_get heaps.old parent)) left.old right.old)) }
-    ensures left { OnOk result (left.new ≡ emptied left.old) }
-    ensures right { OnOk result (right.new ≡ emptied right.old) }
-{
-    merge(alloc, heaps.at_mut(parent), left, right)
 }
 
 // The heap of a parent gets all that those of its children hold, the next two from the left one on.
@@ -213,11 +186,5 @@ fn join_three(
     requires there { left + 1 < length heaps.old }
     ensures { OnOk result (Joins heaps.old heaps.new parent left) }
 {
-    let at = left as usize;
-    let mut first = take_heap(alloc, heaps, at);
-    let mut second = take_heap(alloc, heaps, at + 1);
-    merge_into(alloc, heaps, parent as usize, &mut first, &mut second)?;
-    heaps.set(at, first);
-    heaps.set(at + 1, second);
-    Ok(())
+    join(alloc, heaps, parent, left)
 }
