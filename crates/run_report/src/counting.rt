@@ -99,7 +99,10 @@ pub(crate) fn count<'p>(
     let _workers = settings.workers();
     match enter_all(&mut book, journal) {
         Ok(totals) => Ok(Counted { book, totals }),
-        Err(error) => Err(error),
+        Err(error) => {
+            drop(book);
+            Err(error)
+        }
     }
 }
 

@@ -135,7 +135,9 @@ pub fn is_paced(
     requires { first_refused program.now settings journal.now ≡ None }
     ensures { IfOk result (λ paced. paced ≡ is_paced program.now settings journal.now) }
 {
-    let mut book = Book::open(alloc, program, settings)?;
     let mut paces = opening(alloc, settings)?;
-    are_given(&mut book, &mut paces, journal)
+    let mut book = Book::open(alloc, program, settings)?;
+    let given = are_given(&mut book, &mut paces, journal);
+    drop(book);
+    given
 }

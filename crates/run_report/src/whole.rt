@@ -36,7 +36,11 @@ pub fn report_of(
     ensures { IfOk result (λ r. r ≡ report_of program.now settings journal.now) }
 {
     match count(alloc, program, settings, journal) {
-        Ok(counted) => Ok(report(&counted.book, journal.len(), counted.totals)),
+        Ok(counted) => {
+            let report = report(&counted.book, journal.len(), counted.totals);
+            drop(counted);
+            Ok(report)
+        }
         Err(_) => Err(AllocError),
     }
 }
@@ -162,7 +166,9 @@ pub fn whole_run(
     ensures fails { IfErr result (ReplayFails (refused_as_run program.now settings journal.now)) }
 {
     let counted = count(alloc, program, settings, journal)?;
-    whole_of(alloc, &counted, settings, journal, report, trace)
+    let whole = whole_of(alloc, &counted, settings, journal, report, trace);
+    drop(counted);
+    whole
 }
 
 /// All that is written of the run of a journal that has an end.

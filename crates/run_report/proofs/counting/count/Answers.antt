@@ -9,6 +9,6 @@ pub returns-in-Ok-enter_all-clause-totals : goal.returns-in-Ok-enter_all-clause-
 returns-in-Ok-enter_all-clause-totals c =
     c.in-Ok-enter_all.ensures.totals ∙ ap (λ (b : Opened). totals_from b.program b.limits (opening b.program b.limits) c.args.journal.now) c.in-Ok.ensures
 
-pub returns-clause-fails : goal.returns-clause-fails
-returns-clause-fails c =
+pub returns-in-Err-clause-fails : goal.returns-in-Err-clause-fails
+returns-in-Err-clause-fails c =
     subst (λ (b : Opened). ReplayFails (first_refused b.program b.limits c.args.journal.now) c.in-Err.error) c.in-Ok.ensures c.in-Err.ensures.fails
