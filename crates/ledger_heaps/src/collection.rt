@@ -8,7 +8,7 @@ ghost use Rattle.run_ledger.specs.Reachable.{holds_name, is_name};
 ghost use Rattle.ledger_heaps.specs.Parts.{last_words, with_collected};
 
 use crate::names::{kept, kept_small, table_of};
-use crate::placed::put_last;
+use crate::placed::{push_list, put_last};
 use crate::sizes::{units_sum, words_at, words_sum};
 use hh_model::{Name, State};
 use listed::Listed;
@@ -176,13 +176,4 @@ fn lay(
     }
     put_last(alloc, chunks, name)?;
     Ok(last + words)
-}
-
-// Adds a name in a list of its own.
-fn push_list(alloc: Global, chunks: &mut Listed<Listed<Name>>, name: Name) -> Result<(), AllocError>
-    ensures { OnOk result (chunks.new ≡ chunks.old ++ (name ∷ []) ∷ []) }
-{
-    let mut names = Listed::new(alloc);
-    names.push(name)?;
-    chunks.push(names)
 }

@@ -35,8 +35,8 @@ pub fn merge(
         left.large = Listed::from_vec(large);
         return Err(error);
     }
-    gather_chunks(alloc, chunks, &mut right.chunks, &mut parent.chunks);
-    gather_names(alloc, large, &mut right.large, &mut parent.large);
+    gather(alloc, chunks, &mut right.chunks, &mut parent.chunks);
+    gather(alloc, large, &mut right.large, &mut parent.large);
     parent.since = parent.since + left.since + right.since;
     parent.marked = None;
     retire(left);
@@ -113,26 +113,8 @@ fn both(first: usize, second: usize) -> Result<usize, AllocError>
     first.checked_add(second).ok_or(AllocError)
 }
 
-// Puts the lists of the first two in front of the last one's, in which there is room for all.
-fn gather_chunks(
-    alloc: Global,
-    front: Vec<Listed<Name>>,
-    middle: &mut Listed<Listed<Name>>,
-    back: &mut Listed<Listed<Name>>,
-)
-    requires { vec_len front + length middle.old + length back.old ≤ vec_capacity front }
-    ensures all { back.new ≡ front.items ++ middle.old ++ back.old }
-    ensures none { middle.new ≡ [] }
-{
-    let mut all = front;
-    let mut own = mem::replace(back, Listed::new(alloc)).into_vec();
-    let mut others = mem::replace(middle, Listed::new(alloc)).into_vec();
-    let _others_fit = all.append(&mut others);
-    let _own_fit = all.append(&mut own);
-    *back = Listed::from_vec(all);
-}
-
-fn gather_names(alloc: Global, front: Vec<Name>, middle: &mut Listed<Name>, back: &mut Listed<Name>)
+// Puts the items of the first two in front of the last one's, in which there is room for all.
+fn gather<T: Drop>(alloc: Global, front: Vec<T>, middle: &mut Listed<T>, back: &mut Listed<T>)
     requires { vec_len front + length middle.old + length back.old ≤ vec_capacity front }
     ensures all { back.new ≡ front.items ++ middle.old ++ back.old }
     ensures none { middle.new ≡ [] }

@@ -1,6 +1,6 @@
 // What an allocation and a join change of a heap's account.
 
-ghost use Rattle.std.specs.Prelude.{◌≡◌, ◌+◌, ◌<◌, ◌^◌, OnOk, OnErr};
+ghost use Rattle.std.specs.Prelude.{◌≡◌, ◌+◌, ◌<◌, ◌^◌, [], ◌∷◌, ◌++◌, OnOk, OnErr};
 ghost use Rattle.run_ledger.specs.Heaps.{placed, put_last, merged, emptied};
 
 use hh_model::Name;
@@ -37,11 +37,22 @@ pub fn put_last(
 {
     let count = chunks.len();
     if count == 0 {
-        let mut names = Listed::new(alloc);
-        names.push(name)?;
-        chunks.push(names)?;
+        push_list(alloc, chunks, name)
     } else {
-        chunks.at_mut(count - 1).push(name)?;
+        chunks.at_mut(count - 1).push(name)
     }
-    Ok(())
+}
+
+/// Adds a name in a list of its own.
+pub(crate) fn push_list(
+    alloc: Global,
+    chunks: &mut Listed<Listed<Name>>,
+    name: Name,
+) -> Result<(), AllocError>
+    ensures ok { OnOk result (chunks.new ≡ chunks.old ++ (name ∷ []) ∷ []) }
+    ensures err { OnErr result (chunks.new ≡ chunks.old) }
+{
+    let mut names = Listed::new(alloc);
+    names.push(name)?;
+    chunks.push(names)
 }
