@@ -1,11 +1,14 @@
 // Whole calls of `races`, and replays of parallel loops, over sources and sinks in memory.
 
-use command_core::command;
+use command_core::{Ran, command};
 use outside_io::{EmptyGate, MemSink, MemSource};
-use std::alloc::Global;
+use std::alloc::{AllocError, Global};
+use std::process::Abort;
 use std::sync::Wait;
-use std::test::Fail;
 use std::thread::Threads;
+
+/// The words of a call, its input, its exit status, and what it writes.
+pub(crate) type Call = (&'static str, &'static str, u8, &'static str);
 
 // It adds the doubles of 0 to 9, by one worker.
 const TEN: &str =
@@ -28,149 +31,187 @@ pub(crate) const ENTANGLES: &str =
     "fn left\nset i0 0\nset i1 1\nnewm r1 i0 i1\nputr r0 i0 r1\nret\nend\nfn right\nset i0 0\ngetr r1 r0 i0\nret\nend\nfn main\nset i0 1\nset i1 0\nnewm r0 i0 i1\npar left right\nret\nend\ntrace 2\n0 took 0\n0 ran 0 2\n0 chunk 0\n0 ran 0 2\n0 took 1\n0 ran 1 2\n0 chunk 1\n0 ran 1 2\n0 ran 1 1\n0 took 2\n0 ran 2 2\n";
 
 // A task reads what it wrote itself.
-pub(crate) const DISENTANGLED: &str =
+const DISENTANGLED: &str =
     "fn left\nset i0 0\nset i1 1\nnewm r1 i0 i1\nset i2 42\nputi r1 i0 i2\nputr r0 i0 r1\ngetr r2 r0 i0\ngeti i0 r2 i0\nret\nend\nfn right\nset i0 0\nret\nend\nfn main\nset i0 1\nset i1 0\nnewm r0 i0 i1\npar left right\nout i0\nret\nend\ntrace 2\n0 took 0\n0 ran 0 2\n0 chunk 0\n0 ran 0 2\n0 took 1\n0 ran 1 2\n0 chunk 1\n0 ran 1 4\n0 ran 1 1\n0 ran 1 2\n0 took 2\n0 ran 2 2\n0 took 0\n0 ran 0 1\n0 ran 0 1\n";
 
 // Two tasks swap into one field.
 const SWAPS: &str =
     "fn left\nset i0 0\nset i1 1\nnewm r1 i0 i1\nnil r2\ncas i0 r0 i0 r2 r1\nret\nend\nfn right\nset i0 0\nset i1 1\nnewm r1 i0 i1\nnil r2\ncas i0 r0 i0 r2 r1\nret\nend\nfn main\nset i0 1\nset i1 0\nnewm r0 i0 i1\npar left right\nadd i2 i0 i1\nout i2\nout i0\nret\nend\ntrace 2\n0 took 0\n0 ran 0 2\n0 chunk 0\n0 ran 0 2\n0 took 2\n0 ran 2 2\n0 chunk 2\n0 ran 2 3\n0 ran 2 1\n0 took 1\n0 ran 1 2\n0 chunk 1\n0 ran 1 3\n0 ran 1 1\n0 took 0\n0 ran 0 2\n0 ran 0 1\n0 ran 0 1\n";
 
+// Adds a word, and says whether it did.
+fn add_word(alloc: Global, words: &mut Vec<String>, word: &str) -> bool {
+    match String::from_str(alloc, word) {
+        Ok(word) => words.push(word).is_ok(),
+        Err(_) => false,
+    }
+}
+
 // The words of a line, with a space between each two.
-fn words_of(alloc: Global, line: &str) -> Result<Vec<String>, Fail> {
+fn words_of(alloc: Global, line: &str) -> Result<Vec<String>, AllocError> {
     let mut words = Vec::new(alloc);
     for word in line.split(' ') {
-        words.push(String::from_str(alloc, word)?)?;
+        if !add_word(alloc, &mut words, word) {
+            return Err(AllocError);
+        }
     }
     Ok(words)
 }
 
-// The exit status of a command line, and what it writes.
-pub(crate) fn said<R: AllocGlobal + Threads + Wait + Sync>(
-    rt: &R,
-    line: &str,
-    input: &str,
-) -> Result<(u8, Vec<u8>), Fail> {
-    said_of(rt, line, input.as_bytes())
+// A source of these bytes, which each file has too.
+fn source_of(alloc: Global, bytes: &[u8]) -> Result<MemSource, AllocError> {
+    let input = bytes.to_vec(alloc)?;
+    let named = bytes.to_vec(alloc)?;
+    Ok(MemSource::new(input, named, 65536, Vec::new(alloc)))
 }
 
-// The same where the input is bytes.
-pub(crate) fn said_of<R: AllocGlobal + Threads + Wait + Sync>(
+/// A sink that never fails.
+pub(crate) fn sink_of(alloc: Global) -> MemSink {
+    MemSink::new(alloc, 65536, Vec::new(alloc))
+}
+
+// Whether a call has this exit status, and hands no run back.
+fn has_status(ran: &Ran, status: u8) -> bool {
+    ran.journal.is_empty() && ran.shared.is_none() && ran.status.code() == status
+}
+
+// The same of a call of these words.
+fn exits_over<R: AllocGlobal + Threads + Wait + Sync>(
+    rt: &R,
+    words: &[String],
+    source: &mut MemSource,
+    sink: &mut MemSink,
+    status: u8,
+) -> bool {
+    let ran = command(rt, rt.alloc(), words, source, sink, &EmptyGate);
+    has_status(&ran, status)
+}
+
+// The same where the input is these bytes.
+fn exits_with<R: AllocGlobal + Threads + Wait + Sync>(
+    rt: &R,
+    words: &[String],
+    input: &[u8],
+    sink: &mut MemSink,
+    status: u8,
+) -> bool {
+    match source_of(rt.alloc(), input) {
+        Ok(mut source) => exits_over(rt, words, &mut source, sink, status),
+        Err(_) => false,
+    }
+}
+
+/// Whether a command line that writes to a sink has this exit status, and hands no run back.
+pub(crate) fn exits<R: AllocGlobal + Threads + Wait + Sync>(
     rt: &R,
     line: &str,
+    input: &[u8],
+    sink: &mut MemSink,
+    status: u8,
+) -> bool {
+    match words_of(rt.alloc(), line) {
+        Ok(words) => exits_with(rt, words.as_slice(), input, sink, status),
+        Err(_) => false,
+    }
+}
+
+/// The same of a command line that writes just these bytes.
+pub(crate) fn answers<R: AllocGlobal + Threads + Wait + Sync>(
+    rt: &R,
+    line: &str,
+    input: &[u8],
+    status: u8,
     bytes: &[u8],
-) -> Result<(u8, Vec<u8>), Fail> {
-    let alloc = rt.alloc();
-    let words = words_of(alloc, line)?;
-    let mut source = MemSource::new(
-        bytes.to_vec(alloc)?,
-        bytes.to_vec(alloc)?,
-        65536,
-        Vec::new(alloc),
-    );
-    let mut sink = MemSink::new(alloc, 65536, Vec::new(alloc));
-    let ran = command(
-        rt,
-        alloc,
-        words.as_slice(),
-        &mut source,
-        &mut sink,
-        &EmptyGate,
-    );
-    if ran.journal.len() > 0 || ran.shared.is_some() {
-        return Err("no run is handed back")?;
-    }
-    Ok((ran.status.code(), sink.written().to_vec(alloc)?))
+) -> bool {
+    let mut sink = sink_of(rt.alloc());
+    let exits = exits(rt, line, input, &mut sink, status);
+    exits && sink.written() == bytes
 }
 
-#[test]
-fn loops_are_replayed(rt: HostRuntime) -> Result<(), Fail> {
-    let cases = [
-        (
-            "model --report",
-            TEN,
-            0,
-            "90\nreport tasks 19 steps 313 turns 57\nreport leaf 0 putoff 0 freed 0\nreport inner 0 freed 0\nreport chunks 0 peak 0\nreport held 0 words 0\nend: done\n",
-        ),
-        ("model", NO_NUMBER, 0, "0\nend: done\n"),
-        (
-            "check",
-            NO_FUNCTION,
-            3,
-            "end: source refused line 8 noname\n",
-        ),
-    ];
-    for (line, input, status, bytes) in cases {
-        let (code, written) = said(&rt, line, input)?;
-        assert_eq!(rt; code, status);
-        assert_eq!(rt; written.as_slice(), bytes.as_bytes());
+/// Checks that each call is answered as it should be.
+pub(crate) fn check_calls<R: Abort + AllocGlobal + Threads + Wait + Sync>(rt: &R, calls: &[Call]) {
+    for &(line, input, status, bytes) in calls {
+        let answers = answers(rt, line, input.as_bytes(), status, bytes.as_bytes());
+        assert!(rt; answers, "{line}: {input}");
     }
-    Ok(())
 }
 
-#[test]
-fn races_are_told(rt: HostRuntime) -> Result<(), Fail> {
-    let cases = [
-        (
-            "races --workers 2 --leaf 16",
-            COLLECTS,
-            12,
-            "race 0 0 ref 0 tasks 1 2 lines 5 13\nend: races 1\n",
-        ),
-        (
-            "races p.hh",
-            ENTANGLES,
-            12,
-            "race 0 0 ref 0 tasks 1 2 lines 5 10\nend: races 1\n",
-        ),
-        ("races", DISENTANGLED, 0, "end: races 0\n"),
-        ("races", SWAPS, 0, "end: races 0\n"),
-    ];
-    for (line, input, status, bytes) in cases {
-        let (code, written) = said(&rt, line, input)?;
-        assert_eq!(rt; code, status);
-        assert_eq!(rt; written.as_slice(), bytes.as_bytes());
-    }
-    Ok(())
-}
+const LOOPS: &[Call] = &[
+    (
+        "model --report",
+        TEN,
+        0,
+        "90\nreport tasks 19 steps 313 turns 57\nreport leaf 0 putoff 0 freed 0\nreport inner 0 freed 0\nreport chunks 0 peak 0\nreport held 0 words 0\nend: done\n",
+    ),
+    ("model", NO_NUMBER, 0, "0\nend: done\n"),
+    (
+        "check",
+        NO_FUNCTION,
+        3,
+        "end: source refused line 8 noname\n",
+    ),
+];
 
 #[test]
-fn races_are_refused_as_traces_are(rt: HostRuntime) -> Result<(), Fail> {
-    let cases = [
-        (
-            "races",
-            "fn main\nset i0 7\nout i0\nret\nend\ntrace 1\n0 took 0\n0 ran 0 2\n",
-            11,
-            "end: trace refused short\n",
-        ),
-        (
-            "races",
-            "fn main\nset i0 7\nout i0\nret\nend\ntrace 1\n0 took 0\n0 ran 0 3\n",
-            11,
-            "end: trace refused entry 2 long 2\n",
-        ),
-        (
-            "races",
-            "fn main\nset i0 7\nout i0\nret\nend\ntrace 1\n0 took 0\n0 ran 0\n",
-            11,
-            "end: trace refused line 8\n",
-        ),
-        (
-            "races",
-            "fn main\n",
-            3,
-            "end: source refused line 2 noend\n",
-        ),
-        (
-            "races --report",
-            "fn main\nset i0 7\nout i0\nret\nend\n",
-            2,
-            "end: words refused\n",
-        ),
-    ];
-    for (line, input, status, bytes) in cases {
-        let (code, written) = said(&rt, line, input)?;
-        assert_eq!(rt; code, status);
-        assert_eq!(rt; written.as_slice(), bytes.as_bytes());
-    }
-    Ok(())
+fn loops_are_replayed(rt: HostRuntime) {
+    check_calls(&rt, LOOPS);
+}
+
+const RACES: &[Call] = &[
+    (
+        "races --workers 2 --leaf 16",
+        COLLECTS,
+        12,
+        "race 0 0 ref 0 tasks 1 2 lines 5 13\nend: races 1\n",
+    ),
+    (
+        "races p.hh",
+        ENTANGLES,
+        12,
+        "race 0 0 ref 0 tasks 1 2 lines 5 10\nend: races 1\n",
+    ),
+    ("races", DISENTANGLED, 0, "end: races 0\n"),
+    ("races", SWAPS, 0, "end: races 0\n"),
+];
+
+#[test]
+fn races_are_told(rt: HostRuntime) {
+    check_calls(&rt, RACES);
+}
+
+const REFUSED: &[Call] = &[
+    (
+        "races",
+        "fn main\nset i0 7\nout i0\nret\nend\ntrace 1\n0 took 0\n0 ran 0 2\n",
+        11,
+        "end: trace refused short\n",
+    ),
+    (
+        "races",
+        "fn main\nset i0 7\nout i0\nret\nend\ntrace 1\n0 took 0\n0 ran 0 3\n",
+        11,
+        "end: trace refused entry 2 long 2\n",
+    ),
+    (
+        "races",
+        "fn main\nset i0 7\nout i0\nret\nend\ntrace 1\n0 took 0\n0 ran 0\n",
+        11,
+        "end: trace refused line 8\n",
+    ),
+    (
+        "races",
+        "fn main\n",
+        3,
+        "end: source refused line 2 noend\n",
+    ),
+    (
+        "races --report",
+        "fn main\nset i0 7\nout i0\nret\nend\n",
+        2,
+        "end: words refused\n",
+    ),
+];
+
+#[test]
+fn races_are_refused_as_traces_are(rt: HostRuntime) {
+    check_calls(&rt, REFUSED);
 }
