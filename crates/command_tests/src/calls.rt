@@ -1,125 +1,153 @@
-// Calls of the whole program, over sources and sinks in memory, and what they leave.
+// Calls of the whole program, over sources and sinks in memory, and what they answer.
 
-use command_core::{Ran, Status, command};
-use listed::Listed;
+use command_core::{Ran, command};
 use outside_io::{EmptyGate, Gate, MemSink, MemSource};
-use run_trace::Entry;
-use std::alloc::Global;
+use std::alloc::{AllocError, Global};
 use std::process::Abort;
 use std::sync::Wait;
-use std::test::Fail;
 use std::thread::Threads;
 
 /// The options of a call, its input, its exit status, and what it writes.
 pub(crate) type Row = (&'static str, &'static str, u8, &'static str);
 
-/// What a call leaves.
-#[derive(Drop)]
-pub(crate) struct Answer {
-    pub(crate) status: Status,
-    pub(crate) written: Vec<u8>,
-    pub(crate) journal: Listed<Entry>,
-    /// How many bytes of the standard input weren't taken.
-    pub(crate) left: usize,
-}
+/// An exit status, and what is written.
+pub(crate) type Answer<'a> = (u8, &'a [u8]);
 
-impl Answer {
-    /// Whether this was the exit status, and this was written.
-    pub(crate) fn wrote(&self, code: u8, bytes: &str) -> bool {
-        self.status.code() == code && self.written.as_slice() == bytes.as_bytes()
+// Adds a word that isn't empty, and says whether there was memory for it.
+fn add_word(alloc: Global, words: &mut Vec<String>, word: &str) -> bool {
+    if word.is_empty() {
+        return true;
+    }
+    match String::from_str(alloc, word) {
+        Ok(word) => words.push(word).is_ok(),
+        Err(_) => false,
     }
 }
 
-// Puts the words of a line, with a space between each two, behind others.
-fn push_words(alloc: Global, words: &mut Vec<String>, line: &str) -> Result<(), Fail> {
+// Puts the words of a line behind others, and says whether there was memory for them.
+fn add_words(alloc: Global, words: &mut Vec<String>, line: &str) -> bool {
     for word in line.split(' ') {
-        if !word.is_empty() {
-            words.push(String::from_str(alloc, word)?)?;
+        if !add_word(alloc, words, word) {
+            return false;
         }
     }
-    Ok(())
+    true
 }
 
-/// The words of a command and its options.
-pub(crate) fn words_of(alloc: Global, command: &str, options: &str) -> Result<Vec<String>, Fail> {
+// The words of a command and its options.
+fn words_of(alloc: Global, command: &str, options: &str) -> Option<Vec<String>> {
     let mut words = Vec::new(alloc);
-    push_words(alloc, &mut words, command)?;
-    push_words(alloc, &mut words, options)?;
-    Ok(words)
+    if add_words(alloc, &mut words, command) && add_words(alloc, &mut words, options) {
+        Some(words)
+    } else {
+        None
+    }
 }
 
-// What comes from standard input, and from each file too.
-fn source_of(alloc: Global, text: &[u8]) -> Result<MemSource, Fail> {
-    let (input, named) = (text.to_vec(alloc)?, text.to_vec(alloc)?);
+/// A source of these bytes, which each file has too.
+pub(crate) fn source_of(alloc: Global, bytes: &[u8]) -> Result<MemSource, AllocError> {
+    let input = bytes.to_vec(alloc)?;
+    let named = bytes.to_vec(alloc)?;
     Ok(MemSource::new(input, named, 65536, Vec::new(alloc)))
 }
 
-fn sink_of(alloc: Global) -> MemSink {
+/// A sink that never fails.
+pub(crate) fn sink_of(alloc: Global) -> MemSink {
     MemSink::new(alloc, 65536, Vec::new(alloc))
 }
 
-fn told(alloc: Global, ran: Ran, source: &MemSource, sink: &MemSink) -> Result<Answer, Fail> {
-    let Ran {
-        status,
-        journal,
-        shared: _,
-    } = ran;
-    Ok(Answer {
-        status,
-        written: sink.written().to_vec(alloc)?,
-        journal,
-        left: source.left().len(),
-    })
-}
-
-/// A call over any source and sink.
-pub(crate) fn said_over<R: AllocGlobal + Threads + Wait + Sync>(
+/// What a call hands back; none where there is no memory for its words.
+pub(crate) fn ran<R: AllocGlobal + Threads + Wait + Sync, G: Gate>(
     rt: &R,
-    words: &[String],
-    mut source: MemSource,
-    mut sink: MemSink,
-) -> Result<Answer, Fail> {
-    let ran = command(rt, rt.alloc(), words, &mut source, &mut sink, &EmptyGate);
-    told(rt.alloc(), ran, &source, &sink)
-}
-
-/// A call whose workers pass a gate.
-pub(crate) fn said_through<R: AllocGlobal + Threads + Wait + Sync, G: Gate>(
-    rt: &R,
-    options: &str,
-    input: &str,
+    (name, options): (&str, &str),
+    source: &mut MemSource,
+    sink: &mut MemSink,
     gate: &G,
-) -> Result<Answer, Fail> {
-    let words = words_of(rt.alloc(), "run", options)?;
-    let (mut source, mut sink) = (
-        source_of(rt.alloc(), input.as_bytes())?,
-        sink_of(rt.alloc()),
-    );
-    let ran = command(rt, rt.alloc(), &words, &mut source, &mut sink, gate);
-    told(rt.alloc(), ran, &source, &sink)
+) -> Option<Ran> {
+    match words_of(rt.alloc(), name, options) {
+        Some(words) => Some(command(rt, rt.alloc(), &words, source, sink, gate)),
+        None => None,
+    }
 }
 
-/// A call that takes its input from standard input or from a file.
-pub(crate) fn said<R: AllocGlobal + Threads + Wait + Sync>(
+/// The exit status of a call.
+pub(crate) fn status_of<R: AllocGlobal + Threads + Wait + Sync, G: Gate>(
     rt: &R,
-    command: &str,
-    options: &str,
-    input: &[u8],
-) -> Result<Answer, Fail> {
-    let words = words_of(rt.alloc(), command, options)?;
-    let source = source_of(rt.alloc(), input)?;
-    said_over(rt, &words, source, sink_of(rt.alloc()))
+    words: (&str, &str),
+    source: &mut MemSource,
+    sink: &mut MemSink,
+    gate: &G,
+) -> Option<u8> {
+    match ran(rt, words, source, sink, gate) {
+        Some(ran) => Some(ran.status.code()),
+        None => None,
+    }
 }
 
-/// Checks the status and the bytes of calls of a command.
+/// The exit status of a call with this input.
+pub(crate) fn status_with<R: AllocGlobal + Threads + Wait + Sync>(
+    rt: &R,
+    words: (&str, &str),
+    input: &[u8],
+    sink: &mut MemSink,
+) -> Option<u8> {
+    match source_of(rt.alloc(), input) {
+        Ok(mut source) => status_of(rt, words, &mut source, sink, &EmptyGate),
+        Err(_) => None,
+    }
+}
+
+/// Whether a call over a source has this exit status and writes just this.
+pub(crate) fn answers<R: AllocGlobal + Threads + Wait + Sync, G: Gate>(
+    rt: &R,
+    words: (&str, &str),
+    source: &mut MemSource,
+    gate: &G,
+    (status, bytes): Answer<'_>,
+) -> bool {
+    let mut sink = sink_of(rt.alloc());
+    let code = status_of(rt, words, source, &mut sink, gate);
+    code == Some(status) && sink.written() == bytes
+}
+
+/// The same of a call with this input.
+pub(crate) fn answers_input<R: AllocGlobal + Threads + Wait + Sync>(
+    rt: &R,
+    words: (&str, &str),
+    input: &[u8],
+    answer: Answer<'_>,
+) -> bool {
+    match source_of(rt.alloc(), input) {
+        Ok(mut source) => answers(rt, words, &mut source, &EmptyGate, answer),
+        Err(_) => false,
+    }
+}
+
+/// Whether a call over a source is answered so, and doesn't take the last bytes of it, so many.
+pub(crate) fn answers_leaving<R: AllocGlobal + Threads + Wait + Sync>(
+    rt: &R,
+    words: (&str, &str),
+    source: Result<MemSource, AllocError>,
+    answer: Answer<'_>,
+    left: usize,
+) -> bool {
+    match source {
+        Ok(mut source) => {
+            answers(rt, words, &mut source, &EmptyGate, answer) && source.left().len() == left
+        }
+        Err(_) => false,
+    }
+}
+
+/// Checks that each call of a command is answered as it should be.
 pub(crate) fn check_calls<R: Abort + AllocGlobal + Threads + Wait + Sync>(
     rt: &R,
     command: &str,
     rows: &[Row],
-) -> Result<(), Fail> {
-    for &(options, text, code, bytes) in rows {
-        let said = said(rt, command, options, text.as_bytes())?;
-        assert!(rt; said.wrote(code, bytes), "{command} {options}: {text}");
+) {
+    for &(options, input, status, bytes) in rows {
+        let answer = (status, bytes.as_bytes());
+        let answers = answers_input(rt, (command, options), input.as_bytes(), answer);
+        assert!(rt; answers, "{command} {options}: {input}");
     }
-    Ok(())
 }

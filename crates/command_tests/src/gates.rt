@@ -1,10 +1,11 @@
 // Two workers that meet: gates that note which task has come where, and hold a task back for a limited time.
 
-use crate::calls::said_through;
+use crate::calls::{answers, source_of};
 use outside_io::{Gate, Point};
 use std::hint::spin_loop;
+use std::sync::Wait;
 use std::sync::atomic::{AtomicBool, Ordering};
-use std::test::Fail;
+use std::thread::Threads;
 
 // The most turns that a task waits at one place.
 const MOST_TURNS: u32 = 10_000_000;
@@ -101,31 +102,44 @@ const FORKS: &str =
 const COLLECTS: &str =
     "fn left\nset i0 0\nset i1 14\nnewm r1 i0 i1\nputr r0 i0 r1\nnil r1\nnewm r2 i0 i1\nret\nend\nfn right\nset i0 0\nnil r1\nputr r0 i0 r1\nret\nend\nfn main\nset i0 1\nset i1 0\nnewm r0 i0 i1\npar left right\nset i2 0\ngetr r3 r0 i2\nnil r4\nsame i3 r3 r4\nout i3\nret\nend\n";
 
+// Whether a run whose workers pass a gate is done, and writes just this.
+fn runs_through<R: AllocGlobal + Threads + Wait + Sync, G: Gate>(
+    rt: &R,
+    (options, input, bytes): (&str, &str, &str),
+    gate: &G,
+) -> bool {
+    match source_of(rt.alloc(), input.as_bytes()) {
+        Ok(mut source) => {
+            let answer = (0, bytes.as_bytes());
+            answers(rt, ("run", options), &mut source, gate, answer)
+        }
+        Err(_) => false,
+    }
+}
+
 // Instructions of two tasks are run at the same time, not one behind the other and not in turns.
 #[test]
-fn both_run_at_once(rt: HostRuntime) -> Result<(), Fail> {
+fn both_run_at_once(rt: HostRuntime) {
     let gate = SideBySide {
         left: Visit::new(),
         right: Visit::new(),
     };
-    let ran = said_through(&rt, "--workers 2", FORKS, &gate)?;
-    assert!(rt; gate.left.has_met());
-    assert!(rt; gate.right.has_met());
-    assert!(rt; ran.wrote(0, "36\nend: done\n"));
-    Ok(())
+    let run = ("--workers 2", FORKS, "36\nend: done\n");
+    let ran = runs_through(&rt, run, &gate);
+    let met = (gate.left.has_met(), gate.right.has_met());
+    assert!(rt; (ran, met) == (true, (true, true)));
 }
 
 // A worker has a turn while another's collection copies.
 #[test]
-fn copying_outside_the_turn(rt: HostRuntime) -> Result<(), Fail> {
+fn copying_outside_the_turn(rt: HostRuntime) {
     let gate = TurnWhileCopying {
         copies: Visit::new(),
         runs: Visit::new(),
         had_turn: AtomicBool::new(false),
     };
-    let ran = said_through(&rt, "--workers 2 --leaf 16", COLLECTS, &gate)?;
-    assert!(rt; gate.copies.has_met());
-    assert!(rt; gate.runs.has_met());
-    assert!(rt; ran.wrote(0, "1\nend: done\n"));
-    Ok(())
+    let run = ("--workers 2 --leaf 16", COLLECTS, "1\nend: done\n");
+    let ran = runs_through(&rt, run, &gate);
+    let met = (gate.copies.has_met(), gate.runs.has_met());
+    assert!(rt; (ran, met) == (true, (true, true)));
 }

@@ -1,56 +1,120 @@
 // Made programs, run by one worker and by many.
 
-use crate::calls::said;
-use command_core::Status;
-use run_trace::{Version, trace_text};
-use std::test::Fail;
+use crate::calls::{Answer, answers_input, answers_leaving, ran, sink_of, source_of, status_with};
+use command_core::Ran;
+use outside_io::{EmptyGate, MemSink};
+use run_trace::{Entry, Version, trace_text};
+use std::alloc::Global;
+use std::sync::Wait;
+use std::thread::Threads;
 
 // The first made program. Its constants are the first three draws of the generator's rule from 1.
 const FIRST: &str =
     "fn f0\nmovr r3 r0\nset i2 2\nset i3 0\nnewm r0 i2 i3\nmovr r2 r0\nset i5 496\nset i2 0\nset i3 21\nset i7 7\nset i8 1\nlab a\nnewm r5 i2 i3\nputi r5 i2 i7\nsub i7 i7 i8\njz i7 b\njmp a\nlab b\nset i4 0\nputr r3 i4 r5\nset i3 1\nnewm r6 i2 i3\nputi r6 i2 i5\nputr r3 i4 r6\ngetr r7 r3 i4\ngeti i0 r7 i2\nnil r0\nret\nend\nfn main\nset i2 2\nset i3 0\nnewm r0 i2 i3\nmovr r9 r0\ncall f0\nset i4 0\ngetr r4 r9 i4\ngeti i6 r4 i4\nout i6\nret\nend\n";
 
-#[test]
-fn a_program_is_made(rt: HostRuntime) -> Result<(), Fail> {
+// Whether the first program is made, and the input isn't touched.
+fn first_is_made<R: AllocGlobal + Threads + Wait + Sync>(rt: &R) -> bool {
     let input = b"fn main".as_slice();
-    let made = said(&rt, "make", "1 1", input)?;
-    assert!(rt; made.wrote(0, FIRST) && made.left == input.len());
-    assert!(rt; said(&rt, "check", "", FIRST.as_bytes())?.wrote(0, "end: accepted\n"));
-    Ok(())
+    let source = source_of(rt.alloc(), input);
+    let first = (0, FIRST.as_bytes());
+    answers_leaving(rt, ("make", "1 1"), source, first, input.len())
+}
+
+const ACCEPTED: Answer<'static> = (0, b"end: accepted\n");
+
+#[test]
+fn a_program_is_made(rt: HostRuntime) {
+    let made = first_is_made(&rt);
+    let accepted = answers_input(&rt, ("check", ""), FIRST.as_bytes(), ACCEPTED);
+    assert!(rt; (made, accepted) == (true, true));
 }
 
 // What made programs write: the sum of the first draws of the functions that are reached from the first one, by the generator's
 // rule.
-const SUMS: [(&str, &str); 3] = [
+const SUMS: &[(&str, &str)] = &[
     ("1 1 --run", "496\n"),
     ("7 60 --run", "31503\n"),
     ("4294967295 41 --run", "17857\n"),
 ];
 
-// Each made program writes its sum, twice the same bytes.
-#[test]
-fn made_programs_write_their_sums(rt: HostRuntime) -> Result<(), Fail> {
-    for (options, first) in SUMS {
-        let (once, again) = (
-            said(&rt, "make", options, &[])?,
-            said(&rt, "make", options, &[])?,
-        );
-        assert!(rt; once.status == Status::Done && once.written.starts_with(first.as_bytes()));
-        assert!(rt; once.written.as_slice() == again.written.as_slice());
-    }
-    Ok(())
+// Whether a made program is done and begins with this, twice with the same bytes.
+fn is_made_alike<R: AllocGlobal + Threads + Wait + Sync>(
+    rt: &R,
+    options: &str,
+    first: &str,
+) -> bool {
+    let mut sink = sink_of(rt.alloc());
+    let code = status_with(rt, ("make", options), &[], &mut sink);
+    code == Some(0)
+        && sink.written().starts_with(first.as_bytes())
+        && answers_input(rt, ("make", options), &[], (0, sink.written()))
 }
 
-const OPTIONS: &str = "--workers 4 --leaf 512 --inner 1024";
+// Each made program writes its sum, twice the same bytes.
+#[test]
+fn made_programs_write_their_sums(rt: HostRuntime) {
+    for &(options, first) in SUMS {
+        assert!(rt; is_made_alike(&rt, options, first), "{options}");
+    }
+}
+
+const WORKERS: &str = "--workers 4 --leaf 512 --inner 1024";
+
+// What the made program writes.
+const SUM: Answer<'static> = (0, b"55024\nend: done\n");
+
+// Puts the trace of a journal behind a program, and says whether there was memory for it.
+fn add_trace(alloc: Global, text: &mut Vec<u8>, journal: &[Entry]) -> bool {
+    match trace_text(alloc, Version::Two, journal) {
+        Ok(trace) => text.extend_from_slice(trace.as_slice()).is_ok(),
+        Err(_) => false,
+    }
+}
+
+// Whether the journal of a program's run is replayed.
+fn is_replayed<R: AllocGlobal + Threads + Wait + Sync>(
+    rt: &R,
+    program: &[u8],
+    journal: &[Entry],
+) -> bool {
+    match program.to_vec(rt.alloc()) {
+        Ok(mut text) => {
+            add_trace(rt.alloc(), &mut text, journal)
+                && answers_input(rt, ("replay", WORKERS), text.as_slice(), SUM)
+        }
+        Err(_) => false,
+    }
+}
+
+// What four workers hand back.
+fn ran_by_four<R: AllocGlobal + Threads + Wait + Sync>(
+    rt: &R,
+    program: &[u8],
+    sink: &mut MemSink,
+) -> Option<Ran> {
+    match source_of(rt.alloc(), program) {
+        Ok(mut source) => ran(rt, ("run", WORKERS), &mut source, sink, &EmptyGate),
+        Err(_) => None,
+    }
+}
+
+// Whether four workers write the sum, and the journal that they hand back is replayed.
+fn is_shared<R: AllocGlobal + Threads + Wait + Sync>(rt: &R, program: &[u8]) -> bool {
+    let mut sink = sink_of(rt.alloc());
+    match ran_by_four(rt, program, &mut sink) {
+        Some(ran) => {
+            (ran.status.code(), sink.written()) == SUM
+                && is_replayed(rt, program, ran.journal.as_slice())
+        }
+        None => false,
+    }
+}
 
 // Four workers write the same sum, and the journal that they hand back is replayed.
 #[test]
-fn workers_share_a_made_program(rt: HostRuntime) -> Result<(), Fail> {
-    let mut text = said(&rt, "make", "1 120", &[])?.written;
-    let ran = said(&rt, "run", OPTIONS, text.as_slice())?;
-    assert!(rt; ran.wrote(0, "55024\nend: done\n"));
-    let trace = trace_text(rt.alloc(), Version::Two, ran.journal.as_slice())?;
-    text.extend_from_slice(trace.as_slice())?;
-    let replayed = said(&rt, "replay", OPTIONS, text.as_slice())?;
-    assert!(rt; replayed.wrote(0, "55024\nend: done\n"));
-    Ok(())
+fn workers_share_a_made_program(rt: HostRuntime) {
+    let mut sink = sink_of(rt.alloc());
+    let made = status_with(&rt, ("make", "1 120"), &[], &mut sink);
+    let shared = is_shared(&rt, sink.written());
+    assert!(rt; (made, shared) == (Some(0), true));
 }

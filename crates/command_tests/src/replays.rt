@@ -1,13 +1,12 @@
 // Replays of journals, by the core and on the definitions alone, which write the same.
 
-use crate::calls::{Row, check_calls, said};
+use crate::calls::{Row, answers_input, check_calls, sink_of, status_with};
 use std::alloc::Global;
 use std::sync::Wait;
-use std::test::Fail;
 use std::thread::Threads;
 
 // Whole journals.
-const REPLAYED: [Row; 9] = [
+const REPLAYED: &[Row] = &[
     (
         "--workers 2 --leaf 16 --report",
         "fn left\nset i0 0\nset i1 14\nnewm r1 i0 i1\nputr r0 i0 r1\nnil r1\nnewm r2 i0 i1\nret\nend\nfn right\nset i0 0\nnil r1\nputr r0 i0 r1\nret\nend\nfn main\nset i0 1\nset i1 0\nnewm r0 i0 i1\npar left right\nset i2 0\ngetr r3 r0 i2\nnil r4\nsame i3 r3 r4\nout i3\nret\nend\ntrace 1\n0 took 0\n0 ran 0 2\n0 chunk 0\n0 ran 0 2\n0 took 1\n1 took 2\n0 ran 1 2\n0 chunk 1\n0 ran 1 2\n0 ran 1 1\n0 begin 1\n1 ran 2 3\n0 end 1 1 1 16\n0 ran 1 2\n1 ran 2 1\n1 took 0\n1 ran 0 5\n1 ran 0 1\n",
@@ -65,13 +64,13 @@ const REPLAYED: [Row; 9] = [
 ];
 
 #[test]
-fn journals_are_replayed(rt: HostRuntime) -> Result<(), Fail> {
-    check_calls(&rt, "replay", &REPLAYED)?;
-    check_calls(&rt, "model", &REPLAYED)
+fn journals_are_replayed(rt: HostRuntime) {
+    check_calls(&rt, "replay", REPLAYED);
+    check_calls(&rt, "model", REPLAYED);
 }
 
 // An entry, a line or a program that is refused, and a journal without an end.
-const REFUSED: [Row; 20] = [
+const REFUSED: &[Row] = &[
     (
         "",
         "fn main\nset i0 7\nout i0\nret\nend\ntrace 1\n0 took 0\n0 ran 0 3\n",
@@ -190,9 +189,9 @@ const REFUSED: [Row; 20] = [
 ];
 
 #[test]
-fn replays_are_refused(rt: HostRuntime) -> Result<(), Fail> {
-    check_calls(&rt, "replay", &REFUSED)?;
-    check_calls(&rt, "model", &REFUSED)
+fn replays_are_refused(rt: HostRuntime) {
+    check_calls(&rt, "replay", REFUSED);
+    check_calls(&rt, "model", REFUSED);
 }
 
 // A program with a journal in which two workers collect, overwrite and join.
@@ -203,29 +202,35 @@ const COLLECTED: &str =
 const MARKED: &str =
     "fn left\nset i0 0\ngetr r1 r0 i0\nnil r2\nputr r0 i0 r2\ngeti i0 r1 i0\nret\nend\nfn right\nret\nend\nfn main\nset i0 1\nset i1 0\nnewm r0 i0 i1\nset i0 0\nset i1 14\nnewm r1 i0 i1\nset i2 5\nputi r1 i0 i2\nputr r0 i0 r1\nnil r1\npar left right\nout i0\nret\nend\ntrace 1\n0 took 0\n0 ran 0 2\n0 chunk 0\n0 ran 0 9\n0 took 1\n0 ran 1 2\n0 ran 1 2\n0 mark 0\n0 some 0 64\n0 sweep 0 0\n0 ran 1 1\n0 ran 1 1\n0 took 2\n0 ran 2 1\n0 took 0\n0 ran 0 1\n0 ran 0 1\n";
 
-// Whether a replay by the core writes what one on the definitions alone does.
-fn are_alike<R: AllocGlobal + Threads + Wait + Sync>(
-    rt: &R,
-    options: &str,
-    text: &[u8],
-) -> Result<bool, Fail> {
-    let replayed = said(rt, "replay", options, text)?;
-    let modelled = said(rt, "model", options, text)?;
-    Ok(
-        replayed.status == modelled.status
-            && replayed.written.as_slice() == modelled.written.as_slice(),
-    )
+// Whether a replay by the core has the exit status of one on the definitions alone, and writes the same.
+fn are_alike<R: AllocGlobal + Threads + Wait + Sync>(rt: &R, options: &str, input: &[u8]) -> bool {
+    let mut sink = sink_of(rt.alloc());
+    match status_with(rt, ("replay", options), input, &mut sink) {
+        Some(status) => answers_input(rt, ("model", options), input, (status, sink.written())),
+        None => false,
+    }
 }
 
-// The text with another digit at a place; None where no digit stands there.
-fn with_other_digit(alloc: Global, text: &[u8], at: usize) -> Result<Option<Vec<u8>>, Fail> {
-    let mut changed = text.to_vec(alloc)?;
-    match changed.get_mut(at) {
-        Some(byte) if byte.is_ascii_digit() => {
-            *byte = if *byte == b'1' { b'2' } else { b'1' };
-            Ok(Some(changed))
-        }
-        _ => Ok(None),
+// The text with another digit at a place.
+fn with_other_digit(alloc: Global, text: &[u8], at: usize) -> Option<Vec<u8>> {
+    let Ok(mut changed) = text.to_vec(alloc) else {
+        return None;
+    };
+    if let Some(byte) = changed.get_mut(at) {
+        *byte = if *byte == b'1' { b'2' } else { b'1' };
+    }
+    Some(changed)
+}
+
+// Whether both replays write the same of the text with another digit at a place.
+fn are_alike_at<R: AllocGlobal + Threads + Wait + Sync>(
+    rt: &R,
+    (options, text): (&str, &[u8]),
+    at: usize,
+) -> bool {
+    match with_other_digit(rt.alloc(), text, at) {
+        Some(changed) => are_alike(rt, options, changed.as_slice()),
+        None => false,
     }
 }
 
@@ -235,24 +240,30 @@ fn alike_changes<R: AllocGlobal + Threads + Wait + Sync>(
     options: &str,
     text: &[u8],
     from: usize,
-) -> Result<Option<u32>, Fail> {
+) -> Option<u32> {
     let mut digits = 0u32;
     for at in from..text.len() {
-        if let Some(changed) = with_other_digit(rt.alloc(), text, at)? {
-            if !are_alike(rt, options, changed.as_slice())? {
-                return Ok(None);
+        if text[at].is_ascii_digit() {
+            if !are_alike_at(rt, (options, text), at) {
+                return None;
             }
             digits = digits.saturating_add(1);
         }
     }
-    Ok(Some(digits))
+    Some(digits)
 }
+
+// The options of both replays, a text, where its trace begins, and how many digits that has.
+const CHANGED: &[(&str, &str, usize, u32)] = &[
+    ("--workers 2 --leaf 16 --report", COLLECTED, 253, 50),
+    ("--inner 16 --report", MARKED, 246, 46),
+];
 
 // Each digit of the traces is changed in turn.
 #[test]
-fn replays_are_as_modelled(rt: HostRuntime) -> Result<(), Fail> {
-    let options = "--workers 2 --leaf 16 --report";
-    assert!(rt; alike_changes(&rt, options, COLLECTED.as_bytes(), 253)? == Some(50));
-    assert!(rt; alike_changes(&rt, "--inner 16 --report", MARKED.as_bytes(), 246)? == Some(46));
-    Ok(())
+fn replays_are_as_modelled(rt: HostRuntime) {
+    for &(options, text, from, digits) in CHANGED {
+        let alike = alike_changes(&rt, options, text.as_bytes(), from);
+        assert!(rt; alike == Some(digits), "{options}");
+    }
 }

@@ -1,10 +1,9 @@
 // Runs by their texts: outputs, reports, traces and end lines.
 
 use crate::calls::{Row, check_calls};
-use std::test::Fail;
 
 // Runs with their reports: leaf collections, chunks that end the run, large objects, the deepest forks.
-const REPORTED: [Row; 10] = [
+const REPORTED: &[Row] = &[
     (
         "--leaf 64 --report",
         "fn main\nset i0 0\nset i1 8\nset i2 1\nset i3 100\nlab top\nnewm r0 i0 i1\nsub i3 i3 i2\njz i3 done\njmp top\nlab done\nret\nend",
@@ -68,12 +67,12 @@ const REPORTED: [Row; 10] = [
 ];
 
 #[test]
-fn reported_runs(rt: HostRuntime) -> Result<(), Fail> {
-    check_calls(&rt, "run", &REPORTED)
+fn reported_runs(rt: HostRuntime) {
+    check_calls(&rt, "run", REPORTED);
 }
 
 // Runs by what they write: down-pointers on the own path, entangled reads, traps, frozen objects, loops, compare and swap.
-const PLAIN: [Row; 20] = [
+const PLAIN: &[Row] = &[
     (
         "",
         "fn main\nset i0 7\nout i0\nret\nend",
@@ -192,12 +191,12 @@ const PLAIN: [Row; 20] = [
 ];
 
 #[test]
-fn plain_runs(rt: HostRuntime) -> Result<(), Fail> {
-    check_calls(&rt, "run", &PLAIN)
+fn plain_runs(rt: HostRuntime) {
+    check_calls(&rt, "run", PLAIN);
 }
 
 // Runs with their traces: each entry that one worker makes.
-const TRACED: [Row; 14] = [
+const TRACED: &[Row] = &[
     (
         "--trace",
         "fn main\nset i0 7\nout i0\nret\nend",
@@ -285,6 +284,6 @@ const TRACED: [Row; 14] = [
 ];
 
 #[test]
-fn traced_runs(rt: HostRuntime) -> Result<(), Fail> {
-    check_calls(&rt, "run", &TRACED)
+fn traced_runs(rt: HostRuntime) {
+    check_calls(&rt, "run", TRACED);
 }

@@ -1,10 +1,9 @@
 // Programs by their texts, from standard input and from a file: what is run, accepted and refused.
 
-use crate::calls::{Row, check_calls, said};
-use std::test::Fail;
+use crate::calls::{Row, answers_input, check_calls};
 
 // Programs of a file.
-const OF_A_FILE: [Row; 10] = [
+const OF_A_FILE: &[Row] = &[
     ("p.hh", "fn main\nend", 0, "end: done\n"),
     (
         "p.hh",
@@ -53,12 +52,12 @@ const OF_A_FILE: [Row; 10] = [
 ];
 
 #[test]
-fn programs_of_a_file(rt: HostRuntime) -> Result<(), Fail> {
-    check_calls(&rt, "run", &OF_A_FILE)
+fn programs_of_a_file(rt: HostRuntime) {
+    check_calls(&rt, "run", OF_A_FILE);
 }
 
 // Programs that are checked alone.
-const CHECKED: [Row; 4] = [
+const CHECKED: &[Row] = &[
     (
         "",
         "fn main\nset i0 7\nout i0\nret\nend",
@@ -86,15 +85,18 @@ const CHECKED: [Row; 4] = [
 ];
 
 #[test]
-fn texts_are_checked(rt: HostRuntime) -> Result<(), Fail> {
-    check_calls(&rt, "check", &CHECKED)
+fn texts_are_checked(rt: HostRuntime) {
+    check_calls(&rt, "check", CHECKED);
 }
 
+const NO_TEXT: &[u8] = b"end: source refused line 1 notutf8\n";
+
 #[test]
-fn bytes_that_are_no_text(rt: HostRuntime) -> Result<(), Fail> {
+fn bytes_that_are_no_text(rt: HostRuntime) {
     for word in ["check", "run", "model"] {
-        let said = said(&rt, word, "", &[255])?;
-        assert!(rt; said.wrote(3, "end: source refused line 1 notutf8\n"));
+        assert!(rt;
+            answers_input(&rt, (word, ""), &[255], (3, NO_TEXT)),
+            "{word}"
+        );
     }
-    Ok(())
 }
