@@ -1,5 +1,5 @@
 // Two workers at their desks, in one thread: the order of their turns is given.
-ghost use Rattle.std.specs.Prelude.{◌≡◌, IfOk, IfSome};
+ghost use Rattle.std.specs.Prelude.{IfSome};
 ghost use Rattle.turn_lock.specs.Seats.{view};
 ghost use Rattle.turn_lock.specs.Turn.{identity};
 ghost use Rattle.worker_run.specs.Desks.{AreAllDesks, ChangesHand, FewThefts, IsDesk};
@@ -13,7 +13,6 @@ use run_trace::{Entry, Settings, Version};
 use shared_tree::Shared;
 use std::alloc::Global;
 use std::sync::Wait;
-use std::test::Fail;
 use trace_input::read_trace_input;
 use turn_lock::Turn;
 use worker_run::{Bell, Desk, Next, Ready, Run, opened, prepare, take_turn};
@@ -67,7 +66,7 @@ fn makes_ready<R: Wait>(
     ready
 }
 
-// The worker comes for its turn, and has it.
+// The worker comes for its turn, and has it; one that has stopped stays so.
 fn goes_on<R: Wait>(
     rt: &R,
     turn: &Turn<Run>,
@@ -76,18 +75,18 @@ fn goes_on<R: Wait>(
     other: &mut Desk,
     desk: &mut Desk,
     next: Next,
-) -> Result<Next, Fail>
+) -> Next
     requires other { IsDesk (identity turn.now) program.now other.old }
     requires desk { IsDesk (identity turn.now) program.now desk.old }
     requires goes { GoesWith program.now desk.old.worker (view desk.old.seat) next }
     ensures other { IsDesk (identity turn.now) program.now other.new }
     ensures still { (n : Next) → GoesWith program.now other.old.worker (view other.old.seat) n → GoesWith program.now other.new.worker (view other.new.seat) n }
     ensures desk { IsDesk (identity turn.now) program.now desk.new }
-    ensures goes { IfOk result (GoesWith program.now desk.new.worker (view desk.new.seat)) }
+    ensures goes { GoesWith program.now desk.new.worker (view desk.new.seat) result }
 {
     match makes_ready(rt, turn, bell, program, other, desk, next) {
-        Some(ready) => Ok(take_turn(rt, turn, desk, program, ready)),
-        None => Err(Fail::from("it has stopped")),
+        Some(ready) => take_turn(rt, turn, desk, program, ready),
+        None => Next::Stop,
     }
 }
 
@@ -99,7 +98,7 @@ fn drive<R: Wait>(
     first: &mut Desk,
     second: &mut Desk,
     entries: &[Entry],
-) -> Result<(), Fail>
+)
     requires first { IsDesk (identity turn.now) program.now first.old }
     requires second { IsDesk (identity turn.now) program.now second.old }
     ensures first { IsDesk (identity turn.now) program.now first.new }
@@ -110,12 +109,11 @@ fn drive<R: Wait>(
     let mut to_second = Next::Idle;
     for entry in entries {
         if entry.worker() == 0 {
-            to_first = goes_on(rt, turn, &bell, program, second, first, to_first)?;
+            to_first = goes_on(rt, turn, &bell, program, second, first, to_first);
         } else {
-            to_second = goes_on(rt, turn, &bell, program, first, second, to_second)?;
+            to_second = goes_on(rt, turn, &bell, program, first, second, to_second);
         }
     }
-    Ok(())
 }
 
 // Whether the run's entries are legal, and how replaying them ends.
@@ -125,38 +123,100 @@ fn replayed(
     settings: Settings,
     entries: &[Entry],
 ) -> Option<RunEnd> {
-    replay(alloc, program, settings, entries).ok()?.ended()
+    match replay(alloc, program, settings, entries) {
+        Ok(shared) => shared.ended(),
+        Err(_) => None,
+    }
 }
 
-// The desks take the turns that the trace asks for; the answer is the value that they leave, and what a look then gives.
+const DONE: Option<RunEnd> = Some(RunEnd::Machine(End::Done));
+
+// Whether a shared value has just these entries, which are legal, what the program writes, and its end.
+fn is_left(
+    alloc: Global,
+    program: &Program,
+    settings: Settings,
+    entries: &[Entry],
+    shared: &Shared,
+) -> bool {
+    shared.journal() == entries
+        && shared.outputs() == [1].as_slice()
+        && shared.ended() == DONE
+        && replayed(alloc, program, settings, shared.journal()) == DONE
+}
+
+// The desks take the turns that the trace asks for, and leave the value as it should be; a look then gives the number of entries.
+fn leave_all<R: Wait>(
+    rt: &R,
+    alloc: Global,
+    turn: &Turn<Run>,
+    program: &Program,
+    settings: Settings,
+    entries: &[Entry],
+    first: &mut Desk,
+    second: &mut Desk,
+) -> bool
+    requires first { IsDesk (identity turn.now) program.now first.old }
+    requires second { IsDesk (identity turn.now) program.now second.old }
+{
+    drive(rt, turn, program, first, second, entries);
+    let run = turn.take(rt, &mut first.seat);
+    let looked = turn.look(&mut second.seat);
+    let shared = run.paced.into_shared();
+    let left = is_left(alloc, program, settings, entries, &shared);
+    left && looked == entries.len() as u64
+}
+
+// The same where there are two desks.
+fn at_two<R: Wait>(
+    rt: &R,
+    alloc: Global,
+    turn: &Turn<Run>,
+    program: &Program,
+    settings: Settings,
+    entries: &[Entry],
+    desks: Vec<Desk>,
+) -> bool
+    requires { AreAllDesks (identity turn.now) program.now settings desks.items }
+{
+    match two_desks(turn, program, settings, desks) {
+        Some((mut first, mut second)) => leave_all(
+            rt,
+            alloc,
+            turn,
+            program,
+            settings,
+            entries,
+            &mut first,
+            &mut second,
+        ),
+        None => false,
+    }
+}
+
+// The same of new desks.
 fn at_desks<R: Wait>(
     rt: &R,
     alloc: Global,
     program: &Program,
     settings: Settings,
     entries: &[Entry],
-) -> Result<(Shared, u64), Fail> {
-    let (turn, desks) = opened(alloc, program, settings)?;
-    let (mut first, mut second) = two_desks(&turn, program, settings, desks).ok_or("two desks")?;
-    drive(rt, &turn, program, &mut first, &mut second, entries)?;
-    let run = turn.take(rt, &mut first.seat);
-    let looked = turn.look(&mut second.seat);
-    Ok((run.paced.into_shared(), looked))
+) -> bool {
+    match opened(alloc, program, settings) {
+        Ok((turn, desks)) => at_two(rt, alloc, &turn, program, settings, entries, desks),
+        Err(_) => false,
+    }
 }
 
 #[test]
-fn two_desks_in_one_thread(rt: HostRuntime) -> Result<(), Fail> {
-    let input = read_trace_input(rt.alloc(), COLLECTS.as_bytes())
-        .ok()
-        .ok_or("a program with a trace")?;
-    let entries = input.trace.entries.as_slice();
+fn two_desks_in_one_thread(rt: HostRuntime) {
     let settings = Settings::new(Version::One, 2, 1_000_000, 4096, 16, 8192);
-    let (shared, looked) = at_desks(&rt, rt.alloc(), &input.program, settings, entries)?;
-    assert!(rt; shared.journal() == entries);
-    assert!(rt; shared.outputs() == [1].as_slice());
-    let done = Some(RunEnd::Machine(End::Done));
-    assert!(rt; shared.ended() == done);
-    assert!(rt; replayed(rt.alloc(), &input.program, settings, shared.journal()) == done);
-    assert!(rt; looked == entries.len() as u64);
-    Ok(())
+    let left = match read_trace_input(rt.alloc(), COLLECTS.as_bytes()) {
+        Ok(input) => {
+            let entries = input.trace.entries.as_slice();
+            at_desks(&rt, rt.alloc(), &input.program, settings, entries)
+        }
+        Err(_) => false,
+    };
+    assert!(rt; left);
 }
