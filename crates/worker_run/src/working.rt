@@ -27,23 +27,27 @@ fn look<R: Wait>(rt: &R, bell: &Bell, desk: &mut Desk) -> Ready
     Ready::Found(find(rt, &mut desk.hand, desk.worker))
 }
 
-// The worker puts the tasks that it made ready where others find them, and looks for one. Of two tasks others may take one.
-fn share<R: Wait>(rt: &R, bell: &Bell, desk: &mut Desk, next: Next) -> Ready
+// The worker puts both children of a fork where others find them, and looks for a task. Others may take one of the two.
+fn share_both<R: Wait>(rt: &R, bell: &Bell, desk: &mut Desk, left: u32, right: u32) -> Ready
     requires { FewThefts desk.old }
     ensures hand { ChangesHand desk.old desk.new }
     ensures found { BringsNothing result }
 {
-    let forked = matches!(next, Next::Forked { .. });
-    let put = match next {
-        Next::Forked { left, right } => put_both(&mut desk.hand, left, right),
-        Next::Resumed(task) => put(&mut desk.hand, task),
-        _ => Ok(()),
-    };
-    if put.is_err() {
+    if put_both(&mut desk.hand, left, right).is_err() {
         return Ready::Wanting;
     }
-    if forked {
-        bell.ring_once(rt);
+    bell.ring_once(rt);
+    look(rt, bell, desk)
+}
+
+// The worker puts a task that runs again where others find it, and looks for one.
+fn share<R: Wait>(rt: &R, bell: &Bell, desk: &mut Desk, task: u32) -> Ready
+    requires { FewThefts desk.old }
+    ensures hand { ChangesHand desk.old desk.new }
+    ensures found { BringsNothing result }
+{
+    if put(&mut desk.hand, task).is_err() {
+        return Ready::Wanting;
     }
     look(rt, bell, desk)
 }
@@ -72,6 +76,8 @@ pub fn prepare<R: Wait, G: Gate>(
         ))),
         Next::Copied(copied) => Some(Ready::Copied(copied)),
         Next::Found(task) => Some(Ready::Found(Some(task))),
+        Next::Forked { left, right } => Some(share_both(rt, bell, desk, left, right)),
+        Next::Resumed(task) => Some(share(rt, bell, desk, task)),
         Next::Idle => Some(look(rt, bell, desk)),
         Next::Waits => {
             bell.wait_past(rt, desk.heard);
@@ -81,7 +87,6 @@ pub fn prepare<R: Wait, G: Gate>(
             bell.ring_all(rt);
             None
         }
-        next => Some(share(rt, bell, desk, next)),
     }
 }
 
