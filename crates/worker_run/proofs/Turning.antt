@@ -23,7 +23,7 @@ use Rattle.worker_run.specs.declared.held.Next.TheVariants.{Running, Collecting 
 use Rattle.worker_run.specs.declared.held.Ready.{Ready}
 use Rattle.worker_run.specs.declared.run.Run.{Run}
 use Rattle.worker_run.specs.declared.held.Ready.TheVariants.{Paused as HasPaused, Copied as IsCopied, Found, Wanting}
-use Rattle.worker_run.specs.Acts.{ActsFor, after_end, EndsEntered, EndsHalted, Follows, Goes, WhyNone}
+use Rattle.worker_run.specs.Acts.{ActsFor, after_end, EndsHalted, Follows, Goes, WhyNone}
 use Rattle.worker_run.specs.Next.{going_kind, is_wanting}
 use Rattle.worker_run.specs.Parts.{BringsTo, TakesFrom, next_after}
 use Rattle.worker_run.specs.Values.{EntersOne, IsSame, is_over}
@@ -96,14 +96,6 @@ none_over false (Some e) a b = absurd cc
 pub not_over : (r : Run) → r.paced.halted ≡ false → (accounts r.paced).end ≡ None → is_over r ≡ false
 not_over r on goes = none_over r.paced.halted (accounts r.paced).end on goes
 
-over_parts : (halted : Bool) (end : Option RunEnd) → (halted || is_some end) ≡ false → (halted ≡ false) × (end ≡ None)
-over_parts true end h = absurd (false≢true (sym h))
-over_parts false None h = (refl, refl)
-over_parts false (Some e) h = absurd (false≢true (sym h))
-
-pub is_on : (r : Run) → is_over r ≡ false → (r.paced.halted ≡ false) × ((accounts r.paced).end ≡ None)
-is_on r h = over_parts r.paced.halted (accounts r.paced).end h
-
 pub not_true : (b : Bool) → not b ≡ true → b ≡ false
 not_true true h = absurd (false≢true h)
 not_true false h = refl
@@ -118,12 +110,6 @@ ended_over r h = by r.paced.halted (is_some (accounts r.paced).end) h
     by : (a b : Bool) → b ≡ true → (a || b) ≡ true
     by true b h = refl
     by false b h = h
-
-pub goes_with : (after : Run) (next : Next) → IsWorld after.paced → (accounts after.paced).end ≡ None → EndsEntered after next (Entered after next)
-goes_with after next I none = λ r k ready kind E on follows. record { made = kind; is_next = refl; enters = E; world = I; on = E.enters.halted ∙ on; follows = follows none }
-
-pub stops_with : (after : Run) (next : Next) → IsWorld after.paced → is_some (accounts after.paced).end ≡ true → EndsEntered after next (Entered after Stop)
-stops_with after next I ended = λ r k ready kind E on follows. record { made = kind; is_next = refl; enters = E; world = I; on = E.enters.halted ∙ on; follows = ended }
 
 pub halts_with : (after : Run) (w : World) → w ≡ record after.paced { halted = true } → AllFit after.paced w → EndsHalted after (Same (record { paced = w }) Stop)
 halts_with after w is all = λ r k ready kind same on.
