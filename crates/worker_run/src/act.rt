@@ -112,9 +112,11 @@ impl Run {
         ensures { Acts self worker ready result }
     {
         if !self.goes_on() {
+            drop(ready);
             return Acted::Same(self, Next::Stop);
         }
         if ready.is_wanting() {
+            drop(ready);
             return self.halted();
         }
         self.act_next(worker, ready)
