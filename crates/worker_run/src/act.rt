@@ -100,7 +100,10 @@ impl Run {
         let mut run = self;
         match run.paced.reserve() {
             Ok(()) => run.act_on(worker, ready),
-            Err(_) => run.halted(),
+            Err(_) => {
+                drop(ready);
+                run.halted()
+            }
         }
     }
 
