@@ -82,3 +82,6 @@ returns-clause-ended c =
     (subst (λ (z : World). EndsChild w z k p None) (sym (four_changed v (with_state w.tree p.task Ended) _ (slice_set w.homes p.task (Some (ended_rest p))) _ (slice_set w.hands k None) _ (record { items = _; room = w.journal.room - 1 }) _
     c.set_state.ensures (c.set-2.ensures ∙ ap (λ (r : Rest). slice_set w.homes p.task (Some r)) c.at_end.ensures) c.set.ensures (journal_by w.journal _ _ (alone_event k p) c.new.ensures c.push_reserved.ensures)))
     (alone_ends w k p I F at free no (record { items = []; room = w.journal.room - 1 })))
+
+pub returns-clause-hand : goal.returns-clause-hand
+returns-clause-hand c = c.set.ensures ∙ ap (λ (z : World). slice_set z.hands c.args.worker None) c.self.view_is

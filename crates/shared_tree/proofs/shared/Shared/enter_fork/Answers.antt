@@ -1,11 +1,12 @@
-use Rattle.std.proofs.Common.{◌≡◌, ℕ, ◌+◌, ◌-◌, ◌<◌, arith, None, List, [], ◌∷◌, length, length-append, slice_set, refl, ap, sym, subst, ◌∙◌}
+use Rattle.std.proofs.Common.{◌≡◌, ℕ, ◌+◌, ◌-◌, ◌<◌, arith, Option, None, List, [], ◌∷◌, length, length-append, slice_set, refl, ap, sym, subst, ◌∙◌}
 use Rattle.listed.specs.Space.{Space}
 use Rattle.run_trace.specs.Entry.{Event}
-use Rattle.heap_tree.specs.Node.{depth_of, forked}
+use Rattle.heap_tree.specs.Node.{Node, depth_of, forked}
 use Rattle.fork_join.specs.declared.forks.Child.{Child}
 use Rattle.fork_join.specs.Forked.{new_child}
 use Rattle.write_barrier.specs.declared.sets.SetOf.{SetOf}
 use Rattle.task_machine.specs.declared.part.Private.{Private}
+use Rattle.shared_tree.specs.declared.rest.Rest.{Rest}
 use Rattle.shared_tree.specs.Stands.{IsWorld}
 use Rattle.shared_tree.specs.World.{World}
 use Rattle.shared_tree.specs.Fits.{Fits}
@@ -132,3 +133,21 @@ returns-clause-answered c =
     c.in-Ok.ensures.tree refl c.set.ensures (journal_by w.journal _ _ (alone_event k p) c.new.ensures c.push_reserved.ensures)))
     (alone_forks w k p I F at free c.args.left c.args.right c.args.line B low c.put_homes.new.homes c.fork_sets.new.sets.items H N c.clear_marks.new.marks c.clear_marks.ensures j c.in-Ok.first.task c.in-Ok.second.task
     (ap (λ (z : Child). z.task) c.in-Ok.ensures.left_child) (ap (λ (z : Child). z.task) c.in-Ok.ensures.right_child)))
+
+-- the same value, by what a call left that failed
+unchanged_by : (w : World) (n : List Node) (hs : List (Option Rest)) (ss : List SetOf) → n ≡ w.tree → hs ≡ w.homes → ss ≡ w.sets → record w { tree = n; homes = hs; sets = ss } ≡ w
+unchanged_by w n hs ss en eh es =
+    ap (λ (x : List Node). record w { tree = x; homes = hs; sets = ss }) en
+    ∙ (ap (λ (x : List (Option Rest)). record w { homes = x; sets = ss }) eh ∙ ap (λ (x : List SetOf). record w { sets = x }) es)
+
+pub invariant_of-self : goal.invariant_of-self
+invariant_of-self c =
+    let e = unchanged_by (the_view c.self.inside) c.grow-grown.new.tree c.grow-grown.new.homes c.grow-grown.new.sets.items c.in_default.ensures.same_tree c.in_default.ensures.same_homes c.in_default.ensures.sets in
+    subst IsWorld (sym e) c.self.invariant
+
+pub returns-in_default-clause-same : goal.returns-in_default-clause-same
+returns-in_default-clause-same c =
+    unchanged_by (the_view c.self.inside) c.grow-grown.new.tree c.grow-grown.new.homes c.grow-grown.new.sets.items c.in_default.ensures.same_tree c.in_default.ensures.same_homes c.in_default.ensures.sets ∙ c.self.view_is
+
+pub returns-clause-hand : goal.returns-clause-hand
+returns-clause-hand c = c.set.ensures ∙ ap (λ (z : World). slice_set z.hands c.args.worker None) c.self.view_is

@@ -458,3 +458,6 @@ returns-clause-joined c =
     let same = four_changed v (joined_nodes (with_state w.tree p.task Ended) c.args.parent left.side.task right.side.task) c.join_children-rest.new.tree homes homes (slice_set w.hands k None) c.set.new.self (record { items = _; room = w.journal.room - 1 }) c.push_reserved.new.self tree refl c.set.ensures (journal_by w.journal _ _ (alone_event k p) c.new.ensures c.push_reserved.ensures) in
     subst (λ (z : World). EndsChild z (record v { tree = c.join_children-rest.new.tree; homes = homes; hands = c.set.new.self; journal = c.push_reserved.new.self }) k p (Some c.args.parent)) c.self.view_is
     (subst (λ (z : World). EndsChild w z k p (Some c.args.parent)) (sym same) both.1)
+
+pub returns-clause-hand : goal.returns-clause-hand
+returns-clause-hand c = c.set.ensures ∙ ap (λ (z : World). slice_set z.hands c.args.worker None) c.self.view_is

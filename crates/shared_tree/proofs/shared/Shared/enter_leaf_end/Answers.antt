@@ -1,5 +1,7 @@
-use Rattle.std.proofs.Common.{◌≡◌, ℕ, All, List, None, Option, fold, is_some, slice_get, true, ap, ap₂, sym, subst, ◌∙◌}
+use Rattle.std.proofs.Common.{◌≡◌, ℕ, All, List, None, Option, fold, is_some, slice_get, true, refl, ap, ap₂, sym, subst, ◌∙◌}
 use Rattle.std.specs.Prelude.{IsSome}
+use Rattle.listed.specs.Space.{Space}
+use Rattle.run_trace.specs.Entry.{Event}
 use Rattle.object_layout.specs.declared.word.Addr.{Addr}
 use Rattle.object_layout.specs.Content.{Content}
 use Rattle.remembered_set.specs.Moved.{AreFields, redirected}
@@ -13,7 +15,7 @@ use Rattle.shared_tree.specs.declared.heaps.Heaps.{Heaps}
 use Rattle.shared_tree.specs.declared.rest.Rest.{Rest}
 use Rattle.shared_tree.specs.World.{World}
 use Rattle.shared_tree.specs.Fits.{OthersFit}
-use Rattle.shared_tree.specs.Entered.{refused}
+use Rattle.shared_tree.specs.Entered.{Enters, refused}
 use Rattle.shared_tree.specs.LeafEnd.{FitsCopied, end_event}
 use Rattle.shared_tree.specs.RestingHeaps.{refs_in, with_ref_in}
 use Rattle.shared_tree.specs.Roots.{heaps_of, sources_of}
@@ -96,3 +98,10 @@ returns-clause-others c =
     let once : StandOnce (sources_of (slice_get w.sets p.task)) = subst (λ (xs : List SetOf). StandOnce (sources_of (slice_get xs p.task))) c.deref.ensures.value c.lead.ensures.once in
     subst (λ (z : World). OthersFit z (record w { pool = c.give_all.new.pool; homes = c.lead.new.heaps.homes; journal = c.push_reserved.new.self }) k) c.self.view_is
     (others_so w k p m c.self.invariant F free c.lead.new.heaps is once c.give_all.new.pool c.give_all.ensures c.push_reserved.new.self (journal_by w.journal _ _ (end_event k p m) c.new-3.ensures c.push_reserved.ensures))
+
+pub returns-clause-enters : goal.returns-clause-enters
+returns-clause-enters c =
+    let w : World = the_view c.self.inside in
+    let e : Event = end_event c.args.worker c.args.part.now c.args.moved in
+    subst (λ (z : World). Enters z (record w { pool = c.give_all.new.pool; homes = c.lead.new.heaps.homes; journal = c.push_reserved.new.self }) e) c.self.view_is
+    (record { journal = ap (λ (j : Space Event). j.items) (journal_by w.journal _ _ e c.new-3.ensures c.push_reserved.ensures); program = refl; settings = refl; halted = refl })

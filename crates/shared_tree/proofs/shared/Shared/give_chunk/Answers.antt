@@ -1,4 +1,4 @@
-use Rattle.std.proofs.Common.{◌≡◌, ℕ, ◌+◌, ◌-◌, ◌<◌, ◌≤◌, None, Some, [], inl, inr, Ok, Err, ap, sym, subst, ◌∙◌}
+use Rattle.std.proofs.Common.{◌≡◌, ℕ, ◌+◌, ◌-◌, ◌<◌, ◌≤◌, None, Some, [], inl, inr, Ok, Err, refl, ap, sym, subst, ◌∙◌}
 use Rattle.std.proofs.lemmas.Bool.{cases_lt}
 use Rattle.listed.specs.Space.{Space}
 use Rattle.run_trace.specs.Entry.{Event}
@@ -14,7 +14,7 @@ use Rattle.shared_tree.specs.World.{World}
 use Rattle.shared_tree.specs.Stands.{IsWorld}
 use Rattle.shared_tree.specs.Fits.{Fits, OthersFit}
 use Rattle.shared_tree.specs.Next.{part_asks}
-use Rattle.shared_tree.specs.Entered.{refused}
+use Rattle.shared_tree.specs.Entered.{Enters, refused}
 use Rattle.shared_tree.specs.contracts.shared.Shared.{the_view}
 use Rattle.shared_tree.proofs.Chunked.{given_fresh, given_others, given_part, given_world, places_fit, pool_others, pool_part, pool_world}
 use Rattle.shared_tree.proofs.Entered.{journal_by}
@@ -148,3 +148,20 @@ returns-in_err-make_room-clause-fits c =
     let p : Private = c.args.part.now in
     subst (λ (h : Heap). Fits c.args.self.now c.args.worker (record p { heap = h })) (sym c.make_room.ensures.kept)
     (places_fit c.args.self.now c.args.worker p c.make_room.new.self.slots c.make_room.new.self.spare c.requires.fits)
+
+pub returns-in-Ok-clause-enters : goal.returns-in-Ok-clause-enters
+returns-in-Ok-clause-enters c =
+    let w : World = the_view c.self.inside in
+    let e : Event = record { worker = c.args.worker; kind = Chunk c.args.part.now.task } in
+    subst (λ (z : World). Enters z (record w { pool = c.take.new.self; journal = c.push_reserved.new.self }) e) c.self.view_is
+    (record { journal = ap (λ (j : Space Event). j.items) (journal_by w.journal _ _ e c.new.ensures c.push_reserved.ensures); program = refl; settings = refl; halted = refl })
+
+pub returns-in-Err-Full-clause-enters : goal.returns-in-Err-Full-clause-enters
+returns-in-Err-Full-clause-enters c =
+    let w : World = the_view c.self.inside in
+    let e : Event = record { worker = c.args.worker; kind = Chunk c.args.part.now.task } in
+    subst (λ (z : World). Enters z (record w { pool = c.take.new.self; journal = c.push_reserved-in-Err-Full.new.self; end = Some (PoolOf c.in_use.result) }) e) c.self.view_is
+    (record { journal = ap (λ (j : Space Event). j.items) (journal_by w.journal _ _ e c.new-in-Err-Full.ensures c.push_reserved-in-Err-Full.ensures); program = refl; settings = refl; halted = refl })
+
+pub returns-in-Err-NoMemory-clause-same : goal.returns-in-Err-NoMemory-clause-same
+returns-in-Err-NoMemory-clause-same c = ap (λ (z : Chunks). record (the_view c.self.inside) { pool = z }) c.in-Err-NoMemory.ensures.err ∙ c.self.view_is
