@@ -8,7 +8,11 @@ mod examples;
 #[cfg(test)]
 mod gates;
 #[cfg(test)]
+mod images;
+#[cfg(test)]
 mod made;
+#[cfg(test)]
+mod neighbours;
 #[cfg(test)]
 mod outside;
 #[cfg(test)]

@@ -1,6 +1,7 @@
-// Whole calls of `image` and `verify`, over sources and sinks in memory.
+// Calls of `image` and `verify`.
 
-use crate::calls::{COLLECTS, Call, ENTANGLES, answers, check_calls, exits, sink_of};
+use crate::calls::sink_of;
+use crate::neighbours::{COLLECTS, Call, ENTANGLES, answers, check_calls, exits};
 use std::alloc::{AllocError, Global};
 use std::sync::Wait;
 use std::thread::Threads;

@@ -1,8 +1,8 @@
-// Whole calls of `races`, and replays of parallel loops, over sources and sinks in memory.
+// Calls of what stands beside runs: races, and replays of parallel loops. They hand no run back.
 
-use command_core::{Ran, command};
+use crate::calls::{ran, sink_of, source_of};
+use command_core::Ran;
 use outside_io::{EmptyGate, MemSink, MemSource};
-use std::alloc::{AllocError, Global};
 use std::process::Abort;
 use std::sync::Wait;
 use std::thread::Threads;
@@ -38,65 +38,22 @@ const DISENTANGLED: &str =
 const SWAPS: &str =
     "fn left\nset i0 0\nset i1 1\nnewm r1 i0 i1\nnil r2\ncas i0 r0 i0 r2 r1\nret\nend\nfn right\nset i0 0\nset i1 1\nnewm r1 i0 i1\nnil r2\ncas i0 r0 i0 r2 r1\nret\nend\nfn main\nset i0 1\nset i1 0\nnewm r0 i0 i1\npar left right\nadd i2 i0 i1\nout i2\nout i0\nret\nend\ntrace 2\n0 took 0\n0 ran 0 2\n0 chunk 0\n0 ran 0 2\n0 took 2\n0 ran 2 2\n0 chunk 2\n0 ran 2 3\n0 ran 2 1\n0 took 1\n0 ran 1 2\n0 chunk 1\n0 ran 1 3\n0 ran 1 1\n0 took 0\n0 ran 0 2\n0 ran 0 1\n0 ran 0 1\n";
 
-// Adds a word, and says whether it did.
-fn add_word(alloc: Global, words: &mut Vec<String>, word: &str) -> bool {
-    match String::from_str(alloc, word) {
-        Ok(word) => words.push(word).is_ok(),
-        Err(_) => false,
-    }
-}
-
-// The words of a line, with a space between each two.
-fn words_of(alloc: Global, line: &str) -> Result<Vec<String>, AllocError> {
-    let mut words = Vec::new(alloc);
-    for word in line.split(' ') {
-        if !add_word(alloc, &mut words, word) {
-            return Err(AllocError);
-        }
-    }
-    Ok(words)
-}
-
-// A source of these bytes, which each file has too.
-fn source_of(alloc: Global, bytes: &[u8]) -> Result<MemSource, AllocError> {
-    let input = bytes.to_vec(alloc)?;
-    let named = bytes.to_vec(alloc)?;
-    Ok(MemSource::new(input, named, 65536, Vec::new(alloc)))
-}
-
-/// A sink that never fails.
-pub(crate) fn sink_of(alloc: Global) -> MemSink {
-    MemSink::new(alloc, 65536, Vec::new(alloc))
-}
-
 // Whether a call has this exit status, and hands no run back.
 fn has_status(ran: &Ran, status: u8) -> bool {
     ran.journal.is_empty() && ran.shared.is_none() && ran.status.code() == status
 }
 
-// The same of a call of these words.
+// The same of a command line over a source.
 fn exits_over<R: AllocGlobal + Threads + Wait + Sync>(
     rt: &R,
-    words: &[String],
+    line: &str,
     source: &mut MemSource,
     sink: &mut MemSink,
     status: u8,
 ) -> bool {
-    let ran = command(rt, rt.alloc(), words, source, sink, &EmptyGate);
-    has_status(&ran, status)
-}
-
-// The same where the input is these bytes.
-fn exits_with<R: AllocGlobal + Threads + Wait + Sync>(
-    rt: &R,
-    words: &[String],
-    input: &[u8],
-    sink: &mut MemSink,
-    status: u8,
-) -> bool {
-    match source_of(rt.alloc(), input) {
-        Ok(mut source) => exits_over(rt, words, &mut source, sink, status),
-        Err(_) => false,
+    match ran(rt, (line, ""), source, sink, &EmptyGate) {
+        Some(ran) => has_status(&ran, status),
+        None => false,
     }
 }
 
@@ -108,8 +65,8 @@ pub(crate) fn exits<R: AllocGlobal + Threads + Wait + Sync>(
     sink: &mut MemSink,
     status: u8,
 ) -> bool {
-    match words_of(rt.alloc(), line) {
-        Ok(words) => exits_with(rt, words.as_slice(), input, sink, status),
+    match source_of(rt.alloc(), input) {
+        Ok(mut source) => exits_over(rt, line, &mut source, sink, status),
         Err(_) => false,
     }
 }
