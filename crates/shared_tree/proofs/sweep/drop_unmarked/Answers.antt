@@ -1,4 +1,4 @@
-use Rattle.std.proofs.Common.{◌≡◌, ◌<◌, arith, Some, length, length-set, slice_set, ap, sym, subst, ◌∙◌}
+use Rattle.std.proofs.Common.{false, true, ◌≡◌, ◌<◌, arith, Some, length, length-set, slice_set, ap, sym, subst, ◌∙◌, ℕ, List, Option, None, refl, slice_get}
 use Rattle.std.proofs.lemmas.Option.{same_Some}
 use Rattle.listed.proofs.Members.{got_within}
 use Rattle.alloc_path.specs.Heap.{Heap}
@@ -7,6 +7,7 @@ use Rattle.shared_tree.specs.declared.rest.Rest.{Rest}
 use Rattle.shared_tree.specs.Sweeping.{SweepsHome}
 use Rattle.shared_tree.specs.World.{flat, marks_at, rest_at}
 use Rattle.shared_tree.proofs.Replaced.{set_twice}
+use Rattle.std.specs.Prelude.{IsSome}
 use Rattle.shared_tree.proofs.sweep.drop_unmarked.Goals as goal
 
 pub sweep-requires-clause-room : goal.sweep-requires-clause-room
@@ -42,3 +43,29 @@ returns-clause-swept c = λ r m there marked.
           ∙ ap (λ (h : Heap). slice_set c.args.homes.now c.args.t (Some (let z : Rest = record c.in-Some.rest { heap = h } in z))) c.sweep.ensures.heap);
       given = c.sweep.ensures.pool;
     }))
+
+not_some : false ≡ true → ⊥
+not_some e = cc
+
+-- who has something has a place
+by_some : {A : Type 0} (xs : List (Option A)) (t : ℕ) (o : Option (Option A)) → slice_get xs t ≡ o → IsSome (flat o) → t < length xs
+by_some xs t None e i = absurd cc
+by_some xs t (Some x) e i = got_within xs t x e
+
+pub at_mut-requires : goal.at_mut-requires
+at_mut-requires c = by_some c.args.homes.now c.args.t (slice_get c.args.homes.now c.args.t) refl c.requires.home
+
+pub at_mut-requires-2 : goal.at_mut-requires-2
+at_mut-requires-2 c = by_some c.args.marks.now c.args.t (slice_get c.args.marks.now c.args.t) refl c.requires.marking
+
+pub unreachable-requires : goal.unreachable-requires
+unreachable-requires c = not_some (subst IsSome (ap flat c.at_mut.ensures.value ∙ (sym c.replace.ensures.value ∙ c.in_default.is)) c.requires.home)
+
+pub sweep-requires-clause-done : goal.sweep-requires-clause-done
+sweep-requires-clause-done c =
+    let is : rest_at c.args.homes.now c.args.t ≡ Some c.in-Some.rest = ap flat c.at_mut.ensures.value ∙ (sym c.replace.ensures.value ∙ c.in-Some.is) in
+    let at : marks_at c.args.marks.now c.args.t ≡ Some c.in-Some-replace.marking = ap flat c.at_mut-2.ensures.value ∙ (sym c.replace-2.ensures.value ∙ c.in-Some-replace.is) in
+    (c.requires.can c.in-Some.rest c.in-Some-replace.marking is at).done
+
+pub returns-clause-marks : goal.returns-clause-marks
+returns-clause-marks c = ap (slice_set c.args.marks.now c.args.t) c.replace-2.ensures.after

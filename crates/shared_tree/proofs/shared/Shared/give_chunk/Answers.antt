@@ -1,4 +1,4 @@
-use Rattle.std.proofs.Common.{◌≡◌, ℕ, ◌+◌, ◌-◌, ◌<◌, ◌≤◌, None, Some, [], inl, inr, Ok, Err, refl, ap, sym, subst, ◌∙◌}
+use Rattle.std.proofs.Common.{◌≡◌, ℕ, ◌+◌, ◌-◌, ◌<◌, ◌≤◌, None, Some, [], inl, inr, Ok, Err, refl, ap, sym, subst, ◌∙◌, Result}
 use Rattle.std.proofs.lemmas.Bool.{cases_lt}
 use Rattle.listed.specs.Space.{Space}
 use Rattle.run_trace.specs.Entry.{Event}
@@ -18,6 +18,7 @@ use Rattle.shared_tree.specs.Entered.{Enters, refused}
 use Rattle.shared_tree.specs.contracts.shared.Shared.{the_view}
 use Rattle.shared_tree.proofs.Chunked.{given_fresh, given_others, given_part, given_world, places_fit, pool_others, pool_part, pool_world}
 use Rattle.shared_tree.proofs.Entered.{journal_by}
+use Rattle.std.specs.Prelude.{OnErr}
 use Rattle.shared_tree.proofs.shared.Shared.give_chunk.Goals as goal
 
 room_of_space : Space Event → ℕ → Space Event
@@ -165,3 +166,44 @@ returns-in-Err-Full-clause-enters c =
 
 pub returns-in-Err-NoMemory-clause-same : goal.returns-in-Err-NoMemory-clause-same
 returns-in-Err-NoMemory-clause-same c = ap (λ (z : Chunks). record (the_view c.self.inside) { pool = z }) c.in-Err-NoMemory.ensures.err ∙ c.self.view_is
+
+on_err : {A E P : Type 0} (r : Result A E) → P → OnErr r P
+on_err (Ok x) p = tt
+on_err (Err e) p = p
+
+pub invariant_of-self-in-Err-NoMemory : goal.invariant_of-self-in-Err-NoMemory
+invariant_of-self-in-Err-NoMemory c = subst (λ (z : Chunks). IsWorld (record (the_view c.self.inside) { pool = z })) (sym c.in-Err-NoMemory.ensures.err) c.self.invariant
+
+pub push_reserved-requires : goal.push_reserved-requires
+push_reserved-requires c = subst (λ (z : World). 0 < z.journal.room) (sym c.self.view_is) c.requires.room
+
+pub push_reserved-requires-in-Err-Full : goal.push_reserved-requires-in-Err-Full
+push_reserved-requires-in-Err-Full c = subst (λ (z : World). 0 < z.journal.room) (sym c.self.view_is) c.requires.room
+
+pub returns-in-Err-NoMemory-clause-back : goal.returns-in-Err-NoMemory-clause-back
+returns-in-Err-NoMemory-clause-back c =
+    let p : Private = c.args.part.now in
+    ap (λ (h : Heap). record p { heap = h }) c.make_room.ensures.kept
+
+pub returns-in-Err-NoMemory-clause-rest : goal.returns-in-Err-NoMemory-clause-rest
+returns-in-Err-NoMemory-clause-rest c = refl
+
+pub returns-in-Ok-clause-rest : goal.returns-in-Ok-clause-rest
+returns-in-Ok-clause-rest c = refl
+
+pub returns-in_err-make_room-clause-back : goal.returns-in_err-make_room-clause-back
+returns-in_err-make_room-clause-back c =
+    let p : Private = c.args.part.now in
+    on_err c.from_residual.result (ap (λ (h : Heap). record p { heap = h }) c.make_room.ensures.kept)
+
+pub returns-in_err-make_room-clause-same : goal.returns-in_err-make_room-clause-same
+returns-in_err-make_room-clause-same c = on_err c.from_residual.result refl
+
+pub returns-in_err-make_room-clause-rest : goal.returns-in_err-make_room-clause-rest
+returns-in_err-make_room-clause-rest c = refl
+
+pub take-requires-clause-few : goal.take-requires-clause-few
+take-requires-clause-few c = c.units_for-units.ensures.few
+
+pub take-requires-clause-some : goal.take-requires-clause-some
+take-requires-clause-some c = c.units_for-units.ensures.some

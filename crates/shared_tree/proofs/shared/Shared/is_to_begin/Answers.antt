@@ -1,6 +1,6 @@
 use Rattle.std.proofs.Common.{nat_le, ap, ap₂, sym, ◌∙◌}
 use Rattle.run_trace.specs.Settings.{Limits}
-use Rattle.shared_tree.proofs.PaceStands.{begin_stops, begin_counted}
+use Rattle.shared_tree.proofs.PaceStands.{begin_stops, begin_counted, begin_marked}
 use Rattle.shared_tree.proofs.shared.Shared.is_to_begin.Goals as goal
 
 pub returns-then-is_going : goal.returns-then-is_going
@@ -10,3 +10,6 @@ returns-then-is_going c =
 
 pub returns : goal.returns
 returns c = sym (begin_stops c.args.self.now c.stands.ensures c.requires c.args.fork (sym c.is_going.ensures ∙ c.if-is_going.false))
+
+pub returns-then-is_marking : goal.returns-then-is_marking
+returns-then-is_marking c = sym (begin_marked c.args.self.now c.stands.ensures c.requires c.args.fork (sym c.is_going.ensures ∙ c.if-is_going.true) (sym c.is_marking.ensures ∙ c.if-is_marking.true))

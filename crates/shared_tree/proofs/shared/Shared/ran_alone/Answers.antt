@@ -31,3 +31,54 @@ enter_halt-requires-clause-ends c =
     let w : World = c.args.self.now in
     let p : Private = c.args.part in
     trap_is w p c.in-Traps.kind c.next_ending-ending.result.1 (subst (λ (e : Ending). Tells w p e c.next_ending-ending.result.1) c.in-Traps.is c.next_ending-ending.ensures)
+
+pub returns-in-Some-clause-refused : goal.returns-in-Some-clause-refused
+returns-in-Some-clause-refused c = sym c.alone_refused.ensures ∙ c.in-Some.is
+
+pub returns-in-Ok-clause-refused : goal.returns-in-Ok-clause-refused
+returns-in-Ok-clause-refused c = sym c.alone_refused.ensures ∙ c.in_default.is
+
+pub returns-in-Err-clause-refused : goal.returns-in-Err-clause-refused
+returns-in-Err-clause-refused c = sym c.alone_refused.ensures ∙ c.in_default.is
+
+pub returns-in-Traps-clause-refused : goal.returns-in-Traps-clause-refused
+returns-in-Traps-clause-refused c = sym c.alone_refused.ensures ∙ c.in_default.is
+
+pub returns-then-part-eq0-clause-refused : goal.returns-then-part-eq0-clause-refused
+returns-then-part-eq0-clause-refused c = sym c.alone_refused.ensures ∙ c.in_default.is
+
+pub returns-else-part-eq0-clause-refused : goal.returns-else-part-eq0-clause-refused
+returns-else-part-eq0-clause-refused c = sym c.alone_refused.ensures ∙ c.in_default.is
+
+pub returns-in-Beyond-clause-refused : goal.returns-in-Beyond-clause-refused
+returns-in-Beyond-clause-refused c = sym c.alone_refused.ensures ∙ c.in_default.is
+
+pub next_ending-ending-requires-clause-free : goal.next_ending-ending-requires-clause-free
+next_ending-ending-requires-clause-free c = sym c.alone_refused.ensures ∙ c.in_default.is
+
+pub enter_output-requires-clause-free : goal.enter_output-requires-clause-free
+enter_output-requires-clause-free c = sym c.alone_refused.ensures ∙ c.in_default.is
+
+pub enter_halt-requires-clause-free : goal.enter_halt-requires-clause-free
+enter_halt-requires-clause-free c = sym c.alone_refused.ensures ∙ c.in_default.is
+
+pub enter_done-requires-clause-free : goal.enter_done-requires-clause-free
+enter_done-requires-clause-free c = sym c.alone_refused.ensures ∙ c.in_default.is
+
+pub returns-in-Ok-clause-answered : goal.returns-in-Ok-clause-answered
+returns-in-Ok-clause-answered c = c.in-Ok.ensures.goes
+
+pub returns-in-Traps-clause-answered : goal.returns-in-Traps-clause-answered
+returns-in-Traps-clause-answered c = c.enter_halt.ensures
+
+pub returns-then-part-eq0-clause-answered : goal.returns-then-part-eq0-clause-answered
+returns-then-part-eq0-clause-answered c = c.enter_done.ensures
+
+pub returns-in-Err-clause-same : goal.returns-in-Err-clause-same
+returns-in-Err-clause-same c = c.in-Err.ensures.same
+
+pub enter_done-requires-clause-returns : goal.enter_done-requires-clause-returns
+enter_done-requires-clause-returns c = subst (λ (e : Ending). Tells c.args.self.now c.args.part e c.next_ending-ending.result.1) c.in-Returns.is c.next_ending-ending.ensures
+
+pub enter_halt-requires-clause-other : goal.enter_halt-requires-clause-other
+enter_halt-requires-clause-other c = λ e. cc

@@ -1,5 +1,5 @@
-use Rattle.std.proofs.Common.{◌≡◌, ℕ, Option, Some, None, slice_set, ap, sym, ◌∙◌}
-use Rattle.heap_tree.specs.Node.{parent_of}
+use Rattle.std.proofs.Common.{false, true, ◌≡◌, ℕ, Option, Some, None, slice_set, ap, sym, ◌∙◌, ◌<◌, refl, subst}
+use Rattle.heap_tree.specs.Node.{parent_of, state_of}
 use Rattle.task_machine.specs.declared.part.Private.{Private}
 use Rattle.shared_tree.specs.World.{World}
 use Rattle.shared_tree.specs.Alone.{alone_event}
@@ -7,6 +7,7 @@ use Rattle.shared_tree.specs.ChildEnds.{IsAtEnd}
 use Rattle.shared_tree.specs.Entered.{refused}
 use Rattle.shared_tree.proofs.ChildSteps.{tree_parent}
 use Rattle.shared_tree.proofs.JoinPlaces.{places_ends, places_fit, places_same}
+use Rattle.heap_tree.specs.Pairs.{sibling}
 use Rattle.shared_tree.proofs.shared.Shared.ran_ending.Goals as goal
 
 none_some : {q : ℕ} → ◌≡◌ {A = Option ℕ} None (Some q) → ⊥
@@ -64,3 +65,45 @@ pub returns-in-Ok-clause-hand : goal.returns-in-Ok-clause-hand
 returns-in-Ok-clause-hand c =
     let w : World = c.args.self.now in
     c.enter_join.ensures.hand ∙ ap (λ (z : World). slice_set z.hands c.args.worker None) c.make_join_places.ensures.same.rest
+
+not_yes : false ≡ true → ⊥
+not_yes e = cc
+
+pub returns-in-Some-clause-refused : goal.returns-in-Some-clause-refused
+returns-in-Some-clause-refused c = sym c.end_refused.ensures ∙ c.in-Some.is
+
+pub enter_end-requires-clause-alone : goal.enter_end-requires-clause-alone
+enter_end-requires-clause-alone c = λ e. not_yes (c.if-not-has_sibling_ended.ensures.yes.1 e)
+
+pub make_join_places-requires-clause-ended : goal.make_join_places-requires-clause-ended
+make_join_places-requires-clause-ended c = c.if-not-has_sibling_ended.ensures.yes.0 refl
+
+pub make_join_places-requires-clause-parent : goal.make_join_places-requires-clause-parent
+make_join_places-requires-clause-parent c = ap (λ (z : World). parent_of z.tree c.args.part.task) (sym c.self.view_is) ∙ (sym c.parent.ensures ∙ c.in-Some-parent.is)
+
+pub enter_join-requires-clause-ended : goal.enter_join-requires-clause-ended
+enter_join-requires-clause-ended c = ap (λ (z : World). state_of z.tree (sibling c.args.part.task)) c.make_join_places.ensures.same.rest ∙ c.if-not-has_sibling_ended.ensures.yes.0 refl
+
+pub enter_join-requires-clause-parent : goal.enter_join-requires-clause-parent
+enter_join-requires-clause-parent c = ap (λ (z : World). parent_of z.tree c.args.part.task) c.make_join_places.ensures.same.rest ∙ (ap (λ (z : World). parent_of z.tree c.args.part.task) (sym c.self.view_is) ∙ (sym c.parent.ensures ∙ c.in-Some-parent.is))
+
+pub enter_join-requires-clause-places : goal.enter_join-requires-clause-places
+enter_join-requires-clause-places c = c.in-Ok.ensures.places
+
+pub enter_join-requires-clause-room : goal.enter_join-requires-clause-room
+enter_join-requires-clause-room c = subst (λ (z : World). 0 < z.journal.room) (sym c.make_join_places.ensures.same.rest) c.requires.room
+
+pub returns-in-Err-clause-same : goal.returns-in-Err-clause-same
+returns-in-Err-clause-same c = c.make_join_places.ensures.same
+
+pub returns-in-Err-clause-refused : goal.returns-in-Err-clause-refused
+returns-in-Err-clause-refused c = sym c.end_refused.ensures ∙ c.in_default.is
+
+pub returns-in-Ok-clause-refused : goal.returns-in-Ok-clause-refused
+returns-in-Ok-clause-refused c = sym c.end_refused.ensures ∙ c.in_default.is
+
+pub returns-then-not-has_sibling_ended-clause-answered : goal.returns-then-not-has_sibling_ended-clause-answered
+returns-then-not-has_sibling_ended-clause-answered c = c.enter_end.ensures.ended
+
+pub returns-then-not-has_sibling_ended-clause-hand : goal.returns-then-not-has_sibling_ended-clause-hand
+returns-then-not-has_sibling_ended-clause-hand c = c.enter_end.ensures.hand

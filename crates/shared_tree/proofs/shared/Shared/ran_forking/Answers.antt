@@ -31,3 +31,38 @@ enter_halt-requires-clause-ends c =
 
 pub enter_halt-requires-clause-shared : goal.enter_halt-requires-clause-shared
 enter_halt-requires-clause-shared c = fork_shared c.args.self.now c.args.part c.requires.forks
+
+pub returns-in-Some-clause-refused : goal.returns-in-Some-clause-refused
+returns-in-Some-clause-refused c = sym c.fork_refused.ensures ∙ c.in-Some.is
+
+pub enter_fork-requires-clause-free : goal.enter_fork-requires-clause-free
+enter_fork-requires-clause-free c = sym c.fork_refused.ensures ∙ c.in_default.is
+
+pub enter_fork-requires-clause-by : goal.enter_fork-requires-clause-by
+enter_fork-requires-clause-by c = c.fork_line-left.ensures
+
+pub enter_fork-requires-clause-shallow : goal.enter_fork-requires-clause-shallow
+enter_fork-requires-clause-shallow c =
+    let shallow = subst (λ n. n < 1000) c.depth.ensures c.if-depth-lt-DEPTH_LIMIT.true in
+    subst (λ (z : World). depth_of z.tree c.args.part.task < 1000) c.self.view_is shallow
+
+pub enter_halt-requires-clause-free : goal.enter_halt-requires-clause-free
+enter_halt-requires-clause-free c = sym c.fork_refused.ensures ∙ c.in_default.is
+
+pub enter_halt-requires-clause-other : goal.enter_halt-requires-clause-other
+enter_halt-requires-clause-other c = λ e. cc
+
+pub returns-else-depth-lt-DEPTH_LIMIT-clause-refused : goal.returns-else-depth-lt-DEPTH_LIMIT-clause-refused
+returns-else-depth-lt-DEPTH_LIMIT-clause-refused c = sym c.fork_refused.ensures ∙ c.in_default.is
+
+pub returns-else-depth-lt-DEPTH_LIMIT-clause-answered : goal.returns-else-depth-lt-DEPTH_LIMIT-clause-answered
+returns-else-depth-lt-DEPTH_LIMIT-clause-answered c = c.enter_halt.ensures
+
+pub returns-then-depth-lt-DEPTH_LIMIT-clause-answered : goal.returns-then-depth-lt-DEPTH_LIMIT-clause-answered
+returns-then-depth-lt-DEPTH_LIMIT-clause-answered c = c.enter_fork.ensures.answered
+
+pub returns-then-depth-lt-DEPTH_LIMIT-clause-hand : goal.returns-then-depth-lt-DEPTH_LIMIT-clause-hand
+returns-then-depth-lt-DEPTH_LIMIT-clause-hand c = c.enter_fork.ensures.hand
+
+pub returns-else-depth-lt-DEPTH_LIMIT-clause-hand : goal.returns-else-depth-lt-DEPTH_LIMIT-clause-hand
+returns-else-depth-lt-DEPTH_LIMIT-clause-hand c = tt

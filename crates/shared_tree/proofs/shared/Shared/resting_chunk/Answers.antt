@@ -1,11 +1,11 @@
-use Rattle.std.proofs.Common.{◌≡◌, Some, None, [], IfSome, ap, ◌∙◌, sym, subst, false, option_map, option_copied}
+use Rattle.std.proofs.Common.{◌≡◌, Some, None, [], IfSome, ap, ◌∙◌, sym, subst, false, option_map, option_copied, true, if◌then◌else◌}
 use Rattle.chunk_pool.specs.declared.pool.Held.{Held}
 use Rattle.chunk_pool.specs.Chunks.{owner_of}
 use Rattle.heap_tree.specs.Node.{state_of}
 use Rattle.shared_tree.specs.HeldNames.{is_state_running}
-use Rattle.shared_tree.specs.Image.{objects_of, objects_numbered}
+use Rattle.shared_tree.specs.Image.{objects_of, objects_numbered, objects_owned}
 use Rattle.shared_tree.specs.Objects.{chunk_of, chunks_of}
-use Rattle.shared_tree.specs.World.{World, flat, rest_at}
+use Rattle.shared_tree.specs.World.{World, flat, rest_at, value_of}
 use Rattle.shared_tree.proofs.ObjectReads.{none_numbered, resting_objects, some_numbered}
 use Rattle.shared_tree.proofs.shared.Shared.resting_chunk.Goals as goal
 
@@ -25,3 +25,17 @@ returns-in-Some-Some-clause-none c = λ none. objects_are c ∙ none_numbered c.
 pub returns-in-Some-Some-clause-some : goal.returns-in-Some-Some-clause-some
 returns-in-Some-Some-clause-some c =
     subst (λ os. IfSome c.chunk.result (λ k. (chunk_of k.now).objects ≡ os)) (sym (objects_are c)) (some_numbered c.in-Some-Some.rest.heap.chunks c.args.number c.chunk.result c.chunk.ensures)
+
+pub returns-then-is_running-clause-none : goal.returns-then-is_running-clause-none
+returns-then-is_running-clause-none c = λ none.
+    let w : World = c.args.self.now in
+    let t = c.in_ok-owner.field-0.owner in
+    let held : owner_of w.pool c.args.number ≡ Some t = ap (λ (z : World). owner_of z.pool c.args.number) (sym c.self.view_is) ∙ ap (option_map (λ (h : Held). h.owner)) (sym c.held.ensures ∙ c.in_ok-owner.was) in
+    let runs : is_state_running (state_of w.tree t) ≡ true = sym c.is_running.ensures ∙ c.if-is_running.true in
+    ap (objects_owned w c.args.number) held ∙ ap (λ b. if b then [] else objects_numbered c.args.number ((value_of w).homes t).chunks) runs
+
+pub returns-in_err-owner-clause-none : goal.returns-in_err-owner-clause-none
+returns-in_err-owner-clause-none c = λ none.
+    let w : World = c.args.self.now in
+    let held : owner_of w.pool c.args.number ≡ None = ap (λ (z : World). owner_of z.pool c.args.number) (sym c.self.view_is) ∙ ap (option_map (λ (h : Held). h.owner)) (sym c.held.ensures ∙ c.in_err-owner.was) in
+    ap (objects_owned w c.args.number) held

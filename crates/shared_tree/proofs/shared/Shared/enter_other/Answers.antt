@@ -1,0 +1,57 @@
+use Rattle.std.proofs.Common.{ap, subst, ◌∙◌}
+use Rattle.hh_model.specs.declared.data.End.TheVariants.{Trapped}
+use Rattle.hh_model.specs.Step.{ended_by}
+use Rattle.shared_tree.specs.declared.other.OtherStep.{OtherStep}
+use Rattle.shared_tree.specs.declared.other.OtherStep.TheVariants.{Stops, Traps}
+use Rattle.shared_tree.specs.Alone.{then_accounts}
+use Rattle.shared_tree.specs.Other.{TellsOther}
+use Rattle.shared_tree.proofs.shared.Shared.enter_other.Goals as goal
+
+pub enter_reference-requires-clause-reads : goal.enter_reference-requires-clause-reads
+enter_reference-requires-clause-reads c = subst (λ (d : OtherStep). TellsOther c.args.self.now c.args.part d c.args.line) c.in-SetsReference.is c.requires.tells
+
+pub store_other-requires-clause-stores : goal.store_other-requires-clause-stores
+store_other-requires-clause-stores c = subst (λ (d : OtherStep). TellsOther c.args.self.now c.args.part d c.args.line) c.in-StoresReference.is c.requires.tells
+
+pub store_other-requires-in-Swaps-clause-stores : goal.store_other-requires-in-Swaps-clause-stores
+store_other-requires-in-Swaps-clause-stores c = subst (λ (d : OtherStep). TellsOther c.args.self.now c.args.part d c.args.line) c.in-Swaps.is c.requires.tells
+
+pub enter_halt-requires-clause-ends : goal.enter_halt-requires-clause-ends
+enter_halt-requires-clause-ends c =
+    let T : TellsOther c.args.self.now c.args.part (Stops c.in-Stops.owner) c.args.line = subst (λ (d : OtherStep). TellsOther c.args.self.now c.args.part d c.args.line) c.in-Stops.is c.requires.tells in
+    T.says
+
+pub enter_halt-requires-in-Traps-clause-ends : goal.enter_halt-requires-in-Traps-clause-ends
+enter_halt-requires-in-Traps-clause-ends c =
+    let T : TellsOther c.args.self.now c.args.part (Traps c.in-Traps.kind) c.args.line = subst (λ (d : OtherStep). TellsOther c.args.self.now c.args.part d c.args.line) c.in-Traps.is c.requires.tells in
+    T.says ∙ ap (λ n. ended_by (then_accounts c.args.self.now c.args.part).machine (Trapped c.in-Traps.kind c.args.part.task n)) T.number_is
+
+pub enter_halt-requires-clause-other : goal.enter_halt-requires-clause-other
+enter_halt-requires-clause-other c = λ e. cc
+
+pub enter_halt-requires-in-Traps-clause-other : goal.enter_halt-requires-in-Traps-clause-other
+enter_halt-requires-in-Traps-clause-other c = λ e. cc
+
+pub returns-in-SetsNumber-clause-answered : goal.returns-in-SetsNumber-clause-answered
+returns-in-SetsNumber-clause-answered c = c.enter_number.ensures
+
+pub returns-in-SetsReference-clause-answered : goal.returns-in-SetsReference-clause-answered
+returns-in-SetsReference-clause-answered c = c.enter_reference.ensures
+
+pub returns-in-StoresNumber-clause-answered : goal.returns-in-StoresNumber-clause-answered
+returns-in-StoresNumber-clause-answered c = c.enter_store_number.ensures
+
+pub returns-in-Stops-clause-answered : goal.returns-in-Stops-clause-answered
+returns-in-Stops-clause-answered c = c.enter_halt.ensures
+
+pub returns-in-StoresReference-clause-answered : goal.returns-in-StoresReference-clause-answered
+returns-in-StoresReference-clause-answered c = c.store_other.ensures.answered
+
+pub returns-in-StoresReference-clause-same : goal.returns-in-StoresReference-clause-same
+returns-in-StoresReference-clause-same c = c.store_other.ensures.same
+
+pub returns-in-StoresReference-clause-refused : goal.returns-in-StoresReference-clause-refused
+returns-in-StoresReference-clause-refused c = c.store_other.ensures.refused
+
+pub returns-in-StoresReference-clause-back : goal.returns-in-StoresReference-clause-back
+returns-in-StoresReference-clause-back c = c.store_other.ensures.back
