@@ -151,3 +151,12 @@ returns-in_default-clause-same c =
 
 pub returns-clause-hand : goal.returns-clause-hand
 returns-clause-hand c = c.set.ensures ∙ ap (λ (z : World). slice_set z.hands c.args.worker None) c.self.view_is
+
+pub grow-grown-requires-clause-shallow : goal.grow-grown-requires-clause-shallow
+grow-grown-requires-clause-shallow c = subst (λ (z : World). depth_of z.tree c.args.part.task < 1000) (sym c.self.view_is) c.requires.shallow
+
+pub push_reserved-requires : goal.push_reserved-requires
+push_reserved-requires c = subst (λ (z : World). 0 < z.journal.room) (sym c.self.view_is) c.requires.room
+
+pub fork_sets-requires-clause-room : goal.fork_sets-requires-clause-room
+fork_sets-requires-clause-room c = c.in-Ok.ensures.room
