@@ -1,5 +1,5 @@
 use Rattle.std.specs.Prelude.{vec_len}
-use Rattle.std.proofs.Common.{refl, ◌≡◌, ℕ, ◌-◌, ◌++◌, ◌∷◌, [], List, None, Some, Err, map, arith, ap, sym, subst, ◌∙◌}
+use Rattle.std.proofs.Common.{refl, ◌≡◌, ℕ, ◌-◌, ◌++◌, ◌∷◌, [], List, None, Some, Err, map, arith, ap, sym, subst, ◌∙◌, ◌<◌}
 use Rattle.object_layout.specs.Chunks.{small_words}
 use Rattle.object_layout.specs.Content.{Content}
 use Rattle.listed.specs.Space.{Space}
@@ -183,3 +183,23 @@ returns-clause-begun c =
     begins_with w k p c.self.invariant F c.requires.fresh free c.take_all.new.self c.take_all.new.list.items c.in_ok-prepared.prepared.to.chunks.items c.args.task c.chunks_for-count.result c.requires.task count c.in_ok-prepared.ensures.empty c.in-Ok.ensures.taken
     c.in_ok-roots.roots.items roots c.into_listed.result news (record { items = []; room = w.journal.room - 1 }) c.begin_collection.new.self to' refl part
     (reserved_by c.prepare.new.heap c.begin_collection.new.self.heap c.chunks_for-count.result (vec_len c.take_all.new.list) c.in_ok-prepared.prepared.to to' heap (c.take_all.new.list.ok.0 ∙ long) refl c.in_ok-prepared.ensures.reserved)
+
+pub push_reserved-requires : goal.push_reserved-requires
+push_reserved-requires c = subst (λ (z : World). 0 < z.journal.room) (sym (c.self.view_is ∙ c.roots.ensures.same)) c.requires.room
+
+pub roots-requires-clause-fits : goal.roots-requires-clause-fits
+roots-requires-clause-fits c = c.requires.fits
+
+pub roots-requires-clause-fresh : goal.roots-requires-clause-fresh
+roots-requires-clause-fresh c = c.requires.fresh
+
+pub invariant_of-self : goal.invariant_of-self
+invariant_of-self c = subst (λ (z : Chunks). IsWorld (record (the_view c.self.inside) { pool = z })) (sym c.in-Err-NoMemory.ensures.err) c.self.invariant
+
+pub returns-in-Err-NoMemory-clause-same : goal.returns-in-Err-NoMemory-clause-same
+returns-in-Err-NoMemory-clause-same c = ap (λ (z : Chunks). record (the_view c.self.inside) { pool = z }) c.in-Err-NoMemory.ensures.err ∙ (c.self.view_is ∙ c.roots.ensures.same)
+
+pub returns-in-Err-NoMemory-clause-back : goal.returns-in-Err-NoMemory-clause-back
+returns-in-Err-NoMemory-clause-back c =
+    let p : Private = c.args.part.now in
+    ap (λ (h : Heap). record p { heap = h }) c.prepare.ensures.kept
