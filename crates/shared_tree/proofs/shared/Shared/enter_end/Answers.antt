@@ -1,4 +1,4 @@
-use Rattle.std.proofs.Common.{◌≡◌, ℕ, ◌+◌, ◌-◌, arith, None, Some, [], slice_set, ap, sym, subst, ◌∙◌}
+use Rattle.std.proofs.Common.{◌≡◌, ℕ, ◌+◌, ◌-◌, arith, None, Some, [], slice_set, ap, sym, subst, ◌∙◌, ◌<◌}
 use Rattle.heap_tree.specs.declared.state.State.TheVariants.{Ended}
 use Rattle.heap_tree.specs.Node.{state_of, with_state}
 use Rattle.heap_tree.specs.Pairs.{sibling}
@@ -85,3 +85,6 @@ returns-clause-ended c =
 
 pub returns-clause-hand : goal.returns-clause-hand
 returns-clause-hand c = c.set.ensures ∙ ap (λ (z : World). slice_set z.hands c.args.worker None) c.self.view_is
+
+pub push_reserved-requires : goal.push_reserved-requires
+push_reserved-requires c = subst (λ (z : World). 0 < z.journal.room) (sym c.self.view_is) c.requires.room

@@ -1,10 +1,10 @@
-use Rattle.std.proofs.Common.{◌≡◌, ℕ, All, List, None, Option, fold, is_some, slice_get, true, refl, ap, ap₂, sym, subst, ◌∙◌}
+use Rattle.std.proofs.Common.{◌≡◌, ℕ, All, List, None, Option, fold, is_some, slice_get, true, refl, ap, ap₂, sym, subst, ◌∙◌, ◌<◌}
 use Rattle.std.specs.Prelude.{IsSome}
 use Rattle.listed.specs.Space.{Space}
 use Rattle.run_trace.specs.Entry.{Event}
 use Rattle.object_layout.specs.declared.word.Addr.{Addr}
 use Rattle.object_layout.specs.Content.{Content}
-use Rattle.remembered_set.specs.Moved.{AreFields, redirected}
+use Rattle.remembered_set.specs.Moved.{AreFields, redirected, AreInOrder, ArePlaces}
 use Rattle.remembered_set.specs.Sources.{StandOnce}
 use Rattle.chunk_pool.specs.Chunks.{Chunks, held_at}
 use Rattle.write_barrier.specs.declared.sets.SetOf.{SetOf}
@@ -105,3 +105,12 @@ returns-clause-enters c =
     let e : Event = end_event c.args.worker c.args.part.now c.args.moved in
     subst (λ (z : World). Enters z (record w { pool = c.give_all.new.pool; homes = c.lead.new.heaps.homes; journal = c.push_reserved.new.self }) e) c.self.view_is
     (record { journal = ap (λ (j : Space Event). j.items) (journal_by w.journal _ _ e c.new-3.ensures c.push_reserved.ensures); program = refl; settings = refl; halted = refl })
+
+pub push_reserved-requires : goal.push_reserved-requires
+push_reserved-requires c = subst (λ (z : World). 0 < z.journal.room) (sym c.self.view_is) c.requires.room
+
+pub lead-requires-clause-order : goal.lead-requires-clause-order
+lead-requires-clause-order c = subst AreInOrder (sym c.deref-2.ensures.value) c.requires.fits.order
+
+pub lead-requires-clause-places : goal.lead-requires-clause-places
+lead-requires-clause-places c = subst ArePlaces (sym c.deref-2.ensures.value) c.requires.fits.places

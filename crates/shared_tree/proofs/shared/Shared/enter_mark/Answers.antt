@@ -1,4 +1,4 @@
-use Rattle.std.proofs.Common.{◌≡◌, ℕ, ◌-◌, ◌++◌, ◌∷◌, [], None, sym, subst}
+use Rattle.std.proofs.Common.{◌≡◌, ℕ, ◌-◌, ◌++◌, ◌∷◌, [], None, sym, subst, ◌<◌}
 use Rattle.listed.specs.Space.{Space}
 use Rattle.run_trace.specs.Entry.{Event}
 use Rattle.run_trace.specs.declared.entry.Kind.TheVariants.{Mark}
@@ -37,3 +37,6 @@ returns-clause-fits c =
     let both = mark_enters w c.self.invariant k t c.args.marking c.put_marking.new.marks (w.journal.room - 1) c.in_ok-put_marking.ensures.there c.in_ok-put_marking.ensures.others free c.requires.none goes in
     subst (λ (z : World). AllFit z (record w { marks = c.put_marking.new.marks; journal = c.push_reserved.new.self })) c.self.view_is
     (subst (λ (j : Space Event). AllFit w (record w { marks = c.put_marking.new.marks; journal = j })) (sym journal) both.1)
+
+pub push_reserved-requires : goal.push_reserved-requires
+push_reserved-requires c = subst (λ (z : World). 0 < z.journal.room) (sym c.self.view_is) c.requires.room
