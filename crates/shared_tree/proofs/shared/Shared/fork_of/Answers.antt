@@ -7,3 +7,6 @@ returns-then-is_live_child c = live_waits c.args.self.now c.stands.ensures c.req
 
 pub returns-in-None : goal.returns-in-None
 returns-in-None c = none_waits c.args.self.now c.stands.ensures c.requires c.args.t c.in-None.ensures
+
+pub returns-in-Some : goal.returns-in-Some
+returns-in-Some c = live_waits c.args.self.now c.stands.ensures c.requires c.args.t c.in-Some.left c.in-Some.ensures
