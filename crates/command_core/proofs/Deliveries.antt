@@ -3,7 +3,7 @@ use Rattle.std.proofs.Common.{◌⊎◌, ◌≡◌, ◌≤◌, ◌+◌, ℕ, Lis
 use Rattle.std.specs.Prelude.{Option, Some}
 use Rattle.outside_io.specs.Told.{with_more}
 use Rattle.run_trace.specs.Entry.{Event}
-use Rattle.shared_tree.specs.World.{World}
+use Rattle.shared_value.specs.World.{World}
 use Rattle.command_core.specs.declared.answer.Status.{Status}
 use Rattle.command_core.specs.declared.answer.Status.TheVariants.{Done, Words, Source, Trap, Entangled, Fuel, Pool, ReadFault, WriteFault, NoMemory, Trace, Races, Image}
 use Rattle.command_core.specs.declared.answer.Answer.{Answer}

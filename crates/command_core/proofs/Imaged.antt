@@ -12,8 +12,8 @@ use Rattle.trace_input.specs.declared.input.InputFault.{InputFault}
 use Rattle.trace_input.specs.declared.input.InputFault.TheVariants.{Source as SourceFault, BadLine}
 use Rattle.trace_input.specs.declared.input.TraceInput.{TraceInput}
 use Rattle.trace_input.specs.Input.{input_fault}
-use Rattle.shared_tree.specs.World.{World, accounts}
-use Rattle.shared_tree.specs.Stands.{IsWorld}
+use Rattle.shared_value.specs.World.{World, accounts}
+use Rattle.shared_value.specs.Stands.{IsWorld}
 use Rattle.heap_image.specs.Text.{text_of}
 use Rattle.heap_image.proofs.Faultless.{sound_is_faultless}
 use Rattle.image_check.specs.declared.cause.Fault.{Fault}

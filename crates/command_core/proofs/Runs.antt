@@ -13,8 +13,8 @@ use Rattle.run_ledger.specs.Text.{end_line, end_line_of, end_words, out_text, ou
 use Rattle.run_ledger.proofs.Cuts.{first_refused_is_first}
 use Rattle.run_ledger.proofs.Machine.{machine_is_run}
 use Rattle.run_report.specs.Written.{trace_part}
-use Rattle.shared_tree.specs.World.{World, accounts, without_journal}
-use Rattle.shared_tree.specs.Stands.{IsWorld}
+use Rattle.shared_value.specs.World.{World, accounts, without_journal}
+use Rattle.shared_value.specs.Stands.{IsWorld}
 use Rattle.trace_input.specs.declared.input.TraceInput.{TraceInput}
 use Rattle.command_line.specs.declared.line.Options.{Options}
 use Rattle.worker_run.specs.declared.end.Finish.{Finish}

@@ -18,8 +18,8 @@ use Rattle.trace_input.specs.declared.input.InputFault.{InputFault}
 use Rattle.trace_input.specs.declared.input.InputFault.TheVariants.{Source as SourceFault, BadLine}
 use Rattle.trace_input.specs.declared.input.TraceInput.{TraceInput}
 use Rattle.trace_input.specs.Input.{input_fault, IsInput}
-use Rattle.shared_tree.specs.World.{World}
-use Rattle.shared_tree.specs.Stands.{IsWorld}
+use Rattle.shared_value.specs.World.{World}
+use Rattle.shared_value.specs.Stands.{IsWorld}
 use Rattle.heap_image.specs.declared.picture.Picture.{Picture}
 use Rattle.heap_image.specs.Picture.{IsSoundPicture}
 use Rattle.heap_image.specs.Text.{text_of}

@@ -7,8 +7,8 @@ use Rattle.run_ledger.specs.declared.data.RunEnd.{RunEnd}
 use Rattle.run_ledger.specs.Journals.{IsPrefix, end_of, is_legal}
 use Rattle.run_ledger.specs.Pace.{is_paced}
 use Rattle.run_ledger.specs.Text.{out_text}
-use Rattle.shared_tree.specs.World.{World, without_journal}
-use Rattle.shared_tree.specs.Stands.{IsWorld}
+use Rattle.shared_value.specs.World.{World, without_journal}
+use Rattle.shared_value.specs.Stands.{IsWorld}
 use Rattle.command_core.specs.declared.answer.Answer.{Answer}
 use Rattle.command_core.specs.Status.{status_of_end}
 

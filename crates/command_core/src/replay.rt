@@ -3,8 +3,8 @@
 ghost use Rattle.std.specs.Prelude.{◌≡◌, IfOk, IfErr};
 ghost use Rattle.run_ledger.specs.Journals.{refused_as_run};
 ghost use Rattle.run_ledger.specs.Text.{refused_line};
-ghost use Rattle.shared_tree.specs.Stands.{IsWorld};
-ghost use Rattle.shared_tree.specs.World.{without_journal};
+ghost use Rattle.shared_value.specs.Stands.{IsWorld};
+ghost use Rattle.shared_value.specs.World.{without_journal};
 ghost use Rattle.command_core.specs.Answers.{AnswersReplay, AnswersTrace, IsReplay, IsText, LeavesReplay, WhereWhole, limits_for, short_of};
 ghost use Rattle.command_core.specs.Delivery.{IsWanted};
 ghost use Rattle.command_core.specs.Runs.{IsReplayedRun, LeavesPrefix};

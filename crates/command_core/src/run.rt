@@ -3,8 +3,8 @@
 ghost use Rattle.std.specs.Prelude.{◌≡◌, ◌++◌, IfOk, IfErr, Some};
 ghost use Rattle.run_ledger.specs.Text.{output_lines, end_line, end_words, out_text};
 ghost use Rattle.run_report.specs.Written.{trace_part};
-ghost use Rattle.shared_tree.specs.Stands.{IsWorld};
-ghost use Rattle.shared_tree.specs.World.{accounts, without_journal};
+ghost use Rattle.shared_value.specs.Stands.{IsWorld};
+ghost use Rattle.shared_value.specs.World.{accounts, without_journal};
 ghost use Rattle.command_core.specs.Answers.{AnswersProgram, AnswersRun, LeavesRun};
 ghost use Rattle.command_core.specs.Delivery.{IsWanted};
 ghost use Rattle.command_core.specs.Runs.{IsReplayedRun, LeavesPaced};

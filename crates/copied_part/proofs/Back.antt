@@ -27,7 +27,7 @@ use Rattle.leaf_copy_gc.proofs.Numbers.{Distinct, numbers}
 use Rattle.leaf_copy_gc.proofs.Numbers as nums
 use Rattle.core_relation.specs.Value.{In}
 use Rattle.core_relation.proofs.Members.{map_in}
-use Rattle.shared_tree.specs.Measured.{AreMeasured}
+use Rattle.shared_value.specs.Measured.{AreMeasured}
 use Rattle.copied_part.proofs.Words as units_of
 use Rattle.copied_part.proofs.Forming.{told_in}
 use Rattle.copied_part.proofs.Known.{Old}

@@ -8,7 +8,7 @@ use Rattle.leaf_copy_gc.specs.Laid.{small_words as small_laid}
 use Rattle.leaf_copy_gc.specs.declared.lists.ToChunks.{ToChunks}
 use Rattle.leaf_copy_gc.proofs.Needs.{needs_are_counted}
 use Rattle.task_machine.specs.declared.part.Private.{Private}
-use Rattle.shared_tree.specs.Due.{take_by}
+use Rattle.shared_value.specs.Due.{take_by}
 use Rattle.copied_part.specs.Handed.{BegunIsCopying}
 
 enough_taken : (needed counted n : ℕ) → needed ≡ counted → n ≡ take_by counted → 2 * ((needed + 1023) / 1024) ≤ n + 1

@@ -39,9 +39,9 @@ use Rattle.core_relation.proofs.With.{at_home}
 use Rattle.ledger_steps.specs.Accounts.{rested}
 use Rattle.ledger_steps.proofs.Ahead.{with_machine}
 use Rattle.ledger_steps.proofs.Rested.{rested_view, rested_worker}
-use Rattle.shared_tree.specs.Objects.{chunk_of, chunks_of}
-use Rattle.shared_tree.specs.Stands.{HeapForm}
-use Rattle.shared_tree.specs.World.{frame_of, frames_of}
+use Rattle.shared_value.specs.Objects.{chunk_of, chunks_of}
+use Rattle.shared_value.specs.Stands.{HeapForm}
+use Rattle.shared_value.specs.World.{frame_of, frames_of}
 use Rattle.copied_part.specs.Copied.{CopiesFit, IsBegun, part_home}
 use Rattle.copied_part.proofs.Forming as forming
 use Rattle.copied_part.proofs.Known.{Old}

@@ -34,8 +34,8 @@ use Rattle.leaf_copy_gc.proofs.Tidied.{all_tidy}
 use Rattle.core_relation.specs.Value.{In, Seen, objects_in}
 use Rattle.core_relation.specs.Layout.{words}
 use Rattle.core_relation.proofs.Members.{in_map, in_objects, map_in}
-use Rattle.shared_tree.specs.Objects.{chunk_of, chunks_of, objects_from}
-use Rattle.shared_tree.proofs.Counts.{large_are, small_names}
+use Rattle.shared_value.specs.Objects.{chunk_of, chunks_of, objects_from}
+use Rattle.shared_value.proofs.Counts.{large_are, small_names}
 use Rattle.copied_part.proofs.Forming as forming
 use Rattle.copied_part.proofs.Known.{Old, names_are}
 use Rattle.copied_part.proofs.Laying.{Told}

@@ -29,10 +29,10 @@ use Rattle.leaf_copy_gc.proofs.Tidied.{all_tidy}
 use Rattle.core_relation.specs.Value.{Chunk, In, Seen, led, objects_in}
 use Rattle.core_relation.specs.Layout.{AreLaidOut, HoldsLarge, has_none, reserved_chunks, reserved_units, words}
 use Rattle.core_relation.proofs.Members.{in_map, map_in}
-use Rattle.shared_tree.specs.Objects.{chunk_of, chunks_of, objects_from}
-use Rattle.shared_tree.specs.Stands.{HeapForm}
-use Rattle.shared_tree.proofs.CellLaws.{led_refs, objects_led}
-use Rattle.shared_tree.proofs.Counts.{counted_from}
+use Rattle.shared_value.specs.Objects.{chunk_of, chunks_of, objects_from}
+use Rattle.shared_value.specs.Stands.{HeapForm}
+use Rattle.shared_value.proofs.CellLaws.{led_refs, objects_led}
+use Rattle.shared_value.proofs.Counts.{counted_from}
 use Rattle.copied_part.proofs.Known.{Old}
 use Rattle.copied_part.proofs.Laying.{Told, words_led}
 use Rattle.copied_part.proofs.Lying.{Holds, held_by, laid_out, span}

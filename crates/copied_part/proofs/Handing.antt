@@ -27,11 +27,11 @@ use Rattle.core_relation.specs.Copies.{PartFits, before}
 use Rattle.core_relation.specs.Fits.{part_for}
 use Rattle.core_relation.specs.Value.{Begun as SeenBegun, Home, In}
 use Rattle.core_relation.proofs.Members.{in_map}
-use Rattle.shared_tree.specs.Fits.{home_of_part}
-use Rattle.shared_tree.specs.LeafEnd.{AreBack, FitsCopied}
-use Rattle.shared_tree.specs.Measured.{AreMeasured, AreUnits, news_of}
-use Rattle.shared_tree.proofs.Measuring.{measured_both}
-use Rattle.shared_tree.specs.World.{World, accounts, begun_of, frames_of, home_with, value_of}
+use Rattle.shared_value.specs.Fits.{home_of_part}
+use Rattle.leaf_collections.specs.LeafEnd.{AreBack, FitsCopied}
+use Rattle.shared_value.specs.Measured.{AreMeasured, AreUnits, news_of}
+use Rattle.shared_value.proofs.Measuring.{measured_both}
+use Rattle.shared_value.specs.World.{World, accounts, begun_of, frames_of, home_with, value_of}
 use Rattle.copied_part.specs.Copied.{IsBegun, part_home}
 use Rattle.copied_part.specs.Handed.{CopiedFits, IsCopying}
 use Rattle.copied_part.proofs.Back as back

@@ -19,9 +19,9 @@ use Rattle.core_relation.specs.Value.{In, Seen, objects_in}
 use Rattle.core_relation.specs.Layout.{AreLaidOut, words}
 use Rattle.core_relation.specs.Stands.{HasNames}
 use Rattle.core_relation.proofs.Members.{in_map, in_objects}
-use Rattle.shared_tree.specs.Objects.{chunk_of, chunks_of, objects_from, seen, seen_by}
-use Rattle.shared_tree.specs.Stands.{HeapForm}
-use Rattle.shared_tree.proofs.Cells.{fresh_off}
+use Rattle.shared_value.specs.Objects.{chunk_of, chunks_of, objects_from, seen, seen_by}
+use Rattle.shared_value.specs.Stands.{HeapForm}
+use Rattle.shared_value.proofs.Cells.{fresh_off}
 use Rattle.copied_part.proofs.Births.{Single}
 use Rattle.copied_part.proofs.Lying.{span}
 

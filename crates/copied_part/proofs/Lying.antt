@@ -10,8 +10,8 @@ use Rattle.alloc_path.specs.Heap.{AreApart}
 use Rattle.core_relation.specs.Value.{Chunk, In, Seen, objects_in}
 use Rattle.core_relation.specs.Layout.{AreApart as ObjectsApart, AreLaidOut, HoldsLarge, reserved_chunks, reserved_units, words}
 use Rattle.core_relation.proofs.Members.{in_chunk, map_in}
-use Rattle.shared_tree.specs.Objects.{chunk_of, chunks_of, objects_from, seen_by}
-use Rattle.shared_tree.proofs.Cells.{fresh_off}
+use Rattle.shared_value.specs.Objects.{chunk_of, chunks_of, objects_from, seen_by}
+use Rattle.shared_value.proofs.Cells.{fresh_off}
 
 -- ---- IN ONE CHUNK
 

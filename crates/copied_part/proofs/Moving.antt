@@ -32,9 +32,9 @@ use Rattle.leaf_copy_gc.proofs.Rebuilt as rebuilt
 use Rattle.leaf_copy_gc.proofs.Rebuilt.{NoneThere, first_of}
 use Rattle.core_relation.specs.Value.{In, Seen, led, led_object, objects_in}
 use Rattle.core_relation.proofs.Members.{in_map, in_objects, map_in}
-use Rattle.shared_tree.specs.Objects.{chunk_of, chunks_of, objects_from, seen, seen_by}
-use Rattle.shared_tree.proofs.Cells.{object_seen, seen_object}
-use Rattle.shared_tree.proofs.CellLaws.{led_cell, led_refs, objects_led}
+use Rattle.shared_value.specs.Objects.{chunk_of, chunks_of, objects_from, seen, seen_by}
+use Rattle.shared_value.proofs.Cells.{object_seen, seen_object}
+use Rattle.shared_value.proofs.CellLaws.{led_cell, led_refs, objects_led}
 use Rattle.copied_part.proofs.Lying.{Holds, held_by}
 use Rattle.copied_part.proofs.Placing.{laid_objects, seen_only}
 

@@ -38,9 +38,9 @@ use Rattle.core_relation.specs.Value.{Chunk, In, Seen, objects_in}
 use Rattle.core_relation.specs.Layout.{words}
 use Rattle.core_relation.specs.Stands.{HasNames, names_of, small_chunks}
 use Rattle.core_relation.proofs.Members.{from_flat, in_map, in_objects, map_in}
-use Rattle.shared_tree.specs.Objects.{chunk_of, chunks_of, objects_from, seen}
-use Rattle.shared_tree.proofs.Cells.{cell_in, object_seen, seen_object}
-use Rattle.shared_tree.proofs.Counts.{large_are, small_names}
+use Rattle.shared_value.specs.Objects.{chunk_of, chunks_of, objects_from, seen}
+use Rattle.shared_value.proofs.Cells.{cell_in, object_seen, seen_object}
+use Rattle.shared_value.proofs.Counts.{large_are, small_names}
 use Rattle.copied_part.proofs.Births.{Single, single_names, small_survivors_are, sorted_names}
 use Rattle.copied_part.proofs.Known.{Old, names_are, single_small}
 use Rattle.copied_part.proofs.LargeNames.{large_both, large_led, large_unreserved, none_large}

@@ -10,8 +10,8 @@ use Rattle.object_layout.specs.Place.{words_in}
 use Rattle.object_layout.specs.Chunks.{cell_of}
 use Rattle.leaf_copy_gc.specs.Laid.{AreNew, Laying, laid_all, laid_at, laid_one, next_place, open_next, opened, placed, relocations, room_in}
 use Rattle.core_relation.specs.Value.{In, Seen, objects_in}
-use Rattle.shared_tree.specs.Objects.{chunks_of, objects_from, seen, seen_by}
-use Rattle.shared_tree.proofs.Cells.{objects_appended}
+use Rattle.shared_value.specs.Objects.{chunks_of, objects_from, seen, seen_by}
+use Rattle.shared_value.proofs.Cells.{objects_appended}
 
 -- ---- OBJECTS LAID INTO NEW CHUNKS
 

@@ -27,9 +27,9 @@ use Rattle.core_relation.specs.Stands.{Place}
 use Rattle.core_relation.proofs.Members.{in_map}
 use Rattle.ledger_steps.specs.Accounts.{Rests}
 use Rattle.ledger_steps.proofs.Rested.{rested_view, rested_worker}
-use Rattle.shared_tree.specs.Objects.{chunks_of}
-use Rattle.shared_tree.specs.World.{frame_of, frames_of}
-use Rattle.shared_tree.proofs.Closed as reads
+use Rattle.shared_value.specs.Objects.{chunks_of}
+use Rattle.shared_value.specs.World.{frame_of, frames_of}
+use Rattle.heap_marking.proofs.Closed as reads
 use Rattle.copied_part.specs.Copied.{BegunCanCopy, CanCopy, IsBegun, NumbersAreSaid}
 use Rattle.copied_part.proofs.Copying as copying
 use Rattle.copied_part.proofs.Counting as counting

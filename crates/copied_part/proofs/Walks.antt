@@ -13,9 +13,9 @@ use Rattle.leaf_copy_gc.specs.Survivors.{IsSurvivor, Starts, as_reference, held_
 use Rattle.core_relation.specs.Value.{Frame as SeenFrame, Home, In, Seen, objects_in}
 use Rattle.core_relation.specs.Begins.{IsAt, IsReachedAt, LeadsAt, StartsAt}
 use Rattle.core_relation.proofs.Members.{in_map, map_in}
-use Rattle.shared_tree.specs.Objects.{chunks_of}
-use Rattle.shared_tree.specs.World.{frame_of, frames_of}
-use Rattle.shared_tree.proofs.Closed.{held_seen, seen_held}
+use Rattle.shared_value.specs.Objects.{chunks_of}
+use Rattle.shared_value.specs.World.{frame_of, frames_of}
+use Rattle.heap_marking.proofs.Closed.{held_seen, seen_held}
 
 module _ (ks : List Content) (A : AreApart ks) (home : Home) (s : Stack) (roots : List Addr) (chunks : home.chunks ≡ chunks_of ks) (frames : home.frames ≡ frames_of s) where
   -- ---- OBJECTS

@@ -19,7 +19,7 @@ use Rattle.leaf_copy_gc.proofs.Numbers.{Distinct, new_reverse, numbers, removed_
 use Rattle.leaf_copy_gc.proofs.Numbers as nums
 use Rattle.core_relation.specs.Value.{In, Seen, objects_in}
 use Rattle.core_relation.specs.Layout.{words}
-use Rattle.shared_tree.specs.Objects.{chunks_of, objects_from, seen}
+use Rattle.shared_value.specs.Objects.{chunks_of, objects_from, seen}
 use Rattle.listed.proofs.Members.{in_append_left, in_append_right}
 use Rattle.copied_part.proofs.Known.{behind, there}
 use Rattle.copied_part.proofs.Placing.{opened_new}

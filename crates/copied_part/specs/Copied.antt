@@ -18,8 +18,8 @@ use Rattle.leaf_copy_gc.specs.Redirected.{new_address}
 use Rattle.leaf_copy_gc.specs.Survivors.{as_reference, outside}
 use Rattle.core_relation.specs.Value.{Begun, Home, In, Value}
 use Rattle.core_relation.specs.Copies.{CopyFits, PartFits, before}
-use Rattle.shared_tree.specs.Stands.{HeapForm}
-use Rattle.shared_tree.specs.World.{frames_of, home_with}
+use Rattle.shared_value.specs.Stands.{HeapForm}
+use Rattle.shared_value.specs.World.{frames_of, home_with}
 
 -- the home of a part, with the collection that it has begun, or none
 abbrev pub part_home : Heap → ℕ → Stack → Option Begun → Home

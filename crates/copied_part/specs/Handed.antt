@@ -11,11 +11,11 @@ use Rattle.task_frames.specs.Stack.{Stack}
 use Rattle.task_machine.specs.declared.part.Begun.{Begun}
 use Rattle.task_machine.specs.declared.part.Private.{Private}
 use Rattle.core_relation.specs.Value.{In}
-use Rattle.shared_tree.specs.Fits.{Fits}
-use Rattle.shared_tree.specs.LeafBegin.{HasBegun, number_of}
-use Rattle.shared_tree.specs.LeafEnd.{FitsCopied}
-use Rattle.shared_tree.specs.Stands.{IsWorld}
-use Rattle.shared_tree.specs.World.{World}
+use Rattle.shared_value.specs.Fits.{Fits}
+use Rattle.shared_value.specs.LeafBegin.{HasBegun, number_of}
+use Rattle.leaf_collections.specs.LeafEnd.{FitsCopied}
+use Rattle.shared_value.specs.Stands.{IsWorld}
+use Rattle.shared_value.specs.World.{World}
 
 -- a part that fits with its begun collection, before the run's end, and the chunks that this took
 pub record IsCopying (w : World) (worker : ℕ) (p : Private) (b : Begun) (news : List Content) : Type 0 where

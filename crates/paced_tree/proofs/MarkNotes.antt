@@ -11,10 +11,10 @@ use Rattle.run_ledger.specs.Heaps.{heap_at, heap_of, or_fresh, with_heap, with_h
 use Rattle.run_ledger.specs.Sound.{SoundLedger}
 use Rattle.run_ledger.proofs.Journals.{entry_tells, legal_sound, wait_tells}
 use Rattle.ledger_steps.proofs.Ahead.{heap_then, with_at, with_machine}
-use Rattle.shared_tree.specs.Entered.{refused, Enters}
-use Rattle.shared_tree.specs.Stands.{IsWorld}
-use Rattle.shared_tree.specs.World.{World, accounts}
-use Rattle.shared_tree.proofs.PaceStands.{entered_accounts}
+use Rattle.shared_value.specs.Entered.{refused, Enters}
+use Rattle.shared_value.specs.Stands.{IsWorld}
+use Rattle.shared_value.specs.World.{World, accounts}
+use Rattle.heap_marking.proofs.PaceStands.{entered_accounts}
 use Rattle.paced_tree.proofs.Noted.{went_on}
 
 there : (xs : List Heap) (k : ℕ) → k < length xs → (h : Heap) × (slice_get xs k ≡ Some h)

@@ -16,22 +16,22 @@ use Rattle.run_ledger.specs.Journals.{after_all, opening}
 use Rattle.run_ledger.specs.Pace.{idle, is_paced, noted, or_idle, pace_after, pace_after_all, pace_at_end, pace_of, pace_opening}
 use Rattle.run_ledger.proofs.Journals.{none_where}
 use Rattle.run_ledger.proofs.Paced.{pace_goes_on}
-use Rattle.shared_tree.specs.declared.pace.Pace.{Pace}
-use Rattle.shared_tree.specs.declared.pace.Previous.TheVariants.{Other}
-use Rattle.shared_tree.specs.Entered.{cause_of, refused, Enters}
+use Rattle.heap_marking.specs.declared.pace.Pace.{Pace}
+use Rattle.heap_marking.specs.declared.pace.Previous.TheVariants.{Other}
+use Rattle.shared_value.specs.Entered.{cause_of, refused, Enters}
 use Rattle.run_ledger.specs.declared.data.Refused.{Refused}
 use Rattle.std.specs.Prelude.{OnErr, OnOk, Result, Ok, Err}
-use Rattle.shared_tree.specs.declared.pace.Fork.{Fork}
-use Rattle.shared_tree.specs.Pace.{IsForkOf, KeepsPace, previous_of}
-use Rattle.shared_tree.proofs.PaceKeeps.{mark_kept, steps_kept}
+use Rattle.heap_marking.specs.declared.pace.Fork.{Fork}
+use Rattle.heap_marking.specs.Pace.{IsForkOf, KeepsPace, previous_of}
+use Rattle.heap_marking.proofs.PaceKeeps.{mark_kept, steps_kept}
 use Rattle.task_machine.specs.declared.part.Private.{Private}
 use Rattle.shared_tree.specs.declared.ran_last.Ran.{Ran as RanOf}
 use Rattle.shared_tree.specs.declared.ran_last.Ran.TheVariants.{Goes as GoesOn, Forked as ForksInto, Ended as EndsWith, Over as IsOver, Done as IsDone}
-use Rattle.shared_tree.specs.Alone.{alone_event}
+use Rattle.own_steps.specs.Alone.{alone_event}
 use Rattle.shared_tree.specs.Ran.{RanTo}
-use Rattle.shared_tree.specs.Stands.{IsWorld}
-use Rattle.shared_tree.specs.World.{World, accounts}
-use Rattle.shared_tree.proofs.PaceStands.{entered_accounts, paces_stay}
+use Rattle.shared_value.specs.Stands.{IsWorld}
+use Rattle.shared_value.specs.World.{World, accounts}
+use Rattle.heap_marking.proofs.PaceStands.{entered_accounts, paces_stay}
 use Rattle.paced_tree.specs.Owed.{KeepsNoted, KeepsPaces, NotesAt, NotesOther, Pays, noted_of}
 
 -- WHAT IS NOTED after one entry more

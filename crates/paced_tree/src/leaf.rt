@@ -1,10 +1,10 @@
 // Chunks and leaf collections of parts are entered.
 
 ghost use Rattle.std.specs.Prelude.{◌≡◌, ◌<◌, OnErr, OnOk, IfOk};
-ghost use Rattle.shared_tree.specs.Entered.{cause_of, refused, Answers, Enters, IsSamePart};
-ghost use Rattle.shared_tree.specs.Fits.{Fits, OthersFit};
-ghost use Rattle.shared_tree.specs.LeafBegin.{HasBegun};
-ghost use Rattle.shared_tree.specs.LeafEnd.{end_event, ended, FitsCopied};
+ghost use Rattle.shared_value.specs.Entered.{cause_of, refused, Answers, Enters, IsSamePart};
+ghost use Rattle.shared_value.specs.Fits.{Fits, OthersFit};
+ghost use Rattle.shared_value.specs.LeafBegin.{HasBegun};
+ghost use Rattle.leaf_collections.specs.LeafEnd.{end_event, ended, FitsCopied};
 ghost use Rattle.paced_tree.specs.Owed.{Pays};
 
 use crate::noting::note_other;

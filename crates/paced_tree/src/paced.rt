@@ -5,13 +5,13 @@ ghost use Rattle.run_ledger.specs.Entries.{is_pool_enough};
 ghost use Rattle.run_ledger.specs.Heaps.{heap_of, in_use, left_in, sweep_number};
 ghost use Rattle.run_ledger.specs.Pace.{is_paced};
 ghost use Rattle.task_machine.specs.declared.part.Private.{Private as Part};
-ghost use Rattle.shared_tree.specs.Causes.{first_cause};
-ghost use Rattle.shared_tree.specs.Due.{IsHeld};
-ghost use Rattle.shared_tree.specs.Fits.{AllFit, Fits};
-ghost use Rattle.shared_tree.specs.MarkCauses.{marking_cause};
-ghost use Rattle.shared_tree.specs.Stands.{IsWorld};
-ghost use Rattle.shared_tree.specs.World.{accounts, rest_at};
-ghost use Rattle.shared_tree.specs.declared.rest.Rest.{Rest as RestOf};
+ghost use Rattle.shared_value.specs.Causes.{first_cause};
+ghost use Rattle.shared_value.specs.Due.{IsHeld};
+ghost use Rattle.shared_value.specs.Fits.{AllFit, Fits};
+ghost use Rattle.heap_marking.specs.MarkCauses.{marking_cause};
+ghost use Rattle.shared_value.specs.Stands.{IsWorld};
+ghost use Rattle.shared_value.specs.World.{accounts, rest_at};
+ghost use Rattle.shared_value.specs.declared.rest.Rest.{Rest as RestOf};
 ghost use Rattle.paced_tree.specs.Owed.{owed_by};
 
 use crate::noting::idle_paces;
@@ -34,7 +34,7 @@ pub struct Paced {
 }
 
 impl Model for Paced {
-    ghost use Rattle.shared_tree.specs.World.{World};
+    ghost use Rattle.shared_value.specs.World.{World};
     ghost use Rattle.paced_tree.specs.Owed.{KeepsPaces};
 
     ghost Value = { World };

@@ -17,11 +17,11 @@ use Rattle.core_relation.specs.Value.{In, Seen, Value, objects}
 use Rattle.core_relation.proofs.Members.{held_object, object_held}
 use Rattle.heap_image.specs.declared.picture.Picked.{Picked}
 use Rattle.heap_image.specs.declared.picture.Picture.{Picture}
-use Rattle.shared_tree.specs.HeldNames.{is_state_running}
-use Rattle.shared_tree.specs.Image.{shown}
-use Rattle.shared_tree.specs.Stands.{IsWorld}
-use Rattle.shared_tree.specs.World.{World, accounts, value_of}
-use Rattle.shared_tree.proofs.KeptNames.{handed_held}
+use Rattle.heap_reading.specs.HeldNames.{is_state_running}
+use Rattle.heap_reading.specs.Image.{shown}
+use Rattle.shared_value.specs.Stands.{IsWorld}
+use Rattle.shared_value.specs.World.{World, accounts, value_of}
+use Rattle.heap_reading.proofs.KeptNames.{handed_held}
 use Rattle.shared_image.specs.Drawn.{IsHandedBack, IsPictureOf, drawn_object}
 use Rattle.shared_image.specs.Held.{AreReferences, HasJustKept, IsKept, IsReference, StandsFor}
 use Rattle.shared_image.proofs.Known.{k, rests, runs, same}

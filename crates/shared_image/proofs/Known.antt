@@ -28,14 +28,14 @@ use Rattle.run_ledger.proofs.Counted.{journals_are_counted}
 use Rattle.run_ledger.proofs.Machine.{machine_is_run}
 use Rattle.ledger_steps.specs.Accounts.{Rests}
 use Rattle.core_relation.specs.Whole.{handed}
-use Rattle.shared_tree.specs.declared.live.Live.{Live}
-use Rattle.shared_tree.specs.HeldNames.{is_state_running}
-use Rattle.shared_tree.specs.Image.{IsLive}
-use Rattle.shared_tree.specs.Stands.{IsWorld}
-use Rattle.shared_tree.specs.World.{World, accounts}
-use Rattle.shared_tree.proofs.IdleTasks.{journal_idle}
-use Rattle.shared_tree.proofs.KeptNames.{handed_held, runs_is}
-use Rattle.shared_tree.proofs.TreeNow.{joined_now, live_now, node_at, same_machine, sound, task_of, tree_of}
+use Rattle.heap_reading.specs.declared.live.Live.{Live}
+use Rattle.heap_reading.specs.HeldNames.{is_state_running}
+use Rattle.heap_reading.specs.Image.{IsLive}
+use Rattle.shared_value.specs.Stands.{IsWorld}
+use Rattle.shared_value.specs.World.{World, accounts}
+use Rattle.heap_reading.proofs.IdleTasks.{journal_idle}
+use Rattle.heap_reading.proofs.KeptNames.{handed_held, runs_is}
+use Rattle.heap_reading.proofs.TreeNow.{joined_now, live_now, node_at, same_machine, sound, task_of, tree_of}
 
 few_by : (v : Version) → max (field_limit v) 32 ≤ 1000000
 few_by One = omega arith

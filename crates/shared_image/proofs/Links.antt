@@ -20,11 +20,11 @@ use Rattle.image_check.specs.declared.line.Chunk.{Chunk}
 use Rattle.heap_image.specs.declared.picture.Picture.{Picture}
 use Rattle.heap_image.specs.Picture.{HasTask, IsAncestor, IsOwned, IsParent, IsRunning}
 use Rattle.core_relation.specs.Value.{Value}
-use Rattle.shared_tree.specs.declared.live.InUse.{InUse}
-use Rattle.shared_tree.specs.HeldNames.{is_state_running}
-use Rattle.shared_tree.specs.Image.{IsInUse}
-use Rattle.shared_tree.specs.Stands.{IsWorld}
-use Rattle.shared_tree.specs.World.{World, accounts, value_of}
+use Rattle.heap_reading.specs.declared.live.InUse.{InUse}
+use Rattle.heap_reading.specs.HeldNames.{is_state_running}
+use Rattle.heap_reading.specs.Image.{IsInUse}
+use Rattle.shared_value.specs.Stands.{IsWorld}
+use Rattle.shared_value.specs.World.{World, accounts, value_of}
 use Rattle.shared_image.specs.Drawn.{IsPictureOf, drawn_chunk, drawn_state, drawn_task}
 use Rattle.shared_image.proofs.Known.{T, owners, paths, same, task_live, tree}
 use Rattle.shared_image.proofs.Numbers.{chunk_of_word, word_some}

@@ -10,7 +10,7 @@ use Rattle.object_layout.specs.declared.word.Addr.{Addr}
 use Rattle.object_layout.specs.Layout.{word_of_ref}
 use Rattle.image_check.specs.Place.{chunk_number, offset}
 use Rattle.heap_image.specs.Picture.{Rises as RisesAt}
-use Rattle.shared_tree.specs.Image.{Rises}
+use Rattle.heap_reading.specs.Image.{Rises}
 
 -- ADDRESSES
 chunk_by : (c o n : ℕ) → o < 1024 → n ≡ c * 1024 + o + 1 → (n - 1) / 1024 ≡ c

@@ -17,12 +17,12 @@ use Rattle.core_relation.specs.Reads.{AllRead, IsRead}
 use Rattle.core_relation.specs.Stands.{HomeStands, Place, Stands}
 use Rattle.core_relation.specs.Value.{Chunk as ChunkOf, In, Seen, Value, objects, objects_in}
 use Rattle.core_relation.proofs.Members.{in_chunk, map_in, object_held}
-use Rattle.shared_tree.specs.declared.rest.Rest.{Rest}
-use Rattle.shared_tree.specs.Measured.{IsUnheld}
-use Rattle.shared_tree.specs.Objects.{chunk_of}
-use Rattle.shared_tree.specs.Stands.{IsWorld}
-use Rattle.shared_tree.specs.World.{World, home_in, rest_at, value_of}
-use Rattle.shared_tree.proofs.Leading.{home_chunks}
+use Rattle.shared_value.specs.declared.rest.Rest.{Rest}
+use Rattle.shared_value.specs.Measured.{IsUnheld}
+use Rattle.shared_value.specs.Objects.{chunk_of}
+use Rattle.shared_value.specs.Stands.{IsWorld}
+use Rattle.shared_value.specs.World.{World, home_in, rest_at, value_of}
+use Rattle.shared_value.proofs.Leading.{home_chunks}
 use Rattle.shared_image.specs.Drawn.{IsHandedBack}
 use Rattle.shared_image.proofs.Known.{T, k, owned, owners, rests}
 

@@ -8,14 +8,14 @@ use Rattle.image_check.specs.declared.line.Remembered.{Remembered}
 use Rattle.heap_image.specs.declared.picture.Picked.{Picked}
 use Rattle.heap_image.specs.Picture.{ChunkBefore, FieldBefore, ObjectBefore, TaskBefore}
 use Rattle.core_relation.specs.Value.{In, Seen, objects}
-use Rattle.shared_tree.specs.declared.live.InUse.{InUse}
-use Rattle.shared_tree.specs.declared.live.Live.{Live}
-use Rattle.shared_tree.specs.declared.noted.Field.{Field}
-use Rattle.shared_tree.specs.Image.{AreAll, AreInWords, ChunkBefore as InUseBefore, FieldBefore as NotedBefore, IsInUse, IsLive, IsNoted, LiveBefore, objects_of, shown}
-use Rattle.shared_tree.specs.Stands.{IsWorld}
-use Rattle.shared_tree.specs.World.{World, accounts, value_of}
-use Rattle.shared_tree.proofs.InOrder.{all_same}
-use Rattle.shared_tree.proofs.ObjectReads.{take_next}
+use Rattle.heap_reading.specs.declared.live.InUse.{InUse}
+use Rattle.heap_reading.specs.declared.live.Live.{Live}
+use Rattle.heap_reading.specs.declared.noted.Field.{Field}
+use Rattle.heap_reading.specs.Image.{AreAll, AreInWords, ChunkBefore as InUseBefore, FieldBefore as NotedBefore, IsInUse, IsLive, IsNoted, LiveBefore, objects_of, shown}
+use Rattle.shared_value.specs.Stands.{IsWorld}
+use Rattle.shared_value.specs.World.{World, accounts, value_of}
+use Rattle.heap_reading.proofs.InOrder.{all_same}
+use Rattle.heap_reading.proofs.ObjectReads.{take_next}
 use Rattle.shared_image.specs.Drawing.{AreFieldsOf, AreObjectsOf}
 use Rattle.shared_image.specs.Drawn.{AreHeldInWords, IsFieldOf, IsHandedBack, IsObjectOf, IsPictureOf, drawn_chunk, drawn_field, drawn_object, drawn_task}
 use Rattle.shared_image.proofs.Chunks.{one, told_apart, told_back, told_in_order, told_there}

@@ -26,11 +26,11 @@ use Rattle.heap_image.specs.declared.picture.Picked.{Picked}
 use Rattle.heap_image.specs.declared.picture.Picture.{Picture}
 use Rattle.heap_image.specs.Form.{HasFitParent, IsChunkForm, IsFieldForm, IsInForm, IsObjectForm, IsTaskForm}
 use Rattle.heap_image.specs.Picture.{AreApart, HasTask, IsFit, IsOwned, IsPlaced, IsSoundPicture, KeepsToPath, ObjectBefore, TaskBefore, ChunkBefore, FieldBefore}
-use Rattle.shared_tree.specs.declared.live.Live.{Live}
-use Rattle.shared_tree.specs.Image.{IsLive, shown}
-use Rattle.shared_tree.specs.Stands.{IsWorld}
-use Rattle.shared_tree.specs.World.{World, accounts, value_of}
-use Rattle.shared_tree.proofs.Now.{used_now}
+use Rattle.heap_reading.specs.declared.live.Live.{Live}
+use Rattle.heap_reading.specs.Image.{IsLive, shown}
+use Rattle.shared_value.specs.Stands.{IsWorld}
+use Rattle.shared_value.specs.World.{World, accounts, value_of}
+use Rattle.shared_value.proofs.Now.{used_now}
 use Rattle.shared_image.specs.Drawn.{AreHeldInWords, IsHandedBack, IsPictureOf, drawn_field, drawn_object}
 use Rattle.shared_image.proofs.Known.{T, few, fields_few, k, live_task, owners, root, same, stored_few, tree}
 use Rattle.shared_image.proofs.Links.{has_task, parent_live}

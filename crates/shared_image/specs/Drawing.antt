@@ -3,11 +3,11 @@ use Rattle.std.specs.Prelude.{◌≡◌, List}
 use Rattle.image_check.specs.declared.line.Remembered.{Remembered}
 use Rattle.heap_image.specs.declared.picture.Picked.{Picked}
 use Rattle.core_relation.specs.Value.{In, Seen}
-use Rattle.shared_tree.specs.declared.live.InUse.{InUse}
-use Rattle.shared_tree.specs.declared.live.Live.{Live}
-use Rattle.shared_tree.specs.declared.noted.Field.{Field}
-use Rattle.shared_tree.specs.Image.{IsNoted, objects_of, shown}
-use Rattle.shared_tree.specs.World.{World}
+use Rattle.heap_reading.specs.declared.live.InUse.{InUse}
+use Rattle.heap_reading.specs.declared.live.Live.{Live}
+use Rattle.heap_reading.specs.declared.noted.Field.{Field}
+use Rattle.heap_reading.specs.Image.{IsNoted, objects_of, shown}
+use Rattle.shared_value.specs.World.{World}
 use Rattle.shared_image.specs.Drawn.{drawn_field, drawn_object}
 
 -- it is an object of one of these chunks

@@ -12,13 +12,13 @@ use Rattle.heap_image.specs.declared.picture.Picked.{Picked}
 use Rattle.heap_image.specs.declared.picture.Picture.{Picture}
 use Rattle.heap_image.specs.Picture.{ChunkBefore, FieldBefore, ObjectBefore, TaskBefore}
 use Rattle.core_relation.specs.Value.{In, Seen as SeenAt, objects}
-use Rattle.shared_tree.specs.declared.live.InUse.{InUse}
-use Rattle.shared_tree.specs.declared.live.Live.{Live}
-use Rattle.shared_tree.specs.declared.noted.Field.{Field}
-use Rattle.shared_tree.specs.declared.seen.Seen.{Seen}
-use Rattle.shared_tree.specs.HeldNames.{is_state_running}
-use Rattle.shared_tree.specs.Image.{AreAll, IsInUse, IsInWords, IsLive, IsNoted, shown}
-use Rattle.shared_tree.specs.World.{World, value_of}
+use Rattle.heap_reading.specs.declared.live.InUse.{InUse}
+use Rattle.heap_reading.specs.declared.live.Live.{Live}
+use Rattle.heap_reading.specs.declared.noted.Field.{Field}
+use Rattle.heap_reading.specs.declared.seen.Seen.{Seen}
+use Rattle.heap_reading.specs.HeldNames.{is_state_running}
+use Rattle.heap_reading.specs.Image.{AreAll, IsInUse, IsInWords, IsLive, IsNoted, shown}
+use Rattle.shared_value.specs.World.{World, value_of}
 
 -- ONE BY ONE
 

@@ -15,30 +15,30 @@ use Rattle.task_machine.specs.Place.{Places}
 use Rattle.task_machine.proofs.Agreement.{same_line}
 use Rattle.write_barrier.specs.declared.sets.SetOf.{SetOf}
 use Rattle.write_barrier.specs.Stored.{content_of}
-use Rattle.shared_tree.specs.World.{World, accounts, flat, rest_at, value_of}
-use Rattle.shared_tree.specs.Stands.{IsWorld}
-use Rattle.shared_tree.specs.Fits.{AllFit, Fits}
-use Rattle.shared_tree.specs.Alone.{IsBeyond, IsShared, alone_event, machine_after}
-use Rattle.shared_tree.specs.ChildEnds.{IsAtEnd, is_last, is_last_by, is_last_line}
+use Rattle.shared_value.specs.World.{World, accounts, flat, rest_at, value_of}
+use Rattle.shared_value.specs.Stands.{IsWorld}
+use Rattle.shared_value.specs.Fits.{AllFit, Fits}
+use Rattle.own_steps.specs.Alone.{IsBeyond, IsShared, alone_event, machine_after}
+use Rattle.child_tasks.specs.ChildEnds.{IsAtEnd, is_last, is_last_by, is_last_line}
 use Rattle.run_ledger.specs.declared.data.Refused.{Refused}
-use Rattle.shared_tree.specs.Entered.{IsCaused, RanAnswers, refused}
-use Rattle.shared_tree.specs.declared.ran.NotRan.{NotRan}
-use Rattle.shared_tree.specs.Forks.{ForkAnswered, IsAtFork, is_fork, is_fork_by, is_par}
-use Rattle.shared_tree.specs.Hands.{HoldsNone, LeavesHand}
-use Rattle.shared_tree.specs.Joins.{IsUnchanged, SameButPlaces}
-use Rattle.shared_tree.specs.declared.answer.NotEntered.{NotEntered}
-use Rattle.shared_tree.specs.declared.answer.NotEntered.TheVariants.{NoMemory, Refuses}
-use Rattle.shared_tree.specs.Links.{above_of}
-use Rattle.shared_tree.specs.Next.{is_beyond, is_beyond_by, is_beyond_line, is_joint, next_line}
-use Rattle.shared_tree.specs.Other.{IsOther, SameButRoom, is_other, is_other_by, is_other_line}
+use Rattle.shared_value.specs.Entered.{IsCaused, RanAnswers, refused}
+use Rattle.shared_value.specs.declared.answer.NotRan.{NotRan}
+use Rattle.child_tasks.specs.Forks.{ForkAnswered, IsAtFork, is_fork, is_fork_by, is_par}
+use Rattle.child_tasks.specs.Hands.{HoldsNone, LeavesHand}
+use Rattle.child_tasks.specs.Joins.{IsUnchanged, SameButPlaces}
+use Rattle.shared_value.specs.declared.answer.NotEntered.{NotEntered}
+use Rattle.shared_value.specs.declared.answer.NotEntered.TheVariants.{NoMemory, Refuses}
+use Rattle.shared_value.specs.Links.{above_of}
+use Rattle.shared_value.specs.Next.{is_beyond, is_beyond_by, is_beyond_line, is_joint, next_line}
+use Rattle.others_objects.specs.Other.{IsOther, SameButRoom, is_other, is_other_by, is_other_line}
 use Rattle.shared_tree.specs.Ran.{IsJoint, RanTo, ran_by}
-use Rattle.shared_tree.specs.declared.fork.Forking.{Forking}
-use Rattle.shared_tree.specs.declared.fork.Forking.TheVariants.{Forked, Over}
-use Rattle.shared_tree.proofs.AloneEntries.{runs_on}
-use Rattle.shared_tree.proofs.ForkSteps.{same_length}
-use Rattle.shared_tree.proofs.JoinPlaces.{same_itself, same_world}
-use Rattle.shared_tree.proofs.LastSteps.{fits_machine, machine_same}
-use Rattle.shared_tree.proofs.Taking.{put_there, worker_there}
+use Rattle.child_tasks.specs.declared.fork.Forking.{Forking}
+use Rattle.child_tasks.specs.declared.fork.Forking.TheVariants.{Forked, Over}
+use Rattle.own_steps.proofs.AloneEntries.{runs_on}
+use Rattle.shared_value.proofs.SameLength.{same_length}
+use Rattle.child_tasks.proofs.JoinPlaces.{same_itself, same_world}
+use Rattle.own_steps.proofs.LastSteps.{fits_machine, machine_same}
+use Rattle.shared_value.proofs.Taking.{put_there, worker_there}
 
 or_false : (a : Bool) → (a || false) ≡ true → a ≡ true
 or_false true e = e

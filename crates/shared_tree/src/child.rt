@@ -1,36 +1,26 @@
 // A part's steps are entered with the last return of a task that another one forked.
 
-ghost use Rattle.std.specs.Prelude.{◌≡◌, ◌<◌, ◌+◌, ◌^◌, ◌↔◌, IsTrue, OnErr, OnOk, IfErr, IfOk, None, Some, slice_set};
+ghost use Rattle.std.specs.Prelude.{◌≡◌, ◌<◌, ◌+◌, ◌↔◌, IsTrue, OnErr, OnOk, IfErr, IfOk, None, Some, slice_set};
 ghost use Rattle.heap_tree.specs.Node.{parent_of, state_of};
 ghost use Rattle.heap_tree.specs.Pairs.{sibling};
-ghost use Rattle.shared_tree.specs.Alone.{alone_event};
-ghost use Rattle.shared_tree.specs.ChildEnds.{EndsChild, IsAtEnd};
-ghost use Rattle.shared_tree.specs.Entered.{refused, RanAnswers};
-ghost use Rattle.shared_tree.specs.Fits.{AllFit, Fits};
-ghost use Rattle.shared_tree.specs.Joins.{HasPlaces, IsUnchanged, SameButPlaces};
+ghost use Rattle.own_steps.specs.Alone.{alone_event};
+ghost use Rattle.child_tasks.specs.ChildEnds.{EndsChild, IsAtEnd};
+ghost use Rattle.shared_value.specs.Entered.{refused, RanAnswers};
+ghost use Rattle.shared_value.specs.Fits.{AllFit, Fits};
+ghost use Rattle.child_tasks.specs.Joins.{HasPlaces, IsUnchanged, SameButPlaces};
 
-use crate::answer::NotEntered;
-use crate::join::{
-    chunks_at, in_order, join_children, leave_other, leave_own, make_home_places, make_set_places,
-    places, put_remembered, sources_of, take_remembered, take_rest,
-};
-use crate::last::at_end;
-use crate::ran::NotRan;
 use crate::shared::Shared;
+use child_tasks::{
+    chunks_at, in_order, join_children, leave_other, leave_own, make_home_places, make_set_places,
+    places, put_remembered, sibling_of, sources_of, take_remembered, take_rest,
+};
 use heap_tree::State;
+use own_steps::at_end;
 use run_ledger::Refused;
 use run_trace::{Entry, Kind};
+use shared_value::{NotEntered, NotRan};
 use std::alloc::AllocError;
 use task_machine::Private;
-
-// The other child of the same fork.
-fn sibling_of(t: u32) -> u32
-    requires child { 0 < t }
-    requires few { t < 2 ^ 31 }
-    ensures { result ≡ sibling t }
-{
-    if t % 2 == 1 { t + 1 } else { t - 1 }
-}
 
 impl Shared {
     // Why the entry is refused.

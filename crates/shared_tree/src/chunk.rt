@@ -1,60 +1,17 @@
 // A part gets a chunk.
 
-ghost use Rattle.std.specs.Prelude.{◌≡◌, ◌<◌, ◌^◌, IfSome, OnErr, OnOk, None};
-ghost use Rattle.run_ledger.specs.Entries.{chunk_units};
-ghost use Rattle.shared_tree.specs.Causes.{chunk_cause};
-ghost use Rattle.shared_tree.specs.Entered.{refused, Answers, Enters, IsSamePart};
-ghost use Rattle.shared_tree.specs.Fits.{Fits, OthersFit};
-ghost use Rattle.shared_tree.specs.Next.{part_asks};
+ghost use Rattle.std.specs.Prelude.{◌≡◌, ◌<◌, OnErr, OnOk, None};
+ghost use Rattle.shared_value.specs.Entered.{refused, Answers, Enters, IsSamePart};
+ghost use Rattle.shared_value.specs.Fits.{Fits, OthersFit};
 
-use crate::answer::NotEntered;
-use crate::causes::first_cause;
-use crate::next::words_asked;
 use crate::shared::Shared;
 use chunk_pool::NotTaken;
+use leaf_collections::{cause_by, units_for};
 use run_ledger::{Refused, RunEnd};
 use run_trace::{Entry, Kind};
+use shared_value::{NotEntered, first_cause, words_asked};
 use std::alloc::AllocError;
 use task_machine::Private;
-
-// How many units a chunk has for an object of so many words.
-fn units_for(words: Option<u32>) -> u32
-    requires { IfSome words (λ n. n < 2 ^ 22) }
-    ensures units { result ≡ chunk_units words }
-    ensures few { result < 2 ^ 22 }
-    ensures some { 0 < result }
-{
-    match words {
-        None => 1,
-        Some(words) => {
-            if words <= 1024 {
-                1
-            } else {
-                (words + 1023) / 1024
-            }
-        }
-    }
-}
-
-// Why no chunk is given to a part.
-fn cause_by(part: &Private, words: Option<u32>) -> Option<Refused>
-    ensures { result ≡ chunk_cause part.now words }
-{
-    if part.begun.is_some() {
-        return Some(Refused::Collecting);
-    }
-    let Some(words) = words else {
-        return Some(Refused::NotNeeded(part.heap.room()));
-    };
-    if part.leaf_limit <= part.heap.since() {
-        return Some(Refused::Due(part.heap.since()));
-    }
-    if part.heap.has_place(words) {
-        Some(Refused::NotNeeded(part.heap.room()))
-    } else {
-        None
-    }
-}
 
 impl Shared {
     // Why the entry is refused.

@@ -1,44 +1,13 @@
-// When a leaf collection of a part is due, and whether the free chunks are enough for it.
+// Whether the free chunks are enough for a leaf collection of a part.
 
-ghost use Rattle.std.specs.Prelude.{◌≡◌, ◌≤◌, ◌^◌};
+ghost use Rattle.std.specs.Prelude.{◌≡◌};
 ghost use Rattle.run_ledger.specs.Entries.{is_pool_enough};
-ghost use Rattle.shared_tree.specs.Due.{due_cause, take_by, IsHeld};
-ghost use Rattle.shared_tree.specs.World.{accounts};
+ghost use Rattle.shared_value.specs.Due.{IsHeld};
+ghost use Rattle.shared_value.specs.World.{accounts};
 
 use crate::shared::Shared;
-use run_ledger::Refused;
+use leaf_collections::chunks_for;
 use task_machine::Private;
-
-// How many chunks a leaf collection takes for small objects of so many words.
-pub(crate) fn chunks_for(words: u64) -> u64
-    ensures take { result ≡ take_by words }
-    ensures few { result ≤ 2 ^ 56 }
-{
-    let full = words / 1024;
-    let rest = words % 1024;
-    let units = if rest == 0 { full } else { full + 1 };
-    if units == 0 { 1 } else { 2 * units - 1 }
-}
-
-// Why a leaf collection of a part neither begins nor is put off.
-pub(crate) fn due_cause(part: &Private, words: Option<u32>) -> Option<Refused>
-    ensures { result ≡ due_cause part.now words }
-{
-    if part.begun.is_some() {
-        return Some(Refused::Collecting);
-    }
-    let since = part.heap.since();
-    match words {
-        None => Some(Refused::NotDue(since)),
-        Some(_) => {
-            if part.leaf_limit <= since {
-                None
-            } else {
-                Some(Refused::NotDue(since))
-            }
-        }
-    }
-}
 
 impl Shared {
     /// Whether the free chunks are enough for a leaf collection of a part.

@@ -2,31 +2,11 @@
 
 ghost use Rattle.std.specs.Prelude.{◌≡◌, None, length, slice_get};
 ghost use Rattle.hh_model.specs.Step.{is_waiting, joined, parents};
-ghost use Rattle.shared_tree.specs.Pace.{is_going, is_live_child, is_parent, is_state_joined, is_to_begin, IsForkOf, IsLiveChild};
-ghost use Rattle.shared_tree.specs.World.{accounts};
+ghost use Rattle.heap_marking.specs.Pace.{is_going, is_live_child, is_parent, is_to_begin, IsForkOf, IsLiveChild};
+ghost use Rattle.shared_value.specs.World.{accounts};
 
-use crate::mark_causes::is_waiting;
-use crate::pace::Fork;
 use crate::shared::Shared;
-use heap_tree::State;
-
-fn is_joined(state: Option<State>) -> bool
-    ensures { result ≡ is_state_joined state }
-{
-    match state {
-        Some(State::Joined) => true,
-        _ => false,
-    }
-}
-
-fn is_parent(parent: Option<u32>, t: u32) -> bool
-    ensures { result ≡ is_parent parent t }
-{
-    match parent {
-        Some(parent) => parent == t,
-        None => false,
-    }
-}
+use heap_marking::{Fork, is_joined, is_parent, is_waiting};
 
 impl Shared {
     // Whether a task has joined its parent.

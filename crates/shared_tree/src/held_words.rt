@@ -5,8 +5,8 @@ ghost use Rattle.alloc_path.specs.Heap.{counted};
 ghost use Rattle.heap_tree.specs.Node.{state_of};
 ghost use Rattle.run_ledger.specs.Heaps.{words_sum};
 ghost use Rattle.run_ledger.specs.Report.{kept};
-ghost use Rattle.shared_tree.specs.HeldNames.{is_state_running, kept_of};
-ghost use Rattle.shared_tree.specs.World.{accounts};
+ghost use Rattle.heap_reading.specs.HeldNames.{is_state_running, kept_of};
+ghost use Rattle.shared_value.specs.World.{accounts};
 
 use crate::shared::Shared;
 use heap_tree::State;

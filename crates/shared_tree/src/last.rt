@@ -2,34 +2,19 @@
 
 ghost use Rattle.std.specs.Prelude.{◌≡◌, ◌≢◌, ◌<◌, ◌+◌, OnErr, OnOk, IfErr, IfOk, None};
 ghost use Rattle.hh_model.specs.Step.{ended_by, step};
-ghost use Rattle.shared_tree.specs.Alone.{alone_event, ended_rest, then_accounts, Answered, FinishesAlone, GoesAlone, HaltsAlone, IsShared, Tells};
-ghost use Rattle.shared_tree.specs.Entered.{refused, RanAnswers};
-ghost use Rattle.shared_tree.specs.Fits.{Fits};
+ghost use Rattle.own_steps.specs.Alone.{alone_event, then_accounts, Answered, FinishesAlone, GoesAlone, HaltsAlone, IsShared, Tells};
+ghost use Rattle.shared_value.specs.Entered.{refused, RanAnswers};
+ghost use Rattle.shared_value.specs.Fits.{Fits};
 
-use crate::answer::NotEntered;
-use crate::causes::first_cause;
-use crate::next::{Ending, last_step};
-use crate::ran::{Alone, NotRan};
-use crate::rest::{Rest, Work};
 use crate::shared::Shared;
 use heap_tree::State;
 use hh_model::End;
+use own_steps::{Alone, at_end};
 use run_ledger::{Refused, RunEnd};
 use run_trace::{Entry, Kind};
+use shared_value::{Ending, NotEntered, NotRan, first_cause, last_step};
 use std::alloc::AllocError;
 use task_machine::Private;
-
-// What goes with a task whose last frame returned.
-pub(crate) fn at_end(part: Private) -> Rest
-    ensures { result ≡ ended_rest part }
-{
-    let result = (part.frames.int(0), part.frames.reference(0));
-    Rest {
-        work: Work::Result(result.0, result.1),
-        heap: part.heap,
-        allocations: part.allocations,
-    }
-}
 
 impl Shared {
     // Why the entry is refused.

@@ -1,66 +1,20 @@
 // A leaf collection of a part begins.
 
-ghost use Rattle.std.specs.Prelude.{◌≡◌, ◌<◌, ◌≤◌, [], ◌++◌, IfOk, OnErr, OnOk, None, length, map, vec_capacity};
-ghost use Rattle.alloc_path.specs.Heap.{with_places};
-ghost use Rattle.leaf_copy_gc.specs.Lists.{AreReserved};
-ghost use Rattle.shared_tree.specs.Entered.{refused, Answers, Enters, IsSamePart};
-ghost use Rattle.shared_tree.specs.Fits.{Fits, OthersFit};
-ghost use Rattle.shared_tree.specs.LeafBegin.{number_of, HasBegun};
+ghost use Rattle.std.specs.Prelude.{◌≡◌, ◌<◌, IfOk, OnErr, OnOk, None};
+ghost use Rattle.shared_value.specs.Entered.{refused, Answers, Enters, IsSamePart};
+ghost use Rattle.shared_value.specs.Fits.{Fits, OthersFit};
+ghost use Rattle.shared_value.specs.LeafBegin.{HasBegun};
 
-use crate::answer::NotEntered;
-use crate::causes::first_cause;
-use crate::enough::{chunks_for, due_cause};
-use crate::next::words_asked;
 use crate::shared::Shared;
-use alloc_path::LeafHeap;
 use chunk_pool::NotTaken;
+use leaf_collections::{Prepared, chunks_for, due_cause, note_numbers, prepare};
 use leaf_copy_gc::ToChunks;
-use listed::{Listed, Roomy};
-use object_layout::{Addr, Chunk};
+use object_layout::Addr;
 use run_ledger::Refused;
 use run_trace::{Entry, Kind};
-use std::alloc::{AllocError, Global};
+use shared_value::{NotEntered, first_cause, words_asked};
+use std::alloc::AllocError;
 use task_machine::{Begun, Private};
-
-// What a collection needs beside its chunks: a copy of its roots, a list for the numbers of the chunks, and what is reserved
-// for copying.
-#[derive(Drop)]
-struct Prepared {
-    roots: Listed<Addr>,
-    numbers: Roomy<u32>,
-    to: ToChunks,
-}
-
-// Takes all memory that a collection into so many chunks needs.
-fn prepare(
-    alloc: Global,
-    roots: &[Addr],
-    heap: &mut LeafHeap,
-    count: u32,
-) -> Result<Prepared, AllocError>
-    ensures kept { heap.new ≡ with_places heap.old heap.new.slots heap.new.spare }
-    ensures roots { IfOk result (λ q. q.roots ≡ roots.now) }
-    ensures none { IfOk result (λ q. q.numbers.items ≡ []) }
-    ensures room { IfOk result (λ q. count ≤ q.numbers.room) }
-    ensures empty { IfOk result (λ q. q.to.chunks.items ≡ []) }
-    ensures reserved { IfOk result (λ q. AreReserved heap.new count q.to) }
-{
-    let roots = Listed::from_vec(roots.to_vec(alloc)?);
-    let mut numbers = Roomy::new(alloc);
-    numbers.reserve(count as usize)?;
-    let to = ToChunks::reserve(alloc, heap, count)?;
-    Ok(Prepared { roots, numbers, to })
-}
-
-// Puts down the numbers of chunks.
-fn note_numbers(numbers: &mut Roomy<u32>, chunks: &[Chunk])
-    requires { length chunks.now ≤ numbers.old.room }
-    ensures { numbers.new.items ≡ numbers.old.items ++ map number_of chunks.now }
-{
-    for chunk in chunks {
-        numbers.push_reserved(chunk.number());
-    }
-}
 
 impl Shared {
     // Why the entry is refused.

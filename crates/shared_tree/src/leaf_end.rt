@@ -1,54 +1,20 @@
 // The leaf collection of a part ends.
 
-ghost use Rattle.std.specs.Prelude.{◌≡◌, ◌<◌, All, IsSome, OnErr, OnOk, None, fold, slice_get};
-ghost use Rattle.alloc_path.specs.Heap.{AreApart};
-ghost use Rattle.chunk_pool.specs.Chunks.{held_at};
-ghost use Rattle.inner_mark_gc.specs.Swept.{AreGiven};
-ghost use Rattle.remembered_set.specs.Moved.{redirected, AreFields, AreInOrder, ArePlaces};
-ghost use Rattle.remembered_set.specs.Sources.{StandOnce};
-ghost use Rattle.shared_tree.specs.Entered.{cause_of, refused, Enters};
-ghost use Rattle.shared_tree.specs.Fits.{Fits, OthersFit};
-ghost use Rattle.shared_tree.specs.LeafEnd.{end_event, ended, FitsCopied};
-ghost use Rattle.shared_tree.specs.RestingHeaps.{refs_in, with_ref_in};
-ghost use Rattle.shared_tree.specs.Roots.{sources_of};
+ghost use Rattle.std.specs.Prelude.{◌≡◌, ◌<◌, OnErr, OnOk, None};
+ghost use Rattle.shared_value.specs.Entered.{cause_of, refused, Enters};
+ghost use Rattle.shared_value.specs.Fits.{Fits, OthersFit};
+ghost use Rattle.leaf_collections.specs.LeafEnd.{end_event, ended, FitsCopied};
 
-use crate::causes::first_cause;
-use crate::heaps::Heaps;
 use crate::shared::Shared;
 use chunk_pool::Pool;
+use leaf_collections::{give_all, lead};
 use leaf_copy_gc::Moved;
 use listed::Listed;
-use object_layout::{Addr, Chunk};
 use run_ledger::Refused;
 use run_trace::{Entry, Kind};
+use shared_value::{Heaps, first_cause};
 use std::mem;
 use task_machine::Private;
-use write_barrier::SetOf;
-
-// Leads the remembered fields of a heap that still hold old addresses to the new ones.
-fn lead(sets: &[SetOf], task: u32, heaps: &mut Heaps, moved: &[(Addr, Addr)])
-    requires fields { AreFields refs_in heaps.old (sources_of (slice_get sets.now task)) }
-    requires order { AreInOrder moved.now }
-    requires places { ArePlaces moved.now }
-    ensures led { heaps.new ≡ fold (redirected refs_in with_ref_in moved.now) heaps.old (sources_of (slice_get sets.now task)) }
-    ensures once { StandOnce (sources_of (slice_get sets.now task)) }
-{
-    if let Some(set) = sets.get(task as usize) {
-        let _ = set.remembered.sources();
-        set.remembered.rewrite(heaps, moved);
-    }
-}
-
-// Gives chunks back.
-fn give_all(pool: &mut Pool, chunks: Vec<Chunk>)
-    requires apart { AreApart chunks.items }
-    requires in_use { All (λ k. IsSome (held_at pool.old k.number)) chunks.items }
-    ensures { AreGiven pool.old pool.new chunks.items }
-{
-    for chunk in chunks {
-        pool.give(chunk);
-    }
-}
 
 impl Shared {
     // Why the entry is refused.

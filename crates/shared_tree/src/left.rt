@@ -1,9 +1,8 @@
 // What a run leaves, and its journal.
 
 ghost use Rattle.std.specs.Prelude.{◌≡◌};
-ghost use Rattle.shared_tree.specs.World.{without_journal};
+ghost use Rattle.shared_value.specs.World.{without_journal};
 
-use crate::rest::Rest;
 use crate::shared::Shared;
 use chunk_pool::Pool;
 use heap_tree::Tree;
@@ -12,6 +11,7 @@ use inner_mark_gc::Marking;
 use listed::Listed;
 use run_ledger::RunEnd;
 use run_trace::{Entry, Settings};
+use shared_value::Rest;
 use std::marker::Model;
 use write_barrier::SetOf;
 
@@ -35,7 +35,7 @@ pub struct Left {
 
 impl Model for Left {
     ghost use Rattle.std.specs.Prelude.{[]};
-    ghost use Rattle.shared_tree.specs.World.{World};
+    ghost use Rattle.shared_value.specs.World.{World};
 
     ghost Value = { World };
 

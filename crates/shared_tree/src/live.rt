@@ -3,29 +3,14 @@
 ghost use Rattle.std.specs.Prelude.{◌≡◌, ◌<◌, IfOk, IfSome, None, Some, false, true};
 ghost use Rattle.chunk_pool.specs.Chunks.{AreChunks};
 ghost use Rattle.hh_model.specs.Step.{joined, owner_of, parents};
-ghost use Rattle.shared_tree.specs.Image.{AreAll, ChunkBefore, IsInUse, IsLive, LiveBefore};
-ghost use Rattle.shared_tree.specs.World.{accounts};
+ghost use Rattle.heap_reading.specs.Image.{AreAll, ChunkBefore, IsInUse, IsLive, LiveBefore};
+ghost use Rattle.shared_value.specs.World.{accounts};
 
 use crate::shared::Shared;
+use heap_reading::{InUse, Live};
 use heap_tree::State;
 use listed::Listed;
 use std::alloc::{AllocError, Global};
-
-/// A task that hasn't joined.
-#[derive(Clone, Copy)]
-pub struct Live {
-    pub number: u32,
-    pub parent: Option<u32>,
-    pub state: State,
-}
-
-/// A chunk in use: its number, its owner and its words.
-#[derive(Clone, Copy)]
-pub struct InUse {
-    pub number: u32,
-    pub owner: u32,
-    pub words: u64,
-}
 
 impl Shared {
     // The task of a number, where it was made and hasn't joined.

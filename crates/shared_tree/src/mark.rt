@@ -3,30 +3,18 @@
 ghost use Rattle.std.specs.Prelude.{◌≡◌, ◌<◌, IfOk, OnErr, OnOk, None};
 ghost use Rattle.run_ledger.specs.Heaps.{heap_of};
 ghost use Rattle.core_relation.specs.Marking.{GoesOn};
-ghost use Rattle.shared_tree.specs.Entered.{refused, Answers, Enters};
-ghost use Rattle.shared_tree.specs.Fits.{AllFit};
-ghost use Rattle.shared_tree.specs.MarkCauses.{words_cause};
-ghost use Rattle.shared_tree.specs.World.{accounts, value_of};
+ghost use Rattle.shared_value.specs.Entered.{refused, Answers, Enters};
+ghost use Rattle.shared_value.specs.Fits.{AllFit};
+ghost use Rattle.heap_marking.specs.MarkCauses.{words_cause};
+ghost use Rattle.shared_value.specs.World.{accounts, value_of};
 
-use crate::answer::NotEntered;
-use crate::causes::first_cause;
-use crate::mark_places::put_marking;
 use crate::shared::Shared;
+use heap_marking::{put_marking, words_cause};
 use inner_mark_gc::Marking;
 use run_ledger::Refused;
-use run_trace::{Entry, Kind, Settings};
+use run_trace::{Entry, Kind};
+use shared_value::{NotEntered, first_cause};
 use std::alloc::AllocError;
-
-// Of a heap that can be marked, of so many words: why its marking isn't due.
-fn words_cause(settings: Settings, words: u64) -> Option<Refused>
-    ensures { result ≡ words_cause settings words }
-{
-    if settings.inner() as u64 <= words {
-        None
-    } else {
-        Some(Refused::NotDue(words))
-    }
-}
 
 impl Shared {
     /// Why the entry is refused.

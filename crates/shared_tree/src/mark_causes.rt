@@ -3,22 +3,12 @@
 ghost use Rattle.std.specs.Prelude.{◌≡◌, ◌==◌, None, is_some};
 ghost use Rattle.alloc_path.specs.Heap.{counted};
 ghost use Rattle.run_ledger.specs.Heaps.{heap_of, left_in, words_in};
-ghost use Rattle.shared_tree.specs.MarkCauses.{is_state_waiting, marking_cause, waiting_cause};
-ghost use Rattle.shared_tree.specs.World.{accounts, marks_at};
+ghost use Rattle.heap_marking.specs.MarkCauses.{marking_cause, waiting_cause};
+ghost use Rattle.shared_value.specs.World.{accounts, marks_at};
 
 use crate::shared::Shared;
-use heap_tree::State;
+use heap_marking::is_waiting;
 use run_ledger::Refused;
-
-// Whether a task that is at this waits.
-pub(crate) fn is_waiting(state: Option<State>) -> bool
-    ensures { result ≡ is_state_waiting state }
-{
-    match state {
-        Some(State::Waiting) => true,
-        _ => false,
-    }
-}
 
 impl Shared {
     // For what its task is at, or since it was swept.

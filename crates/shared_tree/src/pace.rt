@@ -1,91 +1,16 @@
-// The pace of inner collections: what is kept of a worker's own entries, and what the worker owes by it.
+// What a worker owes by the pace of inner collections.
 
-ghost use Rattle.std.specs.Prelude.{◌≡◌, ◌∷◌, ◌++◌, ◌<◌, ◌≤◌, ◌-◌, [], List, OnOk, None};
+ghost use Rattle.std.specs.Prelude.{◌≡◌, ◌<◌, ◌≤◌, ◌-◌, List, None};
 ghost use Rattle.hh_model.specs.declared.data.Strand.{Strand};
 ghost use Rattle.run_ledger.specs.Pace.{more_of, owed, owed_to_marks};
 ghost use Rattle.run_ledger.specs.declared.data.WorkerPace.{WorkerPace};
-ghost use Rattle.shared_tree.specs.MarkCauses.{marking_cause};
-ghost use Rattle.shared_tree.specs.Pace.{previous_of, IsLastGoing, KeepsMarks, KeepsPace, PacesStay};
-ghost use Rattle.shared_tree.specs.World.{accounts};
+ghost use Rattle.heap_marking.specs.MarkCauses.{marking_cause};
+ghost use Rattle.heap_marking.specs.Pace.{IsLastGoing, KeepsMarks, KeepsPace};
+ghost use Rattle.shared_value.specs.World.{accounts};
 
 use crate::shared::Shared;
-use listed::Roomy;
+use heap_marking::{Fork, Pace, Previous};
 use run_ledger::Owed;
-use std::alloc::{AllocError, Global};
-
-/// A fork: the task that forked, and a child of it, the left one where its number is known.
-#[derive(Clone, Copy)]
-pub struct Fork {
-    pub task: u32,
-    pub left: u32,
-}
-
-/// A worker's previous entry, as far as the pace asks.
-#[derive(Clone, Copy)]
-pub enum Previous {
-    /// None, or no steps.
-    Other,
-    /// Steps that forked nothing.
-    Ran,
-    /// Steps that ended with this fork.
-    Forked(Fork),
-}
-
-/// What is kept of a worker's own entries, as far as the pace asks.
-#[derive(Drop)]
-pub struct Pace {
-    pub previous: Previous,
-    /// The forks after which the worker began to mark the heap of the task that waits, the last one at the end.
-    pub marks: Roomy<Fork>,
-}
-
-impl Pace {
-    /// Of a worker without an entry.
-    pub fn new(alloc: Global) -> Pace
-        ensures previous { result.previous ≡ Previous.Other }
-        ensures marks { result.marks.items ≡ [] }
-    {
-        Pace {
-            previous: Previous::Other,
-            marks: Roomy::new(alloc),
-        }
-    }
-
-    /// Makes a place for one marking more.
-    pub fn reserve(&mut self) -> Result<(), AllocError>
-        ensures previous { self.new.previous ≡ self.old.previous }
-        ensures items { self.new.marks.items ≡ self.old.marks.items }
-        ensures room { OnOk result (0 < self.new.marks.room) }
-    {
-        self.marks.reserve(1)
-    }
-
-    /// After steps, which ended with this fork where they ended with one.
-    pub fn after_steps(&mut self, fork: Option<Fork>)
-        ensures { self.new ≡ record self.old { previous = previous_of fork } }
-    {
-        self.previous = match fork {
-            Some(fork) => Previous::Forked(fork),
-            None => Previous::Ran,
-        };
-    }
-
-    /// After the marking of a heap has begun, whose task waits on this fork.
-    pub fn after_mark(&mut self, fork: Fork)
-        requires { 0 < self.old.marks.room }
-        ensures { self.new ≡ record { previous = Previous.Other; marks = record { items = self.old.marks.items ++ fork ∷ []; room = self.old.marks.room - 1 } } }
-    {
-        self.previous = Previous::Other;
-        self.marks.push_reserved(fork);
-    }
-
-    /// After any other entry.
-    pub fn after_other(&mut self)
-        ensures { self.new ≡ record self.old { previous = Previous.Other } }
-    {
-        self.previous = Previous::Other;
-    }
-}
 
 impl Shared {
     // The last of these markings that is under way.
@@ -165,8 +90,3 @@ impl Shared {
         }
     }
 }
-
-/// An accepted entry keeps what is kept of each worker.
-pub fn paces_stay()
-    ensures { PacesStay }
-{}

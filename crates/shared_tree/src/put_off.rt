@@ -1,15 +1,14 @@
 // A leaf collection is put off.
 
 ghost use Rattle.std.specs.Prelude.{◌≡◌, ◌<◌, OnErr, OnOk, None};
-ghost use Rattle.shared_tree.specs.Entered.{cause_of, refused, Enters};
-ghost use Rattle.shared_tree.specs.Fits.{Fits, OthersFit};
+ghost use Rattle.shared_value.specs.Entered.{cause_of, refused, Enters};
+ghost use Rattle.shared_value.specs.Fits.{Fits, OthersFit};
 
-use crate::causes::first_cause;
-use crate::enough::due_cause;
-use crate::next::words_asked;
 use crate::shared::Shared;
+use leaf_collections::due_cause;
 use run_ledger::Refused;
 use run_trace::{Entry, Kind};
+use shared_value::{first_cause, words_asked};
 use task_machine::Private;
 
 impl Shared {

@@ -1,19 +1,20 @@
 // A part's steps are entered with its next one, which isn't private, whatever that is.
 
 ghost use Rattle.std.specs.Prelude.{◌≡◌, ◌<◌, OnErr, IfErr, IfOk, None};
-ghost use Rattle.shared_tree.specs.Alone.{alone_event, IsShared};
-ghost use Rattle.shared_tree.specs.ChildEnds.{IsAtEnd};
-ghost use Rattle.shared_tree.specs.Entered.{refused, RanAnswers};
-ghost use Rattle.shared_tree.specs.Fits.{AllFit, Fits};
-ghost use Rattle.shared_tree.specs.Forks.{IsAtFork};
-ghost use Rattle.shared_tree.specs.Joins.{IsUnchanged};
-ghost use Rattle.shared_tree.specs.Other.{IsOther};
+ghost use Rattle.own_steps.specs.Alone.{alone_event, IsShared};
+ghost use Rattle.child_tasks.specs.ChildEnds.{IsAtEnd};
+ghost use Rattle.shared_value.specs.Entered.{refused, RanAnswers};
+ghost use Rattle.shared_value.specs.Fits.{AllFit, Fits};
+ghost use Rattle.child_tasks.specs.Forks.{IsAtFork};
+ghost use Rattle.child_tasks.specs.Joins.{IsUnchanged};
+ghost use Rattle.others_objects.specs.Other.{IsOther};
 ghost use Rattle.shared_tree.specs.Ran.{ran_by, ComesTo, IsJoint, RanTo};
 
-use crate::fork::Forking;
-use crate::ran::{Alone, NotRan};
 use crate::shared::Shared;
+use child_tasks::Forking;
 use hh_lang::Instr;
+use own_steps::Alone;
+use shared_value::NotRan;
 use task_machine::Private;
 
 /// What a part comes to by a step that isn't private.

@@ -1,21 +1,21 @@
 // A part's steps are entered with one that works on an object of another task.
 
-ghost use Rattle.std.specs.Prelude.{◌≡◌, ◌<◌, OnErr, OnOk, IfErr, IfOk, None};
-ghost use Rattle.shared_tree.specs.Alone.{alone_event, GoesAlone, IsShared};
-ghost use Rattle.shared_tree.specs.Entered.{refused, RanAnswers};
-ghost use Rattle.shared_tree.specs.Fits.{Fits};
-ghost use Rattle.shared_tree.specs.Joins.{IsUnchanged};
-ghost use Rattle.shared_tree.specs.Other.{IsOther, OtherAnswered, SameButRoom, TellsOther};
+ghost use Rattle.std.specs.Prelude.{◌≡◌, ◌<◌, OnErr, IfErr, IfOk, None};
+ghost use Rattle.own_steps.specs.Alone.{alone_event, GoesAlone, IsShared};
+ghost use Rattle.shared_value.specs.Entered.{refused, RanAnswers};
+ghost use Rattle.shared_value.specs.Fits.{Fits};
+ghost use Rattle.child_tasks.specs.Joins.{IsUnchanged};
+ghost use Rattle.others_objects.specs.Other.{IsOther, OtherAnswered, SameButRoom, TellsOther};
 
-use crate::answer::NotEntered;
-use crate::other::{OtherStep, named, step_on};
-use crate::ran::{Alone, NotRan};
 use crate::shared::Shared;
 use hh_lang::{IntReg, RefReg};
 use hh_model::End;
 use object_layout::Addr;
+use others_objects::{OtherStep, named, step_on};
+use own_steps::Alone;
 use run_ledger::Refused;
 use run_trace::{Entry, Kind};
+use shared_value::{NotEntered, NotRan};
 use task_machine::Private;
 
 impl Shared {

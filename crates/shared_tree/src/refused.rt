@@ -2,15 +2,15 @@
 
 ghost use Rattle.std.specs.Prelude.{◌≡◌, ◌≢◌, None, Some, false};
 ghost use Rattle.run_ledger.specs.Heaps.{heap_of};
-ghost use Rattle.shared_tree.specs.Causes.{first_cause, task_held};
-ghost use Rattle.shared_tree.specs.Entered.{refused};
-ghost use Rattle.shared_tree.specs.World.{accounts};
+ghost use Rattle.shared_value.specs.Causes.{first_cause, task_held};
+ghost use Rattle.shared_value.specs.Entered.{refused};
+ghost use Rattle.shared_value.specs.World.{accounts};
 
-use crate::causes::first_cause;
 use crate::shared::Shared;
 use hh_lang::Program;
 use run_ledger::Refused;
 use run_trace::Kind;
+use shared_value::first_cause;
 
 impl Shared {
     /// The program that is run.

@@ -2,14 +2,14 @@
 
 ghost use Rattle.std.specs.Prelude.{◌≡◌, ◌<◌, ◌≤◌, IfOk, OnErr, OnOk, None, min};
 ghost use Rattle.run_ledger.specs.Heaps.{heap_of, left_in};
-ghost use Rattle.shared_tree.specs.Entered.{cause_of, refused, Enters};
-ghost use Rattle.shared_tree.specs.Fits.{AllFit};
-ghost use Rattle.shared_tree.specs.World.{accounts};
+ghost use Rattle.shared_value.specs.Entered.{cause_of, refused, Enters};
+ghost use Rattle.shared_value.specs.Fits.{AllFit};
+ghost use Rattle.shared_value.specs.World.{accounts};
 
-use crate::causes::first_cause;
 use crate::shared::Shared;
 use run_ledger::Refused;
 use run_trace::{Entry, Kind};
+use shared_value::first_cause;
 use std::mem;
 
 impl Shared {

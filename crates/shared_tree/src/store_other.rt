@@ -1,34 +1,20 @@
 // A part's steps are entered with one that writes an object of another task.
 
-ghost use Rattle.std.specs.Prelude.{◌≡◌, ◌<◌, ◌+◌, ◌^◌, OnErr, OnOk, IfErr, IfOk, None};
-ghost use Rattle.shared_tree.specs.Alone.{alone_event, GoesAlone, IsShared};
-ghost use Rattle.shared_tree.specs.Entered.{refused, RanAnswers};
-ghost use Rattle.shared_tree.specs.Fits.{Fits};
-ghost use Rattle.shared_tree.specs.Other.{store_frames, store_of, OtherAnswered, SameButRoom, TellsOther};
+ghost use Rattle.std.specs.Prelude.{◌≡◌, ◌<◌, ◌+◌, OnErr, OnOk, IfErr, IfOk, None};
+ghost use Rattle.own_steps.specs.Alone.{alone_event, GoesAlone, IsShared};
+ghost use Rattle.shared_value.specs.Entered.{refused, RanAnswers};
+ghost use Rattle.shared_value.specs.Fits.{Fits};
+ghost use Rattle.others_objects.specs.Other.{store_of, OtherAnswered, SameButRoom, TellsOther};
 
-use crate::answer::NotEntered;
-use crate::other::OtherStep;
-use crate::ran::{Alone, NotRan};
 use crate::shared::Shared;
-use crate::write_other::{write_number, write_reference};
 use hh_lang::IntReg;
 use object_layout::Addr;
+use others_objects::{OtherStep, go_on, write_number, write_reference};
+use own_steps::Alone;
 use run_trace::{Entry, Kind};
+use shared_value::{NotEntered, NotRan};
 use std::alloc::AllocError;
-use task_frames::Frames;
 use task_machine::Private;
-
-// The frames go on after a write, with 1 in the number register that a compare and swap sets.
-fn go_on(frames: &mut Frames, swap: Option<IntReg>)
-    requires { frames.old.top.next + 1 < 2 ^ 32 }
-    ensures { frames.new ≡ store_frames swap frames.old }
-{
-    let next = frames.next() + 1;
-    if let Some(register) = swap {
-        frames.set_int(register.index() as u32, 1);
-    }
-    frames.set_next(next);
-}
 
 impl Shared {
     // Enters the write of a reference, which may be one of a compare and swap.

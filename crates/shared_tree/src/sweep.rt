@@ -1,63 +1,18 @@
 // The heap of a waiting task is swept.
 
-ghost use Rattle.std.specs.Prelude.{◌≡◌, ◌≢◌, ◌==◌, ◌<◌, ℕ, OnErr, OnOk, IsSome, None, Some, length, option_map, slice_get, slice_set};
-ghost use Rattle.inner_mark_gc.specs.Marks.{Marks};
+ghost use Rattle.std.specs.Prelude.{◌≡◌, ◌==◌, ◌<◌, OnErr, OnOk, None, Some};
 ghost use Rattle.run_ledger.specs.Entries.{counted, refused_unless};
 ghost use Rattle.run_ledger.specs.Heaps.{heap_of, left_in, marked_in, sweep_number};
-ghost use Rattle.shared_tree.specs.Entered.{cause_of, refused, Enters};
-ghost use Rattle.shared_tree.specs.Fits.{AllFit};
-ghost use Rattle.shared_tree.specs.MarkCauses.{marking_cause};
-ghost use Rattle.shared_tree.specs.Sweeping.{forgotten, CanSweep, SweepsHome};
-ghost use Rattle.shared_tree.specs.World.{accounts, marks_at, rest_at};
-ghost use Rattle.shared_tree.specs.declared.rest.Rest.{Rest as RestOf};
-ghost use Rattle.write_barrier.specs.Stored.{content_at};
+ghost use Rattle.shared_value.specs.Entered.{cause_of, refused, Enters};
+ghost use Rattle.shared_value.specs.Fits.{AllFit};
+ghost use Rattle.heap_marking.specs.MarkCauses.{marking_cause};
+ghost use Rattle.shared_value.specs.World.{accounts};
 
-use crate::causes::first_cause;
-use crate::rest::Rest;
 use crate::shared::Shared;
-use chunk_pool::Pool;
-use inner_mark_gc::Marking;
-use listed::Listed;
+use heap_marking::{drop_unmarked, forget_kept};
 use run_ledger::Refused;
 use run_trace::{Entry, Kind};
-use std::mem;
-use write_barrier::SetOf;
-
-// A heap keeps no overwritten references from now on.
-fn forget_kept(sets: &mut Vec<SetOf>, t: u32)
-    requires made { t < length sets.old.items }
-    ensures many { length sets.new.items ≡ length sets.old.items }
-    ensures none { content_at sets.new.items t ≡ option_map forgotten (content_at sets.old.items t) }
-    ensures others { (u : ℕ) → u ≢ t → slice_get sets.new.items u ≡ slice_get sets.old.items u }
-{
-    let set = &mut sets[t as usize];
-    set.keeps = false;
-    set.kept.clear();
-}
-
-// Drops what isn't marked of the heap of a task that no worker holds, and ends its marking.
-fn drop_unmarked(
-    homes: &mut Listed<Option<Rest>>,
-    marks: &mut Listed<Option<Marking>>,
-    pool: &mut Pool,
-    t: u32,
-)
-    requires home { IsSome (rest_at homes.old t) }
-    requires marking { IsSome (marks_at marks.old t) }
-    requires can { (r : RestOf) (m : Marks) → rest_at homes.old t ≡ Some r → marks_at marks.old t ≡ Some m → CanSweep r.heap m pool.old }
-    ensures swept { (r : RestOf) (m : Marks) → rest_at homes.old t ≡ Some r → marks_at marks.old t ≡ Some m → SweepsHome homes.old homes.new pool.old pool.new t r m }
-    ensures marks { marks.new ≡ slice_set marks.old t None }
-{
-    let Some(rest) = mem::replace(homes.at_mut(t as usize), None) else {
-        unreachable!()
-    };
-    let Some(marking) = mem::replace(marks.at_mut(t as usize), None) else {
-        unreachable!()
-    };
-    let mut rest = rest;
-    let _ = marking.sweep(&mut rest.heap, pool);
-    homes.set(t as usize, Some(rest));
-}
+use shared_value::first_cause;
 
 impl Shared {
     // How many objects of a heap are marked, while it is being marked.

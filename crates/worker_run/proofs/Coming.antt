@@ -7,9 +7,9 @@ use Rattle.run_ledger.specs.declared.data.Refused.{Refused}
 use Rattle.run_ledger.specs.Entries.{is_pool_enough}
 use Rattle.task_machine.specs.declared.part.Private.{Private}
 use Rattle.task_machine.specs.declared.part.Paused.{Paused}
-use Rattle.shared_tree.specs.Causes.{first_cause}
-use Rattle.shared_tree.specs.Stands.{IsWorld}
-use Rattle.shared_tree.specs.World.{World, accounts}
+use Rattle.shared_value.specs.Causes.{first_cause}
+use Rattle.shared_value.specs.Stands.{IsWorld}
+use Rattle.shared_value.specs.World.{World, accounts}
 use Rattle.paced_tree.specs.Owed.{owed_by}
 use Rattle.worker_run.specs.declared.act.Acted.{Acted}
 use Rattle.worker_run.specs.declared.held.Ready.{Ready}

@@ -20,27 +20,27 @@ use Rattle.chunk_pool.specs.Chunks.{units_in_use}
 use Rattle.task_machine.specs.declared.part.Private.{Private}
 use Rattle.task_machine.specs.declared.part.Paused.TheVariants.{Due, NeedChunk}
 use Rattle.task_machine.specs.Steps.{lacks_place}
-use Rattle.shared_tree.specs.declared.answer.NotEntered.{NotEntered}
-use Rattle.shared_tree.specs.declared.answer.NotEntered.TheVariants.{NoMemory, Refuses}
-use Rattle.shared_tree.specs.Alone.{IsShared, alone_event, machine_after}
-use Rattle.shared_tree.specs.Causes.{first_cause, need_cause, or_else}
-use Rattle.shared_tree.specs.Due.{due_cause, is_part_due}
-use Rattle.shared_tree.specs.Entered.{IsCaused, refused}
-use Rattle.shared_tree.specs.Fits.{Fits}
-use Rattle.shared_tree.specs.LeafEnd.{FitsCopied, end_event}
-use Rattle.shared_tree.specs.Links.{FitsFirst}
-use Rattle.shared_tree.specs.Next.{part_asks}
-use Rattle.shared_tree.specs.Stands.{IsWorld}
-use Rattle.shared_tree.specs.World.{World, accounts}
-use Rattle.shared_tree.proofs.Asking.{asked_same}
-use Rattle.shared_tree.proofs.BeginCauses.{begin_answer}
-use Rattle.shared_tree.proofs.LastSteps.{alone_answer}
-use Rattle.shared_tree.proofs.LeafRefusals.{end_answer}
-use Rattle.shared_tree.proofs.Needs.{chunk_answer}
-use Rattle.shared_tree.proofs.Now.{end_now, steps_now}
-use Rattle.shared_tree.proofs.PutOff.{put_off_answer, without_fresh}
-use Rattle.shared_tree.proofs.Refusals.{refused_is}
-use Rattle.shared_tree.proofs.Running.{ran_answer}
+use Rattle.shared_value.specs.declared.answer.NotEntered.{NotEntered}
+use Rattle.shared_value.specs.declared.answer.NotEntered.TheVariants.{NoMemory, Refuses}
+use Rattle.own_steps.specs.Alone.{IsShared, alone_event, machine_after}
+use Rattle.shared_value.specs.Causes.{first_cause, need_cause, or_else}
+use Rattle.shared_value.specs.Due.{due_cause, is_part_due}
+use Rattle.shared_value.specs.Entered.{IsCaused, refused}
+use Rattle.shared_value.specs.Fits.{Fits}
+use Rattle.leaf_collections.specs.LeafEnd.{FitsCopied, end_event}
+use Rattle.shared_value.specs.Links.{FitsFirst}
+use Rattle.shared_value.specs.Next.{part_asks}
+use Rattle.shared_value.specs.Stands.{IsWorld}
+use Rattle.shared_value.specs.World.{World, accounts}
+use Rattle.shared_value.proofs.Asking.{asked_same}
+use Rattle.leaf_collections.proofs.BeginCauses.{begin_answer}
+use Rattle.own_steps.proofs.LastSteps.{alone_answer}
+use Rattle.leaf_collections.proofs.LeafRefusals.{end_answer}
+use Rattle.leaf_collections.proofs.Needs.{chunk_answer}
+use Rattle.shared_value.proofs.Now.{end_now, steps_now}
+use Rattle.leaf_collections.proofs.PutOff.{put_off_answer, without_fresh}
+use Rattle.shared_value.proofs.Refusals.{refused_is}
+use Rattle.shared_value.proofs.Running.{ran_answer}
 use Rattle.paced_tree.specs.Owed.{owed_by}
 use Rattle.worker_run.specs.Parts.{IsPaused}
 use Rattle.worker_run.proofs.Stepping.{first}

@@ -6,9 +6,9 @@ use Rattle.hh_lang.specs.Form.{ProgramText}
 use Rattle.run_trace.specs.Entry.{Event}
 use Rattle.run_trace.specs.Settings.{Limits}
 use Rattle.run_trace.specs.declared.entry.Kind.{Kind}
-use Rattle.shared_tree.specs.Fits.{Fits}
-use Rattle.shared_tree.specs.Stands.{IsWorld}
-use Rattle.shared_tree.specs.World.{World, accounts}
+use Rattle.shared_value.specs.Fits.{Fits}
+use Rattle.shared_value.specs.Stands.{IsWorld}
+use Rattle.shared_value.specs.World.{World, accounts}
 use Rattle.task_machine.specs.declared.part.Private.{Private}
 use Rattle.turn_lock.specs.Journal.{entries_by}
 use Rattle.turn_lock.specs.Seats.{view, Extends, GaveOne, HasNoTurn, HasTurn, IsAlike, Knows, SameWorker, own_entries, with_given, with_taken}

@@ -4,10 +4,10 @@ use Rattle.task_machine.specs.declared.part.Private.{Private}
 use Rattle.task_machine.specs.declared.part.Paused.TheVariants.{Shared, Spent}
 use Rattle.alloc_path.specs.Heap.{Heap}
 use Rattle.leaf_copy_gc.specs.declared.lists.Moved.{Moved}
-use Rattle.shared_tree.specs.Alone.{GoesAlone, IsShared}
-use Rattle.shared_tree.specs.Fits.{Fits}
-use Rattle.shared_tree.specs.LeafEnd.{FitsCopied, ended}
-use Rattle.shared_tree.specs.World.{World, accounts}
+use Rattle.own_steps.specs.Alone.{GoesAlone, IsShared}
+use Rattle.shared_value.specs.Fits.{Fits}
+use Rattle.leaf_collections.specs.LeafEnd.{FitsCopied, ended}
+use Rattle.shared_value.specs.World.{World, accounts}
 use Rattle.worker_run.specs.Parts.{IsPaused, MayRun}
 
 module _ (w : World) (k : ℕ) (part : Private) where

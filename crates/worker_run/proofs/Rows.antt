@@ -12,8 +12,8 @@ use Rattle.steal_scheduler.specs.declared.hand.Hand.{Hand}
 use Rattle.steal_scheduler.specs.Hands.{AreNewHands, thefts}
 use Rattle.run_ledger.specs.Journals.{is_legal}
 use Rattle.run_ledger.specs.Pace.{is_paced}
-use Rattle.shared_tree.specs.Stands.{IsWorld}
-use Rattle.shared_tree.specs.World.{World}
+use Rattle.shared_value.specs.Stands.{IsWorld}
+use Rattle.shared_value.specs.World.{World}
 use Rattle.task_machine.specs.declared.part.Private.{Private}
 use Rattle.turn_lock.specs.Journal.{entries_by}
 use Rattle.turn_lock.specs.Seats.{view, HasNoTurn, HasOwnEntries, SameWorker, own_entries, AreNewSeats, AreAllSeats, IsLeftBy}

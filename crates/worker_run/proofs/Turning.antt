@@ -5,16 +5,16 @@ use Rattle.run_trace.specs.Entry.{Event}
 use Rattle.run_trace.specs.declared.entry.Kind.{Kind}
 use Rattle.run_trace.specs.declared.entry.Kind.TheVariants.{Took}
 use Rattle.run_ledger.specs.declared.data.RunEnd.{RunEnd}
-use Rattle.shared_tree.specs.Entered.{Enters, refused}
-use Rattle.shared_tree.specs.Fits.{AllFit, Fits, OthersFit}
-use Rattle.shared_tree.specs.declared.answer.NotEntered.{NotEntered}
-use Rattle.shared_tree.specs.declared.answer.NotEntered.TheVariants.{NoMemory, Refuses}
-use Rattle.shared_tree.specs.ChildEnds.{running_parent}
-use Rattle.shared_tree.specs.Hands.{HoldsNone}
+use Rattle.shared_value.specs.Entered.{Enters, refused}
+use Rattle.shared_value.specs.Fits.{AllFit, Fits, OthersFit}
+use Rattle.shared_value.specs.declared.answer.NotEntered.{NotEntered}
+use Rattle.shared_value.specs.declared.answer.NotEntered.TheVariants.{NoMemory, Refuses}
+use Rattle.child_tasks.specs.ChildEnds.{running_parent}
+use Rattle.child_tasks.specs.Hands.{HoldsNone}
 use Rattle.task_machine.specs.declared.part.Paused.TheVariants.{Shared}
-use Rattle.shared_tree.specs.Joins.{IsUnchanged, SameButPlaces}
-use Rattle.shared_tree.specs.Stands.{IsWorld}
-use Rattle.shared_tree.specs.World.{World, accounts}
+use Rattle.child_tasks.specs.Joins.{IsUnchanged, SameButPlaces}
+use Rattle.shared_value.specs.Stands.{IsWorld}
+use Rattle.shared_value.specs.World.{World, accounts}
 use Rattle.task_machine.specs.declared.part.Private.{Private}
 use Rattle.worker_run.specs.declared.act.Acted.{Acted}
 use Rattle.worker_run.specs.declared.act.Acted.TheVariants.{Entered, Same}

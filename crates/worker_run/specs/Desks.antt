@@ -13,7 +13,7 @@ use Rattle.worker_run.specs.declared.act.Acted.TheVariants.{Entered, Same}
 use Rattle.worker_run.specs.declared.desk.Desk.{Desk}
 use Rattle.worker_run.specs.declared.held.Next.{Next}
 use Rattle.worker_run.specs.declared.held.Ready.{Ready}
-use Rattle.shared_tree.specs.Stands.{IsWorld}
+use Rattle.shared_value.specs.Stands.{IsWorld}
 use Rattle.worker_run.specs.declared.run.Run.{Run}
 use Rattle.worker_run.specs.Acts.{Acts}
 use Rattle.worker_run.specs.Values.{journal_of, setup_of, worker_of, is_over, EntersOne, FitsKept}

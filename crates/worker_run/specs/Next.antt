@@ -10,7 +10,7 @@ use Rattle.run_ledger.specs.Pace.{marked_at_once}
 use Rattle.task_machine.specs.declared.part.Private.{Private}
 use Rattle.task_machine.specs.declared.part.Paused.{Paused}
 use Rattle.task_machine.specs.declared.part.Paused.TheVariants.{Due, NeedChunk, Shared, Spent}
-use Rattle.shared_tree.specs.World.{World, accounts}
+use Rattle.shared_value.specs.World.{World, accounts}
 use Rattle.paced_tree.specs.Owed.{owed_by}
 use Rattle.worker_run.specs.declared.held.Ready.{Ready}
 use Rattle.worker_run.specs.declared.held.Ready.TheVariants.{Paused as HasPaused, Copied as IsCopied, Found, Wanting}

@@ -7,8 +7,8 @@ use Rattle.run_trace.specs.Settings.{Limits}
 use Rattle.run_ledger.specs.declared.data.RunEnd.{RunEnd}
 use Rattle.run_ledger.specs.Journals.{end_of, is_legal}
 use Rattle.run_ledger.specs.Pace.{is_paced}
-use Rattle.shared_tree.specs.Stands.{IsWorld}
-use Rattle.shared_tree.specs.World.{World}
+use Rattle.shared_value.specs.Stands.{IsWorld}
+use Rattle.shared_value.specs.World.{World}
 use Rattle.worker_run.specs.declared.desk.Desk.{Desk}
 use Rattle.worker_run.specs.declared.end.Finish.{Finish}
 use Rattle.worker_run.specs.declared.end.Finish.TheVariants.{Ended, NoMemory}

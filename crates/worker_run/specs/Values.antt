@@ -6,9 +6,9 @@ use Rattle.run_trace.specs.Entry.{Event}
 use Rattle.run_trace.specs.Settings.{Limits}
 use Rattle.run_trace.specs.declared.entry.Kind.{Kind}
 use Rattle.task_machine.specs.declared.part.Private.{Private}
-use Rattle.shared_tree.specs.Entered.{Enters}
-use Rattle.shared_tree.specs.Fits.{AllFit, Fits, OthersFit}
-use Rattle.shared_tree.specs.World.{World, accounts}
+use Rattle.shared_value.specs.Entered.{Enters}
+use Rattle.shared_value.specs.Fits.{AllFit, Fits, OthersFit}
+use Rattle.shared_value.specs.World.{World, accounts}
 use Rattle.worker_run.specs.declared.run.Run.{Run}
 use Rattle.worker_run.specs.declared.run.Setup.{Setup}
 

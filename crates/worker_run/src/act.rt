@@ -1,7 +1,7 @@
 //! What a worker does with the shared value in its turn: at most one entry.
 ghost use Rattle.std.specs.Prelude.{◌≡◌, ◌<◌, None, false};
-ghost use Rattle.shared_tree.specs.Causes.{first_cause};
-ghost use Rattle.shared_tree.specs.World.{accounts};
+ghost use Rattle.shared_value.specs.Causes.{first_cause};
+ghost use Rattle.shared_value.specs.World.{accounts};
 ghost use Rattle.worker_run.specs.Acts.{Acts, ActsFor, EndsEntered, EndsHalted};
 ghost use Rattle.worker_run.specs.Next.{going_kind, is_wanting, owing_kind};
 ghost use Rattle.worker_run.specs.Parts.{BringsTo};

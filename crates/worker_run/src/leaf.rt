@@ -2,9 +2,9 @@
 ghost use Rattle.std.specs.Prelude.{◌≡◌, ◌<◌, None, true, false};
 ghost use Rattle.run_ledger.specs.declared.data.Owed.{Owed as OwedOf};
 ghost use Rattle.run_ledger.specs.Entries.{is_pool_enough};
-ghost use Rattle.shared_tree.specs.Causes.{first_cause};
-ghost use Rattle.shared_tree.specs.LeafEnd.{FitsCopied};
-ghost use Rattle.shared_tree.specs.World.{accounts};
+ghost use Rattle.shared_value.specs.Causes.{first_cause};
+ghost use Rattle.leaf_collections.specs.LeafEnd.{FitsCopied};
+ghost use Rattle.shared_value.specs.World.{accounts};
 ghost use Rattle.run_trace.specs.declared.entry.Kind.{Kind as KindOf};
 ghost use Rattle.worker_run.specs.Acts.{ActsAnyhow};
 ghost use Rattle.worker_run.specs.Next.{due_kind};

@@ -1,6 +1,6 @@
 //! One turn of a worker.
 ghost use Rattle.std.specs.Prelude.{◌≡◌, IfSome, option_map};
-ghost use Rattle.shared_tree.specs.Fits.{Fits};
+ghost use Rattle.shared_value.specs.Fits.{Fits};
 ghost use Rattle.turn_lock.specs.Seats.{view};
 ghost use Rattle.turn_lock.specs.Turn.{identity};
 ghost use Rattle.worker_run.specs.Desks.{GivesOne, HasEntry, HasGiven, IsDesk, SameDesk, TakesTurn};

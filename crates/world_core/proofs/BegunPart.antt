@@ -15,12 +15,12 @@ use Rattle.ledger_steps.specs.Accounts.{aside}
 use Rattle.task_frames.specs.Stack.{Stack}
 use Rattle.task_machine.specs.declared.part.Begun.{Begun}
 use Rattle.task_machine.specs.declared.part.Private.{Private}
-use Rattle.shared_tree.specs.Entered.{Enters}
-use Rattle.shared_tree.specs.Fits.{Fits}
-use Rattle.shared_tree.specs.LeafBegin.{HasBegun, number_of}
-use Rattle.shared_tree.specs.Stands.{IsWorld}
-use Rattle.shared_tree.specs.World.{World, accounts, value_of}
-use Rattle.shared_tree.proofs.Running.{status}
+use Rattle.shared_value.specs.Entered.{Enters}
+use Rattle.shared_value.specs.Fits.{Fits}
+use Rattle.shared_value.specs.LeafBegin.{HasBegun, number_of}
+use Rattle.shared_value.specs.Stands.{IsWorld}
+use Rattle.shared_value.specs.World.{World, accounts, value_of}
+use Rattle.shared_value.proofs.Running.{status}
 use Rattle.copied_part.specs.Copied.{CanCopy}
 use Rattle.copied_part.specs.Handed.{IsCopying}
 use Rattle.copied_part.proofs.Beginning.{begun_is_copying}

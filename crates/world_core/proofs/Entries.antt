@@ -18,10 +18,10 @@ use Rattle.task_machine.specs.Outline.{steps}
 use Rattle.task_machine.specs.Fits.{unended}
 use Rattle.ledger_steps.proofs.Split.{steps_last}
 use Rattle.ledger_steps.specs.Accounts.{aside}
-use Rattle.shared_tree.specs.World.{World, accounts}
-use Rattle.shared_tree.specs.Stands.{IsWorld}
-use Rattle.shared_tree.specs.Fits.{beyond}
-use Rattle.shared_tree.specs.Links.{FitsFirst}
+use Rattle.shared_value.specs.World.{World, accounts}
+use Rattle.shared_value.specs.Stands.{IsWorld}
+use Rattle.shared_value.specs.Fits.{beyond}
+use Rattle.shared_value.specs.Links.{FitsFirst}
 
 -- ---- THE MACHINE BEHIND THE FRESH STEPS
 

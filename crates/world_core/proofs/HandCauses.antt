@@ -17,17 +17,17 @@ use Rattle.run_ledger.proofs.Holders.{tasks_are_held_once}
 use Rattle.core_relation.proofs.HandedBack.{handed_on}
 use Rattle.task_machine.specs.declared.part.Begun.{Begun}
 use Rattle.task_machine.specs.declared.part.Private.{Private}
-use Rattle.shared_tree.specs.Causes.{first_cause, or_else, task_held}
-use Rattle.shared_tree.specs.Entered.{refused}
-use Rattle.shared_tree.specs.Fits.{Fits}
-use Rattle.shared_tree.specs.Hands.{HoldsNone}
-use Rattle.shared_tree.specs.LeafEnd.{FitsCopied, end_event}
-use Rattle.shared_tree.specs.Stands.{IsWorld}
-use Rattle.shared_tree.specs.World.{World, accounts}
-use Rattle.shared_tree.proofs.Apart.{apart_cause, unless_false}
-use Rattle.shared_tree.proofs.Begun.{at_part, begun_is}
-use Rattle.shared_tree.proofs.LeafRefusals.{end_answer, unless_true}
-use Rattle.shared_tree.proofs.Refusals.{on_is, refused_is}
+use Rattle.shared_value.specs.Causes.{first_cause, or_else, task_held}
+use Rattle.shared_value.specs.Entered.{refused}
+use Rattle.shared_value.specs.Fits.{Fits}
+use Rattle.child_tasks.specs.Hands.{HoldsNone}
+use Rattle.leaf_collections.specs.LeafEnd.{FitsCopied, end_event}
+use Rattle.shared_value.specs.Stands.{IsWorld}
+use Rattle.shared_value.specs.World.{World, accounts}
+use Rattle.own_steps.proofs.Apart.{apart_cause, unless_false}
+use Rattle.shared_value.proofs.Begun.{at_part, begun_is}
+use Rattle.leaf_collections.proofs.LeafRefusals.{end_answer, unless_true}
+use Rattle.shared_value.proofs.Refusals.{on_is, refused_is}
 use Rattle.copied_part.specs.Handed.{IsCopying}
 use Rattle.copied_part.proofs.Handing.{copied_fits}
 use Rattle.world_core.specs.declared.held.Held.{Held}

@@ -14,14 +14,14 @@ use Rattle.run_ledger.specs.Journals.{ledger_of}
 use Rattle.core_relation.specs.Whole.{handed}
 use Rattle.core_relation.proofs.HandedBack.{handed_on}
 use Rattle.task_machine.specs.declared.part.Private.{Private}
-use Rattle.shared_tree.specs.Entered.{Enters, refused}
-use Rattle.shared_tree.specs.Fits.{AllFit, Fits, OthersFit}
-use Rattle.shared_tree.specs.Hands.{HoldsNone}
-use Rattle.shared_tree.specs.Joins.{SameButPlaces}
-use Rattle.shared_tree.specs.World.{World, accounts}
-use Rattle.shared_tree.proofs.Entered.{accounts_then}
-use Rattle.shared_tree.proofs.Entering.{entry_on, held_by_end}
-use Rattle.shared_tree.proofs.JoinPlaces.{same_world}
+use Rattle.shared_value.specs.Entered.{Enters, refused}
+use Rattle.shared_value.specs.Fits.{AllFit, Fits, OthersFit}
+use Rattle.child_tasks.specs.Hands.{HoldsNone}
+use Rattle.child_tasks.specs.Joins.{SameButPlaces}
+use Rattle.shared_value.specs.World.{World, accounts}
+use Rattle.shared_value.proofs.Entered.{accounts_then}
+use Rattle.shared_value.proofs.Entering.{entry_on, held_by_end}
+use Rattle.child_tasks.proofs.JoinPlaces.{same_world}
 use Rattle.world_core.specs.declared.held.Held.{Held}
 use Rattle.world_core.specs.declared.held.Held.TheVariants.{Nothing, Part, Copied}
 use Rattle.world_core.specs.Applied.{is_own}

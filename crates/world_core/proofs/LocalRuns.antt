@@ -9,12 +9,12 @@ use Rattle.task_machine.specs.Fits.{unended}
 use Rattle.task_machine.specs.Outline.{steps}
 use Rattle.task_machine.specs.Run.{KeepsRest, Pauses, PausesBy, Ran, Runs}
 use Rattle.task_machine.proofs.Behind.{steps_more}
-use Rattle.shared_tree.specs.World.{World, accounts, value_of}
-use Rattle.shared_tree.specs.Stands.{IsWorld}
-use Rattle.shared_tree.specs.Fits.{Fits}
-use Rattle.shared_tree.specs.Links.{FitsFirst, above_of}
-use Rattle.shared_tree.specs.Alone.{machine_after}
-use Rattle.shared_tree.proofs.FitsAgain.{parts_fit_again}
+use Rattle.shared_value.specs.World.{World, accounts, value_of}
+use Rattle.shared_value.specs.Stands.{IsWorld}
+use Rattle.shared_value.specs.Fits.{Fits}
+use Rattle.shared_value.specs.Links.{FitsFirst, above_of}
+use Rattle.own_steps.specs.Alone.{machine_after}
+use Rattle.own_steps.proofs.FitsAgain.{parts_fit_again}
 use Rattle.world_core.specs.Next.{IsNext}
 use Rattle.world_core.proofs.Entries.{beyond_machine}
 

@@ -9,9 +9,9 @@ use Rattle.run_ledger.specs.declared.data.Ledger.{Ledger}
 use Rattle.run_ledger.specs.declared.data.Refused.{Refused}
 use Rattle.run_ledger.specs.Entries.{after, refusal}
 use Rattle.run_ledger.specs.Journals.{first_refused, first_refused_from, is_legal, ledger_of, opening, refused_or}
-use Rattle.shared_tree.specs.Entered.{refused}
-use Rattle.shared_tree.specs.Stands.{IsWorld}
-use Rattle.shared_tree.specs.World.{World, accounts}
+use Rattle.shared_value.specs.Entered.{refused}
+use Rattle.shared_value.specs.Stands.{IsWorld}
+use Rattle.shared_value.specs.World.{World, accounts}
 use Rattle.world_core.specs.Applied.{Applies, IsStoppedBy, WantedMemory}
 use Rattle.world_core.specs.Replay.{HasCome, HasReplayed}
 use Rattle.world_core.specs.Whole.{Whole}

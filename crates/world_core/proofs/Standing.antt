@@ -19,19 +19,19 @@ use Rattle.task_machine.specs.declared.part.Private.{Private}
 use Rattle.task_machine.specs.Steps.{is_part_due, is_part_in_need, lacks_place}
 use Rattle.task_machine.proofs.Counted.{lacks_same}
 use Rattle.core_relation.specs.Fits.{ahead}
-use Rattle.shared_tree.specs.Alone.{IsShared, machine_after}
-use Rattle.shared_tree.specs.Causes.{first_cause}
-use Rattle.shared_tree.specs.Entered.{refused}
-use Rattle.shared_tree.specs.Fits.{Fits, part_of}
-use Rattle.shared_tree.specs.Next.{next_line}
-use Rattle.shared_tree.specs.Stands.{IsWorld}
-use Rattle.shared_tree.specs.World.{World, accounts, value_of}
-use Rattle.shared_tree.proofs.Asking.{asks_is, asks_two, counted_is, since_is}
-use Rattle.shared_tree.proofs.Begun.{at_part}
+use Rattle.own_steps.specs.Alone.{IsShared, machine_after}
+use Rattle.shared_value.specs.Causes.{first_cause}
+use Rattle.shared_value.specs.Entered.{refused}
+use Rattle.shared_value.specs.Fits.{Fits, part_of}
+use Rattle.shared_value.specs.Next.{next_line}
+use Rattle.shared_value.specs.Stands.{IsWorld}
+use Rattle.shared_value.specs.World.{World, accounts, value_of}
+use Rattle.shared_value.proofs.Asking.{asks_is, asks_two, counted_is, since_is}
+use Rattle.shared_value.proofs.Begun.{at_part}
 use Rattle.core_relation.proofs.Quiet.{aside_is}
-use Rattle.shared_tree.proofs.LastSteps as last
-use Rattle.shared_tree.proofs.Linked as link
-use Rattle.shared_tree.proofs.Running.{fits_now, goes}
+use Rattle.own_steps.proofs.LastSteps as last
+use Rattle.shared_value.proofs.Linked as link
+use Rattle.shared_value.proofs.Running.{fits_now, goes}
 use Rattle.world_core.specs.Next.{IsNext, standing_by}
 use Rattle.world_core.proofs.HandCauses.{behind, on}
 

@@ -18,17 +18,17 @@ use Rattle.core_relation.specs.Frames.{NotOf, all_ahead}
 use Rattle.core_relation.specs.Value.{In}
 use Rattle.core_relation.specs.Worker.{AllFit, Fits as FitsValue}
 use Rattle.core_relation.proofs.All.{all_fit_together}
-use Rattle.shared_tree.specs.Fits.{part_of}
-use Rattle.shared_tree.specs.Stands.{IsWorld}
+use Rattle.shared_value.specs.Fits.{part_of}
+use Rattle.shared_value.specs.Stands.{IsWorld}
 use Rattle.core_relation.specs.Whole.{by_end, handed}
 use Rattle.hh_model.specs.declared.data.End.TheVariants.{Done, Entangled, Trapped}
 use Rattle.run_ledger.specs.declared.data.RunEnd.{RunEnd}
 use Rattle.run_ledger.specs.declared.data.RunEnd.TheVariants.{Fuel, Machine, Pool}
-use Rattle.shared_tree.specs.World.{World, accounts, flat, value_of}
+use Rattle.shared_value.specs.World.{World, accounts, flat, value_of}
 use Rattle.world_core.specs.declared.held.Held.{Held}
 use Rattle.world_core.specs.declared.held.Held.TheVariants.{Nothing, Part, Copied}
-use Rattle.shared_tree.proofs.Entering.{held_by_end}
-use Rattle.shared_tree.proofs.IdleTasks.{done_idles}
+use Rattle.shared_value.proofs.Entering.{held_by_end}
+use Rattle.heap_reading.proofs.IdleTasks.{done_idles}
 use Rattle.world_core.specs.Together.{AreParts, HoldsOneOf, IsPartIn, PartsStand, StandsTogether, with_parts}
 use Rattle.world_core.specs.Whole.{Holds, IsWhole, Whole}
 use Rattle.world_core.proofs.Aside.{fits_aside, knows_aside, stands_aside}

@@ -5,14 +5,14 @@ use Rattle.run_trace.specs.declared.entry.Kind.TheVariants.{Fuel, Mark, More, Sw
 use Rattle.run_trace.specs.Entry.{Event}
 use Rattle.run_ledger.specs.declared.data.Refused.{Refused}
 use Rattle.run_ledger.specs.declared.data.Refused.TheVariants.{Collecting, NotCollecting, NotOut}
-use Rattle.shared_tree.specs.declared.answer.NotEntered.{NotEntered}
-use Rattle.shared_tree.specs.declared.answer.NotEntered.TheVariants.{NoMemory, Refuses}
+use Rattle.shared_value.specs.declared.answer.NotEntered.{NotEntered}
+use Rattle.shared_value.specs.declared.answer.NotEntered.TheVariants.{NoMemory, Refuses}
 use Rattle.shared_tree.specs.declared.ran_last.Ran.{Ran}
 use Rattle.shared_tree.specs.declared.ran_last.Ran.TheVariants.{Done, Ended, Forked, Goes, Over}
-use Rattle.shared_tree.specs.Entered.{Enters, refused}
-use Rattle.shared_tree.specs.Fits.{AllFit, OthersFit}
-use Rattle.shared_tree.specs.Joins.{SameButPlaces}
-use Rattle.shared_tree.specs.World.{World}
+use Rattle.shared_value.specs.Entered.{Enters, refused}
+use Rattle.shared_value.specs.Fits.{AllFit, OthersFit}
+use Rattle.child_tasks.specs.Joins.{SameButPlaces}
+use Rattle.shared_value.specs.World.{World}
 use Rattle.world_core.specs.declared.held.Held.{Held}
 use Rattle.world_core.specs.declared.held.Held.TheVariants.{Nothing, Part, Copied}
 use Rattle.world_core.specs.declared.held.Made.{Made}

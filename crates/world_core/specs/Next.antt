@@ -4,8 +4,8 @@ use Rattle.task_machine.specs.declared.part.Private.{Private}
 use Rattle.task_machine.specs.declared.part.Paused.{Paused}
 use Rattle.task_machine.specs.declared.part.Paused.TheVariants.{Shared, Due, NeedChunk, Spent}
 use Rattle.task_machine.specs.Run.{Pauses}
-use Rattle.shared_tree.specs.World.{World}
-use Rattle.shared_tree.specs.Alone.{machine_after}
+use Rattle.shared_value.specs.World.{World}
+use Rattle.own_steps.specs.Alone.{machine_after}
 
 -- what comes next of the part's task, by the machine after its fresh steps
 abbrev pub IsNext : World → Private → Paused → Type 0

@@ -9,9 +9,9 @@ use Rattle.core_relation.specs.Frames.{all_ahead, with_homes}
 use Rattle.core_relation.specs.Stands.{Stands}
 use Rattle.core_relation.specs.Value.{In}
 use Rattle.core_relation.specs.Whole.{handed}
-use Rattle.shared_tree.specs.Fits.{part_of}
-use Rattle.shared_tree.specs.LeafEnd.{FitsCopied}
-use Rattle.shared_tree.specs.World.{World, accounts, value_of}
+use Rattle.shared_value.specs.Fits.{part_of}
+use Rattle.leaf_collections.specs.LeafEnd.{FitsCopied}
+use Rattle.shared_value.specs.World.{World, accounts, value_of}
 use Rattle.world_core.specs.declared.held.Held.{Held}
 use Rattle.world_core.specs.declared.held.Held.TheVariants.{Nothing, Part, Copied}
 use Rattle.world_core.specs.Whole.{HoldsCopy, Whole}

@@ -6,10 +6,10 @@ use Rattle.leaf_copy_gc.specs.Laws.{CanTake}
 use Rattle.leaf_copy_gc.specs.Lists.{IsCollected}
 use Rattle.task_machine.specs.declared.part.Begun.{Begun}
 use Rattle.task_machine.specs.declared.part.Private.{Private}
-use Rattle.shared_tree.specs.Fits.{Fits}
-use Rattle.shared_tree.specs.Hands.{HoldsNone}
-use Rattle.shared_tree.specs.LeafBegin.{number_of}
-use Rattle.shared_tree.specs.World.{World}
+use Rattle.shared_value.specs.Fits.{Fits}
+use Rattle.child_tasks.specs.Hands.{HoldsNone}
+use Rattle.shared_value.specs.LeafBegin.{number_of}
+use Rattle.shared_value.specs.World.{World}
 use Rattle.world_core.specs.declared.held.Held.{Held}
 use Rattle.world_core.specs.declared.held.Held.TheVariants.{Nothing, Part, Copied}
 

@@ -2,7 +2,7 @@
 
 ghost use Rattle.std.specs.Prelude.{◌≡◌, ◌<◌, None, OnOk, false, length, true};
 ghost use Rattle.run_trace.specs.Entry.{IsKind};
-ghost use Rattle.shared_tree.specs.Causes.{first_cause};
+ghost use Rattle.shared_value.specs.Causes.{first_cause};
 ghost use Rattle.world_core.specs.Applied.{is_own, AnswersAll, MakesFor};
 ghost use Rattle.world_core.specs.Whole.{AllHold, Holds};
 

@@ -1,7 +1,7 @@
 // A due leaf collection of a task is put off.
 
 ghost use Rattle.std.specs.Prelude.{◌≡◌, ◌<◌, None, false};
-ghost use Rattle.shared_tree.specs.Causes.{first_cause};
+ghost use Rattle.shared_value.specs.Causes.{first_cause};
 ghost use Rattle.world_core.specs.Applied.{MakesFor};
 ghost use Rattle.world_core.specs.Whole.{Holds, HoldsPart};
 

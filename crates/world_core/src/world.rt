@@ -2,8 +2,8 @@
 
 ghost use Rattle.std.specs.Prelude.{◌≡◌, [], IfOk, false, replicate};
 ghost use Rattle.run_ledger.specs.Heaps.{in_use};
-ghost use Rattle.shared_tree.specs.Stands.{IsWorld};
-ghost use Rattle.shared_tree.specs.World.{accounts};
+ghost use Rattle.shared_value.specs.Stands.{IsWorld};
+ghost use Rattle.shared_value.specs.World.{accounts};
 ghost use Rattle.world_core.specs.Applied.{AppliesTo};
 ghost use Rattle.world_core.specs.Together.{StandsTogether};
 ghost use Rattle.world_core.specs.Whole.{IsWhole};

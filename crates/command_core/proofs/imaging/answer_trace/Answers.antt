@@ -4,7 +4,7 @@ use Rattle.std.proofs.lemmas.Result.{IfOk-weaker}
 use Rattle.run_ledger.specs.Journals.{first_refused}
 use Rattle.run_ledger.specs.declared.data.RefusedAt.{RefusedAt}
 use Rattle.run_ledger.specs.Text.{refused_line}
-use Rattle.shared_tree.specs.World.{World}
+use Rattle.shared_value.specs.World.{World}
 use Rattle.command_core.specs.declared.answer.Status.TheVariants.{Trace}
 use Rattle.command_core.specs.Answers.{IsImaged, IsText}
 use Rattle.command_core.proofs.Imaged.{imaged}

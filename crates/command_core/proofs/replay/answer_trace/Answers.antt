@@ -2,7 +2,7 @@ use Rattle.std.proofs.Common.{◌≡◌, ◌∙◌, ap, rules, sym, subst}
 use Rattle.std.specs.Prelude.{Some}
 use Rattle.std.proofs.lemmas.Result.{IfErr-weaker, IfOk-weaker}
 use Rattle.run_ledger.specs.Journals.{IsPrefix, first_refused}
-use Rattle.shared_tree.specs.World.{World}
+use Rattle.shared_value.specs.World.{World}
 use Rattle.run_ledger.specs.declared.data.RefusedAt.{RefusedAt}
 use Rattle.run_ledger.specs.Text.{refused_line}
 use Rattle.world_core.specs.Replay.{HasCome}

@@ -1,5 +1,5 @@
 use Rattle.std.proofs.Common.{rules, ◌≡◌, ◌++◌, List, take, drop, length, ap, subst, ◌∙◌}
-use Rattle.shared_tree.specs.World.{World}
+use Rattle.shared_value.specs.World.{World}
 use Rattle.turn_lock.specs.Turn.{identity}
 use Rattle.worker_run.specs.declared.desk.Desk.{Desk}
 use Rattle.worker_run.specs.Desks.{HasOfEach}

@@ -1,5 +1,5 @@
 use Rattle.std.proofs.Common.{ap, sym, ◌∙◌}
-use Rattle.shared_tree.specs.Entered.{cause_of}
+use Rattle.shared_value.specs.Entered.{cause_of}
 use Rattle.world_core.proofs.Entries.{not_refused}
 use Rattle.world_core.proofs.HandCauses.{copy_fits, end_free}
 use Rattle.world_core.proofs.apply_end.end.Goals as goal

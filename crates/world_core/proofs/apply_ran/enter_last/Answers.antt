@@ -1,5 +1,5 @@
 use Rattle.std.proofs.Common.{sym, subst}
-use Rattle.shared_tree.specs.Alone.{alone_event}
+use Rattle.own_steps.specs.Alone.{alone_event}
 use Rattle.world_core.specs.Applied.{EntersFor}
 use Rattle.world_core.proofs.Making.{alone_free, ran_fails, ran_made}
 use Rattle.world_core.proofs.apply_ran.enter_last.Goals as goal

@@ -1,7 +1,7 @@
 use Rattle.std.proofs.Common.{subst}
 use Rattle.std.specs.Prelude.{OnOk}
-use Rattle.shared_tree.specs.World.{World}
-use Rattle.shared_tree.specs.Fits.{AllFit}
+use Rattle.shared_value.specs.World.{World}
+use Rattle.shared_value.specs.Fits.{AllFit}
 use Rattle.paced_tree.proofs.Noted.{fuel_kept}
 use Rattle.paced_tree.proofs.paced.Paced.fuel.Goals as goal
 

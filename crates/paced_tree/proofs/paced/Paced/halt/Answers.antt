@@ -1,6 +1,6 @@
 use Rattle.std.proofs.Common.{sym, subst}
-use Rattle.shared_tree.specs.Fits.{Fits}
-use Rattle.shared_tree.specs.World.{World}
+use Rattle.shared_value.specs.Fits.{Fits}
+use Rattle.shared_value.specs.World.{World}
 use Rattle.paced_tree.proofs.paced.Paced.halt.Goals as goal
 
 pub returns-clause-fits : goal.returns-clause-fits

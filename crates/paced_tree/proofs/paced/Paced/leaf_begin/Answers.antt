@@ -1,9 +1,9 @@
 use Rattle.std.proofs.Common.{◌≡◌, None, refl, sym, subst}
 use Rattle.run_trace.specs.Entry.{Event}
 use Rattle.run_trace.specs.declared.entry.Kind.TheVariants.{Begin}
-use Rattle.shared_tree.specs.World.{World}
-use Rattle.shared_tree.specs.Entered.{refused, IsCaused}
-use Rattle.shared_tree.specs.Fits.{Fits, OthersFit}
+use Rattle.shared_value.specs.World.{World}
+use Rattle.shared_value.specs.Entered.{refused, IsCaused}
+use Rattle.shared_value.specs.Fits.{Fits, OthersFit}
 use Rattle.paced_tree.specs.Owed.{Pays}
 use Rattle.paced_tree.proofs.Noted.{other_then}
 use Rattle.paced_tree.proofs.paced.Paced.leaf_begin.Goals as goal

@@ -1,9 +1,9 @@
 use Rattle.std.proofs.Common.{◌≡◌, None, sym, subst, inr}
 use Rattle.run_trace.specs.Entry.{Event}
 use Rattle.run_trace.specs.declared.entry.Kind.TheVariants.{Mark}
-use Rattle.shared_tree.specs.World.{World}
-use Rattle.shared_tree.specs.Entered.{refused, IsCaused}
-use Rattle.shared_tree.specs.Fits.{AllFit}
+use Rattle.shared_value.specs.World.{World}
+use Rattle.shared_value.specs.Entered.{refused, IsCaused}
+use Rattle.shared_value.specs.Fits.{AllFit}
 use Rattle.paced_tree.specs.Owed.{KeepsPaces, Pays}
 use Rattle.paced_tree.proofs.Idle.{marks_kept}
 use Rattle.paced_tree.proofs.MarkNotes.{mark_goes, mark_marked, mark_waits}

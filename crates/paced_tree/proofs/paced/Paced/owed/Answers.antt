@@ -1,5 +1,5 @@
 use Rattle.std.proofs.Common.{◌≡◌, None, ap, sym, subst, ◌∙◌}
-use Rattle.shared_tree.specs.World.{World, accounts}
+use Rattle.shared_value.specs.World.{World, accounts}
 use Rattle.paced_tree.specs.Owed.{noted_of, owed_by}
 use Rattle.paced_tree.proofs.paced.Paced.owed.Goals as goal
 

@@ -1,6 +1,6 @@
 use Rattle.std.proofs.Common.{sym, subst}
-use Rattle.shared_tree.specs.Due.{IsHeld}
-use Rattle.shared_tree.specs.World.{World}
+use Rattle.shared_value.specs.Due.{IsHeld}
+use Rattle.shared_value.specs.World.{World}
 use Rattle.paced_tree.proofs.paced.Paced.pool_enough.Goals as goal
 
 pub pool_enough-requires-clause-held : goal.pool_enough-requires-clause-held

@@ -1,10 +1,10 @@
 use Rattle.std.proofs.Common.{◌≡◌, ◌+◌, None, sym, subst, inr}
 use Rattle.run_trace.specs.Entry.{Event}
-use Rattle.shared_tree.specs.Alone.{alone_event, IsShared}
-use Rattle.shared_tree.specs.World.{World}
-use Rattle.shared_tree.specs.Entered.{refused, IsCaused}
-use Rattle.shared_tree.specs.Fits.{AllFit, Fits}
-use Rattle.shared_tree.specs.Joins.{IsUnchanged}
+use Rattle.own_steps.specs.Alone.{alone_event, IsShared}
+use Rattle.shared_value.specs.World.{World}
+use Rattle.shared_value.specs.Entered.{refused, IsCaused}
+use Rattle.shared_value.specs.Fits.{AllFit, Fits}
+use Rattle.child_tasks.specs.Joins.{IsUnchanged}
 use Rattle.shared_tree.specs.Ran.{RanTo}
 use Rattle.paced_tree.specs.Owed.{Pays}
 use Rattle.paced_tree.proofs.Idle.{unchanged_kept}

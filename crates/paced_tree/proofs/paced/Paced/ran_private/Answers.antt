@@ -1,12 +1,12 @@
 use Rattle.std.proofs.Common.{◌≡◌, Some, None, sym, subst, inr}
 use Rattle.run_trace.specs.Entry.{Event}
 use Rattle.run_trace.specs.declared.entry.Kind.TheVariants.{Ran}
-use Rattle.shared_tree.specs.World.{World}
+use Rattle.shared_value.specs.World.{World}
 use Rattle.std.specs.Prelude.{option_map}
 use Rattle.run_ledger.specs.declared.data.Refused.{Refused}
-use Rattle.shared_tree.specs.declared.answer.NotEntered.TheVariants.{Refuses}
-use Rattle.shared_tree.specs.Entered.{refused}
-use Rattle.shared_tree.specs.Fits.{Fits, OthersFit}
+use Rattle.shared_value.specs.declared.answer.NotEntered.TheVariants.{Refuses}
+use Rattle.shared_value.specs.Entered.{refused}
+use Rattle.shared_value.specs.Fits.{Fits, OthersFit}
 use Rattle.paced_tree.specs.Owed.{Pays}
 use Rattle.paced_tree.proofs.Noted.{paced_then}
 use Rattle.paced_tree.proofs.paced.Paced.ran_private.Goals as goal

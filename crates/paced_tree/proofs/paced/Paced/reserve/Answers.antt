@@ -1,6 +1,6 @@
 use Rattle.std.proofs.Common.{sym, subst}
-use Rattle.shared_tree.specs.Fits.{Fits}
-use Rattle.shared_tree.specs.World.{World}
+use Rattle.shared_value.specs.Fits.{Fits}
+use Rattle.shared_value.specs.World.{World}
 use Rattle.paced_tree.proofs.paced.Paced.reserve.Goals as goal
 
 pub returns-clause-fit : goal.returns-clause-fit

@@ -1,9 +1,9 @@
 use Rattle.std.proofs.Common.{◌≡◌, Some, None, refl, sym, subst}
 use Rattle.run_trace.specs.Entry.{Event}
 use Rattle.run_trace.specs.declared.entry.Kind.TheVariants.{Took}
-use Rattle.shared_tree.specs.World.{World}
-use Rattle.shared_tree.specs.Entered.{refused}
-use Rattle.shared_tree.specs.Fits.{OthersFit}
+use Rattle.shared_value.specs.World.{World}
+use Rattle.shared_value.specs.Entered.{refused}
+use Rattle.shared_value.specs.Fits.{OthersFit}
 use Rattle.paced_tree.specs.Owed.{Pays}
 use Rattle.paced_tree.proofs.Noted.{other_then}
 use Rattle.paced_tree.proofs.paced.Paced.took.Goals as goal

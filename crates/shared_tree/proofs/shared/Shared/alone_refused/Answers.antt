@@ -3,13 +3,14 @@ use Rattle.run_ledger.specs.declared.data.Refused.{Refused}
 use Rattle.run_ledger.specs.declared.data.Refused.TheVariants.{Collecting}
 use Rattle.run_ledger.specs.Entries.{refused_if}
 use Rattle.task_machine.specs.declared.part.Private.{Private}
-use Rattle.shared_tree.specs.Causes.{first_cause, or_else}
-use Rattle.shared_tree.specs.World.{World}
-use Rattle.shared_tree.specs.Fits.{Fits}
-use Rattle.shared_tree.specs.Alone.{IsShared, alone_event}
-use Rattle.shared_tree.specs.Entered.{refused}
+use Rattle.shared_value.specs.Causes.{first_cause, or_else}
+use Rattle.shared_value.specs.World.{World}
+use Rattle.shared_value.specs.Fits.{Fits}
+use Rattle.own_steps.specs.Alone.{IsShared, alone_event}
+use Rattle.shared_value.specs.Entered.{refused}
 use Rattle.shared_tree.specs.contracts.shared.Shared.{the_view}
-use Rattle.shared_tree.proofs.LastSteps.{alone_answer, found_first, nothing_first}
+use Rattle.own_steps.proofs.LastSteps.{alone_answer}
+use Rattle.shared_value.proofs.FirstCauses.{found_first, nothing_first}
 use Rattle.shared_tree.proofs.shared.Shared.alone_refused.Goals as goal
 
 -- as the causes come in turn

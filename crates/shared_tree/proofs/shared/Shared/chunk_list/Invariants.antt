@@ -1,5 +1,5 @@
 use Rattle.std.proofs.Common.{◌<◌}
-use Rattle.shared_tree.specs.Image.{AreAll, ChunkBefore, IsInUse}
+use Rattle.heap_reading.specs.Image.{AreAll, ChunkBefore, IsInUse}
 use Rattle.shared_tree.proofs.shared.Shared.chunk_list.Given as goal
 
 abbrev pub invariant-loop-number : goal.invariant-loop-number

@@ -1,13 +1,13 @@
 use Rattle.std.proofs.Common.{◌≡◌, false, is_some, ap, sym, subst, ◌∙◌}
 use Rattle.run_trace.specs.declared.entry.Kind.TheVariants.{Chunk}
 use Rattle.task_machine.specs.declared.part.Private.{Private}
-use Rattle.shared_tree.specs.World.{World}
-use Rattle.shared_tree.specs.Causes.{chunk_cause, first_cause}
-use Rattle.shared_tree.specs.Entered.{refused}
-use Rattle.shared_tree.specs.Fits.{Fits}
-use Rattle.shared_tree.specs.Next.{part_asks}
+use Rattle.shared_value.specs.World.{World}
+use Rattle.shared_value.specs.Causes.{chunk_cause, first_cause}
+use Rattle.shared_value.specs.Entered.{refused}
+use Rattle.shared_value.specs.Fits.{Fits}
+use Rattle.shared_value.specs.Next.{part_asks}
 use Rattle.shared_tree.specs.contracts.shared.Shared.{the_view}
-use Rattle.shared_tree.proofs.Needs.{chunk_answer, first_answer}
+use Rattle.leaf_collections.proofs.Needs.{chunk_answer, first_answer}
 use Rattle.shared_tree.proofs.shared.Shared.chunk_refused.Goals as goal
 
 pub returns-then-is_some : goal.returns-then-is_some

@@ -1,4 +1,4 @@
-use Rattle.shared_tree.proofs.ChildSteps.{end_shared}
+use Rattle.child_tasks.proofs.ChildSteps.{end_shared}
 use Rattle.shared_tree.proofs.shared.Shared.end_refused.Goals as goal
 
 pub alone_refused-requires-clause-shared : goal.alone_refused-requires-clause-shared

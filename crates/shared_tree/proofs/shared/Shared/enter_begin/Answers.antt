@@ -11,17 +11,17 @@ use Rattle.chunk_pool.specs.Chunks.{Chunks}
 use Rattle.run_trace.specs.Entry.{Event}
 use Rattle.run_trace.specs.declared.entry.Kind.TheVariants.{Begin}
 use Rattle.task_machine.specs.declared.part.Private.{Private}
-use Rattle.shared_tree.specs.World.{World}
-use Rattle.shared_tree.specs.Stands.{IsWorld}
-use Rattle.shared_tree.specs.Fits.{Fits, OthersFit}
-use Rattle.shared_tree.specs.Due.{take_by}
-use Rattle.shared_tree.specs.Entered.{refused}
-use Rattle.shared_tree.specs.LeafBegin.{number_of}
-use Rattle.shared_tree.specs.Roots.{roots_of}
+use Rattle.shared_value.specs.World.{World}
+use Rattle.shared_value.specs.Stands.{IsWorld}
+use Rattle.shared_value.specs.Fits.{Fits, OthersFit}
+use Rattle.shared_value.specs.Due.{take_by}
+use Rattle.shared_value.specs.Entered.{refused}
+use Rattle.shared_value.specs.LeafBegin.{number_of}
+use Rattle.shared_value.specs.Roots.{roots_of}
 use Rattle.shared_tree.specs.contracts.shared.Shared.{the_view}
-use Rattle.shared_tree.proofs.BeginCall.{begin_count, begin_few, begin_free, begins_apart, begins_fit, begins_idle, begins_long, begins_with, begins_world}
-use Rattle.shared_tree.proofs.Chunked.{places_fit}
-use Rattle.shared_tree.proofs.Entered.{journal_by}
+use Rattle.leaf_collections.proofs.BeginCall.{begin_count, begin_few, begin_free, begins_apart, begins_fit, begins_idle, begins_long, begins_with, begins_world}
+use Rattle.leaf_collections.proofs.Chunked.{places_fit}
+use Rattle.shared_value.proofs.Entered.{journal_by}
 use Rattle.shared_tree.proofs.shared.Shared.enter_begin.Goals as goal
 
 -- how many chunks the code takes

@@ -3,18 +3,18 @@ use Rattle.heap_tree.specs.declared.state.State.TheVariants.{Ended}
 use Rattle.heap_tree.specs.Node.{state_of, with_state}
 use Rattle.heap_tree.specs.Pairs.{sibling}
 use Rattle.task_machine.specs.declared.part.Private.{Private}
-use Rattle.shared_tree.specs.declared.rest.Rest.{Rest}
-use Rattle.shared_tree.specs.Stands.{IsWorld}
-use Rattle.shared_tree.specs.World.{World}
-use Rattle.shared_tree.specs.Fits.{Fits}
-use Rattle.shared_tree.specs.Alone.{alone_event, ended_rest}
-use Rattle.shared_tree.specs.ChildEnds.{EndsChild, IsAtEnd}
-use Rattle.shared_tree.specs.Entered.{refused}
+use Rattle.shared_value.specs.declared.rest.Rest.{Rest}
+use Rattle.shared_value.specs.Stands.{IsWorld}
+use Rattle.shared_value.specs.World.{World}
+use Rattle.shared_value.specs.Fits.{Fits}
+use Rattle.own_steps.specs.Alone.{alone_event, ended_rest}
+use Rattle.child_tasks.specs.ChildEnds.{EndsChild, IsAtEnd}
+use Rattle.shared_value.specs.Entered.{refused}
 use Rattle.shared_tree.specs.contracts.shared.Shared.{the_view}
-use Rattle.shared_tree.proofs.AloneEntries.{alone_small}
-use Rattle.shared_tree.proofs.ChildEnded.{alone_ends, alone_world, has_home, has_node}
-use Rattle.shared_tree.proofs.ChildSteps.{end_shared}
-use Rattle.shared_tree.proofs.Entered.{four_changed, journal_by}
+use Rattle.own_steps.proofs.AloneEntries.{alone_small}
+use Rattle.child_tasks.proofs.ChildEnded.{alone_ends, alone_world, has_home, has_node}
+use Rattle.child_tasks.proofs.ChildSteps.{end_shared}
+use Rattle.shared_value.proofs.Entered.{four_changed, journal_by}
 use Rattle.shared_tree.proofs.shared.Shared.enter_end.Goals as goal
 
 pub overflow_add-self-2 : goal.overflow_add-self-2

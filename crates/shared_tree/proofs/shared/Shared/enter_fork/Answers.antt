@@ -6,18 +6,18 @@ use Rattle.fork_join.specs.declared.forks.Child.{Child}
 use Rattle.fork_join.specs.Forked.{new_child}
 use Rattle.write_barrier.specs.declared.sets.SetOf.{SetOf}
 use Rattle.task_machine.specs.declared.part.Private.{Private}
-use Rattle.shared_tree.specs.declared.rest.Rest.{Rest}
-use Rattle.shared_tree.specs.Stands.{IsWorld}
-use Rattle.shared_tree.specs.World.{World}
-use Rattle.shared_tree.specs.Fits.{Fits}
-use Rattle.shared_tree.specs.Alone.{alone_event}
-use Rattle.shared_tree.specs.Forks.{ForksOn, ForksTo, HomesFork, IsAtFork, SetsFork}
-use Rattle.shared_tree.specs.Entered.{refused}
+use Rattle.shared_value.specs.declared.rest.Rest.{Rest}
+use Rattle.shared_value.specs.Stands.{IsWorld}
+use Rattle.shared_value.specs.World.{World}
+use Rattle.shared_value.specs.Fits.{Fits}
+use Rattle.own_steps.specs.Alone.{alone_event}
+use Rattle.child_tasks.specs.Forks.{ForksOn, ForksTo, HomesFork, IsAtFork, SetsFork}
+use Rattle.shared_value.specs.Entered.{refused}
 use Rattle.shared_tree.specs.contracts.shared.Shared.{the_view}
-use Rattle.shared_tree.proofs.AloneEntries.{alone_small, next_small}
-use Rattle.shared_tree.proofs.Entered.{four_changed, journal_by}
-use Rattle.shared_tree.proofs.ForkEntries.{alone_forks, alone_world, homes_fork_by, own_home, own_set}
-use Rattle.shared_tree.proofs.ForkSteps.{few_tasks, fork_shared, on, tree_out}
+use Rattle.own_steps.proofs.AloneEntries.{alone_small, next_small}
+use Rattle.shared_value.proofs.Entered.{four_changed, journal_by}
+use Rattle.child_tasks.proofs.ForkEntries.{alone_forks, alone_world, homes_fork_by, own_home, own_set}
+use Rattle.child_tasks.proofs.ForkSteps.{few_tasks, fork_shared, on, tree_out}
 use Rattle.shared_tree.proofs.shared.Shared.enter_fork.Goals as goal
 
 pub grow-grown-requires-clause-out : goal.grow-grown-requires-clause-out

@@ -11,17 +11,17 @@ use Rattle.write_barrier.specs.declared.sets.SetOf.{SetOf}
 use Rattle.leaf_copy_gc.specs.declared.lists.Moved.{Moved}
 use Rattle.leaf_copy_gc.proofs.ListLemmas.{all_from}
 use Rattle.task_machine.specs.declared.part.Private.{Private}
-use Rattle.shared_tree.specs.declared.heaps.Heaps.{Heaps}
-use Rattle.shared_tree.specs.declared.rest.Rest.{Rest}
-use Rattle.shared_tree.specs.World.{World}
-use Rattle.shared_tree.specs.Fits.{OthersFit}
-use Rattle.shared_tree.specs.Entered.{Enters, refused}
-use Rattle.shared_tree.specs.LeafEnd.{FitsCopied, end_event}
-use Rattle.shared_tree.specs.RestingHeaps.{refs_in, with_ref_in}
-use Rattle.shared_tree.specs.Roots.{heaps_of, sources_of}
+use Rattle.shared_value.specs.declared.heaps.Heaps.{Heaps}
+use Rattle.shared_value.specs.declared.rest.Rest.{Rest}
+use Rattle.shared_value.specs.World.{World}
+use Rattle.shared_value.specs.Fits.{OthersFit}
+use Rattle.shared_value.specs.Entered.{Enters, refused}
+use Rattle.leaf_collections.specs.LeafEnd.{FitsCopied, end_event}
+use Rattle.shared_value.specs.RestingHeaps.{refs_in, with_ref_in}
+use Rattle.shared_value.specs.Roots.{heaps_of, sources_of}
 use Rattle.shared_tree.specs.contracts.shared.Shared.{the_view}
-use Rattle.shared_tree.proofs.Entered.{journal_by}
-use Rattle.shared_tree.proofs.LeafEnds.{are_fields, back_in_use, fits_so, others_so, pool_same, world_so}
+use Rattle.shared_value.proofs.Entered.{journal_by}
+use Rattle.leaf_collections.proofs.LeafEnds.{are_fields, back_in_use, fits_so, others_so, pool_same, world_so}
 use Rattle.shared_tree.proofs.shared.Shared.enter_leaf_end.Goals as goal
 
 some_is : {A : Type 0} (o : Option A) → is_some o ≡ true → IsSome o

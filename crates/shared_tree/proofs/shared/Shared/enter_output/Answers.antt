@@ -5,16 +5,16 @@ use Rattle.listed.specs.Space.{Space}
 use Rattle.run_trace.specs.Entry.{Event}
 use Rattle.task_frames.specs.Stack.{Stack, with_next}
 use Rattle.task_machine.specs.declared.part.Private.{Private}
-use Rattle.shared_tree.specs.declared.next.Ending.TheVariants.{Prints}
-use Rattle.shared_tree.specs.Stands.{IsWorld}
-use Rattle.shared_tree.specs.World.{World}
-use Rattle.shared_tree.specs.Fits.{Fits}
-use Rattle.shared_tree.specs.Alone.{IsShared, alone_event}
-use Rattle.shared_tree.specs.Entered.{refused}
+use Rattle.shared_value.specs.declared.next.Ending.TheVariants.{Prints}
+use Rattle.shared_value.specs.Stands.{IsWorld}
+use Rattle.shared_value.specs.World.{World}
+use Rattle.shared_value.specs.Fits.{Fits}
+use Rattle.own_steps.specs.Alone.{IsShared, alone_event}
+use Rattle.shared_value.specs.Entered.{refused}
 use Rattle.shared_tree.specs.contracts.shared.Shared.{the_view}
-use Rattle.shared_tree.specs.Alone.{GoesAlone, Tells}
-use Rattle.shared_tree.proofs.AloneEntries.{alone_small, next_small, printed_goes, printed_world}
-use Rattle.shared_tree.proofs.Entered.{journal_by}
+use Rattle.own_steps.specs.Alone.{GoesAlone, Tells}
+use Rattle.own_steps.proofs.AloneEntries.{alone_small, next_small, printed_goes, printed_world}
+use Rattle.shared_value.proofs.Entered.{journal_by}
 use Rattle.shared_tree.proofs.shared.Shared.enter_output.Goals as goal
 
 -- the value by what the code made of it

@@ -9,17 +9,17 @@ use Rattle.run_ledger.specs.Heaps.{heap_of, left_in}
 use Rattle.inner_mark_gc.specs.Marks.{IsAllMarked, IsMarking, IsOf}
 use Rattle.inner_mark_gc.specs.Snapshot.{Fork, IsSince}
 use Rattle.core_relation.specs.Since.{kept}
-use Rattle.shared_tree.specs.Entered.{refused}
-use Rattle.shared_tree.specs.Fits.{AllFit}
-use Rattle.shared_tree.specs.MarkCauses.{marking_cause}
-use Rattle.shared_tree.specs.Marking.{Further}
-use Rattle.shared_tree.specs.World.{World, accounts, flat, marks_at, rest_at, value_of}
-use Rattle.shared_tree.specs.Stands.{IsWorld}
+use Rattle.shared_value.specs.Entered.{refused}
+use Rattle.shared_value.specs.Fits.{AllFit}
+use Rattle.heap_marking.specs.MarkCauses.{marking_cause}
+use Rattle.heap_marking.specs.Marking.{Further}
+use Rattle.shared_value.specs.World.{World, accounts, flat, marks_at, rest_at, value_of}
+use Rattle.shared_value.specs.Stands.{IsWorld}
 use Rattle.shared_tree.specs.contracts.shared.Shared.{the_view}
-use Rattle.shared_tree.proofs.Entered.{journal_by}
-use Rattle.shared_tree.proofs.Entering.{entry_on}
-use Rattle.shared_tree.proofs.MarkEntries.{kept_is, put_back, some_count, some_enters, some_marks}
-use Rattle.shared_tree.proofs.MarkReady.{further, homes_within, keeps, marks_within, never_gone, never_unmarked, sets_within}
+use Rattle.shared_value.proofs.Entered.{journal_by}
+use Rattle.shared_value.proofs.Entering.{entry_on}
+use Rattle.heap_marking.proofs.MarkEntries.{kept_is, put_back, some_count, some_enters, some_marks}
+use Rattle.heap_marking.proofs.MarkReady.{further, homes_within, keeps, marks_within, never_gone, never_unmarked, sets_within}
 use Rattle.shared_tree.proofs.shared.Shared.enter_some.Goals as goal
 
 pub at-requires : goal.at-requires

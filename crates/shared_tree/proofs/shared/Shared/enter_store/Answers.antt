@@ -9,19 +9,19 @@ use Rattle.task_frames.specs.Stack.{Stack}
 use Rattle.task_machine.specs.declared.part.Private.{Private}
 use Rattle.write_barrier.specs.declared.sets.SetOf.{SetOf}
 use Rattle.write_barrier.specs.Stored.{content_after, content_at}
-use Rattle.shared_tree.specs.declared.other.OtherStep.{OtherStep}
-use Rattle.shared_tree.specs.declared.rest.Rest.{Rest}
-use Rattle.shared_tree.specs.Stands.{IsWorld}
-use Rattle.shared_tree.specs.World.{World}
-use Rattle.shared_tree.specs.Fits.{Fits}
-use Rattle.shared_tree.specs.Alone.{GoesAlone, IsShared, alone_event}
-use Rattle.shared_tree.specs.Entered.{refused}
-use Rattle.shared_tree.specs.Other.{SameButRoom, TellsOther, put_rest, store_frames, store_of}
+use Rattle.others_objects.specs.declared.other.OtherStep.{OtherStep}
+use Rattle.shared_value.specs.declared.rest.Rest.{Rest}
+use Rattle.shared_value.specs.Stands.{IsWorld}
+use Rattle.shared_value.specs.World.{World}
+use Rattle.shared_value.specs.Fits.{Fits}
+use Rattle.own_steps.specs.Alone.{GoesAlone, IsShared, alone_event}
+use Rattle.shared_value.specs.Entered.{refused}
+use Rattle.others_objects.specs.Other.{SameButRoom, TellsOther, put_rest, store_frames, store_of}
 use Rattle.shared_tree.specs.contracts.shared.Shared.{the_view}
-use Rattle.shared_tree.proofs.AloneEntries.{alone_small, next_small}
-use Rattle.shared_tree.proofs.Entered.{journal_by}
-use Rattle.shared_tree.proofs.Rooms.{roomier_same, roomier_world}
-use Rattle.shared_tree.proofs.StoreEntries as entries
+use Rattle.own_steps.proofs.AloneEntries.{alone_small, next_small}
+use Rattle.shared_value.proofs.Entered.{journal_by}
+use Rattle.others_objects.proofs.Rooms.{roomier_same, roomier_world}
+use Rattle.others_objects.proofs.StoreEntries as entries
 use Rattle.shared_tree.proofs.shared.Shared.enter_store.Goals as goal
 
 always_err : {A E P : Type 0} (r : Result A E) → P → OnErr r P

@@ -6,18 +6,18 @@ use Rattle.object_layout.specs.Chunks.{cell_of}
 use Rattle.run_trace.specs.Entry.{Event}
 use Rattle.task_frames.specs.Stack.{Stack}
 use Rattle.task_machine.specs.declared.part.Private.{Private}
-use Rattle.shared_tree.specs.declared.other.OtherStep.TheVariants.{StoresNumber}
-use Rattle.shared_tree.specs.declared.rest.Rest.{Rest}
-use Rattle.shared_tree.specs.Stands.{IsWorld}
-use Rattle.shared_tree.specs.World.{World}
-use Rattle.shared_tree.specs.Fits.{Fits}
-use Rattle.shared_tree.specs.Alone.{GoesAlone, IsShared, alone_event}
-use Rattle.shared_tree.specs.Entered.{refused}
-use Rattle.shared_tree.specs.Other.{TellsOther, put_rest, store_frames}
+use Rattle.others_objects.specs.declared.other.OtherStep.TheVariants.{StoresNumber}
+use Rattle.shared_value.specs.declared.rest.Rest.{Rest}
+use Rattle.shared_value.specs.Stands.{IsWorld}
+use Rattle.shared_value.specs.World.{World}
+use Rattle.shared_value.specs.Fits.{Fits}
+use Rattle.own_steps.specs.Alone.{GoesAlone, IsShared, alone_event}
+use Rattle.shared_value.specs.Entered.{refused}
+use Rattle.others_objects.specs.Other.{TellsOther, put_rest, store_frames}
 use Rattle.shared_tree.specs.contracts.shared.Shared.{the_view}
-use Rattle.shared_tree.proofs.AloneEntries.{alone_small, next_small}
-use Rattle.shared_tree.proofs.Entered.{journal_by}
-use Rattle.shared_tree.proofs.StoreEntries as entries
+use Rattle.own_steps.proofs.AloneEntries.{alone_small, next_small}
+use Rattle.shared_value.proofs.Entered.{journal_by}
+use Rattle.others_objects.proofs.StoreEntries as entries
 use Rattle.shared_tree.proofs.shared.Shared.enter_store_number.Goals as goal
 
 -- the value by what the code made of it

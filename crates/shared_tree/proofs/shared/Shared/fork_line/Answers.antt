@@ -2,16 +2,16 @@ use Rattle.std.proofs.Common.{◌≡◌, ℕ, Option, Some, None, ap₂, sym, su
 use Rattle.hh_lang.specs.declared.program.Line.{Line}
 use Rattle.hh_lang.specs.Form.{line_at}
 use Rattle.task_machine.specs.declared.part.Private.{Private}
-use Rattle.shared_tree.specs.World.{World}
-use Rattle.shared_tree.specs.Fits.{Fits}
-use Rattle.shared_tree.specs.Alone.{alone_event}
-use Rattle.shared_tree.specs.Forks.{ForksTo, IsAtFork}
-use Rattle.shared_tree.specs.Entered.{refused}
-use Rattle.shared_tree.specs.Next.{next_line}
+use Rattle.shared_value.specs.World.{World}
+use Rattle.shared_value.specs.Fits.{Fits}
+use Rattle.own_steps.specs.Alone.{alone_event}
+use Rattle.child_tasks.specs.Forks.{ForksTo, IsAtFork}
+use Rattle.shared_value.specs.Entered.{refused}
+use Rattle.shared_value.specs.Next.{next_line}
 use Rattle.shared_tree.specs.contracts.shared.Shared.{the_view}
-use Rattle.shared_tree.proofs.AloneEntries.{runs_on}
-use Rattle.shared_tree.proofs.ForkSteps.{fork_shared, forks_to, is_par_line, par_is}
-use Rattle.shared_tree.proofs.LastSteps.{some_line}
+use Rattle.own_steps.proofs.AloneEntries.{runs_on}
+use Rattle.child_tasks.proofs.ForkSteps.{fork_shared, forks_to, is_par_line, par_is}
+use Rattle.own_steps.proofs.LastSteps.{some_line}
 use Rattle.shared_tree.proofs.shared.Shared.fork_line.Goals as goal
 
 none_some : (line : Line) → ◌≡◌ {A = Option Line} None (Some line) → ⊥

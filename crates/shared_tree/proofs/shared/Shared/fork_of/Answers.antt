@@ -1,5 +1,5 @@
 use Rattle.std.proofs.Common.{sym, ◌∙◌}
-use Rattle.shared_tree.proofs.PaceStands.{live_waits, none_waits}
+use Rattle.heap_marking.proofs.PaceStands.{live_waits, none_waits}
 use Rattle.shared_tree.proofs.shared.Shared.fork_of.Goals as goal
 
 pub returns-then-is_live_child : goal.returns-then-is_live_child

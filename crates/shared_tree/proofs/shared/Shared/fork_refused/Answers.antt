@@ -1,4 +1,4 @@
-use Rattle.shared_tree.proofs.ForkSteps.{fork_shared}
+use Rattle.child_tasks.proofs.ForkSteps.{fork_shared}
 use Rattle.shared_tree.proofs.shared.Shared.fork_refused.Goals as goal
 
 pub alone_refused-requires-clause-shared : goal.alone_refused-requires-clause-shared

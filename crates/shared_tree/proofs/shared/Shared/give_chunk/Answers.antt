@@ -10,14 +10,14 @@ use Rattle.chunk_pool.specs.declared.pool.NotTaken.TheVariants.{Full}
 use Rattle.chunk_pool.specs.Chunks.{Chunks, units_in_use}
 use Rattle.alloc_path.specs.Heap.{Heap, IsFresh, added, with_places}
 use Rattle.task_machine.specs.declared.part.Private.{Private}
-use Rattle.shared_tree.specs.World.{World}
-use Rattle.shared_tree.specs.Stands.{IsWorld}
-use Rattle.shared_tree.specs.Fits.{Fits, OthersFit}
-use Rattle.shared_tree.specs.Next.{part_asks}
-use Rattle.shared_tree.specs.Entered.{Enters, refused}
+use Rattle.shared_value.specs.World.{World}
+use Rattle.shared_value.specs.Stands.{IsWorld}
+use Rattle.shared_value.specs.Fits.{Fits, OthersFit}
+use Rattle.shared_value.specs.Next.{part_asks}
+use Rattle.shared_value.specs.Entered.{Enters, refused}
 use Rattle.shared_tree.specs.contracts.shared.Shared.{the_view}
-use Rattle.shared_tree.proofs.Chunked.{given_fresh, given_others, given_part, given_world, places_fit, pool_others, pool_part, pool_world}
-use Rattle.shared_tree.proofs.Entered.{journal_by}
+use Rattle.leaf_collections.proofs.Chunked.{given_fresh, given_others, given_part, given_world, places_fit, pool_others, pool_part, pool_world}
+use Rattle.shared_value.proofs.Entered.{journal_by}
 use Rattle.std.specs.Prelude.{OnErr}
 use Rattle.shared_tree.proofs.shared.Shared.give_chunk.Goals as goal
 

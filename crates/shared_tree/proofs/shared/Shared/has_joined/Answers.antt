@@ -1,9 +1,9 @@
 use Rattle.std.proofs.Common.{◌≡◌, None, ap, sym, subst, ◌∙◌}
 use Rattle.hh_model.specs.Step.{joined}
-use Rattle.shared_tree.specs.Pace.{is_state_joined}
-use Rattle.shared_tree.specs.World.{World, accounts}
+use Rattle.heap_marking.specs.Pace.{is_state_joined}
+use Rattle.shared_value.specs.World.{World, accounts}
 use Rattle.shared_tree.specs.contracts.shared.Shared.{the_view}
-use Rattle.shared_tree.proofs.PaceStands.{joined_is}
+use Rattle.heap_marking.proofs.PaceStands.{joined_is}
 use Rattle.shared_tree.proofs.shared.Shared.has_joined.Goals as goal
 
 pub returns : goal.returns

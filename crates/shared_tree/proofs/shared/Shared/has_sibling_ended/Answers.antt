@@ -1,12 +1,12 @@
 use Rattle.std.proofs.Common.{◌≡◌, ℕ, arith, None, sym, subst}
 use Rattle.task_machine.specs.declared.part.Private.{Private}
-use Rattle.shared_tree.specs.World.{World}
-use Rattle.shared_tree.specs.Fits.{Fits}
-use Rattle.shared_tree.specs.Alone.{alone_event}
-use Rattle.shared_tree.specs.ChildEnds.{IsAtEnd}
-use Rattle.shared_tree.specs.Entered.{refused}
+use Rattle.shared_value.specs.World.{World}
+use Rattle.shared_value.specs.Fits.{Fits}
+use Rattle.own_steps.specs.Alone.{alone_event}
+use Rattle.child_tasks.specs.ChildEnds.{IsAtEnd}
+use Rattle.shared_value.specs.Entered.{refused}
 use Rattle.shared_tree.specs.contracts.shared.Shared.{the_view}
-use Rattle.shared_tree.proofs.ChildSteps.{few_tasks, own_made, parent_low}
+use Rattle.child_tasks.proofs.ChildSteps.{few_tasks, own_made, parent_low}
 use Rattle.shared_tree.proofs.shared.Shared.has_sibling_ended.Goals as goal
 
 pub sibling_of-requires-clause-child : goal.sibling_of-requires-clause-child

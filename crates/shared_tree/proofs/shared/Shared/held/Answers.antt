@@ -4,10 +4,10 @@ use Rattle.alloc_path.specs.Heap.{counted}
 use Rattle.run_ledger.specs.declared.data.Ledger.{Ledger}
 use Rattle.run_ledger.specs.Heaps.{words_at, words_sum}
 use Rattle.run_ledger.specs.Report.{kept}
-use Rattle.shared_tree.specs.HeldNames.{kept_of}
-use Rattle.shared_tree.specs.World.{World, accounts}
+use Rattle.heap_reading.specs.HeldNames.{kept_of}
+use Rattle.shared_value.specs.World.{World, accounts}
 use Rattle.shared_tree.specs.contracts.shared.Shared.{the_view}
-use Rattle.shared_tree.proofs.KeptNames.{counted_few, counted_more, homes_few, kept_before, kept_homes, kept_more, objects_few, words_few}
+use Rattle.heap_reading.proofs.KeptNames.{counted_few, counted_more, homes_few, kept_before, kept_homes, kept_more, objects_few, words_few}
 use Rattle.shared_tree.proofs.shared.Shared.held.Goals as goal
 
 pub overflow_cast-t-end : goal.overflow_cast-t-end

@@ -1,8 +1,8 @@
 use Rattle.std.proofs.Common.{◌≡◌, length}
 use Rattle.alloc_path.specs.Heap.{counted}
 use Rattle.run_ledger.specs.Heaps.{words_sum}
-use Rattle.shared_tree.specs.World.{accounts}
-use Rattle.shared_tree.proofs.KeptNames.{kept_before}
+use Rattle.shared_value.specs.World.{accounts}
+use Rattle.heap_reading.proofs.KeptNames.{kept_before}
 use Rattle.shared_tree.proofs.shared.Shared.held.Given as goal
 
 abbrev pub invariant-loop-t : goal.invariant-loop-t

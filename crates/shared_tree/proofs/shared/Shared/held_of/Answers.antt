@@ -3,8 +3,8 @@ use Rattle.alloc_path.specs.Heap.{counted}
 use Rattle.hh_model.specs.declared.data.Name.{Name}
 use Rattle.hh_model.specs.Step.{is_running}
 use Rattle.run_ledger.specs.Heaps.{words_sum}
-use Rattle.shared_tree.specs.World.{World, accounts, flat, rest_at}
-use Rattle.shared_tree.proofs.KeptNames.{none_of, nothing_kept, objects_are, runs_is, words_kept}
+use Rattle.shared_value.specs.World.{World, accounts, flat, rest_at}
+use Rattle.heap_reading.proofs.KeptNames.{none_of, nothing_kept, objects_are, runs_is, words_kept}
 use Rattle.shared_tree.proofs.shared.Shared.held_of.Goals as goal
 
 pub returns-then-runs-clause-objects : goal.returns-then-runs-clause-objects

@@ -1,9 +1,9 @@
 use Rattle.std.proofs.Common.{◌≡◌, None, ap, sym, subst, ◌∙◌}
 use Rattle.hh_model.specs.Step.{parents}
-use Rattle.shared_tree.specs.Pace.{is_parent}
-use Rattle.shared_tree.specs.World.{World, accounts}
+use Rattle.heap_marking.specs.Pace.{is_parent}
+use Rattle.shared_value.specs.World.{World, accounts}
 use Rattle.shared_tree.specs.contracts.shared.Shared.{the_view}
-use Rattle.shared_tree.proofs.PaceStands.{parent_is}
+use Rattle.heap_marking.proofs.PaceStands.{parent_is}
 use Rattle.shared_tree.proofs.shared.Shared.is_child.Goals as goal
 
 pub returns : goal.returns

@@ -1,5 +1,5 @@
 use Rattle.std.proofs.Common.{sym, ◌∙◌}
-use Rattle.shared_tree.proofs.PaceStands.{joined_stops}
+use Rattle.heap_marking.proofs.PaceStands.{joined_stops}
 use Rattle.shared_tree.proofs.shared.Shared.is_going.Goals as goal
 
 pub returns-then-has_joined : goal.returns-then-has_joined

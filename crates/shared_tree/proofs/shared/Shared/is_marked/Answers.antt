@@ -5,12 +5,12 @@ use Rattle.run_ledger.specs.Heaps.{heap_of, left_in}
 use Rattle.inner_mark_gc.specs.Marks.{IsAllMarked, IsMarking, IsOf}
 use Rattle.inner_mark_gc.specs.Snapshot.{Fork, IsSince}
 use Rattle.core_relation.specs.Since.{kept}
-use Rattle.shared_tree.specs.MarkCauses.{marking_cause}
-use Rattle.shared_tree.specs.Marking.{Further}
-use Rattle.shared_tree.specs.World.{World, accounts, flat, marks_at, rest_at, value_of}
+use Rattle.heap_marking.specs.MarkCauses.{marking_cause}
+use Rattle.heap_marking.specs.Marking.{Further}
+use Rattle.shared_value.specs.World.{World, accounts, flat, marks_at, rest_at, value_of}
 use Rattle.shared_tree.specs.contracts.shared.Shared.{the_view}
-use Rattle.shared_tree.proofs.MarkEntries.{kept_is}
-use Rattle.shared_tree.proofs.MarkReady.{further, keeps, left_by, marks_within, never_gone}
+use Rattle.heap_marking.proofs.MarkEntries.{kept_is}
+use Rattle.heap_marking.proofs.MarkReady.{further, keeps, left_by, marks_within, never_gone}
 use Rattle.shared_tree.proofs.shared.Shared.is_marked.Goals as goal
 
 pub unreachable-requires : goal.unreachable-requires

@@ -1,9 +1,9 @@
 use Rattle.std.proofs.Common.{◌≡◌, None, slice_get, ap, sym, subst, ◌∙◌}
 use Rattle.hh_model.specs.Step.{is_waiting}
-use Rattle.shared_tree.specs.MarkCauses.{is_state_waiting}
-use Rattle.shared_tree.specs.World.{World, accounts}
+use Rattle.heap_marking.specs.MarkCauses.{is_state_waiting}
+use Rattle.shared_value.specs.World.{World, accounts}
 use Rattle.shared_tree.specs.contracts.shared.Shared.{the_view}
-use Rattle.shared_tree.proofs.PaceStands.{waiting_is}
+use Rattle.heap_marking.proofs.PaceStands.{waiting_is}
 use Rattle.shared_tree.proofs.shared.Shared.is_waiting.Goals as goal
 
 pub returns : goal.returns

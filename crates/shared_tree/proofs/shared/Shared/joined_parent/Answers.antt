@@ -2,8 +2,8 @@ use Rattle.std.proofs.Common.{◌≡◌, ℕ, Option, Some, None, true, ap, sym,
 use Rattle.heap_tree.specs.Node.{parent_of, state_of}
 use Rattle.heap_tree.specs.declared.state.State.TheVariants.{Joined}
 use Rattle.hh_model.specs.Step.{joined, parents}
-use Rattle.shared_tree.specs.World.{World, accounts}
-use Rattle.shared_tree.proofs.TreeNow.{told_joined, told_live, told_parent, tree_of}
+use Rattle.shared_value.specs.World.{World, accounts}
+use Rattle.heap_reading.proofs.TreeNow.{told_joined, told_live, told_parent, tree_of}
 use Rattle.shared_tree.proofs.shared.Shared.joined_parent.Goals as goal
 
 -- who has joined has a parent

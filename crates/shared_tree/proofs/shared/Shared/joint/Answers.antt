@@ -2,19 +2,19 @@ use Rattle.std.proofs.Common.{◌≡◌, ℕ, Option, Some, None, ap₂, sym, su
 use Rattle.hh_lang.specs.declared.program.Line.{Line}
 use Rattle.hh_lang.specs.Form.{line_at}
 use Rattle.task_machine.specs.declared.part.Private.{Private}
-use Rattle.shared_tree.specs.World.{World}
-use Rattle.shared_tree.specs.Fits.{Fits}
-use Rattle.shared_tree.specs.Alone.{IsShared, alone_event}
-use Rattle.shared_tree.specs.ChildEnds.{IsAtEnd}
-use Rattle.shared_tree.specs.Entered.{refused}
-use Rattle.shared_tree.specs.Forks.{IsAtFork}
-use Rattle.shared_tree.specs.Next.{next_line}
-use Rattle.shared_tree.specs.Other.{IsOther}
+use Rattle.shared_value.specs.World.{World}
+use Rattle.shared_value.specs.Fits.{Fits}
+use Rattle.own_steps.specs.Alone.{IsShared, alone_event}
+use Rattle.child_tasks.specs.ChildEnds.{IsAtEnd}
+use Rattle.shared_value.specs.Entered.{refused}
+use Rattle.child_tasks.specs.Forks.{IsAtFork}
+use Rattle.shared_value.specs.Next.{next_line}
+use Rattle.others_objects.specs.Other.{IsOther}
 use Rattle.shared_tree.specs.Ran.{IsJoint}
 use Rattle.shared_tree.specs.contracts.shared.Shared.{the_view}
-use Rattle.shared_tree.proofs.AloneEntries.{runs_on}
+use Rattle.own_steps.proofs.AloneEntries.{runs_on}
 use Rattle.shared_tree.proofs.Joints.{at_end, at_fork, at_other}
-use Rattle.shared_tree.proofs.LastSteps.{some_line}
+use Rattle.own_steps.proofs.LastSteps.{some_line}
 use Rattle.shared_tree.proofs.shared.Shared.joint.Goals as goal
 
 none_some : (line : Line) → ◌≡◌ {A = Option Line} None (Some line) → ⊥

@@ -1,12 +1,12 @@
 use Rattle.std.proofs.Common.{◌≡◌, ℕ, false, sym, subst, ◌∙◌}
 use Rattle.leaf_copy_gc.specs.declared.lists.Moved.{Moved}
 use Rattle.task_machine.specs.declared.part.Private.{Private}
-use Rattle.shared_tree.specs.World.{World}
-use Rattle.shared_tree.specs.Causes.{first_cause}
-use Rattle.shared_tree.specs.Entered.{refused}
-use Rattle.shared_tree.specs.LeafEnd.{FitsCopied, end_event}
+use Rattle.shared_value.specs.World.{World}
+use Rattle.shared_value.specs.Causes.{first_cause}
+use Rattle.shared_value.specs.Entered.{refused}
+use Rattle.leaf_collections.specs.LeafEnd.{FitsCopied, end_event}
 use Rattle.shared_tree.specs.contracts.shared.Shared.{the_view}
-use Rattle.shared_tree.proofs.LeafRefusals.{end_answer}
+use Rattle.leaf_collections.proofs.LeafRefusals.{end_answer}
 use Rattle.shared_tree.proofs.shared.Shared.leaf_end_refused.Goals as goal
 
 pub returns : goal.returns

@@ -1,10 +1,10 @@
 use Rattle.std.proofs.Common.{◌≡◌, ℕ, ◌+◌, ◌<◌, ◌≤◌, List, ◌++◌, ◌∷◌, [], None, refl, subst, sym, ap, ◌∙◌, arith, length}
 use Rattle.std.proofs.lemmas.Option.{slice_get_within}
 use Rattle.heap_tree.specs.Node.{Node}
-use Rattle.shared_tree.specs.declared.live.Live.{Live}
-use Rattle.shared_tree.specs.Image.{AreAll, IsLive, LiveBefore}
-use Rattle.shared_tree.specs.World.{World}
-use Rattle.shared_tree.proofs.LiveReads.{all_below, live_once, one_below, skip_below}
+use Rattle.heap_reading.specs.declared.live.Live.{Live}
+use Rattle.heap_reading.specs.Image.{AreAll, IsLive, LiveBefore}
+use Rattle.shared_value.specs.World.{World}
+use Rattle.heap_reading.proofs.LiveReads.{all_below, live_once, one_below, skip_below}
 use Rattle.shared_tree.proofs.shared.Shared.live.Goals.{in-Some+in_ok-push, in_default}
 use Rattle.shared_tree.proofs.shared.Shared.live.Goals as goal
 

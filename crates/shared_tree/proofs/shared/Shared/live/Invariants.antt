@@ -1,5 +1,5 @@
 use Rattle.std.proofs.Common.{◌<◌}
-use Rattle.shared_tree.specs.Image.{AreAll, IsLive, LiveBefore}
+use Rattle.heap_reading.specs.Image.{AreAll, IsLive, LiveBefore}
 use Rattle.shared_tree.proofs.shared.Shared.live.Given as goal
 
 abbrev pub invariant-loop-number : goal.invariant-loop-number

@@ -1,6 +1,6 @@
 use Rattle.std.proofs.Common.{◌∙◌, length, inl, inr, arith, below_more, sym}
 use Rattle.std.proofs.lemmas.Bool.{cases_lt}
-use Rattle.shared_tree.proofs.PaceStands.{unmade_child}
+use Rattle.heap_marking.proofs.PaceStands.{unmade_child}
 use Rattle.shared_tree.proofs.shared.Shared.live_child.Goals as goal
 
 pub returns : goal.returns

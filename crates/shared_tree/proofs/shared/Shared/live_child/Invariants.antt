@@ -1,6 +1,6 @@
 use Rattle.std.proofs.Common.{◌≡◌, ◌<◌, ℕ, false}
-use Rattle.shared_tree.specs.Pace.{is_live_child}
-use Rattle.shared_tree.specs.World.{accounts}
+use Rattle.heap_marking.specs.Pace.{is_live_child}
+use Rattle.shared_value.specs.World.{accounts}
 use Rattle.shared_tree.proofs.shared.Shared.live_child.Given as goal
 
 abbrev pub invariant-loop-child : goal.invariant-loop-child

@@ -1,8 +1,8 @@
 use Rattle.std.proofs.Common.{◌≡◌, None, sym, subst, ◌∙◌, ◌<◌}
 use Rattle.run_trace.specs.declared.entry.Kind.TheVariants.{Mark}
-use Rattle.shared_tree.specs.Entered.{refused, Enters}
-use Rattle.shared_tree.specs.Fits.{AllFit}
-use Rattle.shared_tree.specs.World.{World}
+use Rattle.shared_value.specs.Entered.{refused, Enters}
+use Rattle.shared_value.specs.Fits.{AllFit}
+use Rattle.shared_value.specs.World.{World}
 use Rattle.shared_tree.proofs.shared.Shared.mark.Goals as goal
 
 pub enter_mark-requires-clause-free : goal.enter_mark-requires-clause-free

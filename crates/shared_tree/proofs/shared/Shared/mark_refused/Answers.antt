@@ -2,14 +2,14 @@ use Rattle.std.proofs.Common.{◌≡◌, ℕ, true, false, is_some, ap, sym, sub
 use Rattle.run_trace.specs.declared.entry.Kind.TheVariants.{Mark}
 use Rattle.run_ledger.specs.Heaps.{heap_of, words_in}
 use Rattle.alloc_path.specs.Heap.{counted}
-use Rattle.shared_tree.specs.Causes.{first_cause}
-use Rattle.shared_tree.specs.Entered.{refused}
-use Rattle.shared_tree.specs.MarkCauses.{words_cause}
-use Rattle.shared_tree.specs.World.{World, accounts}
-use Rattle.shared_tree.specs.Stands.{IsWorld}
+use Rattle.shared_value.specs.Causes.{first_cause}
+use Rattle.shared_value.specs.Entered.{refused}
+use Rattle.heap_marking.specs.MarkCauses.{words_cause}
+use Rattle.shared_value.specs.World.{World, accounts}
+use Rattle.shared_value.specs.Stands.{IsWorld}
 use Rattle.shared_tree.specs.contracts.shared.Shared.{the_view}
-use Rattle.shared_tree.proofs.MarkEntries.{mark_as_marking, mark_as_waiting, mark_as_words}
-use Rattle.shared_tree.proofs.Needs.{first_answer}
+use Rattle.heap_marking.proofs.MarkEntries.{mark_as_marking, mark_as_waiting, mark_as_words}
+use Rattle.leaf_collections.proofs.Needs.{first_answer}
 use Rattle.shared_tree.proofs.shared.Shared.mark_refused.Goals as goal
 
 pub returns-then-is_some : goal.returns-then-is_some

@@ -2,16 +2,16 @@ use Rattle.std.proofs.Common.{◌≡◌, ℕ, Option, Some, None, ap₂, sym, su
 use Rattle.hh_lang.specs.declared.program.Line.{Line}
 use Rattle.hh_lang.specs.Form.{line_at}
 use Rattle.task_machine.specs.declared.part.Private.{Private}
-use Rattle.shared_tree.specs.declared.next.Ending.{Ending}
-use Rattle.shared_tree.specs.World.{World}
-use Rattle.shared_tree.specs.Fits.{Fits}
-use Rattle.shared_tree.specs.Alone.{IsShared, alone_event}
-use Rattle.shared_tree.specs.Entered.{refused}
+use Rattle.shared_value.specs.declared.next.Ending.{Ending}
+use Rattle.shared_value.specs.World.{World}
+use Rattle.shared_value.specs.Fits.{Fits}
+use Rattle.own_steps.specs.Alone.{IsShared, alone_event}
+use Rattle.shared_value.specs.Entered.{refused}
 use Rattle.shared_tree.specs.contracts.shared.Shared.{the_view}
-use Rattle.shared_tree.specs.Alone.{Tells}
-use Rattle.shared_tree.specs.Next.{next_line}
-use Rattle.shared_tree.proofs.AloneEntries.{is_safe, runs_on}
-use Rattle.shared_tree.proofs.LastSteps.{some_line, tells}
+use Rattle.own_steps.specs.Alone.{Tells}
+use Rattle.shared_value.specs.Next.{next_line}
+use Rattle.own_steps.proofs.AloneEntries.{is_safe, runs_on}
+use Rattle.own_steps.proofs.LastSteps.{some_line, tells}
 use Rattle.shared_tree.proofs.shared.Shared.next_ending.Goals as goal
 
 none_some : (line : Line) → ◌≡◌ {A = Option Line} None (Some line) → ⊥

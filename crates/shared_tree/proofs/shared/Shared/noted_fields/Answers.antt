@@ -1,10 +1,10 @@
 use Rattle.std.proofs.Common.{◌≡◌, ◌<◌, List, ap, sym, ◌∙◌, subst, refl, Some, slice_get, length, map}
 use Rattle.std.proofs.lemmas.Option.{slice_get_read}
 use Rattle.write_barrier.specs.declared.sets.SetOf.{SetOf}
-use Rattle.shared_tree.specs.declared.noted.Field.{Field}
-use Rattle.shared_tree.specs.Image.{AreAll, FieldBefore, IsNoted, field_of}
-use Rattle.shared_tree.specs.World.{World, source_of}
-use Rattle.shared_tree.proofs.FieldReads.{noted_in_order}
+use Rattle.heap_reading.specs.declared.noted.Field.{Field}
+use Rattle.heap_reading.specs.Image.{AreAll, FieldBefore, IsNoted, field_of}
+use Rattle.shared_value.specs.World.{World, source_of}
+use Rattle.heap_reading.proofs.FieldReads.{noted_in_order}
 use Rattle.shared_tree.proofs.shared.Shared.noted_fields.Goals as goal
 
 pub returns : goal.returns

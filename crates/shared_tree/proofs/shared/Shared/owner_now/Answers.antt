@@ -1,5 +1,5 @@
 use Rattle.std.proofs.Common.{◌≡◌, ◌<◌, ◌∙◌, None, refl, sym}
-use Rattle.shared_tree.proofs.TreeNow.{owner_live, owner_up, tree_of}
+use Rattle.heap_reading.proofs.TreeNow.{owner_live, owner_up, tree_of}
 use Rattle.shared_tree.proofs.shared.Shared.owner_now.Goals as goal
 
 pub loop-parent-smaller : goal.loop-parent-smaller

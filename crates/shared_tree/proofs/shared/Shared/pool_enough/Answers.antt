@@ -1,11 +1,11 @@
 use Rattle.std.proofs.Common.{◌+◌, nat_le, ap, ap₂, sym, subst, ◌∙◌}
 use Rattle.run_ledger.specs.Entries.{is_pool_enough}
 use Rattle.task_machine.specs.declared.part.Private.{Private}
-use Rattle.shared_tree.specs.World.{World, accounts}
-use Rattle.shared_tree.specs.Due.{IsHeld, take_by}
-use Rattle.shared_tree.specs.Fits.{Fits}
+use Rattle.shared_value.specs.World.{World, accounts}
+use Rattle.shared_value.specs.Due.{IsHeld, take_by}
+use Rattle.shared_value.specs.Fits.{Fits}
 use Rattle.shared_tree.specs.contracts.shared.Shared.{the_view}
-use Rattle.shared_tree.proofs.FreeChunks.{enough_is}
+use Rattle.shared_value.proofs.FreeChunks.{enough_is}
 use Rattle.shared_tree.proofs.shared.Shared.pool_enough.Goals as goal
 
 pub returns : goal.returns

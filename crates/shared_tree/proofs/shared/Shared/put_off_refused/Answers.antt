@@ -5,16 +5,16 @@ use Rattle.run_ledger.specs.declared.data.Refused.TheVariants.{PoolEnough}
 use Rattle.run_ledger.specs.Entries.{is_pool_enough, refused_if}
 use Rattle.chunk_pool.specs.Chunks.{units_in_use}
 use Rattle.task_machine.specs.declared.part.Private.{Private}
-use Rattle.shared_tree.specs.World.{World, accounts}
-use Rattle.shared_tree.specs.Causes.{first_cause, or_else}
-use Rattle.shared_tree.specs.Due.{due_cause}
-use Rattle.shared_tree.specs.Entered.{refused}
-use Rattle.shared_tree.specs.Fits.{Fits}
-use Rattle.shared_tree.specs.Next.{part_asks}
+use Rattle.shared_value.specs.World.{World, accounts}
+use Rattle.shared_value.specs.Causes.{first_cause, or_else}
+use Rattle.shared_value.specs.Due.{due_cause}
+use Rattle.shared_value.specs.Entered.{refused}
+use Rattle.shared_value.specs.Fits.{Fits}
+use Rattle.shared_value.specs.Next.{part_asks}
 use Rattle.shared_tree.specs.contracts.shared.Shared.{the_view}
-use Rattle.shared_tree.proofs.Needs.{first_answer}
-use Rattle.shared_tree.proofs.LastSteps.{found_first, nothing_first}
-use Rattle.shared_tree.proofs.PutOff.{put_off_answer, without_fresh}
+use Rattle.leaf_collections.proofs.Needs.{first_answer}
+use Rattle.shared_value.proofs.FirstCauses.{found_first, nothing_first}
+use Rattle.leaf_collections.proofs.PutOff.{put_off_answer, without_fresh}
 use Rattle.shared_tree.proofs.shared.Shared.put_off_refused.Goals as goal
 
 pub returns-then-is_some : goal.returns-then-is_some

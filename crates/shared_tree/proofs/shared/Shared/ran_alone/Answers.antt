@@ -1,11 +1,11 @@
 use Rattle.std.proofs.Common.{◌≡◌, ℕ, None, refl, sym, subst, ◌∙◌}
 use Rattle.task_machine.specs.declared.part.Private.{Private}
-use Rattle.shared_tree.specs.declared.next.Ending.{Ending}
-use Rattle.shared_tree.specs.declared.next.Ending.TheVariants.{Beyond, Returns}
-use Rattle.shared_tree.specs.World.{World}
-use Rattle.shared_tree.specs.Alone.{Tells, alone_event}
-use Rattle.shared_tree.specs.Entered.{refused}
-use Rattle.shared_tree.proofs.AloneEntries.{child_beyond, other_beyond, trap_is}
+use Rattle.shared_value.specs.declared.next.Ending.{Ending}
+use Rattle.shared_value.specs.declared.next.Ending.TheVariants.{Beyond, Returns}
+use Rattle.shared_value.specs.World.{World}
+use Rattle.own_steps.specs.Alone.{Tells, alone_event}
+use Rattle.shared_value.specs.Entered.{refused}
+use Rattle.own_steps.proofs.AloneEntries.{child_beyond, other_beyond, trap_is}
 use Rattle.shared_tree.proofs.shared.Shared.ran_alone.Goals as goal
 
 pub returns-else-part-eq0-clause-answered : goal.returns-else-part-eq0-clause-answered

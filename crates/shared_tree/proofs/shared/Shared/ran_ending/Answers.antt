@@ -1,12 +1,12 @@
 use Rattle.std.proofs.Common.{false, true, ◌≡◌, ℕ, Option, Some, None, slice_set, ap, sym, ◌∙◌, ◌<◌, refl, subst}
 use Rattle.heap_tree.specs.Node.{parent_of, state_of}
 use Rattle.task_machine.specs.declared.part.Private.{Private}
-use Rattle.shared_tree.specs.World.{World}
-use Rattle.shared_tree.specs.Alone.{alone_event}
-use Rattle.shared_tree.specs.ChildEnds.{IsAtEnd}
-use Rattle.shared_tree.specs.Entered.{refused}
-use Rattle.shared_tree.proofs.ChildSteps.{tree_parent}
-use Rattle.shared_tree.proofs.JoinPlaces.{places_ends, places_fit, places_same}
+use Rattle.shared_value.specs.World.{World}
+use Rattle.own_steps.specs.Alone.{alone_event}
+use Rattle.child_tasks.specs.ChildEnds.{IsAtEnd}
+use Rattle.shared_value.specs.Entered.{refused}
+use Rattle.child_tasks.proofs.ChildSteps.{tree_parent}
+use Rattle.child_tasks.proofs.JoinPlaces.{places_ends, places_fit, places_same}
 use Rattle.heap_tree.specs.Pairs.{sibling}
 use Rattle.shared_tree.proofs.shared.Shared.ran_ending.Goals as goal
 

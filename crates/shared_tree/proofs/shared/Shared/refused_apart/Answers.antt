@@ -1,7 +1,7 @@
 use Rattle.std.proofs.Common.{Some, ap, sym, ◌∙◌}
 use Rattle.run_ledger.specs.declared.data.Refused.TheVariants.{NotOut}
-use Rattle.shared_tree.specs.Causes.{or_else}
-use Rattle.shared_tree.proofs.Apart.{apart_cause}
+use Rattle.shared_value.specs.Causes.{or_else}
+use Rattle.own_steps.proofs.Apart.{apart_cause}
 use Rattle.shared_tree.proofs.shared.Shared.refused_apart.Goals as goal
 
 pub returns-in-Some : goal.returns-in-Some

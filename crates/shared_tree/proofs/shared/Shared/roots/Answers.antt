@@ -3,13 +3,13 @@ use Rattle.remembered_set.specs.Moved.{AreFields}
 use Rattle.chunk_pool.specs.Chunks.{Chunks}
 use Rattle.write_barrier.specs.declared.sets.SetOf.{SetOf}
 use Rattle.task_machine.specs.declared.part.Private.{Private}
-use Rattle.shared_tree.specs.declared.rest.Rest.{Rest}
-use Rattle.shared_tree.specs.World.{World, accounts}
-use Rattle.shared_tree.specs.Fits.{Fits}
-use Rattle.shared_tree.specs.RestingHeaps.{refs_in}
-use Rattle.shared_tree.specs.Roots.{sources_of}
+use Rattle.shared_value.specs.declared.rest.Rest.{Rest}
+use Rattle.shared_value.specs.World.{World, accounts}
+use Rattle.shared_value.specs.Fits.{Fits}
+use Rattle.shared_value.specs.RestingHeaps.{refs_in}
+use Rattle.shared_value.specs.Roots.{sources_of}
 use Rattle.shared_tree.specs.contracts.shared.Shared.{the_view}
-use Rattle.shared_tree.proofs.Targets.{are_fields}
+use Rattle.shared_value.proofs.Targets.{are_fields}
 use Rattle.shared_tree.proofs.shared.Shared.roots.Goals as goal
 
 pub targets_in-roots-requires : goal.targets_in-roots-requires

@@ -4,8 +4,8 @@ use Rattle.run_ledger.specs.declared.data.Refused.TheVariants.{NotWaiting, Swept
 use Rattle.run_ledger.specs.Entries.{refused_unless}
 use Rattle.heap_tree.specs.Node.{state_of}
 use Rattle.write_barrier.specs.declared.sets.SetOf.{SetOf}
-use Rattle.shared_tree.specs.MarkCauses.{is_state_waiting, waiting_cause}
-use Rattle.shared_tree.specs.World.{World, noted_in}
+use Rattle.heap_marking.specs.MarkCauses.{is_state_waiting, waiting_cause}
+use Rattle.shared_value.specs.World.{World, noted_in}
 use Rattle.shared_tree.proofs.shared.Shared.waiting_cause.Goals as goal
 
 cause_is : (w : World) (t : ℕ) {b : Bool} → is_state_waiting (state_of w.tree t) ≡ true → (noted_in (slice_get w.sets t)).keeps ≡ b → waiting_cause w t ≡ refused_unless b Swept None

@@ -1,6 +1,6 @@
 use Rattle.std.proofs.Common.{◌<◌, ap, sym, subst, ◌∙◌}
 use Rattle.run_trace.specs.Settings.{Limits}
-use Rattle.shared_tree.specs.World.{World, accounts}
+use Rattle.shared_value.specs.World.{World, accounts}
 use Rattle.worker_run.specs.Next.{going_kind}
 use Rattle.worker_run.proofs.Turning.{acts_then, brings_then, not_over, roomier}
 use Rattle.worker_run.proofs.run.Run.act_next.Goals as goal

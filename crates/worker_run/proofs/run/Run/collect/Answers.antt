@@ -5,7 +5,7 @@ use Rattle.worker_run.specs.Next.{due_kind}
 use Rattle.worker_run.proofs.Coming.{acts_same, due_begins, due_waits}
 use Rattle.std.proofs.Common.{rules, ◌≡◌, true, false}
 use Rattle.run_ledger.specs.Entries.{is_pool_enough}
-use Rattle.shared_tree.specs.World.{accounts}
+use Rattle.shared_value.specs.World.{accounts}
 use Rattle.worker_run.proofs.run.Run.collect.Goals as goal
 
 pub returns-then-pool_enough : goal.returns-then-pool_enough

@@ -1,8 +1,8 @@
 use Rattle.std.proofs.Common.{refl, ap, sym, ◌∙◌, is_some}
 use Rattle.run_trace.specs.declared.entry.Kind.TheVariants.{Fuel}
 use Rattle.run_ledger.specs.declared.data.Ledger.{Ledger}
-use Rattle.shared_tree.specs.Entered.{cause_of}
-use Rattle.shared_tree.proofs.PaceStands.{entered_accounts}
+use Rattle.shared_value.specs.Entered.{cause_of}
+use Rattle.heap_marking.proofs.PaceStands.{entered_accounts}
 use Rattle.worker_run.proofs.Free.{fuel_free, not_refused}
 use Rattle.worker_run.proofs.Turning.{one_of_all}
 use Rattle.worker_run.proofs.run.Run.end_for_fuel.Goals as goal

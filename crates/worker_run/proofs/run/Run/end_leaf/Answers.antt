@@ -1,7 +1,7 @@
 use Rattle.std.proofs.Common.{refl, ap, sym, ◌∙◌}
 use Rattle.run_trace.specs.declared.entry.Kind.{Kind}
 use Rattle.run_trace.specs.declared.entry.Kind.TheVariants.{End}
-use Rattle.shared_tree.specs.Entered.{cause_of}
+use Rattle.shared_value.specs.Entered.{cause_of}
 use Rattle.worker_run.proofs.Free.{end_free, not_refused}
 use Rattle.worker_run.proofs.Going.{may_ended}
 use Rattle.worker_run.proofs.Turning.{one}

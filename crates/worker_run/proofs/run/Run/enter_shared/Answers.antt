@@ -3,10 +3,10 @@ use Rattle.std.specs.Prelude.{is_some}
 use Rattle.run_ledger.specs.declared.data.RunEnd.{RunEnd}
 use Rattle.run_trace.specs.declared.entry.Kind.{Kind}
 use Rattle.run_trace.specs.declared.entry.Kind.TheVariants.{Ran}
-use Rattle.shared_tree.specs.Alone.{FinishesAlone, GoesAlone, HaltsAlone}
-use Rattle.shared_tree.specs.ChildEnds.{EndsChild}
-use Rattle.shared_tree.specs.Forks.{ForksOn}
-use Rattle.shared_tree.specs.Hands.{HoldsNone}
+use Rattle.own_steps.specs.Alone.{FinishesAlone, GoesAlone, HaltsAlone}
+use Rattle.child_tasks.specs.ChildEnds.{EndsChild}
+use Rattle.child_tasks.specs.Forks.{ForksOn}
+use Rattle.child_tasks.specs.Hands.{HoldsNone}
 use Rattle.shared_tree.specs.Ran.{RanTo}
 use Rattle.worker_run.specs.declared.held.Ready.TheVariants.{Paused as HasPaused}
 use Rattle.task_machine.specs.declared.part.Paused.TheVariants.{Shared}

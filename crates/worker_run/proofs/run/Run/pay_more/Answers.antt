@@ -1,7 +1,7 @@
 use Rattle.run_trace.specs.declared.entry.Kind.{Kind}
 use Rattle.run_trace.specs.declared.entry.Kind.TheVariants.{More}
 use Rattle.std.proofs.Common.{Some, refl, ap, sym, ◌∙◌}
-use Rattle.shared_tree.specs.Entered.{cause_of}
+use Rattle.shared_value.specs.Entered.{cause_of}
 use Rattle.worker_run.proofs.Free.{more_free, not_refused}
 use Rattle.worker_run.proofs.Turning.{one_of_all}
 use Rattle.worker_run.proofs.run.Run.pay_more.Goals as goal

@@ -1,7 +1,7 @@
 use Rattle.run_trace.specs.declared.entry.Kind.{Kind}
 use Rattle.run_trace.specs.declared.entry.Kind.TheVariants.{Sweep}
 use Rattle.std.proofs.Common.{ℕ, Some, subst, refl, ap, sym, ◌∙◌}
-use Rattle.shared_tree.specs.Entered.{cause_of}
+use Rattle.shared_value.specs.Entered.{cause_of}
 use Rattle.worker_run.specs.Acts.{ActsFor}
 use Rattle.worker_run.proofs.Free.{sweep_free, not_refused}
 use Rattle.worker_run.proofs.Paying.{sweep_is_owed}

@@ -1,6 +1,6 @@
 use Rattle.std.proofs.Common.{refl, ap, sym, ◌∙◌}
 use Rattle.run_trace.specs.declared.entry.Kind.TheVariants.{PutOff}
-use Rattle.shared_tree.specs.Entered.{cause_of}
+use Rattle.shared_value.specs.Entered.{cause_of}
 use Rattle.worker_run.proofs.Free.{not_refused, put_off_free}
 use Rattle.worker_run.proofs.Going.{may_heap}
 use Rattle.worker_run.proofs.Turning.{one}

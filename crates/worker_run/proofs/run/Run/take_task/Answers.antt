@@ -1,7 +1,7 @@
 use Rattle.std.proofs.Common.{refl, ap, sym, ◌∙◌, arith, is_some}
 use Rattle.run_trace.specs.declared.entry.Kind.TheVariants.{Took}
-use Rattle.shared_tree.specs.Entered.{cause_of}
-use Rattle.shared_tree.specs.World.{World}
+use Rattle.shared_value.specs.Entered.{cause_of}
+use Rattle.shared_value.specs.World.{World}
 use Rattle.worker_run.specs.Values.{is_over}
 use Rattle.worker_run.proofs.Going.{may}
 use Rattle.worker_run.proofs.Turning.{not_over, one, unchanged}

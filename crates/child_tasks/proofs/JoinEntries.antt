@@ -1,0 +1,262 @@
+-- An entry of a join, as the call has it: what is asked of the parts that it joins, and what the code makes of homes and sets.
+use Rattle.std.proofs.Common.{◌≡◌, ℕ, ◌+◌, ◌<◌, ◌++◌, arith, Bool, true, false, Option, Some, None, List, [], ◌∷◌, length, slice_get, slice_set, option_map, inl, inr, refl, ap, sym, subst, ◌∙◌}
+use Rattle.std.specs.Prelude.{IfSome}
+use Rattle.std.proofs.lemmas.Bool.{cases_eq}
+use Rattle.std.proofs.lemmas.Option.{same_Some}
+use Rattle.listed.proofs.Members.{got_within}
+use Rattle.listed.specs.Space.{Space}
+use Rattle.run_trace.specs.Entry.{Event}
+use Rattle.chunk_pool.specs.Chunks.{Chunks}
+use Rattle.heap_tree.specs.declared.state.State.{State}
+use Rattle.heap_tree.specs.declared.state.State.TheVariants.{Ended, Waiting}
+use Rattle.heap_tree.specs.Node.{Node, parent_of as parent_in_tree, state_of as state_in_tree, with_state}
+use Rattle.heap_tree.specs.Pairs.{is_left, sibling}
+use Rattle.heap_tree.proofs.ChangeLemmas.{states_change}
+use Rattle.remembered_set.specs.Sources.{Notes, lifted}
+use Rattle.fork_join.specs.declared.sides.EndedChild.{EndedChild}
+use Rattle.fork_join.specs.Joined.{AreRelabelled, HasRoom, HaveEnded, Joins, joined_nodes, with_results}
+use Rattle.task_frames.specs.Stack.{Stack}
+use Rattle.write_barrier.specs.declared.sets.SetOf.{SetOf}
+use Rattle.write_barrier.specs.Stored.{content_at}
+use Rattle.task_machine.specs.declared.part.Private.{Private}
+use Rattle.shared_value.specs.declared.rest.Rest.{Rest}
+use Rattle.shared_value.specs.declared.rest.Work.TheVariants.{Calls}
+use Rattle.shared_value.specs.World.{World, rest_at}
+use Rattle.shared_value.specs.Stands.{IsWorld}
+use Rattle.shared_value.specs.Fits.{Fits, IsAtWork}
+use Rattle.own_steps.specs.Alone.{alone_event}
+use Rattle.child_tasks.specs.ChildEnds.{EndsChild, IsAtEnd}
+use Rattle.shared_value.specs.Entered.{refused}
+use Rattle.child_tasks.specs.Forks.{nothing_noted}
+use Rattle.child_tasks.specs.Joins.{AreSides, CanJoin, HasPlaces, HomesJoin, IsRestOf, SetsJoin, chunk_count, left_of, other_child, own_child, parent_side, right_of, sources_at}
+use Rattle.child_tasks.proofs.ChildSteps as steps
+use Rattle.child_tasks.proofs.ForkSteps.{tree_parents}
+use Rattle.child_tasks.proofs.JoinTree.{HasCalls}
+use Rattle.child_tasks.proofs.JoinSides as both_sides
+use Rattle.child_tasks.proofs.JoinSteps as before
+use Rattle.child_tasks.proofs.Joined as joined
+use Rattle.shared_value.proofs.Now.{stands_now}
+use Rattle.shared_value.proofs.Taking.{item_there, told}
+use Rattle.child_tasks.proofs.Children.{both, count_of, each, in_pairs, right_next, sides, waits_in}
+
+none_some : {A B : Type 0} {x : A} → ◌≡◌ {A = Option A} None (Some x) → B
+none_some e = absurd cc
+
+module _ (w : World) (k : ℕ) (p : Private) (I : IsWorld w) (F : Fits w k p) (at_end : IsAtEnd w p) (free : refused w (alone_event k p) ≡ None) (ended : state_in_tree w.tree (sibling p.task) ≡ Some Ended) where
+  abbrev pub q : ℕ
+  q = steps.parent w k p I F at_end free
+
+  abbrev s' : ℕ
+  s' = sibling p.task
+
+  low : 0 < p.task
+  low = let a = steps.parent_low w k p I F at_end free in omega (arith, a)
+
+  pub parent_is : (parent : ℕ) → parent_in_tree w.tree p.task ≡ Some parent → q ≡ parent
+  parent_is parent e = same_Some q parent (sym (steps.tree_parent w k p I F at_end free) ∙ e)
+
+  within_by : (o : Option Node) (u : ℕ) → slice_get w.tree u ≡ o → (x : State) → option_map (λ (n : Node). n.state) o ≡ Some x → u < length w.tree
+  within_by None u e x h = none_some h
+  within_by (Some n) u e x h = got_within w.tree u n e
+
+  pub other_made : s' < length w.tree
+  other_made = within_by (slice_get w.tree s') s' refl Ended ended
+
+  pub parent_made : q < length w.tree
+  parent_made = let a = steps.parent_low w k p I F at_end free in let b = steps.own_made w k p I F at_end free in omega (arith, a, b)
+
+  pub own_set : p.task < length w.sets
+  own_set = subst (λ n. p.task < n) (sym I.noted) (steps.own_made w k p I F at_end free)
+
+  pub other_set : s' < length w.sets
+  other_set = subst (λ n. s' < n) (sym I.noted) other_made
+
+  pub parent_set : q < length w.sets
+  parent_set = subst (λ n. q < n) (sym I.noted) parent_made
+
+  pub other_apart : s' ≡ p.task → ⊥
+  other_apart e = steps.other_apart w k p I F at_end free e
+
+  pub parent_apart : q ≡ p.task → ⊥
+  parent_apart e = steps.parent_apart w k p I F at_end free e
+
+  -- the parent's number is below those of both
+  pub parent_other : q ≡ s' → ⊥
+  parent_other e = let a = (steps.kept_tree w k p I F at_end free).low s' q (steps.other_parent w k p I F at_end free) in omega (arith, a, e)
+
+  -- the parent waits in the tree
+  parent_waits : state_in_tree w.tree q ≡ Some Waiting
+  parent_waits =
+      let x = before.waiting_parent w k p I F at_end free ended in
+      waits_in _ (slice_get w.tree q) x.0 x.2 ((stands_now w I (steps.on w k p I F at_end free)).totals.node q ∙ ap (option_map (told _)) x.1)
+
+  other_parent : parent_in_tree w.tree s' ≡ Some q
+  other_parent = tree_parents w I (steps.on w k p I F at_end free) s' ∙ (sym (steps.then_parents w k p I F at_end free s') ∙ steps.other_parent w k p I F at_end free)
+
+  -- the parent has frames
+  pub calls : HasCalls (rest_at w.homes q)
+  calls = before.parent_calls w k p I F at_end free ended
+
+  module _ (above beside : Rest) (own_notes other_notes notes : Notes) (above_of : IsRestOf (rest_at w.homes q) above) (beside_of : IsRestOf (rest_at w.homes s') beside) where
+    abbrev L : EndedChild
+    L = left_of (is_left p.task) (own_child p own_notes) (other_child s' beside other_notes)
+
+    abbrev R : EndedChild
+    R = right_of (is_left p.task) (own_child p own_notes) (other_child s' beside other_notes)
+
+    abbrev nodes : List Node
+    nodes = with_state w.tree p.task Ended
+
+    above_by : (o : Option Rest) → HasCalls o → IsRestOf o above → (o ≡ Some above) × (f : Stack) × (above.work ≡ Calls f)
+    above_by None h e = absurd h
+    above_by (Some x) h e = (ap Some (sym e), h.0, ap (λ (z : Rest). z.work) e ∙ h.1)
+
+    pub above_all : (rest_at w.homes q ≡ Some above) × (f : Stack) × (above.work ≡ Calls f)
+    above_all = above_by (rest_at w.homes q) calls above_of
+
+    abbrev pub above_is : rest_at w.homes q ≡ Some above
+    above_is = above_all.0
+
+    abbrev pub frames : Stack
+    frames = above_all.1
+
+    abbrev pub frames_are : above.work ≡ Calls frames
+    frames_are = above_all.2
+
+    pub at_work : IsAtWork above.work
+    at_work = subst IsAtWork (sym frames_are) tt
+
+    side : AreSides p s' beside L.side.task L.side.heap R.side.heap L.result R.result
+    side = sides p beside own_notes other_notes low
+
+    -- neither of both is one of them
+    apart_by : (u : ℕ) (b : Bool) → (u ≡ (left_of b (own_child p own_notes) (other_child s' beside other_notes)).side.task → ⊥) → (u ≡ (right_of b (own_child p own_notes) (other_child s' beside other_notes)).side.task → ⊥) → (u ≡ p.task → ⊥) × (u ≡ s' → ⊥)
+    apart_by u true nl nr = (nl, nr)
+    apart_by u false nl nr = (nr, nl)
+
+    apart_both : (u : ℕ) → (u ≡ L.side.task → ⊥) → (u ≡ R.side.task → ⊥) → (u ≡ p.task → ⊥) × (u ≡ s' → ⊥)
+    apart_both u nl nr = apart_by u (is_left p.task) nl nr
+
+    -- THE STATES
+    states : (u : ℕ) → state_in_tree w.tree u ≡ Some Ended → state_in_tree nodes u ≡ Some Ended
+    states u e = elim (cases_eq u p.task) [
+      | inl f ↦ ap (state_in_tree nodes) f ∙ (states_change w.tree p.task Ended).set (steps.own_made w k p I F at_end free)
+      | inr ne ↦ (states_change w.tree p.task Ended).others u ne ∙ e
+    ]
+
+    own_ended : state_in_tree nodes p.task ≡ Some Ended
+    own_ended = (states_change w.tree p.task Ended).set (steps.own_made w k p I F at_end free)
+
+    other_ended : state_in_tree nodes s' ≡ Some Ended
+    other_ended = (states_change w.tree p.task Ended).others s' (steps.other_apart w k p I F at_end free) ∙ ended
+
+    abbrev HasEnded : EndedChild → Type 0
+    HasEnded c = (state_in_tree nodes c.side.task ≡ Some Ended) × (parent_in_tree nodes c.side.task ≡ Some q)
+
+    parents_same : (u : ℕ) → parent_in_tree nodes u ≡ parent_in_tree w.tree u
+    parents_same u = ap (λ (f : ℕ → Option ℕ). f u) (states_change w.tree p.task Ended).parents
+
+    both_ended : HasEnded L × HasEnded R
+    both_ended =
+        each p beside own_notes other_notes low HasEnded (own_ended, parents_same p.task ∙ steps.tree_parent w k p I F at_end free) (other_ended, parents_same s' ∙ other_parent)
+
+    have_ended : HaveEnded nodes q L.side.task R.side.task
+    have_ended =
+        let pairs = in_pairs p beside own_notes other_notes low in
+        record {
+          waits = (states_change w.tree p.task Ended).others q (steps.parent_apart w k p I F at_end free) ∙ parent_waits;
+          left_ended = both_ended.0.0;
+          right_ended = both_ended.1.0;
+          child = both_ended.0.1;
+          is_first = pairs.0;
+          second = pairs.1;
+        }
+
+    -- THE PLACES
+    module _ (places : HasPlaces w p q) (own_is : own_notes.sources ≡ sources_at w.sets p.task) (other_is : other_notes.sources ≡ sources_at w.sets s') (set_is : IfSome (slice_get w.sets q) (λ z. notes ≡ z.remembered)) where
+      set_there : (z : SetOf) × (slice_get w.sets q ≡ Some z)
+      set_there = item_there w.sets q (subst (λ n. q < n) (sym I.noted) parent_made)
+
+      of_set : (o : Option SetOf) (z : SetOf) → o ≡ Some z → (P : SetOf → Type 0) → IfSome o P → P z
+      of_set o z e P h = subst (λ i. IfSome i P) e h
+
+      of_rest : (o : Option Rest) (z : Rest) → o ≡ Some z → (P : Rest → Type 0) → IfSome o P → P z
+      of_rest o z e P h = subst (λ i. IfSome i P) e h
+
+      has_room : HasRoom (parent_side q above notes) L.side R.side
+      has_room =
+          let a = of_rest (rest_at w.homes q) above above_is _ places.heap in
+          let b = of_set (slice_get w.sets q) set_there.0 set_there.1 _ places.set in
+          let n : notes ≡ set_there.0.remembered = of_set (slice_get w.sets q) set_there.0 set_there.1 (λ z. notes ≡ z.remembered) set_is in
+          let c : length beside.heap.chunks ≡ chunk_count (rest_at w.homes s') = count_of (rest_at w.homes s') beside beside_of in
+          let d = both p beside own_notes other_notes low (λ i. length i.side.heap.chunks) in
+          let e = both p beside own_notes other_notes low (λ i. length i.side.remembered.sources) in
+          let f : length own_notes.sources ≡ length (sources_at w.sets p.task) = ap (λ xs. length xs) own_is in
+          let g : length other_notes.sources ≡ length (sources_at w.sets s') = ap (λ xs. length xs) other_is in
+          let i : notes.slots ≡ set_there.0.remembered.slots = ap (λ (z : Notes). z.slots) n in
+          let j : notes.spare ≡ set_there.0.remembered.spare = ap (λ (z : Notes). z.spare) n in
+          record {
+            slots = omega (arith, a.0, c, d);
+            spare = omega (arith, a.1, c, d);
+            source_slots = omega (arith, b.0, e, f, g, i);
+            source_spare = omega (arith, b.1, e, f, g, j);
+          }
+
+      pub can_join : CanJoin nodes w.pool (parent_side q above notes) L R
+      can_join = record {
+        room = has_room;
+        ended = have_ended;
+        left_used = both_sides.left_used w k p I F at_end free ended above beside frames above_is frames_are beside_of L.side.task L.side.heap R.side.heap L.result R.result side;
+        right_used = both_sides.right_used w k p I F at_end free ended above beside frames above_is frames_are beside_of L.side.task L.side.heap R.side.heap L.result R.result side;
+        apart = both_sides.joined_apart w k p I F at_end free ended above beside frames above_is frames_are beside_of L.side.task L.side.heap R.side.heap L.result R.result side;
+      }
+
+    -- ---- THE SETS
+    pub sets_join : (sets : List SetOf) (rest : Rest) (notes_then : Notes) → Joins (parent_side q above notes) (parent_side q rest notes_then) L.side R.side → own_notes.sources ≡ sources_at w.sets p.task → other_notes.sources ≡ sources_at w.sets s' → notes.sources ≡ sources_at w.sets q
+        → length sets ≡ length w.sets → content_at sets p.task ≡ Some nothing_noted → content_at sets s' ≡ Some nothing_noted → content_at sets q ≡ Some (record { sources = notes_then.sources; kept = []; keeps = false })
+        → ((u : ℕ) → (u ≡ q → ⊥) → (u ≡ p.task → ⊥) → (u ≡ s' → ⊥) → content_at sets u ≡ content_at w.sets u) → SetsJoin w.sets sets q L.side.task (L.side.task + 1) above.heap.chunks
+    sets_join sets rest notes_then J own_is other_is set_is many own_empty other_empty at others =
+        let next = right_next p beside own_notes other_notes low in
+        let known = each p beside own_notes other_notes low (λ i. i.side.remembered.sources ≡ sources_at w.sets i.side.task) own_is other_is in
+        let empty = each p beside own_notes other_notes low (λ i. content_at sets i.side.task ≡ Some nothing_noted) own_empty other_empty in
+        let ks = above.heap.chunks in
+        let right_is : R.side.remembered.sources ≡ sources_at w.sets (L.side.task + 1) = known.1 ∙ ap (sources_at w.sets) next in
+        let now : notes_then.sources ≡ lifted (lifted (sources_at w.sets q) (sources_at w.sets L.side.task) ks) (sources_at w.sets (L.side.task + 1)) ks =
+        J.sources
+        ∙ (ap (λ xs. lifted (lifted xs L.side.remembered.sources ks) R.side.remembered.sources ks) set_is
+        ∙ (ap (λ xs. lifted (lifted (sources_at w.sets q) xs ks) R.side.remembered.sources ks) known.0
+        ∙ ap (λ xs. lifted (lifted (sources_at w.sets q) (sources_at w.sets L.side.task) ks) xs ks) right_is)) in
+        record {
+          many = many;
+          parent_set = at ∙ ap (λ xs. Some (record { sources = xs; kept = []; keeps = false })) now;
+          left_set = empty.0;
+          right_set = ap (content_at sets) (sym next) ∙ empty.1;
+          others = λ u nq nc nd. let ne = apart_both u nc (λ e. nd (e ∙ next)) in others u nq ne.0 ne.1;
+        }
+
+    -- ---- THE WHOLE ENTRY
+    module _ (homes : List (Option Rest)) (sets : List SetOf) (pool : Chunks) (rest : Rest) (H : HomesJoin w.homes homes p q s' (with_results frames L.result R.result) rest.heap above.allocations beside) (N : SetsJoin w.sets sets q L.side.task (L.side.task + 1) above.heap.chunks)
+        (relabelled : AreRelabelled w.pool pool (L.side.heap.chunks ++ R.side.heap.chunks) q) (notes_then : Notes) (J : Joins (parent_side q above notes) (parent_side q rest notes_then) L.side R.side) (j : Space Event) where
+      abbrev pub then_ : World
+      then_ = record w {
+        tree = joined_nodes nodes q L.side.task R.side.task;
+        pool = pool;
+        homes = homes;
+        sets = sets;
+        hands = slice_set w.hands k None;
+        steps = w.steps + (p.fresh + 1);
+        journal = record { items = w.journal.items ++ alone_event k p ∷ []; room = j.room };
+      }
+
+      same_tree : record then_ { tree = joined_nodes nodes q L.side.task (L.side.task + 1) } ≡ then_
+      same_tree = ap (λ n. record then_ { tree = joined_nodes nodes q L.side.task n }) (sym (right_next p beside own_notes other_notes low))
+
+      pub then_world : IsWorld then_
+      then_world =
+          subst IsWorld same_tree
+          (joined.alone_world w k p I F at_end free ended above beside frames above_is frames_are beside_of L.side.task L.side.heap R.side.heap L.result R.result side homes sets pool rest.heap H N relabelled J.heap J.room j)
+
+      pub then_joins : EndsChild w then_ k p (Some q)
+      then_joins =
+          subst (λ (z : World). EndsChild w z k p (Some q)) same_tree
+          (joined.alone_joins w k p I F at_end free ended above beside frames above_is frames_are beside_of L.side.task L.side.heap R.side.heap L.result R.result side homes sets pool rest.heap H N relabelled J.heap J.room j)

@@ -1,0 +1,268 @@
+-- What a join makes of two homes and their parent's, in the words of the relation.
+use Rattle.std.proofs.Common.{◌≡◌, ◌⊎◌, ℕ, ℤ, ◌+◌, ◌<◌, ◌^◌, ◌++◌, arith, true, false, Option, Some, None, List, [], map, option_map, inl, inr, refl, ap, ap₂, sym, subst, ◌∙◌, eqb, eq-eqb, eqb-true, append_assoc}
+use Rattle.std.specs.Prelude.{Contains, IsSome}
+use Rattle.std.proofs.lemmas.Bool.{cases_Bool, false≢true}
+use Rattle.std.proofs.lemmas.List.{map-append}
+use Rattle.std.proofs.lemmas.Option.{same_Some}
+use Rattle.listed.proofs.Members.{any_from_in, contains_from_in, in_append_cases, in_append_left, in_append_right, in_from_any, in_from_contains}
+use Rattle.object_layout.specs.declared.word.Addr.{Addr}
+use Rattle.object_layout.specs.Chunks.{has_chunk}
+use Rattle.object_layout.specs.Content.{Content}
+use Rattle.object_layout.proofs.Owning.{found_any}
+use Rattle.alloc_path.specs.Heap.{Heap, counted, merged, room_of, with_places}
+use Rattle.chunk_pool.specs.declared.pool.Held.{Held}
+use Rattle.chunk_pool.specs.Chunks.{Chunks, held_at, owner_of}
+use Rattle.remembered_set.specs.declared.remembered.Source.{Source as Noticed}
+use Rattle.remembered_set.specs.Sources.{lifted}
+use Rattle.remembered_set.proofs.LiftLemmas.{lifted_are_there}
+use Rattle.fork_join.specs.Joined.{AreRelabelled, with_results as with_both}
+use Rattle.fork_join.proofs.Owners.{joined_are_owned}
+use Rattle.task_frames.specs.Stack.{Stack}
+use Rattle.run_ledger.specs.declared.data.Ledger.{Ledger}
+use Rattle.ledger_steps.specs.Accounts.{Rests, own}
+use Rattle.core_relation.specs.Value.{Chunk, Home, In, Source, Value, sources}
+use Rattle.core_relation.specs.Changes.{IsLifted, JoinsHomes, top_with_results}
+use Rattle.core_relation.specs.Stands.{Stands}
+use Rattle.core_relation.proofs.Members.{in_chunk, in_map, map_in}
+use Rattle.shared_value.specs.declared.rest.Work.{Work}
+use Rattle.shared_value.specs.declared.rest.Work.TheVariants.{Calls, Result}
+use Rattle.shared_value.specs.Objects.{chunk_of, chunks_of}
+use Rattle.write_barrier.specs.Stored.{Content as NotedOf}
+use Rattle.child_tasks.specs.Joins.{sources_by}
+use Rattle.child_tasks.proofs.Notings.{noted_of}
+use Rattle.shared_value.specs.World.{home_by, source_of}
+
+-- ---- CHUNKS BY NUMBER
+
+pub has_in : (ks : List Content) (n : ℕ) → has_chunk ks n ≡ true → (k : Content) × In ks k × (k.number ≡ n)
+has_in ks n e = let f = in_from_any (λ (k : Content). eqb k.number n) ks (sym (found_any ks n) ∙ e) in (f.0, f.1, eqb-true f.0.number n f.2)
+
+pub in_has : (ks : List Content) (k : Content) → In ks k → has_chunk ks k.number ≡ true
+in_has ks k i = found_any ks k.number ∙ any_from_in (λ (c : Content). eqb c.number k.number) ks k i (eq-eqb k.number k.number refl)
+
+held_by : (o : Option Held) (u : ℕ) → option_map (λ (h : Held). h.owner) o ≡ Some u → IsSome o
+held_by None u e = absurd (let n : ◌≡◌ {A = Option ℕ} None (Some u) = e in cc)
+held_by (Some h) u e = refl
+
+pub owner_held : (pool : Chunks) (n u : ℕ) → owner_of pool n ≡ Some u → IsSome (held_at pool n)
+owner_held pool n u e = held_by (held_at pool n) u e
+
+-- ---- HOMES
+
+pub by_chunks : (h : Heap) (n : ℕ) (x : Work) → (home_by h n x).chunks ≡ chunks_of h.chunks
+by_chunks h n (Calls s) = refl
+by_chunks h n (Result k r) = refl
+
+pub by_since : (h : Heap) (n : ℕ) (x : Work) → (home_by h n x).since ≡ h.since
+by_since h n (Calls s) = refl
+by_since h n (Result k r) = refl
+
+-- the sources that a set holds, as they are seen
+pub by_content : (o : Option NotedOf) → (noted_of o).sources ≡ map source_of (sources_by o)
+by_content None = refl
+by_content (Some c) = refl
+
+emptied_by : (h : Heap) (n slots spare : ℕ) (x : Work) → home_by (record { chunks = []; current = None; reserved = None; since = 0; slots = slots; spare = spare }) n x ≡ record (home_by h n x) { chunks = []; room = 0; since = 0 }
+emptied_by h n slots spare (Calls s) = refl
+emptied_by h n slots spare (Result k r) = refl
+
+abbrev back : Source → Noticed
+back s = record { object = s.object; field = s.field }
+
+-- what the code makes of the homes of the task q and its children c and d
+pub record Merges (v v' : Value) (pool pool' : Chunks) (q c d : ℕ) (al ar : ℤ × Option Addr) : Type 0 where
+  pub own_heap : Heap
+  pub left_heap : Heap
+  pub right_heap : Heap
+  pub heap_then : Heap
+  pub own_count : ℕ
+  pub left_count : ℕ
+  pub right_count : ℕ
+  pub frames : Stack
+  pub left_work : Work
+  pub right_work : Work
+  pub own_home : v.homes q ≡ home_by own_heap own_count (Calls frames)
+  pub left_home : v.homes c ≡ home_by left_heap left_count left_work
+  pub right_home : v.homes d ≡ home_by right_heap right_count right_work
+  pub own_then : v'.homes q ≡ home_by heap_then own_count (Calls (with_both frames al ar))
+  pub left_then : (slots : ℕ) × (spare : ℕ) × (v'.homes c ≡ home_by (record { chunks = []; current = None; reserved = None; since = 0; slots = slots; spare = spare }) left_count left_work)
+  pub right_then : (slots : ℕ) × (spare : ℕ) × (v'.homes d ≡ home_by (record { chunks = []; current = None; reserved = None; since = 0; slots = slots; spare = spare }) right_count right_work)
+  pub heap_is : heap_then ≡ with_places (merged own_heap left_heap right_heap) heap_then.slots heap_then.spare
+  pub room_is : room_of heap_then ≡ room_of own_heap
+  pub small : own_heap.since + (left_heap.since + right_heap.since) < 2 ^ 64
+  pub others : (u : ℕ) → (u ≡ q → ⊥) → (u ≡ c → ⊥) → (u ≡ d → ⊥) → v'.homes u ≡ v.homes u
+  pub owner : (n : ℕ) → v.owner n ≡ owner_of pool n
+  pub owner_then : (n : ℕ) → v'.owner n ≡ owner_of pool' n
+  pub relabelled : AreRelabelled pool pool' (left_heap.chunks ++ right_heap.chunks) q
+  pub own_sources : List Noticed
+  pub left_sources : List Noticed
+  pub right_sources : List Noticed
+  pub own_noted : sources v q ≡ map source_of own_sources
+  pub left_noted : sources v c ≡ map source_of left_sources
+  pub right_noted : sources v d ≡ map source_of right_sources
+  pub own_noted_then : sources v' q ≡ map source_of (lifted (lifted own_sources left_sources own_heap.chunks) right_sources own_heap.chunks)
+  pub left_noted_then : sources v' c ≡ []
+  pub right_noted_then : sources v' d ≡ []
+  pub others_noted : (u : ℕ) → (u ≡ q → ⊥) → (u ≡ c → ⊥) → (u ≡ d → ⊥) → sources v' u ≡ sources v u
+
+module _ (v v' : Value) (l : Ledger) (V : Stands v l) (pool pool' : Chunks) (q c d : ℕ) (al ar : ℤ × Option Addr) (rq : Rests l q) (rc : Rests l c) (rd : Rests l d) (J : Merges v v' pool pool' q c d al ar) where
+  abbrev ks : List Content
+  ks = J.own_heap.chunks
+
+  abbrev both : List Content
+  both = J.left_heap.chunks ++ J.right_heap.chunks
+
+  -- a content of a home is owned by its task
+  owned_at : (u n : ℕ) (h : Heap) (x : Work) → v.homes u ≡ home_by h n x → Rests l u → (k : Content) → In h.chunks k → v.owner k.number ≡ Some u
+  owned_at u n h x e r k i =
+      (V.homes u r).owned (chunk_of k) (subst (λ (ks : List Chunk). In ks (chunk_of k)) (sym (ap (λ (z : Home). z.chunks) e ∙ by_chunks h n x)) (in_map chunk_of h.chunks k i))
+
+  own_owned : (k : Content) → In ks k → v.owner k.number ≡ Some q
+  own_owned k i = owned_at q J.own_count J.own_heap (Calls J.frames) J.own_home rq k i
+
+  left_owned : (k : Content) → In J.left_heap.chunks k → v.owner k.number ≡ Some c
+  left_owned k i = owned_at c J.left_count J.left_heap J.left_work J.left_home rc k i
+
+  right_owned : (k : Content) → In J.right_heap.chunks k → v.owner k.number ≡ Some d
+  right_owned k i = owned_at d J.right_count J.right_heap J.right_work J.right_home rd k i
+
+  -- the content of a chunk of a home
+  content_at : (u n : ℕ) (h : Heap) (x : Work) → v.homes u ≡ home_by h n x → (k : Chunk) → In (v.homes u).chunks k → (z : Content) × In h.chunks z × (z.number ≡ k.number)
+  content_at u n h x e k i =
+      let z = map_in chunk_of h.chunks k (subst (λ (ks : List Chunk). In ks k) (ap (λ (z : Home). z.chunks) e ∙ by_chunks h n x) i) in
+      (z.0, z.1, ap (λ (y : Chunk). y.number) z.2)
+
+  given : (n u : ℕ) → has_chunk both n ≡ true → v.owner n ≡ Some u → v'.owner n ≡ Some q
+  given n u has e = J.owner_then n ∙ (joined_are_owned pool pool' both q J.relabelled n).0 has (owner_held pool n u (sym (J.owner n) ∙ e))
+
+  stays : (n : ℕ) → has_chunk both n ≡ false → v'.owner n ≡ v.owner n
+  stays n off = J.owner_then n ∙ ((joined_are_owned pool pool' both q J.relabelled n).1 off ∙ sym (J.owner n))
+
+  pub owner_left : (k : Chunk) → In (v.homes c).chunks k → v'.owner k.number ≡ Some q
+  owner_left k i =
+      let z = content_at c J.left_count J.left_heap J.left_work J.left_home k i in
+      ap v'.owner (sym z.2) ∙ given z.0.number c (in_has both z.0 (in_append_left J.left_heap.chunks J.right_heap.chunks z.0 z.1)) (left_owned z.0 z.1)
+
+  pub owner_right : (k : Chunk) → In (v.homes d).chunks k → v'.owner k.number ≡ Some q
+  owner_right k i =
+      let z = content_at d J.right_count J.right_heap J.right_work J.right_home k i in
+      ap v'.owner (sym z.2) ∙ given z.0.number d (in_has both z.0 (in_append_right J.left_heap.chunks J.right_heap.chunks z.0 z.1)) (right_owned z.0 z.1)
+
+  -- who owned a number that is given
+  was : (n : ℕ) → has_chunk both n ≡ true → (v.owner n ≡ Some c) ⊎ (v.owner n ≡ Some d)
+  was n has =
+      let k = has_in both n has in
+      elim (in_append_cases J.left_heap.chunks J.right_heap.chunks k.0 k.1) [
+        | inl i ↦ inl (ap v.owner (sym k.2) ∙ left_owned k.0 i)
+        | inr i ↦ inr (ap v.owner (sym k.2) ∙ right_owned k.0 i)
+      ]
+
+  owners : (n u : ℕ) → (u ≡ c → ⊥) → (u ≡ d → ⊥) → v.owner n ≡ Some u → v'.owner n ≡ Some u
+  owners n u nc nd e = elim (cases_Bool (has_chunk both n)) [
+    | inl has ↦ absurd (elim (was n has) [ inl f ↦ nc (same_Some u c (sym e ∙ f)) | inr f ↦ nd (same_Some u d (sym e ∙ f)) ])
+    | inr off ↦ stays n off ∙ e
+  ]
+
+  owned : (n u : ℕ) → v'.owner n ≡ Some u → (v.owner n ≡ Some u) ⊎ ((u ≡ q) × ((v.owner n ≡ Some c) ⊎ (v.owner n ≡ Some d)))
+  owned n u e = elim (cases_Bool (has_chunk both n)) [
+    | inl has ↦ elim (was n has) [
+      | inl f ↦ inr (same_Some u q (sym e ∙ given n c has f), inl f)
+      | inr f ↦ inr (same_Some u q (sym e ∙ given n d has f), inr f)
+    ]
+    | inr off ↦ inl (sym (stays n off) ∙ e)
+  ]
+
+  -- ---- REMEMBERED FIELDS
+
+  to_noticed : (xs : List Noticed) (s : Source) → In (map source_of xs) s → Contains xs (back s)
+  to_noticed xs s i = let r = map_in source_of xs s i in subst (λ (z : Noticed). Contains xs z) (ap back r.2) (contains_from_in xs r.0 r.1)
+
+  from_noticed : (xs : List Noticed) (s : Source) → Contains xs (back s) → In (map source_of xs) s
+  from_noticed xs s i = in_map source_of xs (back s) (in_from_contains xs (back s) i)
+
+  -- an object of a source lies in the parent's chunks exactly where the parent owns its chunk
+  in_own : (s : Source) → has_chunk ks s.object.chunk ≡ true → v.owner s.object.chunk ≡ Some q
+  in_own s has = let k = has_in ks s.object.chunk has in ap v.owner (sym k.2) ∙ own_owned k.0 k.1
+
+  own_in : (u : ℕ) (s : Source) → In (sources v u) s → v.owner s.object.chunk ≡ Some q → has_chunk ks s.object.chunk ≡ true
+  own_in u s i e =
+      let K = V.sources u s i in
+      let mine : own l K.name ≡ q = same_Some (own l K.name) q (sym K.place.chunk ∙ e) in
+      let y = K.place.here K.rests in
+      let k = in_chunk (v.homes (own l K.name)).chunks y.0 y.1 in
+      let z = content_at q J.own_count J.own_heap (Calls J.frames) J.own_home k.0 (subst (λ u. In (v.homes u).chunks k.0) mine k.1) in
+      let number : k.0.number ≡ s.object.chunk = sym ((V.homes (own l K.name) K.rests).inside k.0 y.0 k.1 k.2) ∙ ap (λ (b : Addr). b.chunk) y.2.at in
+      ap (has_chunk ks) (sym (z.2 ∙ number)) ∙ in_has ks z.0 z.1
+
+  to_lifted : (u : ℕ) (xs : List Noticed) (s : Source) → sources v u ≡ map source_of xs → Contains xs (back s) → has_chunk ks s.object.chunk ≡ false → IsLifted v q u s
+  to_lifted u xs s e i off =
+      let j : In (sources v u) s = subst (λ ss. In ss s) (sym e) (from_noticed xs s i) in
+      (j, λ g. false≢true (sym off ∙ own_in u s j g))
+
+  from_lifted : (u : ℕ) (xs : List Noticed) (s : Source) → sources v u ≡ map source_of xs → IsLifted v q u s → Contains xs (back s) × (has_chunk ks s.object.chunk ≡ false)
+  from_lifted u xs s e L = (to_noticed xs s (subst (λ ss. In ss s) e L.0), elim (cases_Bool (has_chunk ks s.object.chunk)) [ inl has ↦ absurd (L.1 (in_own s has)) | inr off ↦ off ])
+
+  abbrev one : List Noticed
+  one = lifted J.own_sources J.left_sources ks
+
+  lifts_to : (s : Source) → In (sources v' q) s → In (sources v q) s ⊎ (IsLifted v q c s ⊎ IsLifted v q d s)
+  lifts_to s i = elim ((lifted_are_there one J.right_sources ks (back s)).0 (to_noticed (lifted one J.right_sources ks) s (subst (λ ss. In ss s) J.own_noted_then i))) [
+    | inl a ↦ elim ((lifted_are_there J.own_sources J.left_sources ks (back s)).0 a) [
+      | inl b ↦ inl (subst (λ ss. In ss s) (sym J.own_noted) (from_noticed J.own_sources s b))
+      | inr b ↦ inr (inl (to_lifted c J.left_sources s J.left_noted b.0 b.1))
+    ]
+    | inr a ↦ inr (inr (to_lifted d J.right_sources s J.right_noted a.0 a.1))
+  ]
+
+  lifts_from : (s : Source) → In (sources v q) s ⊎ (IsLifted v q c s ⊎ IsLifted v q d s) → In (sources v' q) s
+  lifts_from s h =
+      let found : Contains (lifted one J.right_sources ks) (back s) =
+      (lifted_are_there one J.right_sources ks (back s)).1 (elim h [
+        | inl a ↦ inl ((lifted_are_there J.own_sources J.left_sources ks (back s)).1 (inl (to_noticed J.own_sources s (subst (λ ss. In ss s) J.own_noted a))))
+        | inr a ↦ elim a [
+          | inl b ↦ inl ((lifted_are_there J.own_sources J.left_sources ks (back s)).1 (inr (from_lifted c J.left_sources s J.left_noted b)))
+          | inr b ↦ inr (from_lifted d J.right_sources s J.right_noted b)
+        ]
+      ]) in
+      subst (λ ss. In ss s) (sym J.own_noted_then) (from_noticed (lifted one J.right_sources ks) s found)
+
+  -- ---- THE HOMES
+
+  chunks_then : (v'.homes q).chunks ≡ (v.homes c).chunks ++ (v.homes d).chunks ++ (v.homes q).chunks
+  chunks_then =
+      ap (λ (z : Home). z.chunks) J.own_then
+      ∙ (ap (λ (h : Heap). chunks_of h.chunks) J.heap_is
+      ∙ (map-append chunk_of J.left_heap.chunks (J.right_heap.chunks ++ ks)
+      ∙ (ap (λ zs. chunks_of J.left_heap.chunks ++ zs) (map-append chunk_of J.right_heap.chunks ks)
+      ∙ (sym (append_assoc (chunks_of J.left_heap.chunks) (chunks_of J.right_heap.chunks) (chunks_of ks))
+      ∙ sym (ap₂ (λ x y. x ++ y) (ap₂ (λ x y. x ++ y) (ap (λ (z : Home). z.chunks) J.left_home ∙ by_chunks J.left_heap J.left_count J.left_work) (ap (λ (z : Home). z.chunks) J.right_home ∙ by_chunks J.right_heap J.right_count J.right_work)) (ap (λ (z : Home). z.chunks) J.own_home))))))
+
+  since_then : (v'.homes q).since ≡ (v.homes q).since + (v.homes c).since + (v.homes d).since
+  since_then =
+      let a : (v.homes q).since ≡ J.own_heap.since = ap (λ (z : Home). z.since) J.own_home in
+      let b : (v.homes c).since ≡ J.left_heap.since = ap (λ (z : Home). z.since) J.left_home ∙ by_since J.left_heap J.left_count J.left_work in
+      let e : (v.homes d).since ≡ J.right_heap.since = ap (λ (z : Home). z.since) J.right_home ∙ by_since J.right_heap J.right_count J.right_work in
+      let f : (v'.homes q).since ≡ counted (J.own_heap.since + (J.left_heap.since + J.right_heap.since)) = ap (λ (z : Home). z.since) J.own_then ∙ ap (λ (h : Heap). h.since) J.heap_is in
+      let small = J.small in
+      omega (arith, a, b, e, f, small)
+
+  pub joins_homes : JoinsHomes v v' q c d al ar
+  joins_homes = record {
+    chunks = chunks_then;
+    room = ap (λ (z : Home). z.room) J.own_then ∙ (J.room_is ∙ sym (ap (λ (z : Home). z.room) J.own_home));
+    since = since_then;
+    count = ap (λ (z : Home). z.count) J.own_then ∙ sym (ap (λ (z : Home). z.count) J.own_home);
+    frames = ap (λ (z : Home). z.frames) J.own_then ∙ ap (λ (z : Home). top_with_results al ar z.frames) (sym J.own_home);
+    begun = ap (λ (z : Home). z.begun) J.own_then ∙ sym (ap (λ (z : Home). z.begun) J.own_home);
+    left = J.left_then.2 ∙ (emptied_by J.left_heap J.left_count J.left_then.0 J.left_then.1 J.left_work ∙ ap (λ (z : Home). record z { chunks = []; room = 0; since = 0 }) (sym J.left_home));
+    right = J.right_then.2 ∙ (emptied_by J.right_heap J.right_count J.right_then.0 J.right_then.1 J.right_work ∙ ap (λ (z : Home). record z { chunks = []; room = 0; since = 0 }) (sym J.right_home));
+    others = J.others;
+    owner_left = owner_left;
+    owner_right = owner_right;
+    owners = owners;
+    owned = owned;
+    lifted = λ s. (lifts_to s, lifts_from s);
+    left_noted = J.left_noted_then;
+    right_noted = J.right_noted_then;
+    sources = J.others_noted;
+  }

@@ -1,0 +1,140 @@
+-- The nodes of a join, and what the status of a task tells.
+use Rattle.std.proofs.Common.{◌≡◌, ◌⊎◌, ℕ, ℤ, true, Option, Some, None, List, [], ◌∷◌, length, slice_get, option_map, inl, inr, refl, ap, ap₂, sym, subst, ◌∙◌}
+use Rattle.std.proofs.lemmas.Bool.{cases_eq, false≢true}
+use Rattle.std.proofs.lemmas.Option.{same_Some}
+use Rattle.std.specs.Prelude.{All}
+use Rattle.std.proofs.lemmas.List.Elements.{All-cons, All-nil}
+use Rattle.core_relation.specs.Value.{In}
+use Rattle.hh_model.specs.declared.data.Name.{Name}
+use Rattle.hh_model.specs.declared.data.State.{State as MachineState}
+use Rattle.hh_model.specs.declared.data.Status.{Status}
+use Rattle.hh_model.specs.declared.data.Status.TheVariants.{Running, Waiting as WaitingOf, Ended as EndedOf, Joined as JoinedOf}
+use Rattle.hh_model.specs.declared.data.Task.{Task}
+use Rattle.hh_model.specs.Step.{is_over, is_waiting, kept_by, result_in, waits}
+use Rattle.heap_tree.specs.declared.state.State.TheVariants.{Ended, Joined, Ready}
+use Rattle.heap_tree.specs.Node.{Node, with_state}
+use Rattle.fork_join.specs.Joined.{joined_nodes}
+use Rattle.alloc_path.specs.Heap.{Heap, room_of}
+use Rattle.object_layout.specs.declared.word.Addr.{Addr}
+use Rattle.task_frames.specs.Stack.{Stack}
+use Rattle.core_relation.specs.Reads.{HoldsRead, TaskIsRead}
+use Rattle.core_relation.specs.RanCounts.{node_then}
+use Rattle.core_relation.specs.Whole.{Node as SeenNode, State as SeenState, HasEnded, HasJoined, Ready as IsReady}
+use Rattle.shared_value.specs.declared.rest.Work.{Work}
+use Rattle.shared_value.specs.declared.rest.Work.TheVariants.{Calls, Result}
+use Rattle.shared_value.specs.declared.rest.Rest.{Rest}
+use Rattle.shared_value.specs.World.{home_by, home_in, home_of, node_of}
+use Rattle.shared_value.proofs.Taking.{made_by, node_by, node_off}
+
+-- ---- THE TREE
+
+abbrev pub view : ℕ → List Node → Option SeenNode
+view u xs = option_map node_of (slice_get xs u)
+
+module _ (xs : List Node) (t q c d : ℕ) (child : (t ≡ c) ⊎ (t ≡ d)) (qc : q ≡ c → ⊥) (qd : q ≡ d → ⊥) (cd : c ≡ d → ⊥) where
+  abbrev x1 : List Node
+  x1 = with_state xs t Ended
+
+  abbrev x2 : List Node
+  x2 = with_state x1 c Joined
+
+  abbrev x3 : List Node
+  x3 = with_state x2 d Joined
+
+  abbrev pub joined_tree : List Node
+  joined_tree = joined_nodes x1 q c d
+
+  off1 : (u : ℕ) → (u ≡ t → ⊥) → view u x1 ≡ view u xs
+  off1 u ne = node_off xs t Ended (slice_get xs t) u ne
+
+  off2 : (u : ℕ) → (u ≡ c → ⊥) → view u x2 ≡ view u x1
+  off2 u ne = node_off x1 c Joined (slice_get x1 c) u ne
+
+  off3 : (u : ℕ) → (u ≡ d → ⊥) → view u x3 ≡ view u x2
+  off3 u ne = node_off x2 d Joined (slice_get x2 d) u ne
+
+  off4 : (u : ℕ) → (u ≡ q → ⊥) → view u joined_tree ≡ view u x3
+  off4 u ne = node_off x3 q Ready (slice_get x3 q) u ne
+
+  twice : (s s' : SeenState) (o : Option SeenNode) → option_map (node_then s) (option_map (node_then s') o) ≡ option_map (node_then s) o
+  twice s s' None = refl
+  twice s s' (Some n) = refl
+
+  over : (u : ℕ) → option_map (node_then HasJoined) (view u x1) ≡ option_map (node_then HasJoined) (view u xs)
+  over u = elim (cases_eq u t) [
+    | inl e ↦ ap (λ z. option_map (node_then HasJoined) (view z x1)) e ∙ (ap (option_map (node_then HasJoined)) (node_by xs t Ended (slice_get xs t) refl) ∙ (twice HasJoined HasEnded (view t xs) ∙ ap (λ z. option_map (node_then HasJoined) (view z xs)) (sym e)))
+    | inr ne ↦ ap (option_map (node_then HasJoined)) (off1 u ne)
+  ]
+
+  t_not : (u : ℕ) → (u ≡ c → ⊥) → (u ≡ d → ⊥) → u ≡ t → ⊥
+  t_not u nc nd e = elim child [ inl f ↦ nc (e ∙ f) | inr f ↦ nd (e ∙ f) ]
+
+  pub parent_node : view q joined_tree ≡ option_map (node_then IsReady) (view q xs)
+  parent_node = node_by x3 q Ready (slice_get x3 q) refl ∙ ap (option_map (node_then IsReady)) (off3 q qd ∙ (off2 q qc ∙ off1 q (t_not q qc qd)))
+
+  pub left_node : view c joined_tree ≡ option_map (node_then HasJoined) (view c xs)
+  left_node = off4 c (λ e. qc (sym e)) ∙ (off3 c cd ∙ (node_by x1 c Joined (slice_get x1 c) refl ∙ over c))
+
+  pub right_node : view d joined_tree ≡ option_map (node_then HasJoined) (view d xs)
+  right_node = off4 d (λ e. qd (sym e)) ∙ (node_by x2 d Joined (slice_get x2 d) refl ∙ (ap (option_map (node_then HasJoined)) (off2 d (λ e. cd (sym e))) ∙ over d))
+
+  pub other_node : (u : ℕ) → (u ≡ q → ⊥) → (u ≡ c → ⊥) → (u ≡ d → ⊥) → view u joined_tree ≡ view u xs
+  other_node u nq nc nd = off4 u nq ∙ (off3 u nd ∙ (off2 u nc ∙ off1 u (t_not u nc nd)))
+
+  pub joined_long : length joined_tree ≡ length xs
+  joined_long = made_by x3 q Ready (slice_get x3 q) ∙ (made_by x2 d Joined (slice_get x2 d) ∙ (made_by x1 c Joined (slice_get x1 c) ∙ made_by xs t Ended (slice_get xs t)))
+
+-- ---- WHAT IS KNOWN OF TASKS
+
+pub kept_is : (o : Option Task) (r : ℤ × Option Name) → kept_by o ≡ Some r → (y : Task) × (o ≡ Some y) × (y.status ≡ EndedOf r.0 r.1)
+kept_is None r e = absurd cc
+kept_is (Some y) r e = (y, refl, by y.status e)
+  where
+    by : (s : Status) → result_in s ≡ Some r → s ≡ EndedOf r.0 r.1
+    by Running e = absurd cc
+    by WaitingOf e = absurd cc
+    by (EndedOf n z) e = let q : (n, z) ≡ r = same_Some (n, z) r e in ap₂ EndedOf (ap (λ (i : ℤ × Option Name). i.0) q) (ap (λ (i : ℤ × Option Name). i.1) q)
+    by JoinedOf e = absurd cc
+
+pub waits_is : (o : Option Task) → is_waiting o ≡ true → (y : Task) × (o ≡ Some y)
+waits_is None e = absurd (false≢true e)
+waits_is (Some y) e = (y, refl)
+
+pub by_room : (h : Heap) (n : ℕ) (x : Work) → (home_by h n x).room ≡ room_of h
+by_room h n (Calls s) = refl
+by_room h n (Result k r) = refl
+
+-- the step has joined the task
+pub record IsOver (m : MachineState) (t : ℕ) : Type 0 where
+  pub task : Task
+  pub is : slice_get m.tasks t ≡ Some task
+  pub over : is_over task.status ≡ true
+  pub end : m.end ≡ None
+
+-- all items of a list
+pub all_in : {A : Type 0} (P : A → Type 0) (xs : List A) → ((x : A) → In xs x → P x) → All P xs
+all_in P [] each = All-nil P
+all_in P (x ∷ xs) each = All-cons P x xs (each x (inl refl)) (all_in P xs (λ y i. each y (inr i)))
+
+-- ---- A TASK THAT WAITS HAS FRAMES
+
+pub waiting_is : (x : Task) → is_waiting (Some x) ≡ true → x.status ≡ WaitingOf
+waiting_is x e = by x.status e
+  where
+    by : (s : Status) → waits s ≡ true → s ≡ WaitingOf
+    by Running e = absurd (false≢true e)
+    by WaitingOf e = refl
+    by (EndedOf n r) e = absurd (false≢true e)
+    by JoinedOf e = absurd (false≢true e)
+
+abbrev pub HasCalls : Option Rest → Type 0
+HasCalls None = ⊥
+HasCalls (Some r) = (s : Stack) × (r.work ≡ Calls s)
+
+pub waiting_calls : (at : Name → Addr → Type 0) (o : Option Rest) (x : Task) → x.status ≡ WaitingOf → TaskIsRead at (home_in o) x → HasCalls o
+waiting_calls at None x e h = absurd (subst (HoldsRead at (home_in None) x) e h)
+waiting_calls at (Some r) x e h = by r.work refl (subst (HoldsRead at (home_of r) x) e h)
+  where
+    by : (k : Work) → r.work ≡ k → HoldsRead at (home_by r.heap r.allocations k) x WaitingOf → HasCalls (Some r)
+    by (Calls s) q g = (s, q)
+    by (Result n a) q g = absurd g

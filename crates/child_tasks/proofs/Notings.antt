@@ -1,0 +1,44 @@
+-- What is noted of a heap by what its set holds, and the form of an empty heap.
+use Rattle.std.proofs.Common.{◌≡◌, ℕ, arith, false, Option, Some, None, List, [], map, slice_get, option_map, refl}
+use Rattle.write_barrier.specs.declared.sets.SetOf.{SetOf}
+use Rattle.write_barrier.specs.Stored.{Content, content_at, content_of}
+use Rattle.core_relation.specs.Value.{Noted}
+use Rattle.shared_value.specs.World.{noted_in, source_of}
+use Rattle.shared_value.specs.Stands.{HeapForm}
+use Rattle.child_tasks.specs.Forks.{keeping}
+
+-- ---- WHAT IS NOTED, by what a set holds
+
+abbrev pub noted_of : Option Content → Noted
+noted_of None = record { sources = []; kept = []; keeps = false; marked = None }
+noted_of (Some c) = record { sources = map source_of c.sources; kept = c.kept; keeps = c.keeps; marked = None }
+
+pub noted_by : (sets : List SetOf) (u : ℕ) → noted_in (slice_get sets u) ≡ noted_of (content_at sets u)
+noted_by sets u = by (slice_get sets u)
+  where
+    by : (o : Option SetOf) → noted_in o ≡ noted_of (option_map content_of o)
+    by None = refl
+    by (Some s) = refl
+
+pub keeping_sources : (o : Option Content) → (noted_of (option_map keeping o)).sources ≡ (noted_of o).sources
+keeping_sources None = refl
+keeping_sources (Some c) = refl
+
+pub keeping_kept : (o : Option Content) → (noted_of (option_map keeping o)).kept ≡ []
+keeping_kept None = refl
+keeping_kept (Some c) = refl
+
+-- ---- AN EMPTY HEAP
+
+pub empty_form : (slots spare : ℕ) → HeapForm (record { chunks = []; current = None; reserved = None; since = 0; slots = slots; spare = spare })
+empty_form slots spare = record {
+  shaped = record { apart = tt; current = tt; reserved = tt };
+  near = λ o i. absurd i;
+  tidy = λ i x lt. absurd (omega (arith, lt));
+  within = λ i x lt. absurd (omega (arith, lt));
+  last = tt;
+  last_large = tt;
+  since = omega arith;
+  whole = λ k i. absurd i;
+  spare = λ i lt. absurd (omega (arith, lt));
+}

@@ -1,0 +1,96 @@
+-- An entry of a part's fresh steps and a fork.
+use Rattle.std.specs.Prelude.{◌≡◌, ◌≢◌, ◌≤◌, ℕ, ◌+◌, Bool, true, false, Option, Some, None, List, [], length, option_map, slice_get}
+use Rattle.fork_join.specs.declared.forks.Child.{Child}
+use Rattle.fork_join.specs.Forked.{new_child}
+use Rattle.hh_lang.specs.declared.instr.Instr.{Instr}
+use Rattle.hh_lang.specs.declared.instr.Instr.TheVariants.{Par}
+use Rattle.hh_lang.specs.declared.program.Line.{Line}
+use Rattle.hh_lang.specs.Form.{ProgramText}
+use Rattle.hh_model.specs.declared.data.Task.{Task}
+use Rattle.hh_model.specs.Step.{fetched}
+use Rattle.run_ledger.specs.Steps.{task_steps}
+use Rattle.task_frames.specs.Stack.{with_next}
+use Rattle.task_machine.specs.declared.part.Private.{Private}
+use Rattle.write_barrier.specs.declared.sets.SetOf.{SetOf}
+use Rattle.write_barrier.specs.Stored.{Content, content_at}
+use Rattle.child_tasks.specs.declared.fork.Forking.{Forking}
+use Rattle.child_tasks.specs.declared.fork.Forking.TheVariants.{Forked, Over}
+use Rattle.shared_value.specs.declared.rest.Rest.{Rest}
+use Rattle.shared_value.specs.declared.rest.Work.TheVariants.{Calls}
+use Rattle.shared_value.specs.World.{World, accounts, rest_at}
+use Rattle.shared_value.specs.Fits.{OthersFit}
+use Rattle.own_steps.specs.Alone.{HaltsAlone, alone_event, machine_after}
+use Rattle.shared_value.specs.Entered.{Enters}
+
+-- ---- WHEN IT COMES
+
+abbrev pub is_par : Instr → Bool
+is_par (Par left right) = true
+is_par _ = false
+
+abbrev pub is_fork : Option Line → Bool
+is_fork None = false
+is_fork (Some line) = is_par line.instr
+
+abbrev pub is_fork_by : ProgramText → Option Task → Bool
+is_fork_by p None = false
+is_fork_by p (Some x) = is_fork (fetched p x.top)
+
+-- the part's next step is a fork, and stands in one entry with its fresh ones
+pub record IsAtFork (w : World) (p : Private) : Type 0 where
+  pub forks : is_fork_by w.program (slice_get (machine_after w p).tasks p.task) ≡ true
+  pub few : p.fresh ≤ 256
+
+-- the functions that its children begin, and the line of the text where it stands
+pub record ForksTo (w : World) (p : Private) (left right number : ℕ) : Type 0 where
+  pub task : Task
+  pub line : Line
+  pub is : slice_get (task_steps w.program (accounts w) p.task p.fresh).machine.tasks p.task ≡ Some task
+  pub next : fetched w.program task.top ≡ Some line
+  pub number_is : line.number ≡ number
+  pub by : line.instr ≡ Par left right
+
+-- ---- WHAT A CALL MAKES OF IT
+
+-- the task waits for two children, whose numbers are the next two, and the run goes on
+pub record ForksOn (w after : World) (k : ℕ) (p : Private) (left right : ℕ) : Type 0 where
+  pub enters : Enters w after (alone_event k p)
+  pub left_is : left ≡ length (accounts w).machine.tasks
+  pub right_is : right ≡ length (accounts w).machine.tasks + 1
+  pub goes : (accounts after).end ≡ None
+  pub others : OthersFit w after k
+
+abbrev pub ForkAnswered : World → World → ℕ → Private → Forking → Type 0
+ForkAnswered w after k p (Forked left right) = ForksOn w after k p left right
+ForkAnswered w after k p (Over q) = HaltsAlone w after k p q
+
+-- ---- HOMES AND SETS
+
+-- what goes with a task that has forked, and with a child before its first step
+abbrev pub waiting_rest : Private → Rest
+waiting_rest p = record { work = Calls (with_next p.frames (p.frames.top.next + 1)); heap = p.heap; allocations = p.allocations }
+
+abbrev pub begun_rest : Child → Rest
+begun_rest c = record { work = Calls c.frames; heap = c.heap; allocations = 0 }
+
+-- the task of the part has a home again, and there are two homes more
+pub record HomesFork (homes after : List (Option Rest)) (p : Private) (left right : ℕ) : Type 0 where
+  pub count : length after ≡ length homes + 2
+  pub parent : rest_at after p.task ≡ Some (waiting_rest p)
+  pub left_home : (slots : ℕ) × (spare : ℕ) × (rest_at after (length homes) ≡ Some (begun_rest (new_child (length homes) p.frames left slots spare)))
+  pub right_home : (slots : ℕ) × (spare : ℕ) × (rest_at after (length homes + 1) ≡ Some (begun_rest (new_child (length homes + 1) p.frames right slots spare)))
+  pub others : (u : ℕ) → u ≢ p.task → u ≢ length homes → u ≢ length homes + 1 → rest_at after u ≡ rest_at homes u
+
+abbrev pub nothing_noted : Content
+nothing_noted = record { sources = []; kept = []; keeps = false }
+
+abbrev pub keeping : Content → Content
+keeping c = record c { kept = []; keeps = true }
+
+-- the set of a task keeps from now on, and there are two sets more
+pub record SetsFork (sets after : List SetOf) (t : ℕ) : Type 0 where
+  pub count : length after ≡ length sets + 2
+  pub parent : content_at after t ≡ option_map keeping (content_at sets t)
+  pub left_set : content_at after (length sets) ≡ Some nothing_noted
+  pub right_set : content_at after (length sets + 1) ≡ Some nothing_noted
+  pub others : (u : ℕ) → u ≢ t → u ≢ length sets → u ≢ length sets + 1 → content_at after u ≡ content_at sets u

@@ -1,0 +1,16 @@
+-- Who holds nothing once a task has forked or ended.
+use Rattle.std.specs.Prelude.{◌≡◌, ◌≢◌, ℕ, Option, Some, None, List, slice_set}
+use Rattle.run_ledger.specs.Heaps.{heap_of}
+use Rattle.core_relation.specs.Whole.{handed}
+use Rattle.child_tasks.specs.declared.fork.Forking.{Forking}
+use Rattle.child_tasks.specs.declared.fork.Forking.TheVariants.{Forked, Over}
+use Rattle.shared_value.specs.World.{World, accounts}
+
+-- the worker holds no task; once the run is done the root is handed back
+abbrev pub HoldsNone : World → ℕ → Type 0
+HoldsNone w k = (t : ℕ) → (heap_of (handed (accounts w)) t).worker ≢ Some k
+
+-- where a task has forked, the worker that held it holds none
+abbrev pub LeavesHand : List (Option ℕ) → List (Option ℕ) → ℕ → Forking → Type 0
+LeavesHand hands after k (Forked left right) = after ≡ slice_set hands k None
+LeavesHand hands after k (Over q) = Unit {0}

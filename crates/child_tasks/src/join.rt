@@ -1,0 +1,260 @@
+// What a join takes out of the shared value, and the places that it needs.
+
+ghost use Rattle.std.specs.Prelude.{◌≡◌, ◌<◌, ◌+◌, ◌^◌, OnOk, IfOk, None, Some, slice_set, ◌≢◌, ◌≤◌, ◌++◌, ℕ, IfSome, [], false, length, slice_get};
+ghost use Rattle.heap_tree.specs.Pairs.{sibling, is_left};
+ghost use Rattle.fork_join.specs.Forked.{no_heap};
+ghost use Rattle.fork_join.specs.Joined.{joined_nodes, with_results, AreRelabelled, Joins};
+ghost use Rattle.shared_value.specs.Fits.{IsAtWork};
+ghost use Rattle.child_tasks.specs.Forks.{nothing_noted};
+ghost use Rattle.child_tasks.specs.Joins.{chunk_count, left_of, other_child, own_child, parent_side, right_of, sources_at, work_result, CanJoin, IsRestOf, IsSameRest};
+ghost use Rattle.task_frames.specs.Stack.{Stack};
+ghost use Rattle.shared_value.specs.World.{rest_at};
+ghost use Rattle.shared_value.specs.declared.rest.Rest.{Rest as RestOf};
+ghost use Rattle.write_barrier.specs.Stored.{content_at};
+
+use alloc_path::LeafHeap;
+use chunk_pool::Pool;
+use fork_join::{EndedChild, Side, join};
+use heap_tree::Tree;
+use listed::Listed;
+use object_layout::Addr;
+use remembered_set::Remembered;
+use shared_value::{Rest, Work};
+use std::alloc::{AllocError, Global};
+use std::mem;
+use task_machine::Private;
+use write_barrier::SetOf;
+
+/// The other child of the same fork.
+pub fn sibling_of(t: u32) -> u32
+    requires child { 0 < t }
+    requires few { t < 2 ^ 31 }
+    ensures { result ≡ sibling t }
+{
+    if t % 2 == 1 { t + 1 } else { t - 1 }
+}
+
+// The result of a task that has ended.
+fn result_of(work: &Work) -> (i64, Option<Addr>)
+    ensures { result ≡ work_result work.now }
+{
+    match work {
+        Work::Calls(_) => (0, None),
+        Work::Result(number, reference) => (*number, *reference),
+    }
+}
+
+/// Takes out what goes with a task that no worker holds.
+pub fn take_rest(alloc: Global, homes: &mut Listed<Option<Rest>>, t: u32) -> Rest
+    requires made { t < length homes.old }
+    ensures rest { IsRestOf (rest_at homes.old t) result }
+    ensures homes { homes.new ≡ slice_set homes.old t None }
+{
+    match mem::replace(homes.at_mut(t as usize), None) {
+        Some(rest) => rest,
+        None => Rest {
+            work: Work::Result(0, None),
+            heap: LeafHeap::new(alloc),
+            allocations: 0,
+        },
+    }
+}
+
+/// Takes out what a set remembers; it holds nothing then.
+pub fn take_remembered(alloc: Global, sets: &mut Vec<SetOf>, t: u32) -> Remembered
+    requires made { t < length sets.old.items }
+    ensures whole { IfSome (slice_get sets.old.items t) (λ s. result ≡ s.remembered) }
+    ensures many { length sets.new.items ≡ length sets.old.items }
+    ensures empty { content_at sets.new.items t ≡ Some nothing_noted }
+    ensures others { (u : ℕ) → u ≢ t → slice_get sets.new.items u ≡ slice_get sets.old.items u }
+{
+    let set = mem::replace(&mut sets[t as usize], SetOf::new(alloc));
+    set.remembered
+}
+
+/// How many chunks the heap of a task has that no worker holds.
+pub fn chunks_at(homes: &Listed<Option<Rest>>, t: u32) -> usize
+    requires { t < length homes.now }
+    ensures { result ≡ chunk_count (rest_at homes.now t) }
+{
+    match homes.at(t as usize) {
+        Some(rest) => rest.heap.chunks().len(),
+        None => 0,
+    }
+}
+
+/// How many fields the set of a task remembers.
+pub fn sources_of(sets: &Vec<SetOf>, t: u32) -> usize
+    requires { t < length sets.now.items }
+    ensures { result ≡ length (sources_at sets.now.items t) }
+{
+    sets[t as usize].remembered.sources().len()
+}
+
+/// A number of places; more than 32 bits count are more than can be reserved.
+pub fn places(left: usize, right: usize) -> Result<u32, AllocError>
+    ensures { IfOk result (λ n. n ≡ left + right) }
+{
+    let Some(both) = left.checked_add(right) else {
+        return Err(AllocError);
+    };
+    match u32::try_from(both) {
+        Ok(count) => Ok(count),
+        Err(_) => Err(AllocError),
+    }
+}
+
+/// Makes places in the heap of a task that no worker holds.
+pub fn make_home_places(
+    homes: &mut Listed<Option<Rest>>,
+    t: u32,
+    chunks: u32,
+) -> Result<(), AllocError>
+    requires made { t < length homes.old }
+    ensures many { length homes.new ≡ length homes.old }
+    ensures others { (u : ℕ) → u ≢ t → rest_at homes.new u ≡ rest_at homes.old u }
+    ensures same { IsSameRest (rest_at homes.old t) (rest_at homes.new t) }
+    ensures room { OnOk result (IfSome (rest_at homes.new t) (λ r. (chunks ≤ r.heap.slots) × (chunks ≤ r.heap.spare))) }
+{
+    let Some(mut rest) = mem::replace(homes.at_mut(t as usize), None) else {
+        return Ok(());
+    };
+    let made = rest.heap.make_room(chunks);
+    homes.set(t as usize, Some(rest));
+    made
+}
+
+/// Makes places in the set of a task.
+pub fn make_set_places(sets: &mut Vec<SetOf>, t: u32, sources: u32) -> Result<(), AllocError>
+    requires made { t < length sets.old.items }
+    ensures many { length sets.new.items ≡ length sets.old.items }
+    ensures same { (u : ℕ) → content_at sets.new.items u ≡ content_at sets.old.items u }
+    ensures room { OnOk result (IfSome (slice_get sets.new.items t) (λ s. (sources ≤ s.remembered.slots) × (sources ≤ s.remembered.spare))) }
+{
+    let set = &mut sets[t as usize];
+    set.remembered.make_room(sources, 0)
+}
+
+/// The left child and the right one.
+pub fn in_order(own: EndedChild, other: EndedChild) -> (EndedChild, EndedChild)
+    ensures left { result.0 ≡ left_of (is_left own.side.task) own other }
+    ensures right { result.1 ≡ right_of (is_left own.side.task) own other }
+{
+    if own.side.task % 2 == 1 {
+        (own, other)
+    } else {
+        (other, own)
+    }
+}
+
+/// Joins both children with their parent: what goes with it then, and what its set remembers.
+pub fn join_children(
+    tree: &mut Tree,
+    pool: &mut Pool,
+    parent: u32,
+    above: Rest,
+    noted: Remembered,
+    children: (EndedChild, EndedChild),
+) -> (Rest, Remembered)
+    requires work { IsAtWork above.work }
+    requires can { CanJoin tree.old pool.old (parent_side parent above noted) children.0 children.1 }
+    ensures tree { tree.new ≡ joined_nodes tree.old parent children.0.side.task children.1.side.task }
+    ensures pool { AreRelabelled pool.old pool.new (children.0.side.heap.chunks ++ children.1.side.heap.chunks) parent }
+    ensures side { Joins (parent_side parent above noted) (parent_side parent result.0 result.1) children.0.side children.1.side }
+    ensures rest { (s : Stack) → above.work ≡ Work.Calls s → result.0 ≡ record { work = Work.Calls (with_results s children.0.result children.1.result); heap = result.0.heap; allocations = above.allocations } }
+{
+    let Rest {
+        work,
+        heap,
+        allocations,
+    } = above;
+    let Work::Calls(mut frames) = work else {
+        unreachable!()
+    };
+    let (left, right) = children;
+    let mut side = Side {
+        task: parent,
+        heap,
+        remembered: noted,
+    };
+    join(tree, pool, &mut side, &mut frames, left, right);
+    let rest = Rest {
+        work: Work::Calls(frames),
+        heap: side.heap,
+        allocations,
+    };
+    (rest, side.remembered)
+}
+
+/// Leaves an own child's home with an empty heap: what a join takes of it.
+pub fn leave_own(
+    alloc: Global,
+    homes: &mut Listed<Option<Rest>>,
+    part: Private,
+    noted: Remembered,
+) -> EndedChild
+    requires made { part.task < length homes.old }
+    ensures child { result ≡ own_child part noted }
+    ensures many { length homes.new ≡ length homes.old }
+    ensures own { (slots : ℕ) × (spare : ℕ) × (rest_at homes.new part.task ≡ Some (record { work = Work.Calls part.frames; heap = no_heap slots spare; allocations = part.allocations })) }
+    ensures others { (u : ℕ) → u ≢ part.task → rest_at homes.new u ≡ rest_at homes.old u }
+{
+    let task = part.task;
+    let result = (part.frames.int(0), part.frames.reference(0));
+    let rest = Rest {
+        work: Work::Calls(part.frames),
+        heap: LeafHeap::new(alloc),
+        allocations: part.allocations,
+    };
+    homes.set(task as usize, Some(rest));
+    EndedChild {
+        side: Side {
+            task,
+            heap: part.heap,
+            remembered: noted,
+        },
+        result,
+    }
+}
+
+/// The same of the other child, which no worker holds.
+pub fn leave_other(
+    alloc: Global,
+    homes: &mut Listed<Option<Rest>>,
+    t: u32,
+    noted: Remembered,
+) -> EndedChild
+    requires made { t < length homes.old }
+    ensures many { length homes.new ≡ length homes.old }
+    ensures child { (r : RestOf) × IsRestOf (rest_at homes.old t) r × (result ≡ other_child t r noted) × (slots : ℕ) × (spare : ℕ) × (rest_at homes.new t ≡ Some (record r { heap = no_heap slots spare })) }
+    ensures others { (u : ℕ) → u ≢ t → rest_at homes.new u ≡ rest_at homes.old u }
+{
+    let rest = take_rest(alloc, homes, t);
+    let result = result_of(&rest.work);
+    let left = Rest {
+        work: rest.work,
+        heap: LeafHeap::new(alloc),
+        allocations: rest.allocations,
+    };
+    homes.set(t as usize, Some(left));
+    EndedChild {
+        side: Side {
+            task: t,
+            heap: rest.heap,
+            remembered: noted,
+        },
+        result,
+    }
+}
+
+/// Puts what a set remembers into it, which holds nothing.
+pub fn put_remembered(sets: &mut Vec<SetOf>, t: u32, noted: Remembered)
+    requires made { t < length sets.old.items }
+    requires empty { content_at sets.old.items t ≡ Some nothing_noted }
+    ensures many { length sets.new.items ≡ length sets.old.items }
+    ensures at { content_at sets.new.items t ≡ Some (record { sources = noted.sources; kept = []; keeps = false }) }
+    ensures others { (u : ℕ) → u ≢ t → content_at sets.new.items u ≡ content_at sets.old.items u }
+{
+    let set = &mut sets[t as usize];
+    set.remembered = noted;
+}

@@ -1,0 +1,168 @@
+-- A marking of a heap that waits begins, from the registers and the roots as they are now: it can go on to the whole snapshot.
+use Rattle.std.proofs.Common.{◌≡◌, ◌⊎◌, ◌↔◌, ℕ, suc, ◌+◌, ◌<◌, ◌≤◌, ◌++◌, true, Option, Some, None, List, [], ◌∷◌, length, slice_get, inl, inr, refl, ap, sym, subst, ◌∙◌}
+use Rattle.std.proofs.lemmas.Bool.{false≢true}
+use Rattle.listed.proofs.Members.{contains_from_in, in_append_cases, in_append_left, in_append_right, in_from_contains}
+use Rattle.walks.proofs.Reached.{reached_more, reached_start, reached_within}
+use Rattle.object_layout.specs.declared.word.Addr.{Addr}
+use Rattle.object_layout.specs.Chunks.{cell_of, object_count}
+use Rattle.object_layout.specs.Content.{Content}
+use Rattle.object_layout.specs.Graph.{IsHeld, Leads}
+use Rattle.hh_model.specs.declared.data.Task.{Task}
+use Rattle.hh_model.specs.Step.{is_waiting}
+use Rattle.run_ledger.specs.declared.data.Ledger.{Ledger}
+use Rattle.run_ledger.specs.Heaps.{heap_of}
+use Rattle.run_ledger.specs.Sound.{SoundLedger}
+use Rattle.run_ledger.proofs.Journals.{legal_sound}
+use Rattle.inner_mark_gc.specs.Marks.{IsMarking, IsOf, Marks}
+use Rattle.inner_mark_gc.specs.Snapshot.{Fork, IsInSnapshot, Starts}
+use Rattle.ledger_steps.specs.Accounts.{Rests}
+use Rattle.ledger_steps.proofs.Split.{legal_idle}
+use Rattle.core_relation.specs.Value.{Frame, In, Seen, Value, objects, objects_in}
+use Rattle.core_relation.specs.Begins.{IsAt, IsRoot, LeadsAt}
+use Rattle.core_relation.specs.Marking.{GoesOn}
+use Rattle.core_relation.specs.Now.{IsReachedNow, StartsNow}
+use Rattle.core_relation.specs.Since.{kept}
+use Rattle.core_relation.specs.Whole.{StandsFor}
+use Rattle.core_relation.proofs.Past.{waiting_stops}
+use Rattle.core_relation.proofs.SnapshotNow.{snapshot_now}
+use Rattle.shared_value.specs.declared.rest.Rest.{Rest}
+use Rattle.shared_value.specs.Objects.{chunks_of}
+use Rattle.shared_value.specs.World.{World, accounts, home_in, rest_at, totals_of, value_of}
+use Rattle.shared_value.specs.Stands.{HeapForm, IsWorld}
+use Rattle.heap_marking.specs.Marking.{MarksBegin}
+use Rattle.heap_marking.proofs.Closed.{held_seen, seen_held}
+use Rattle.shared_value.proofs.Now.{stands_now}
+use Rattle.shared_value.proofs.Targets.{home_chunks}
+use Rattle.shared_value.proofs.ObjectCounts.{objects_counted}
+
+pub length_chunks : (cs : List Content) → length (chunks_of cs) ≡ length cs
+length_chunks [] = refl
+length_chunks (c ∷ cs) = ap suc (length_chunks cs)
+
+module _ (w : World) (I : IsWorld w) (on : (accounts w).end ≡ None) (t : ℕ) (r : Rest) (there : rest_at w.homes t ≡ Some r) (wait : is_waiting (slice_get (accounts w).machine.tasks t) ≡ true) (keeps : ((value_of w).noted t).keeps ≡ true) where
+  abbrev l : Ledger
+  l = accounts w
+
+  abbrev v : Value
+  v = value_of w
+
+  abbrev ks : List Content
+  ks = r.heap.chunks
+
+  stands : StandsFor v (totals_of w) l
+  stands = stands_now w I on
+
+  sound : SoundLedger l
+  sound = legal_sound w.program w.settings w.journal.items I.legal
+
+  pub rests : Rests l t
+  rests = legal_idle w.program w.settings w.journal.items I.legal on t (waiting_stops (slice_get l.machine.tasks t) wait)
+
+  form : HeapForm r.heap
+  form = I.heaps t r there
+
+  pub home_is : (v.homes t).chunks ≡ chunks_of ks
+  home_is = ap (λ o. (home_in o).chunks) there ∙ home_chunks r
+
+  pub to_home : (o : Seen) → In (objects_in (chunks_of ks)) o → In (objects v t) o
+  to_home o i = subst (λ cs. In (objects_in cs) o) (sym home_is) i
+
+  pub from_home : (o : Seen) → In (objects v t) o → In (objects_in (chunks_of ks)) o
+  from_home o i = subst (λ cs. In (objects_in cs) o) home_is i
+
+  pub is_held : (o : Seen) → In (objects v t) o → IsHeld ks o.at
+  is_held o i = (seen_held ks form.shaped.apart o (from_home o i)).0
+
+  pub seen_at : (a : Addr) → IsHeld ks a → (o : Seen) × In (objects v t) o × (o.at ≡ a) × ((cell_of ks a).refs ≡ o.refs)
+  seen_at a h = let o = held_seen ks a h in (o.0, to_home o.0 o.1, o.2, o.3)
+
+  pub refs_are : (o : Seen) → In (objects v t) o → (cell_of ks o.at).refs ≡ o.refs
+  refs_are o i = (seen_held ks form.shaped.apart o (from_home o i)).1
+
+  -- the roots: what registers name, and what remembered fields hold
+  module _ (roots : List Addr) (are : (a : Addr) → In roots a ↔ (((o : Seen) × IsAt (v.homes t) a o × ((f : Frame) × In (v.homes t).frames f × In f.refs (Some a))) ⊎ IsRoot v l t a)) where
+    abbrev pub f : Fork
+    f = record { heap = ks; roots = roots }
+
+    abbrev IsThere : Addr → Type 0
+    IsThere a = IsReachedNow v l t a × ((o : Seen) × IsAt (v.homes t) a o)
+
+    start_now : (a : Addr) → Starts f (kept v t) a → IsThere a
+    start_now a s =
+        let o = seen_at a s.0 in
+        let at : IsAt (v.homes t) a o.0 = (o.1, o.2) in
+        let now : ((g : Frame) × In (v.homes t).frames g × In g.refs (Some a)) ⊎ (IsRoot v l t a ⊎ In (kept v t) a) = elim (in_append_cases roots (kept v t) a (in_from_contains (roots ++ kept v t) a s.1)) [
+          | inl i ↦ elim ((are a).0 i) [ inl n ↦ inl n.2 | inr y ↦ inr (inl y) ]
+          | inr k ↦ inr (inr k)
+        ] in
+        (reached_start (StartsNow v l t) (LeadsAt (v.homes t)) a (o.0, at, now), (o.0, at))
+
+    more_now : (b a : Addr) → IsThere b → Leads ks b a → IsThere a
+    more_now b a y d =
+        let o : (o : Seen) × IsAt (v.homes t) b o = y.1 in
+        let q = seen_at a d.1 in
+        let at : IsAt (v.homes t) a q.0 = (q.1, q.2) in
+        let refs : (cell_of ks b).refs ≡ o.0.refs = ap (λ x. (cell_of ks x).refs) (sym o.1.1) ∙ refs_are o.0 o.1.0 in
+        (reached_more (StartsNow v l t) (LeadsAt (v.homes t)) b a y.0 (o.0, q.0, o.1, subst (λ rs. In rs (Some a)) refs (in_from_contains (cell_of ks b).refs (Some a) d.2), at), (q.0, at))
+
+    to_now : (a : Addr) → IsInSnapshot f (kept v t) a → IsReachedNow v l t a
+    to_now a g = (reached_within (Starts f (kept v t)) (Leads ks) IsThere start_now more_now a g).0
+
+    held_at : (a : Addr) (o : Seen) → IsAt (v.homes t) a o → IsHeld ks a
+    held_at a o at = subst (IsHeld ks) at.1 (is_held o at.0)
+
+    start_then : (a : Addr) → StartsNow v l t a → IsInSnapshot f (kept v t) a
+    start_then a s =
+        reached_start (Starts f (kept v t)) (Leads ks) a (
+          held_at a s.0 s.1,
+          contains_from_in (roots ++ kept v t) a (elim s.2 [
+            | inl n ↦ in_append_left roots (kept v t) a ((are a).1 (inl (s.0, s.1, n)))
+            | inr y ↦ elim y [
+              | inl z ↦ in_append_left roots (kept v t) a ((are a).1 (inr z))
+              | inr k ↦ in_append_right roots (kept v t) a k
+            ]
+          ]),
+        )
+
+    more_then : (b a : Addr) → IsInSnapshot f (kept v t) b → LeadsAt (v.homes t) b a → IsInSnapshot f (kept v t) a
+    more_then b a g d =
+        let refs : (cell_of ks b).refs ≡ d.0.refs = ap (λ x. (cell_of ks x).refs) (sym d.2.1) ∙ refs_are d.0 d.2.0 in
+        reached_more (Starts f (kept v t)) (Leads ks) b a g (held_at b d.0 d.2, held_at a d.1 d.4, contains_from_in (cell_of ks b).refs (Some a) (subst (λ rs. In rs (Some a)) (sym refs) d.3))
+
+    from_now : (a : Addr) → IsReachedNow v l t a → IsInSnapshot f (kept v t) a
+    from_now a g = reached_within (StartsNow v l t) (LeadsAt (v.homes t)) (IsInSnapshot f (kept v t)) start_then more_then a g
+
+    task : (x : Task) × (slice_get l.machine.tasks t ≡ Some x)
+    task = by (slice_get l.machine.tasks t) refl wait
+      where
+        by : (o : Option Task) → slice_get l.machine.tasks t ≡ o → is_waiting o ≡ true → (x : Task) × (slice_get l.machine.tasks t ≡ Some x)
+        by None e h = absurd (false≢true h)
+        by (Some x) e h = (x, e)
+
+    pub snapshot_is : (o : Seen) → In (objects v t) o → IsInSnapshot f (kept v t) o.at ↔ In (heap_of l t).snapshot o.name
+    snapshot_is o i =
+        let s = snapshot_now v l t task.0 sound stands.homes task.1 wait rests (stands.since t keeps) o i in
+        ((λ g. s.0 (to_now o.at g)), (λ n. from_now o.at (s.1 n)))
+
+    -- what the marking has then
+    pub begun_goes_on : (m : Marks) → IsOf ks (kept v t) m → IsMarking f (kept v t) m → GoesOn v t (heap_of l t).snapshot m
+    begun_goes_on m own marks =
+        let count : object_count ks ≡ length (objects v t) = objects_counted ks form.tidy ∙ ap (λ cs. length (objects_in cs)) (sym home_is) in
+        let chunks : length ks ≡ length (v.homes t).chunks = sym (length_chunks ks) ∙ ap (λ cs. length cs) (sym home_is) in
+        record {
+          fork = f;
+          marks = marks;
+          there = is_held;
+          were = λ a h. (let o = seen_at a h in (o.0, o.1, o.2));
+          overwritten = λ o a i c d. inl (subst (λ rs. In rs (Some a)) (refs_are o i) (in_from_contains (cell_of ks o.at).refs (Some a) d.2));
+          snapshot = snapshot_is;
+          once = own.room.once;
+          marked = own.marked;
+          followed = own.followed;
+          slots = subst (λ n. n < length m.found + m.slots) count own.room.slots;
+          spare = subst (λ n. n < length m.found + m.spare) count own.room.spare;
+          places = subst (λ n. n ≤ m.places) chunks own.room.places;
+        }
+
+pub marks_begin : MarksBegin
+marks_begin w t r roots m I on there wait keeps are own marks = begun_goes_on w I on t r there wait keeps roots are m own marks

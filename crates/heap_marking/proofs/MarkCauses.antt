@@ -1,0 +1,115 @@
+-- Entries that mark and sweep are refused as the shared value tells it.
+use Rattle.std.proofs.Common.{◌≡◌, ℕ, ◌==◌, ◌&&◌, not, Bool, true, false, Option, Some, None, is_some, nat_le, option_map, slice_get, refl, ap, sym, ◌∙◌}
+use Rattle.std.proofs.lemmas.Option.{same_Some}
+use Rattle.hh_model.specs.declared.data.Status.{Status}
+use Rattle.hh_model.specs.declared.data.Status.TheVariants.{Running, Waiting, Ended, Joined}
+use Rattle.hh_model.specs.declared.data.Task.{Task}
+use Rattle.hh_model.specs.Step.{is_waiting, waits}
+use Rattle.heap_tree.specs.declared.state.State.{State}
+use Rattle.heap_tree.specs.declared.state.State.TheVariants.{Ready, Out, Waiting as Waits', Ended as Ended', Joined as Joined'}
+use Rattle.heap_tree.specs.Node.{Node}
+use Rattle.run_ledger.specs.declared.data.Ledger.{Ledger}
+use Rattle.run_ledger.specs.declared.data.Refused.{Refused}
+use Rattle.run_ledger.specs.declared.data.Refused.TheVariants.{Left, Marked, Marking, NotDue, NotMarking, NotWaiting, Swept}
+use Rattle.run_ledger.specs.Entries.{counted, refused_if, refused_unless}
+use Rattle.run_ledger.specs.Heaps.{heap_of, left_in, marked_in, sweep_number, words_in}
+use Rattle.inner_mark_gc.specs.Marks.{Marks}
+use Rattle.core_relation.specs.Marking.{MarkedBy}
+use Rattle.core_relation.specs.Value.{Value}
+use Rattle.core_relation.specs.Whole.{Node as SeenNode, StandsFor, State as SeenState, state_by}
+use Rattle.core_relation.specs.Whole.{Ready as IsReady, Out as IsOut, Waits, HasEnded, HasJoined}
+use Rattle.shared_value.specs.Causes.{or_else}
+use Rattle.heap_marking.specs.MarkCauses.{MarksRefuse, is_state_waiting}
+use Rattle.shared_value.specs.World.{accounts, marks_at, node_of, noted_in, state_of, totals_of, value_of}
+use Rattle.shared_value.proofs.Now.{stands_now}
+
+-- WHO WAITS
+
+seen_waits : SeenState → Bool
+seen_waits IsReady = false
+seen_waits IsOut = false
+seen_waits Waits = true
+seen_waits HasEnded = false
+seen_waits HasJoined = false
+
+by_state : (a : State) → is_state_waiting (Some a) ≡ seen_waits (state_of a)
+unfolding seen_waits
+by_state Ready = refl
+by_state Out = refl
+by_state Waits' = refl
+by_state Ended' = refl
+by_state Joined' = refl
+
+by_status : (s : Status) (o : Option ℕ) → seen_waits (state_by s o) ≡ waits s
+unfolding seen_waits
+by_status Running None = refl
+by_status Running (Some w) = refl
+by_status Waiting o = refl
+by_status (Ended n r) o = refl
+by_status Joined o = refl
+
+abbrev told : Option ℕ → Task → SeenNode
+told o x = record { parent = x.parent; state = state_by x.status o }
+
+pub waits_by : (n : Option Node) (x : Option Task) (o : Option ℕ) → option_map node_of n ≡ option_map (told o) x → is_state_waiting (option_map (λ m. m.state) n) ≡ is_waiting x
+waits_by None None o e = refl
+waits_by None (Some x) o e = absurd cc
+waits_by (Some m) None o e = absurd cc
+waits_by (Some m) (Some x) o e = by_state m.state ∙ (ap (λ y. seen_waits y.state) (same_Some (node_of m) (told o x) e) ∙ by_status x.status o)
+
+-- WHAT IS MARKED
+pub marked_by : (v : Value) (l : Ledger) (t : ℕ) (o : Option Marks) → MarkedBy v l t o → is_some (heap_of l t).marked ≡ is_some o
+marked_by v l t None M = ap is_some M
+marked_by v l t (Some m) M = ap is_some M.0.count
+
+-- the causes in their order
+waiting_is : (a s k : Bool) (rest : Option Refused) → k ≡ (a && not s) → refused_unless a NotWaiting (refused_if s Swept rest) ≡ or_else (refused_unless a NotWaiting (refused_unless k Swept None)) rest
+waiting_is false s k rest e = refl
+waiting_is true true false rest e = refl
+waiting_is true true true rest e = absurd cc
+waiting_is true false false rest e = absurd cc
+waiting_is true false true rest e = refl
+
+marking_is : (a s k b c : Bool) (rest : Option Refused) → k ≡ (a && not s) → (k ≡ true → b ≡ c)
+    → refused_unless a NotWaiting (refused_if s Swept (refused_unless b NotMarking rest)) ≡ or_else (or_else (refused_unless a NotWaiting (refused_unless k Swept None)) (refused_unless c NotMarking None)) rest
+marking_is false s k b c rest e f = refl
+marking_is true true false b c rest e f = refl
+marking_is true true true b c rest e f = absurd cc
+marking_is true false false b c rest e f = absurd cc
+marking_is true false true b c rest e f = by b c (f refl)
+  where
+    by : (b c : Bool) → b ≡ c → refused_unless b NotMarking rest ≡ or_else (refused_unless c NotMarking None) rest
+    by true true q = refl
+    by true false q = absurd cc
+    by false true q = absurd cc
+    by false false q = refl
+
+begins_is : (a s k b c : Bool) (rest : Option Refused) → k ≡ (a && not s) → (k ≡ true → b ≡ c)
+    → refused_unless a NotWaiting (refused_if s Swept (refused_if b Marking rest)) ≡ or_else (refused_unless a NotWaiting (refused_unless k Swept None)) (refused_if c Marking rest)
+begins_is false s k b c rest e f = refl
+begins_is true true false b c rest e f = refl
+begins_is true true true b c rest e f = absurd cc
+begins_is true false false b c rest e f = absurd cc
+begins_is true false true b c rest e f = ap (λ z. refused_if z Marking rest) (f refl)
+
+pub marks_refuse : MarksRefuse
+marks_refuse w k t I on =
+    let l : Ledger = accounts w in
+    let S : StandsFor (value_of w) (totals_of w) l = stands_now w I on in
+    let waits : is_state_waiting (option_map (λ m. m.state) (slice_get w.tree t)) ≡ is_waiting (slice_get l.machine.tasks t) = waits_by (slice_get w.tree t) (slice_get l.machine.tasks t) (heap_of l t).worker (S.totals.node t) in
+    let keeps : (noted_in (slice_get w.sets t)).keeps ≡ (is_waiting (slice_get l.machine.tasks t) && not (heap_of l t).swept) = S.keeps t in
+    let marked : (noted_in (slice_get w.sets t)).keeps ≡ true → is_some (heap_of l t).marked ≡ is_some (marks_at w.marks t) = λ e. marked_by (value_of w) l t (marks_at w.marks t) (S.marks t e) in
+    record {
+      mark = begins_is (is_waiting (slice_get l.machine.tasks t)) (heap_of l t).swept (noted_in (slice_get w.sets t)).keeps (is_some (heap_of l t).marked) (is_some (marks_at w.marks t))
+          (refused_unless (nat_le w.settings.inner (words_in l.machine (heap_of l t))) (NotDue (words_in l.machine (heap_of l t))) None) keeps marked
+          ∙ ap (λ b. or_else (refused_unless b NotWaiting (refused_unless (noted_in (slice_get w.sets t)).keeps Swept None)) (refused_if (is_some (marks_at w.marks t)) Marking (
+          refused_unless (nat_le w.settings.inner (words_in l.machine (heap_of l t))) (NotDue (words_in l.machine (heap_of l t))) None))) (sym waits);
+      more = λ n.
+          marking_is (is_waiting (slice_get l.machine.tasks t)) (heap_of l t).swept (noted_in (slice_get w.sets t)).keeps (is_some (heap_of l t).marked) (is_some (marks_at w.marks t)) (refused_if (left_in (heap_of l t) == 0) Marked None) keeps marked
+          ∙ ap (λ b. or_else (or_else (refused_unless b NotWaiting (refused_unless (noted_in (slice_get w.sets t)).keeps Swept None)) (refused_unless (is_some (marks_at w.marks t)) NotMarking None)) (refused_if (left_in (heap_of l t) == 0) Marked None)) (sym waits);
+      sweep = λ given.
+          marking_is (is_waiting (slice_get l.machine.tasks t)) (heap_of l t).swept (noted_in (slice_get w.sets t)).keeps (is_some (heap_of l t).marked) (is_some (marks_at w.marks t))
+          (refused_unless (left_in (heap_of l t) == 0) (Left (marked_in (heap_of l t))) (counted given (sweep_number l.machine (heap_of l t)) None)) keeps marked
+          ∙ ap (λ b. or_else (or_else (refused_unless b NotWaiting (refused_unless (noted_in (slice_get w.sets t)).keeps Swept None)) (refused_unless (is_some (marks_at w.marks t)) NotMarking None)) (
+          refused_unless (left_in (heap_of l t) == 0) (Left (marked_in (heap_of l t))) (counted given (sweep_number l.machine (heap_of l t)) None))) (sym waits);
+    }

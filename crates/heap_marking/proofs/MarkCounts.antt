@@ -1,0 +1,92 @@
+-- How many objects a marking marks, as its account counts them.
+use Rattle.std.proofs.Common.{◌≡◌, ℕ, zero, suc, ◌+◌, ◌-◌, ◌<◌, ◌≤◌, arith, min, Option, Some, None, List, [], ◌∷◌, length, slice_get, take, inl, inr, refl, ap, sym, subst, ◌∙◌}
+use Rattle.std.specs.Prelude.{unwrap_or}
+use Rattle.std.proofs.Math.Nat.{min-eq_left, min-eq_right}
+use Rattle.std.proofs.lemmas.Bool.{cases_lt}
+use Rattle.listed.proofs.Members.{contains_from_in, in_from_contains}
+use Rattle.object_layout.specs.declared.word.Addr.{Addr}
+use Rattle.object_layout.proofs.Distinct.{distinct_take}
+use Rattle.object_layout.specs.Graph.{IsHeld, Leads}
+use Rattle.hh_model.specs.declared.data.Name.{Name}
+use Rattle.run_ledger.specs.declared.data.Heap.{Heap}
+use Rattle.run_ledger.specs.declared.data.Ledger.{Ledger}
+use Rattle.run_ledger.specs.Heaps.{heap_of, held_in, left_in, marked_in, or_fresh, with_heap}
+use Rattle.run_ledger.proofs.History.{snapshots_are_held}
+use Rattle.inner_mark_gc.specs.Marks.{Marks, marked_of}
+use Rattle.inner_mark_gc.specs.Snapshot.{IsInSnapshot, Starts}
+use Rattle.inner_mark_gc.proofs.Marked.{in_take}
+use Rattle.walks.proofs.Reached.{reached_within}
+use Rattle.ledger_steps.specs.Accounts.{Rests}
+use Rattle.ledger_steps.proofs.Ahead.{heap_then, with_at}
+use Rattle.core_relation.specs.Value.{In, Seen, Value, objects}
+use Rattle.core_relation.specs.Marking.{GoesOn, MarkedBy}
+use Rattle.core_relation.specs.Since.{kept}
+use Rattle.core_relation.specs.Whole.{StandsFor}
+use Rattle.core_relation.proofs.MarksAll.{all_marked, few_marked}
+use Rattle.heap_marking.specs.Marking.{MarksCount}
+use Rattle.shared_value.specs.World.{accounts, totals_of, value_of}
+use Rattle.heap_marking.proofs.MarkBegun as begun
+use Rattle.heap_marking.proofs.MarkFurther.{is_since}
+use Rattle.shared_value.proofs.Now.{stands_now}
+
+take_long : (n : ℕ) (xs : List Addr) → n ≤ length xs → length (take n xs) ≡ n
+take_long zero xs le = refl
+take_long (suc n) [] le = absurd (omega (arith, le))
+take_long (suc n) (x ∷ xs) le = ap suc (take_long n xs (omega (arith, le)))
+
+-- what is marked is of the snapshot
+marked_each : (v : Value) (t : ℕ) (names : List Name) (m : Marks) → GoesOn v t names m → (a : Addr) → In (marked_of m) a → (q : Seen) × In (objects v t) q × (q.at ≡ a) × In names q.name
+marked_each v t names m G a i =
+    let reached = G.marks.each a (contains_from_in m.found a (in_take m.marked m.found a i)) in
+    let held : IsHeld G.fork.heap a = reached_within (Starts G.fork (kept v t)) (Leads G.fork.heap) (IsHeld G.fork.heap) (λ x s. s.0) (λ b x h d. d.1) a reached in
+    let o = G.were a held in
+    (o.0, o.1, o.2, (G.snapshot o.0 o.1).0 (subst (IsInSnapshot G.fork (kept v t)) (sym o.2) reached))
+
+counted_by : (k n a s b : ℕ) → b ≡ a + k → k ≤ n → b ≤ s → (k < n → s ≤ b) → k ≡ min n (s - a)
+counted_by k n a s b sum most few all = elim (cases_lt k n) [
+  | inl lt ↦
+      let le : s ≤ b = all lt in
+      let is : s - a ≡ k = omega (arith, sum, few, le) in
+      let few_left : s - a ≤ n = omega (arith, is, lt) in
+      sym (min-eq_right {n = s - a} {m = n} few_left ∙ is)
+  | inr le ↦
+      let is : k ≡ n = omega (arith, le, most) in
+      let more_left : n ≤ s - a = omega (arith, sum, few, is) in
+      is ∙ sym (min-eq_left {n = n} {m = s - a} more_left)
+]
+
+pub marks_count : MarksCount
+marks_count w k t r m m' n c I on there wait keeps at G' sum most last =
+    let l : Ledger = accounts w in
+    let v : Value = value_of w in
+    let S : StandsFor v (totals_of w) l = stands_now w I on in
+    let rests : Rests l t = begun.rests w I on t r there wait keeps in
+    let M : MarkedBy v l t (Some m) = subst (MarkedBy v l t) at (S.marks t keeps) in
+    let G : GoesOn v t (heap_of l t).snapshot m = M.1 in
+    let F = snapshots_are_held w.program w.settings w.journal.items t I.legal wait in
+    let each = marked_each v t (heap_of l t).snapshot m' G' in
+    let long : length (marked_of m) ≡ m.marked = take_long m.marked m.found G.marked in
+    let long' : length (marked_of m') ≡ m'.marked = take_long m'.marked m'.found G'.marked in
+    let few : length (marked_of m') ≤ length (heap_of l t).snapshot = few_marked v l t (marked_of m') S.homes rests each (distinct_take m'.marked m'.found G'.once) in
+    let all : c < n → length (heap_of l t).snapshot ≤ length (marked_of m') = λ lt.
+    all_marked v l t (marked_of m') S.homes rests each F.once (λ x i. in_from_contains (held_in (heap_of l t)) x (F.held x (contains_from_in (heap_of l t).snapshot x i)))
+    (λ q i j. in_from_contains (marked_of m') q.at (last lt G.fork (is_since w I on t r there wait keeps m G) G.marks q.at ((G.snapshot q i).1 j))) in
+    let marked : marked_in (heap_of l t) ≡ length (marked_of m) = ap (λ (o : Option ℕ). unwrap_or o 0) M.0.count in
+    let so : c ≡ min n (length (heap_of l t).snapshot - m.marked) = counted_by c n m.marked (length (heap_of l t).snapshot) m'.marked sum most (omega (arith, few, long')) (λ lt. let le = all lt in omega (arith, le, long')) in
+    let is : c ≡ min n (left_in (heap_of l t)) = so ∙ ap (λ x. min n (length (heap_of l t).snapshot - x)) (sym long ∙ sym marked) in
+    let f : Heap → Heap = λ h. record h { marked = Some (marked_in h + min n (left_in h)) } in
+    let then_ : (heap_of (with_heap l t f) t).marked ≡ Some (marked_in (heap_of l t) + min n (left_in (heap_of l t))) = then_is l t f (length (marked_of m)) M.0.count in
+    (is, then_ ∙ ap Some (let e : marked_in (heap_of l t) + min n (left_in (heap_of l t)) ≡ length (marked_of m') = sum_is (marked_in (heap_of l t)) (min n (left_in (heap_of l t))) c m.marked m'.marked (length (marked_of m')) (marked ∙ long) is sum long' in e))
+  where
+    sum_is : (a b c d e g : ℕ) → a ≡ d → c ≡ b → e ≡ d + c → g ≡ e → a + b ≡ g
+    sum_is a b c d e g p q r s = omega (arith, p, q, r, s)
+
+    then_is : (l : Ledger) (t : ℕ) (f : Heap → Heap) (x : ℕ) → (heap_of l t).marked ≡ Some x → (heap_of (with_heap l t f) t).marked ≡ (f (heap_of l t)).marked
+    then_is l t f x some = by (slice_get l.heaps t) refl
+      where
+        none_some : {A : Type 0} → ◌≡◌ {A = Option ℕ} None (Some x) → A
+        none_some q = absurd cc
+
+        by : (o : Option Heap) → slice_get l.heaps t ≡ o → (heap_of (with_heap l t f) t).marked ≡ (f (heap_of l t)).marked
+        by None e = none_some (sym (ap (λ o. (or_fresh o).marked) e) ∙ some)
+        by (Some h) e = ap (λ o. (or_fresh o).marked) (with_at l t f ∙ ap (heap_then f) e) ∙ sym (ap (λ o. (f (or_fresh o)).marked) e)

@@ -1,0 +1,220 @@
+-- Entries that mark a heap: why they are refused, and what they leave.
+use Rattle.std.proofs.Common.{◌≡◌, ◌==◌, ◌↔◌, ℕ, zero, suc, ◌+◌, ◌-◌, ◌^◌, ◌<◌, ◌≤◌, arith, All, Bool, true, false, min, Option, Some, None, List, [], ◌∷◌, length, is_none, is_some, slice_get, slice_set, take, inl, inr, refl, ap, sym, ◌∙◌, le-leb}
+use Rattle.std.specs.Prelude.{slice_index_or}
+use Rattle.std.proofs.lemmas.Bool.{cases_lt}
+use Rattle.std.proofs.lemmas.Option.{get_or_from_slice_get}
+use Rattle.listed.proofs.Members.{got_other, got_same, got_within}
+use Rattle.object_layout.specs.declared.word.Addr.{Addr}
+use Rattle.object_layout.specs.Chunks.{held_words}
+use Rattle.object_layout.specs.Graph.{IsHeld}
+use Rattle.run_trace.specs.declared.entry.Kind.TheVariants.{Mark, More}
+use Rattle.run_trace.specs.Entry.{Event}
+use Rattle.run_trace.specs.Settings.{Limits}
+use Rattle.hh_model.specs.declared.data.Task.{Task}
+use Rattle.run_ledger.specs.declared.data.Heap.{Heap as Account}
+use Rattle.run_ledger.specs.declared.data.Ledger.{Ledger}
+use Rattle.run_ledger.specs.declared.data.Refused.{Refused}
+use Rattle.run_ledger.specs.declared.data.Refused.TheVariants.{Marked, Marking, NotDue}
+use Rattle.run_ledger.specs.Entries.{after, kind_refusal, refused_if, refused_unless}
+use Rattle.run_ledger.specs.Heaps.{heap_of, left_in, or_fresh, with_heap, words_in}
+use Rattle.run_ledger.specs.Sound.{SoundLedger}
+use Rattle.run_ledger.proofs.Journals.{entry_tells, legal_sound}
+use Rattle.alloc_path.specs.Heap.{counted}
+use Rattle.inner_mark_gc.specs.Marks.{IsAllMarked, IsMarking, IsOf, Marks, marked_of}
+use Rattle.inner_mark_gc.specs.Snapshot.{Fork, IsSince}
+use Rattle.remembered_set.specs.Moved.{AreFields}
+use Rattle.write_barrier.specs.declared.sets.SetOf.{SetOf}
+use Rattle.ledger_steps.proofs.Ahead.{heap_then, with_at}
+use Rattle.ledger_steps.proofs.Split.{legal_idle}
+use Rattle.core_relation.specs.Marking.{GoesOn}
+use Rattle.core_relation.specs.Since.{kept}
+use Rattle.core_relation.proofs.Past.{waiting_stops}
+use Rattle.shared_value.specs.declared.rest.Rest.{Rest}
+use Rattle.shared_value.specs.Causes.{first_cause, or_else}
+use Rattle.shared_value.specs.Entered.{refused}
+use Rattle.shared_value.specs.Fits.{AllFit}
+use Rattle.heap_marking.specs.MarkCauses.{marking_cause, waiting_cause, words_cause}
+use Rattle.heap_marking.specs.Marking.{marked_more}
+use Rattle.shared_value.specs.RestingHeaps.{refs_in}
+use Rattle.shared_value.specs.Roots.{heaps_of, sources_of}
+use Rattle.heap_marking.specs.Starts.{starts_of}
+use Rattle.shared_value.specs.World.{World, accounts, flat, home_in, marks_at, noted_in, rest_at, value_of}
+use Rattle.shared_value.specs.Stands.{IsWorld}
+use Rattle.shared_value.proofs.AllWords.{words_are}
+use Rattle.shared_value.proofs.Entering.{entry_on}
+use Rattle.shared_value.proofs.FirstCauses.{found_first, nothing_first}
+use Rattle.heap_marking.proofs.MarkBegun.{marks_begin}
+use Rattle.heap_marking.proofs.MarkCauses.{marks_refuse}
+use Rattle.heap_marking.proofs.MarkCounts.{marks_count}
+use Rattle.heap_marking.proofs.MarkReady.{further, keeps, wait}
+use Rattle.heap_marking.proofs.MarkWorld.{marks_enter}
+use Rattle.shared_value.proofs.Now.{stands_now}
+use Rattle.shared_value.proofs.Refusals.{nothing, on_is, refused_is}
+use Rattle.heap_marking.proofs.StartsAre.{fields_there, starts_are, starts_held}
+use Rattle.shared_value.proofs.Taking.{put_there}
+use Rattle.shared_value.proofs.Targets.{home_chunks}
+use Rattle.heap_marking.proofs.WaitingHomes as homes
+
+-- WHY THEY ARE REFUSED
+
+or_none : (a b : Option Refused) → or_else a b ≡ None → (a ≡ None) × (b ≡ None)
+or_none None b e = (refl, e)
+or_none (Some c) b e = absurd cc
+
+if_none : (b : Bool) (c : Refused) (rest : Option Refused) → refused_if b c rest ≡ None → b ≡ false
+if_none true c rest e = absurd cc
+if_none false c rest e = refl
+
+kind_free : (w : World) (e : Event) → refused w e ≡ None → kind_refusal w.program w.settings (accounts w) e.worker e.kind ≡ None
+kind_free w e free = is_none_of (kind_refusal w.program w.settings (accounts w) e.worker e.kind) (entry_tells w.program w.settings (accounts w) e (ap is_none free)).2
+  where
+    is_none_of : (o : Option Refused) → is_none o ≡ true → o ≡ None
+    is_none_of None h = refl
+    is_none_of (Some c) h = absurd cc
+
+-- a heap's words, as far as 64 bits count them, tell as much of whether its marking is due
+due_by : (s : Limits) (n : ℕ) → s.inner < 2 ^ 32 → words_cause s (counted n) ≡ words_cause s n
+due_by s n few = elim (cases_lt n (2 ^ 64 - 1)) [
+  | inl lt ↦ ap (words_cause s) (let q : counted n ≡ n = omega (arith, lt) in q)
+  | inr le ↦ due (counted n) (omega (arith, le, few)) ∙ sym (due n (omega (arith, le, few)))
+]
+  where
+    due : (z : ℕ) → s.inner ≤ z → words_cause s z ≡ None
+    due z big = ap (λ b. refused_unless b (NotDue z) None) (le-leb s.inner z big)
+
+module _ (w : World) (I : IsWorld w) (k t : ℕ) where
+  abbrev l : Ledger
+  l = accounts w
+
+  mark_answer : is_some (first_cause w.end w.steps w.settings k false) ≡ false → refused w (record { worker = k; kind = Mark t }) ≡ or_else (waiting_cause w t) (refused_if (is_some (marks_at w.marks t)) Marking (words_cause w.settings (counted (words_in l.machine (heap_of l t)))))
+  mark_answer h =
+      refused_is w I (record { worker = k; kind = Mark t })
+      ∙ (ap (λ o. or_else o (kind_refusal w.program w.settings l k (Mark t))) (nothing (first_cause w.end w.steps w.settings k false) h)
+      ∙ ((marks_refuse w k t I (on_is w I k false h)).mark
+      ∙ ap (λ o. or_else (waiting_cause w t) (refused_if (is_some (marks_at w.marks t)) Marking o)) (sym (due_by w.settings (words_in l.machine (heap_of l t)) few))))
+    where
+      few : w.settings.inner < 2 ^ 32
+      few = let h = I.limits.inner.1 in omega (arith, h)
+
+  -- in their order
+  pub mark_as_waiting : (o : Option Refused) → is_some (first_cause w.end w.steps w.settings k false) ≡ false → o ≡ waiting_cause w t → is_some o ≡ true → o ≡ refused w (record { worker = k; kind = Mark t })
+  mark_as_waiting o h is some = is ∙ (found_first (waiting_cause w t) _ (ap is_some (sym is) ∙ some) ∙ sym (mark_answer h))
+
+  pub mark_as_marking : (o : Option Refused) → is_some (first_cause w.end w.steps w.settings k false) ≡ false → o ≡ waiting_cause w t → is_some o ≡ false → is_some (marks_at w.marks t) ≡ true → Some Marking ≡ refused w (record { worker = k; kind = Mark t })
+  mark_as_marking o h is none marked =
+      ap (λ b. refused_if b Marking (words_cause w.settings (counted (words_in l.machine (heap_of l t))))) (sym marked)
+      ∙ (nothing_first (waiting_cause w t) _ (ap is_some (sym is) ∙ none) ∙ sym (mark_answer h))
+
+  pub mark_as_words : (o : Option Refused) → is_some (first_cause w.end w.steps w.settings k false) ≡ false → o ≡ waiting_cause w t → is_some o ≡ false → is_some (marks_at w.marks t) ≡ false
+      → words_cause w.settings (counted (words_in l.machine (heap_of l t))) ≡ refused w (record { worker = k; kind = Mark t })
+  mark_as_words o h is none unmarked =
+      ap (λ b. refused_if b Marking (words_cause w.settings (counted (words_in l.machine (heap_of l t))))) (sym unmarked)
+      ∙ (nothing_first (waiting_cause w t) _ (ap is_some (sym is) ∙ none) ∙ sym (mark_answer h))
+
+  some_answer : (n : ℕ) → is_some (first_cause w.end w.steps w.settings k false) ≡ false → refused w (record { worker = k; kind = More t n }) ≡ or_else (marking_cause w t) (refused_if (left_in (heap_of l t) == 0) Marked None)
+  some_answer n h =
+      refused_is w I (record { worker = k; kind = More t n })
+      ∙ (ap (λ o. or_else o (kind_refusal w.program w.settings l k (More t n))) (nothing (first_cause w.end w.steps w.settings k false) h) ∙ (marks_refuse w k t I (on_is w I k false h)).more n)
+
+  pub some_as_marking : (n : ℕ) (o : Option Refused) → is_some (first_cause w.end w.steps w.settings k false) ≡ false → o ≡ marking_cause w t → is_some o ≡ true → o ≡ refused w (record { worker = k; kind = More t n })
+  some_as_marking n o h is some = is ∙ (found_first (marking_cause w t) _ (ap is_some (sym is) ∙ some) ∙ sym (some_answer n h))
+
+  pub some_as_left : (n : ℕ) (o : Option Refused) → is_some (first_cause w.end w.steps w.settings k false) ≡ false → o ≡ marking_cause w t → is_some o ≡ false → (b : Bool) → b ≡ (left_in (heap_of l t) == 0)
+      → refused_if b Marked None ≡ refused w (record { worker = k; kind = More t n })
+  some_as_left n o h is none b left = ap (λ z. refused_if z Marked None) left ∙ (nothing_first (marking_cause w t) _ (ap is_some (sym is) ∙ none) ∙ sym (some_answer n h))
+
+  -- what an entry tells that isn't refused
+  pub mark_waits : refused w (record { worker = k; kind = Mark t }) ≡ None → waiting_cause w t ≡ None
+  mark_waits free =
+      let on = entry_on w (record { worker = k; kind = Mark t }) free in
+      (or_none (waiting_cause w t) _ (sym (marks_refuse w k t I on).mark ∙ kind_free w (record { worker = k; kind = Mark t }) free)).0
+
+  pub some_marks : (n : ℕ) → refused w (record { worker = k; kind = More t n }) ≡ None → marking_cause w t ≡ None
+  some_marks n free =
+      let on = entry_on w (record { worker = k; kind = More t n }) free in
+      (or_none (marking_cause w t) _ (sym ((marks_refuse w k t I on).more n) ∙ kind_free w (record { worker = k; kind = More t n }) free)).0
+
+-- ITS WORDS, of a heap whose task waits
+pub words_now : (w : World) (I : IsWorld w) (t : ℕ) (on : (accounts w).end ≡ None) → waiting_cause w t ≡ None → (r : Rest) → rest_at w.homes t ≡ Some r → words_in (accounts w).machine (heap_of (accounts w) t) ≡ held_words r.heap.chunks
+words_now w I t on free r there =
+    let l : Ledger = accounts w in
+    let wait = homes.wait w I on t free in
+    words_are (value_of w) l t r.heap.chunks (stands_now w I on).homes (legal_idle w.program w.settings w.journal.items I.legal on t (waiting_stops (slice_get l.machine.tasks t) wait))
+    (ap (λ o. (home_in o).chunks) there ∙ home_chunks r) (I.heaps t r there).tidy
+
+-- what it keeps
+pub kept_is : (sets : List SetOf) (t : ℕ) (s : SetOf) → (noted_in (slice_get sets t)).keeps ≡ true → s ≡ slice_index_or sets t s → s.kept.items ≡ (noted_in (slice_get sets t)).kept
+kept_is sets t s keeps is = by (slice_get sets t) refl keeps
+  where
+    by : (o : Option SetOf) → slice_get sets t ≡ o → (noted_in o).keeps ≡ true → s.kept.items ≡ (noted_in o).kept
+    by None e h = absurd cc
+    by (Some x) e h = ap (λ (z : SetOf). z.kept.items) (is ∙ get_or_from_slice_get sets t x s e)
+
+-- THE MARKING that begins
+pub mark_goes : (w : World) (I : IsWorld w) (t : ℕ) (on : (accounts w).end ≡ None) → waiting_cause w t ≡ None → (r : Rest) → rest_at w.homes t ≡ Some r → (m : Marks) → ((kept : List Addr) → IsOf r.heap.chunks kept m)
+    → ((f : Fork) (kept : List Addr) → f.roots ≡ starts_of w t → ((a : Addr) → IsHeld f.heap a ↔ IsHeld r.heap.chunks a) → IsMarking f kept m) → GoesOn (value_of w) t (heap_of (accounts w) t).snapshot m
+mark_goes w I t on free r there m own marking =
+    let wait = homes.wait w I on t free in
+    marks_begin w t r (starts_of w t) m I on there wait (homes.keeps w I on t free) (starts_are w I on t r there wait) (own (kept (value_of w) t))
+    (marking (record { heap = r.heap.chunks; roots = starts_of w t }) (kept (value_of w) t) refl (λ a. ((λ h. h), (λ h. h))))
+
+pub mark_holds : (w : World) (I : IsWorld w) (t : ℕ) (on : (accounts w).end ≡ None) → waiting_cause w t ≡ None → (r : Rest) → rest_at w.homes t ≡ Some r → All (IsHeld r.heap.chunks) (starts_of w t)
+mark_holds w I t on free r there = starts_held w I on t r there (homes.wait w I on t free) (homes.keeps w I on t free)
+
+pub mark_fields : (w : World) (I : IsWorld w) (t : ℕ) (on : (accounts w).end ≡ None) → waiting_cause w t ≡ None → AreFields refs_in (heaps_of w) (sources_of (slice_get w.sets t))
+mark_fields w I t on free = let r = homes.rest w I on t free in fields_there w I on t r.0 r.1 (homes.wait w I on t free)
+
+-- WHAT THEY LEAVE
+
+account_there : (ts : List Task) (hs : List Account) (k : ℕ) → length hs ≡ length ts → k < length ts → (h : Account) × (slice_get hs k ≡ Some h)
+account_there ts hs k same lt = by hs k (omega (arith, same, lt))
+  where
+    by : (hs : List Account) (k : ℕ) → k < length hs → (h : Account) × (slice_get hs k ≡ Some h)
+    by [] k lt = absurd (omega (arith, lt))
+    by (h ∷ hs) zero lt = (h, refl)
+    by (h ∷ hs) (suc k) lt = by hs k (omega (arith, lt))
+
+module _ (w : World) (I : IsWorld w) (k t : ℕ) (m : Marks) (marks : List (Option Marks)) (room : ℕ) (at : marks_at marks t ≡ Some m) (others : (u : ℕ) → (u ≡ t → ⊥) → marks_at marks u ≡ marks_at w.marks u) where
+  -- a marking that has marked nothing yet
+  pub mark_enters : refused w (record { worker = k; kind = Mark t }) ≡ None → m.marked ≡ 0 → GoesOn (value_of w) t (heap_of (accounts w) t).snapshot m
+      → IsWorld (marked_more w (record { worker = k; kind = Mark t }) marks room) × AllFit w (marked_more w (record { worker = k; kind = Mark t }) marks room)
+  mark_enters free none G =
+      let l : Ledger = accounts w in
+      let on = entry_on w (record { worker = k; kind = Mark t }) free in
+      let waits = mark_waits w I k t free in
+      let S : SoundLedger l = legal_sound w.program w.settings w.journal.items I.legal in
+      let x = homes.task w I on t waits in
+      let h = account_there l.machine.tasks l.heaps t S.lengths (got_within l.machine.tasks t x.0 x.1) in
+      let f : Account → Account = λ h. record h { marked = Some 0 } in
+      let then_ : (heap_of (with_heap l t f) t).marked ≡ Some 0 = ap (λ o. (or_fresh o).marked) (with_at l t f ∙ ap (heap_then f) h.1) in
+      marks_enter w k (Mark t) t m marks room I free refl at others (then_ ∙ ap Some (ap (λ n. length (take n m.found)) (sym none))) G
+
+-- objects more are marked
+module _ (w : World) (I : IsWorld w) (k t n : ℕ) (free : refused w (record { worker = k; kind = More t n }) ≡ None) (r : Rest) (m m' : Marks) (count : ℕ) (there : rest_at w.homes t ≡ Some r) (at : marks_at w.marks t ≡ Some m)
+    (own : IsOf r.heap.chunks (kept (value_of w) t) m') (sum : m'.marked ≡ m.marked + count) (most : count ≤ n) (marking : (f : Fork) → IsSince f (kept (value_of w) t) r.heap.chunks → IsMarking f (kept (value_of w) t) m → IsMarking f (kept (value_of w) t) m')
+    (left : (f : Fork) → IsSince f (kept (value_of w) t) r.heap.chunks → IsMarking f (kept (value_of w) t) m → count < n → IsAllMarked f (kept (value_of w) t) m') where
+  on : (accounts w).end ≡ None
+  on = entry_on w (record { worker = k; kind = More t n }) free
+
+  marks_now : marking_cause w t ≡ None
+  marks_now = some_marks w I k t n free
+
+  goes : GoesOn (value_of w) t (heap_of (accounts w) t).snapshot m'
+  goes = (further w I on t marks_now r m there at).further m' own marking
+
+  counts : (count ≡ min n (left_in (heap_of (accounts w) t))) × ((heap_of (after w.program w.settings (accounts w) (record { worker = k; kind = More t n })) t).marked ≡ Some (length (marked_of m')))
+  counts = marks_count w k t r m m' n count I on there (wait w I on t marks_now) (keeps w I on t marks_now) at goes sum most (λ lt f since is. left f since is lt)
+
+  pub some_count : count ≡ min n (left_in (heap_of (accounts w) t))
+  some_count = counts.0
+
+  pub some_enters : (marks : List (Option Marks)) (room : ℕ) → marks_at marks t ≡ Some m' → ((u : ℕ) → (u ≡ t → ⊥) → marks_at marks u ≡ marks_at w.marks u)
+      → IsWorld (marked_more w (record { worker = k; kind = More t n }) marks room) × AllFit w (marked_more w (record { worker = k; kind = More t n }) marks room)
+  some_enters marks room here others = marks_enter w k (More t n) t m' marks room I free refl here others counts.1 goes
+
+-- a marking that was taken out and put back
+pub put_back : (ms : List (Option Marks)) (t : ℕ) (o : Option Marks) (m : Marks) → t < length ms → (marks_at (slice_set (slice_set ms t o) t (Some m)) t ≡ Some m) × ((u : ℕ) → (u ≡ t → ⊥) → marks_at (slice_set (slice_set ms t o) t (Some m)) u ≡ marks_at ms u)
+put_back ms t o m lt = (
+  ap flat (got_same (slice_set ms t o) t o (Some m) (put_there ms t o lt)),
+  λ u ne. ap flat (got_other (slice_set ms t o) t u (Some m) ne ∙ got_other ms t u o ne),
+)

@@ -1,0 +1,283 @@
+-- What a sweep leaves of chunks, none of which is reserved: their objects, the names of these, and the units that go.
+use Rattle.std.proofs.Common.{◌≡◌, ℕ, suc, ◌+◌, ◌*◌, ◌/◌, ◌==◌, ◌++◌, arith, Bool, true, false, cond, not, None, List, [], ◌∷◌, All, filter, length, map, inl, inr, refl, ap, ap₂, sym, subst, ◌∙◌}
+use Rattle.std.proofs.lemmas.Bool.{eqb-true, false≢true}
+use Rattle.std.proofs.lemmas.List.Sums.{sum_by-append, sum_by-cons}
+use Rattle.listed.proofs.Members.{in_append_left, in_append_right}
+use Rattle.object_layout.specs.declared.word.Addr.{Addr}
+use Rattle.object_layout.specs.Cell.{moved_to}
+use Rattle.object_layout.specs.Content.{Content}
+use Rattle.alloc_path.specs.Heap.{units}
+use Rattle.alloc_path.specs.Units.{unit_count}
+use Rattle.hh_model.specs.declared.data.Name.{Name}
+use Rattle.hh_model.specs.declared.data.State.{State}
+use Rattle.run_ledger.specs.Heaps.{is_empty, units_sum, without_empty, words_at}
+use Rattle.inner_mark_gc.specs.Marks.{has_address}
+use Rattle.inner_mark_gc.specs.Swept.{goes, has_object, stays, swept_chunk}
+use Rattle.core_relation.specs.Layout.{HoldsLarge, has_none, words}
+use Rattle.core_relation.specs.Stands.{large_chunks, names_of, small_chunks}
+use Rattle.core_relation.specs.Value.{In, Seen, objects_in}
+use Rattle.core_relation.proofs.Merged.{filter_append, map_append}
+use Rattle.shared_value.specs.Objects.{chunk_of, chunks_of}
+use Rattle.shared_value.proofs.SmallWords.{SameWords}
+use Rattle.heap_marking.proofs.SweptCells.{is_there, object_left, objects_kept}
+use Rattle.shared_value.proofs.ObjectCounts.{name_in}
+
+-- a chunk of a heap without a reserved one
+pub record IsFilled (k : Content) : Type 0 where
+  pub unmoved : All (λ c. moved_to c.mark ≡ None) k.cells
+  pub whole : k.size ≡ 1024 * (k.size / 1024)
+  pub large : (k.size == 1024) ≡ false → HoldsLarge (chunk_of k)
+  pub some : (k.size == 1024) ≡ false → (chunk_of k).objects ≡ [] → ⊥
+
+abbrev pub AreFilled : List Content → Type 0
+AreFilled ks = (k : Content) → In ks k → IsFilled k
+
+none_is : (os : List Seen) → false ≡ not (has_none os) → os ≡ []
+none_is [] e = refl
+none_is (o ∷ os) e = absurd (false≢true e)
+
+module _ (kept : List Addr) where
+  -- the chunks that are left, and those that go
+  abbrev pub left : List Content → List Content
+  left ks = map (swept_chunk kept) (filter (stays kept None) ks)
+
+  abbrev pub gone : List Content → List Content
+  gone ks = filter (goes kept None) ks
+
+  abbrev pub kept_in : Content → List Seen
+  kept_in k = filter (is_there kept) (chunk_of k).objects
+
+  -- whether the chunk stays
+  abbrev pub has : Content → Bool
+  has k = has_object (swept_chunk kept k).cells
+
+  pub has_is : (k : Content) → IsFilled k → has k ≡ not (has_none (kept_in k))
+  has_is k F = object_left kept k.number k.cells 0 F.unmoved
+
+  pub swept_is : (k : Content) → (chunk_of (swept_chunk kept k)).objects ≡ kept_in k
+  swept_is k = objects_kept kept k.number k.cells 0
+
+  -- OBJECTS
+  pub objects_left : (ks : List Content) → AreFilled ks → objects_in (chunks_of (left ks)) ≡ filter (is_there kept) (objects_in (chunks_of ks))
+  objects_left [] F = refl
+  objects_left (k ∷ ks) F = by (has k) refl (objects_left ks (λ j i. F j (inr i))) ∙ sym (filter_append (is_there kept) (chunk_of k).objects (objects_in (chunks_of ks)))
+    where
+      by : (b : Bool) → has k ≡ b → objects_in (chunks_of (left ks)) ≡ filter (is_there kept) (objects_in (chunks_of ks))
+          → objects_in (chunks_of (map (swept_chunk kept) (cond b (k ∷ filter (stays kept None) ks) (filter (stays kept None) ks)))) ≡ kept_in k ++ filter (is_there kept) (objects_in (chunks_of ks))
+      by true e go = ap₂ (λ a b. a ++ b) (swept_is k) go
+      by false e go = go ∙ ap (λ a. a ++ filter (is_there kept) (objects_in (chunks_of ks))) (sym (none_is (kept_in k) (sym e ∙ has_is k (F k (inl refl)))))
+
+  -- NAMES: where an address is kept just for its object's name
+  module _ (keep : Name → Bool) where
+    abbrev pub Agrees : List Seen → Type 0
+    Agrees os = (o : Seen) → In os o → has_address kept o.at ≡ keep o.name
+
+    names_kept : (os : List Seen) → Agrees os → map name_in (filter (is_there kept) os) ≡ filter keep (map name_in os)
+    names_kept [] A = refl
+    names_kept (o ∷ os) A = by (keep o.name) (A o (inl refl)) (names_kept os (λ q i. A q (inr i)))
+      where
+        by : (b : Bool) → has_address kept o.at ≡ b → map name_in (filter (is_there kept) os) ≡ filter keep (map name_in os) → map name_in (filter (is_there kept) (o ∷ os)) ≡ cond b (o.name ∷ filter keep (map name_in os)) (filter keep (map name_in os))
+        by true e go = ap (λ b. map name_in (cond b (o ∷ filter (is_there kept) os) (filter (is_there kept) os))) e ∙ ap (λ ns. o.name ∷ ns) go
+        by false e go = ap (λ b. map name_in (cond b (o ∷ filter (is_there kept) os) (filter (is_there kept) os))) e ∙ go
+
+    empty_is : (os : List Seen) → has_none os ≡ is_empty (map name_in os)
+    empty_is [] = refl
+    empty_is (o ∷ os) = refl
+
+    abbrev pub names : Content → List Name
+    names k = filter keep (names_of (chunk_of k))
+
+    names_are : (k : Content) → Agrees (chunk_of k).objects → names_of (chunk_of (swept_chunk kept k)) ≡ names k
+    names_are k A = ap (map name_in) (swept_is k) ∙ names_kept (chunk_of k).objects A
+
+    pub has_names : (k : Content) → IsFilled k → Agrees (chunk_of k).objects → has k ≡ not (is_empty (names k))
+    has_names k F A = has_is k F ∙ (ap not (empty_is (kept_in k)) ∙ ap (λ ns. not (is_empty ns)) (names_kept (chunk_of k).objects A))
+
+    no_names : (k : Content) → IsFilled k → Agrees (chunk_of k).objects → has k ≡ false → names k ≡ []
+    no_names k F A e = by (names k) (sym e ∙ has_names k F A)
+      where
+        by : (ns : List Name) → false ≡ not (is_empty ns) → ns ≡ []
+        by [] q = refl
+        by (n ∷ ns) q = absurd (false≢true q)
+
+    here : (k : Content) (ks : List Content) → Agrees (objects_in (chunks_of (k ∷ ks))) → Agrees (chunk_of k).objects
+    here k ks A o i = A o (in_append_left (chunk_of k).objects (objects_in (chunks_of ks)) o i)
+
+    behind : (k : Content) (ks : List Content) → Agrees (objects_in (chunks_of (k ∷ ks))) → Agrees (objects_in (chunks_of ks))
+    behind k ks A o i = A o (in_append_right (chunk_of k).objects (objects_in (chunks_of ks)) o i)
+
+    -- of small objects, chunk by chunk
+    abbrev lists : List Content → List (List Name)
+    lists ks = without_empty (map (filter keep) (map names_of (small_chunks (chunks_of ks))))
+
+    pub small_left : (ks : List Content) → AreFilled ks → Agrees (objects_in (chunks_of ks)) → map names_of (small_chunks (chunks_of (left ks))) ≡ without_empty (map (filter keep) (map names_of (small_chunks (chunks_of ks))))
+    small_left [] F A = refl
+    small_left (k ∷ ks) F A = by (has k) refl (k.size == 1024) refl (small_left ks (λ j i. F j (inr i)) (behind k ks A))
+      where
+        by : (b : Bool) → has k ≡ b → (s : Bool) → (k.size == 1024) ≡ s → map names_of (small_chunks (chunks_of (left ks))) ≡ lists ks
+            → map names_of (small_chunks (chunks_of (map (swept_chunk kept) (cond b (k ∷ filter (stays kept None) ks) (filter (stays kept None) ks)))))
+            ≡ without_empty (map (filter keep) (map names_of (cond (not (not s)) (chunk_of k ∷ small_chunks (chunks_of ks)) (small_chunks (chunks_of ks)))))
+        by true e true q go =
+            ap (λ z. map names_of (cond (not (not z)) (chunk_of (swept_chunk kept k) ∷ small_chunks (chunks_of (left ks))) (small_chunks (chunks_of (left ks))))) q
+            ∙ (ap₂ (λ n ns. n ∷ ns) (names_are k (here k ks A)) go
+            ∙ ap (λ z. cond z (names k ∷ lists ks) (lists ks)) (sym e ∙ has_names k (F k (inl refl)) (here k ks A)))
+        by true e false q go =
+            ap (λ z. map names_of (cond (not (not z)) (chunk_of (swept_chunk kept k) ∷ small_chunks (chunks_of (left ks))) (small_chunks (chunks_of (left ks))))) q ∙ go
+        by false e true q go = go ∙ ap (λ z. cond z (names k ∷ lists ks) (lists ks)) (sym e ∙ has_names k (F k (inl refl)) (here k ks A))
+        by false e false q go = go
+
+    -- and of large ones
+    abbrev large : List Content → List Name
+    large ks = map name_in (objects_in (large_chunks (chunks_of ks)))
+
+    pub large_left : (ks : List Content) → AreFilled ks → Agrees (objects_in (chunks_of ks)) → map name_in (objects_in (large_chunks (chunks_of (left ks)))) ≡ filter keep (map name_in (objects_in (large_chunks (chunks_of ks))))
+    large_left [] F A = refl
+    large_left (k ∷ ks) F A = by (has k) refl (k.size == 1024) refl (large_left ks (λ j i. F j (inr i)) (behind k ks A))
+      where
+        both : filter keep (map name_in ((chunk_of k).objects ++ objects_in (large_chunks (chunks_of ks)))) ≡ names k ++ filter keep (large ks)
+        both = ap (filter keep) (map_append name_in (chunk_of k).objects (objects_in (large_chunks (chunks_of ks)))) ∙ filter_append keep (names_of (chunk_of k)) (large ks)
+
+        by : (b : Bool) → has k ≡ b → (s : Bool) → (k.size == 1024) ≡ s → large (left ks) ≡ filter keep (large ks)
+            → map name_in (objects_in (large_chunks (chunks_of (map (swept_chunk kept) (cond b (k ∷ filter (stays kept None) ks) (filter (stays kept None) ks))))))
+            ≡ filter keep (map name_in (objects_in (cond (not s) (chunk_of k ∷ large_chunks (chunks_of ks)) (large_chunks (chunks_of ks)))))
+        by true e true q go =
+            ap (λ z. map name_in (objects_in (cond (not z) (chunk_of (swept_chunk kept k) ∷ large_chunks (chunks_of (left ks))) (large_chunks (chunks_of (left ks)))))) q ∙ go
+        by true e false q go =
+            ap (λ z. map name_in (objects_in (cond (not z) (chunk_of (swept_chunk kept k) ∷ large_chunks (chunks_of (left ks))) (large_chunks (chunks_of (left ks)))))) q
+            ∙ (map_append name_in (chunk_of (swept_chunk kept k)).objects (objects_in (large_chunks (chunks_of (left ks))))
+            ∙ (ap₂ (λ a b. a ++ b) (names_are k (here k ks A)) go ∙ sym both))
+        by false e true q go = go
+        by false e false q go = go ∙ (ap (λ a. a ++ filter keep (large ks)) (sym (no_names k (F k (inl refl)) (here k ks A) e)) ∙ sym both)
+
+  -- UNITS
+  abbrev pub many : List Content → ℕ
+  many ks = length (small_chunks (chunks_of ks))
+
+  abbrev pub large_units : State → List Content → ℕ
+  large_units m ks = units_sum m (map name_in (objects_in (large_chunks (chunks_of ks))))
+
+  -- so many of small chunks go, and so many of large ones
+  pub record Goes (m : State) (ks : List Content) : Type 0 where
+    pub small : ℕ
+    pub large : ℕ
+    pub smalls : many ks ≡ many (left ks) + small
+    pub larges : large_units m ks ≡ large_units m (left ks) + large
+    pub all : unit_count (gone ks) ≡ small + large
+
+  module _ (m : State) where
+    abbrev pub KnowWords : List Seen → Type 0
+    KnowWords os = (o : Seen) → In os o → SameWords m o
+
+    abbrev units_of : List Seen → ℕ
+    units_of os = units_sum m (map name_in os)
+
+    units_both : (os qs : List Seen) → units_of (os ++ qs) ≡ units_of os + units_of qs
+    units_both os qs = ap (units_sum m) (map_append name_in os qs) ∙ sum_by-append (λ n. units (words_at m n)) (map name_in os) (map name_in qs)
+
+    -- a large chunk has its object's units
+    one_large : (k : Content) → IsFilled k → (k.size == 1024) ≡ false → KnowWords (chunk_of k).objects → (o : Seen) × ((chunk_of k).objects ≡ o ∷ []) × (units_of (o ∷ []) ≡ units k.size)
+    one_large k F q W = by (F.large q)
+      where
+        by : HoldsLarge (chunk_of k) → (o : Seen) × ((chunk_of k).objects ≡ o ∷ []) × (units_of (o ∷ []) ≡ units k.size)
+        by (inl none) = absurd (F.some q none)
+        by (inr (o, only, at, fits)) =
+            let w : words_at m o.name ≡ words o = W o (subst (λ os. In os o) (sym only) (inl refl)) in
+            let whole : k.size ≡ 1024 * (k.size / 1024) = F.whole in
+            let u : units k.size ≡ k.size / 1024 = omega (arith, whole) in (
+              o,
+              only,
+              sum_by-cons (λ n. units (words_at m n)) o.name [] ∙ (let z : units (words_at m o.name) + 0 ≡ units (words_at m o.name) = omega arith in z ∙ (ap units w ∙ (sym fits ∙ sym u))),
+            )
+
+    -- one chunk more, by whether it stays and whether it is small
+    module _ (k : Content) (ks : List Content) (F : IsFilled k) (own : KnowWords (chunk_of k).objects) where
+      abbrev ls : Bool → List Content
+      ls b = map (swept_chunk kept) (cond b (k ∷ filter (stays kept None) ks) (filter (stays kept None) ks))
+
+      record Counts (b s : Bool) : Type 0 where
+        small : ℕ
+        large : ℕ
+        smalls : length (cond (not (not s)) (chunk_of k ∷ small_chunks (chunks_of ks)) (small_chunks (chunks_of ks))) ≡ many (ls b) + small
+        larges : units_of (objects_in (cond (not s) (chunk_of k ∷ large_chunks (chunks_of ks)) (large_chunks (chunks_of ks)))) ≡ large_units m (ls b) + large
+        all : unit_count (cond (not b) (k ∷ gone ks) (gone ks)) ≡ small + large
+
+      counts : (b : Bool) → has k ≡ b → (s : Bool) → (k.size == 1024) ≡ s → Goes m ks → Counts b s
+      counts true e true q G = record {
+        small = G.small;
+        large = G.large;
+        smalls =
+            ap suc G.smalls
+            ∙ sym (ap (λ z. length (cond (not (not z)) (chunk_of (swept_chunk kept k) ∷ small_chunks (chunks_of (left ks))) (small_chunks (chunks_of (left ks)))) + G.small) q ∙ plus (many (left ks)) G.small);
+        larges = G.larges ∙ sym (ap (λ z. units_of (objects_in (cond (not z) (chunk_of (swept_chunk kept k) ∷ large_chunks (chunks_of (left ks))) (large_chunks (chunks_of (left ks))))) + G.large) q);
+        all = G.all;
+      }
+        where
+          plus : (a b : ℕ) → suc a + b ≡ suc (a + b)
+          plus a b = omega arith
+      counts true e false q G =
+          let o = one_large k F q own in
+          let stays : (chunk_of (swept_chunk kept k)).objects ≡ (chunk_of k).objects = swept_is k ∙ (ap (filter (is_there kept)) o.1 ∙ (whole_by o.0 (sym e ∙ (has_is k F ∙ ap (λ os. not (has_none (filter (is_there kept) os))) o.1)) ∙ sym o.1)) in record {
+            small = G.small;
+            large = G.large;
+            smalls = G.smalls ∙ sym (ap (λ z. length (cond (not (not z)) (chunk_of (swept_chunk kept k) ∷ small_chunks (chunks_of (left ks))) (small_chunks (chunks_of (left ks)))) + G.small) q);
+            larges =
+                units_both (chunk_of k).objects (objects_in (large_chunks (chunks_of ks)))
+                ∙ (grown (units_of (chunk_of k).objects) (units_of (objects_in (large_chunks (chunks_of ks)))) (units_of (objects_in (large_chunks (chunks_of (left ks))))) G.large G.larges
+                ∙ (ap (λ n. n + G.large) (ap (λ os. units_of os + units_of (objects_in (large_chunks (chunks_of (left ks))))) (sym stays) ∙ sym (units_both (chunk_of (swept_chunk kept k)).objects (objects_in (large_chunks (chunks_of (left ks))))))
+                ∙ sym (ap (λ z. units_of (objects_in (cond (not z) (chunk_of (swept_chunk kept k) ∷ large_chunks (chunks_of (left ks))) (large_chunks (chunks_of (left ks))))) + G.large) q)));
+            all = G.all;
+          }
+        where
+          whole_by : (o : Seen) → true ≡ not (has_none (filter (is_there kept) (o ∷ []))) → filter (is_there kept) (o ∷ []) ≡ o ∷ []
+          whole_by o h = one (is_there kept o) h
+            where
+              one : (b : Bool) → true ≡ not (has_none (cond b (o ∷ []) [])) → cond b (o ∷ []) [] ≡ o ∷ []
+              one true h = refl
+              one false h = absurd (false≢true (sym h))
+
+          grown : (a b c d : ℕ) → b ≡ c + d → a + b ≡ a + c + d
+          grown a b c d e = omega (arith, e)
+      counts false e true q G =
+          let one : units k.size ≡ 1 = ap units (eqb-true k.size 1024 q) in record {
+            small = suc G.small;
+            large = G.large;
+            smalls = ap suc G.smalls ∙ plus (many (left ks)) G.small;
+            larges = G.larges;
+            all = let a = G.all in omega (arith, a, one);
+          }
+        where
+          plus : (a b : ℕ) → suc (a + b) ≡ a + suc b
+          plus a b = omega arith
+      counts false e false q G =
+          let o = one_large k F q own in
+          let u : units_of (chunk_of k).objects ≡ units k.size = ap units_of o.1 ∙ o.2 in
+          let both = units_both (chunk_of k).objects (objects_in (large_chunks (chunks_of ks))) in
+          record {
+            small = G.small;
+            large = units k.size + G.large;
+            smalls = G.smalls;
+            larges = both ∙ grown (units_of (chunk_of k).objects) (units k.size) (units_of (objects_in (large_chunks (chunks_of ks)))) (large_units m (left ks)) G.large u G.larges;
+            all = let a = G.all in omega (arith, a);
+          }
+        where
+          grown : (a u b c d : ℕ) → a ≡ u → b ≡ c + d → a + b ≡ c + (u + d)
+          grown a u b c d e f = omega (arith, e, f)
+
+    pub units_gone : (ks : List Content) → AreFilled ks → KnowWords (objects_in (chunks_of ks)) → Goes m ks
+    units_gone [] F W = record { small = 0; large = 0; smalls = refl; larges = refl; all = refl }
+    units_gone (k ∷ ks) F W =
+        by (has k) refl (k.size == 1024) refl
+        (units_gone ks (λ j i. F j (inr i)) (λ o i. W o (in_append_right (chunk_of k).objects (objects_in (chunks_of ks)) o i)))
+      where
+        own : KnowWords (chunk_of k).objects
+        own o i = W o (in_append_left (chunk_of k).objects (objects_in (chunks_of ks)) o i)
+
+        by : (b : Bool) → has k ≡ b → (s : Bool) → (k.size == 1024) ≡ s → Goes m ks → Goes m (k ∷ ks)
+        by b e s q G =
+            let C = counts k ks (F k (inl refl)) own b e s q G in record {
+              small = C.small;
+              large = C.large;
+              smalls = ap (λ z. length (cond (not (not z)) (chunk_of k ∷ small_chunks (chunks_of ks)) (small_chunks (chunks_of ks)))) q ∙ (C.smalls ∙ ap (λ z. many (ls k ks (F k (inl refl)) own z) + C.small) (sym e));
+              larges = ap (λ z. units_of (objects_in (cond (not z) (chunk_of k ∷ large_chunks (chunks_of ks)) (large_chunks (chunks_of ks))))) q ∙ (C.larges ∙ ap (λ z. large_units m (ls k ks (F k (inl refl)) own z) + C.large) (sym e));
+              all = ap (λ z. unit_count (cond (not z) (k ∷ gone ks) (gone ks))) e ∙ C.all;
+            }

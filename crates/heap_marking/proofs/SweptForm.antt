@@ -1,0 +1,179 @@
+-- The heap that a sweep leaves keeps the form of a heap, and has the room that its account says.
+use Rattle.std.proofs.Common.{◌≡◌, ℕ, ◌-◌, ◌*◌, ◌/◌, ◌≤◌, ◌==◌, arith, Bool, true, false, cond, not, Option, Some, None, List, [], map, refl, ap, sym, subst, ◌∙◌, ne_eqb}
+use Rattle.std.proofs.lemmas.Bool.{false≢true}
+use Rattle.std.proofs.lemmas.List.Elements.{All-get_or}
+use Rattle.listed.proofs.Members.{in_from_kept}
+use Rattle.object_layout.specs.declared.word.Addr.{Addr}
+use Rattle.object_layout.specs.Chunks.{chunk_at, no_chunk, place_in}
+use Rattle.object_layout.specs.Content.{Content}
+use Rattle.object_layout.specs.Place.{words_in}
+use Rattle.alloc_path.specs.Heap.{AreWithin, Heap, IsCurrent, IsSettled, IsTidy, room_at, room_of}
+use Rattle.alloc_path.proofs.HeapLemmas as heap
+use Rattle.run_ledger.specs.declared.data.Heap.{Heap as Account}
+use Rattle.run_ledger.specs.Heaps.{in_snapshot, is_empty, is_last_empty, swept_heap}
+use Rattle.run_ledger.specs.Reachable.{holds_name}
+use Rattle.inner_mark_gc.specs.Swept.{gone_of, number_at, place_at, swept}
+use Rattle.inner_mark_gc.proofs.Finding.{all_from}
+use Rattle.inner_mark_gc.proofs.Kept as kept_chunks
+use Rattle.task_machine.specs.Accounts.{IsLastSmall}
+use Rattle.core_relation.specs.Layout.{HoldsLarge, has_none}
+use Rattle.core_relation.specs.Value.{In, Seen, objects_in}
+use Rattle.core_relation.proofs.Members.{in_objects, in_map}
+use Rattle.shared_value.specs.Objects.{chunk_of, chunks_of}
+use Rattle.shared_value.specs.Stands.{HeapForm}
+use Rattle.shared_value.proofs.Counts.{chunk_there}
+use Rattle.shared_value.proofs.Formed.{Formed}
+use Rattle.shared_value.proofs.LaidFrom.{place_there}
+use Rattle.shared_value.proofs.LeafSources.{all_at}
+use Rattle.heap_marking.proofs.SweptCells.{is_there, large_kept, words_kept}
+use Rattle.heap_marking.proofs.SweptChunks.{AreFilled, Agrees, gone, has, has_is, has_names, kept_in, left, names, objects_left, swept_is}
+use Rattle.heap_marking.proofs.SweptPlaces.{goes_off, last_empty, left_was, small_names_of, stays_before}
+
+none_some : {A B : Type 0} {x : A} → ◌≡◌ {A = Option A} None (Some x) → B
+none_some e = absurd cc
+
+-- a large chunk holds one object
+abbrev pub HoldLarge : List Content → Type 0
+HoldLarge ks = (k : Content) → In ks k → (k.size == 1024) ≡ false → HoldsLarge (chunk_of k)
+
+module _ (kept : List Addr) (h : Heap) (F : HeapForm h) (none : h.reserved ≡ None) (L : HoldLarge h.chunks) where
+  abbrev pub ks : List Content
+  ks = h.chunks
+
+  -- the heap with just what is kept
+  abbrev pub plain : Heap
+  plain = record h { chunks = left kept h.chunks; current = place_at (left kept h.chunks) (number_at h.chunks h.current); reserved = None }
+
+  pub swept_plain : swept h kept ≡ plain
+  swept_plain = ap (λ o. let x : Heap = record h { reserved = o } in swept x kept) none
+
+  pub gone_plain : gone_of h kept ≡ gone kept h.chunks
+  gone_plain = ap (λ o. let x : Heap = record h { reserved = o } in gone_of x kept) none
+
+  pub filled : AreFilled h.chunks
+  filled k i = record {
+    unmoved = (all_at IsTidy h.chunks k i F.tidy).unmoved;
+    whole = F.whole k i;
+    large = L k i;
+    some = λ q e.
+        let p = place_there h.chunks k i in
+        none_some (sym none ∙ F.spare p.0 p.1 (λ z. false≢true (sym q ∙ ap (λ n. n == 1024) (ap (λ (x : Content). x.size) (sym p.2) ∙ z))) (ap (λ (x : Content). (chunk_of x).objects) p.2 ∙ e));
+  }
+
+  settled : IsSettled h.chunks
+  settled = record { tidy = F.tidy; apart = F.shaped.apart }
+
+  -- an object that is left was there
+  was : (o : Seen) → In (objects_in (chunks_of (left kept h.chunks))) o → In (objects_in (chunks_of h.chunks)) o
+  was o i = (in_from_kept (is_there kept) (objects_in (chunks_of h.chunks)) o (subst (λ os. In os o) (objects_left kept h.chunks filled) i)).0
+
+  within_left : AreWithin (left kept h.chunks)
+  within_left = all_from (λ (k : Content). words_in k.cells ≤ k.size) (left kept h.chunks) (λ k i.
+      let x = left_was kept h.chunks k i in
+      let w : words_in x.0.cells ≤ x.0.size = all_at (λ (k : Content). words_in k.cells ≤ k.size) h.chunks x.0 x.1 F.within in
+      subst (λ (z : Content). words_in z.cells ≤ z.size) x.3 (subst (λ n. n ≤ x.0.size) (sym (words_kept kept x.0.number x.0.cells 0)) w))
+
+  large_left : HoldLarge (left kept h.chunks)
+  large_left k i q =
+      let x = left_was kept h.chunks k i in
+      subst (λ (z : Content). HoldsLarge (chunk_of z)) x.3 (large_kept kept x.0 (L x.0 x.1 (ap (λ (z : Content). z.size == 1024) x.3 ∙ q)))
+
+  -- each chunk that is left holds an object
+  some_left : (k : Content) → In (left kept h.chunks) k → (chunk_of k).objects ≡ [] → ⊥
+  some_left k i e =
+      let x = left_was kept h.chunks k i in
+      let empty : kept_in kept x.0 ≡ [] = sym (swept_is kept x.0) ∙ (ap (λ (z : Content). (chunk_of z).objects) x.3 ∙ e) in
+      false≢true (sym (sym x.2 ∙ (has_is kept x.0 (filled x.0 x.1) ∙ ap (λ os. not (has_none os)) empty)))
+
+  last_left : (o : Option ℕ) → IsCurrent h.chunks o → IsLastSmall h.chunks o → IsLastSmall (left kept h.chunks) (place_at (left kept h.chunks) (number_at h.chunks o))
+  last_left None C last = tt
+  last_left (Some i) C last = by (has kept (chunk_at h.chunks i)) refl
+    where
+      by : (b : Bool) → has kept (chunk_at h.chunks i) ≡ b → IsLastSmall (left kept h.chunks) (place_in (left kept h.chunks) (chunk_at h.chunks i).number)
+      by true e =
+          let S = stays_before kept (λ k. k.size ≡ 1024 → ⊥) (λ k f. f) h.chunks F.shaped.apart i C.0 e last in
+          let p = S.place in
+          let w = S.within in
+          subst (IsLastSmall (left kept h.chunks)) (sym (heap.place_there (left kept h.chunks) (chunk_at h.chunks i).number (omega (arith, p, w)) ∙ ap Some S.place)) S.behind
+      by false e = subst (IsLastSmall (left kept h.chunks)) (sym (goes_off kept h.chunks F.shaped.apart (chunk_at h.chunks i) (chunk_there h.chunks i C.0) e)) tt
+
+  pub plain_form : HeapForm plain
+  plain_form = record {
+    shaped = record { apart = kept_chunks.now_apart kept None h.chunks settled; current = kept_chunks.now_current kept None h.chunks settled h.current F.shaped.current; reserved = tt };
+    near = λ o i. F.near o (was o i);
+    tidy = (kept_chunks.now_settled kept None h.chunks settled).tidy;
+    within = within_left;
+    last = last_left h.current F.shaped.current F.last;
+    last_large = tt;
+    since = F.since;
+    whole = λ k i. (let x = left_was kept h.chunks k i in subst (λ (z : Content). z.size ≡ 1024 * (z.size / 1024)) x.3 (F.whole x.0 x.1));
+    spare = λ i lt big empty. absurd (some_left (chunk_at (left kept h.chunks) i) (chunk_there (left kept h.chunks) i lt) empty);
+  }
+
+  pub plain_formed : Formed plain
+  plain_formed = record {
+    shaped = plain_form.shaped;
+    each = λ i lt.
+        let k = chunk_at (left kept h.chunks) i in
+        let there = chunk_there (left kept h.chunks) i lt in record {
+          tidy = All-get_or IsTidy (left kept h.chunks) i no_chunk lt plain_form.tidy;
+          within = All-get_or (λ (x : Content). words_in x.cells ≤ x.size) (left kept h.chunks) i no_chunk lt within_left;
+          whole = plain_form.whole k there;
+          large = λ big. large_left k there (ne_eqb k.size 1024 big);
+        };
+    spare = plain_form.spare;
+  }
+
+  -- ITS ROOM
+  module _ (a : Account) (lists : small_names_of h.chunks ≡ a.chunks) (room : room_of h ≡ a.room) (agree : Agrees kept (holds_name a.snapshot) (objects_in (chunks_of h.chunks))) where
+    module _ (i : ℕ) (C : IsCurrent h.chunks (Some i)) (last : IsLastSmall h.chunks (Some i)) (here : h.current ≡ Some i) where
+      abbrev k : Content
+      k = chunk_at h.chunks i
+
+      there : In h.chunks k
+      there = chunk_there h.chunks i C.0
+
+      agreed : Agrees kept (holds_name a.snapshot) (chunk_of k).objects
+      agreed o j = agree o (in_objects (chunks_of h.chunks) (chunk_of k) o (in_map chunk_of h.chunks k there) j)
+
+      abbrev last_gone : Bool
+      last_gone = is_last_empty (map (in_snapshot a) a.chunks)
+
+      last_is : last_gone ≡ is_empty (names kept (holds_name a.snapshot) k)
+      last_is = ap (λ z. is_last_empty (map (in_snapshot a) z)) (sym lists) ∙ last_empty (in_snapshot a) h.chunks i C.0 C.1 last
+
+      has_last : has kept k ≡ not last_gone
+      has_last = has_names kept (holds_name a.snapshot) k (filled k there) agreed ∙ ap not (sym last_is)
+
+      room_k : k.size - words_in k.cells ≡ a.room
+      room_k = ap (room_at h.chunks) (sym here) ∙ room
+
+      full : (b : Bool) → true ≡ not b → a.room ≡ cond b 0 a.room
+      full true q = absurd (false≢true (sym q))
+      full false q = refl
+
+      gone_by : (b : Bool) → false ≡ not b → 0 ≡ cond b 0 a.room
+      gone_by true q = refl
+      gone_by false q = absurd (false≢true q)
+
+      room_of_some : (b : Bool) → has kept k ≡ b → room_at (left kept h.chunks) (place_in (left kept h.chunks) (chunk_at h.chunks i).number) ≡ (swept_heap a).room
+      room_of_some true q =
+          let S = stays_before kept (λ k. k.size ≡ 1024 → ⊥) (λ k f. f) h.chunks F.shaped.apart i C.0 q last in
+          let p = S.place in
+          let w = S.within in
+          ap (room_at (left kept h.chunks)) (heap.place_there (left kept h.chunks) (chunk_at h.chunks i).number (omega (arith, p, w)) ∙ ap Some S.place)
+          ∙ (ap (λ (z : Content). z.size - words_in z.cells) S.is
+          ∙ (ap (λ n. (chunk_at h.chunks i).size - n) (words_kept kept (chunk_at h.chunks i).number (chunk_at h.chunks i).cells 0)
+          ∙ (room_k ∙ full last_gone (sym q ∙ has_last))))
+      room_of_some false q = ap (room_at (left kept h.chunks)) (goes_off kept h.chunks F.shaped.apart (chunk_at h.chunks i) there q) ∙ gone_by last_gone (sym q ∙ has_last)
+
+    nothing : (b : Bool) → a.room ≡ 0 → 0 ≡ cond b 0 a.room
+    nothing true e = refl
+    nothing false e = sym e
+
+    room_by : (o : Option ℕ) → h.current ≡ o → IsCurrent h.chunks o → IsLastSmall h.chunks o → room_at (left kept h.chunks) (place_at (left kept h.chunks) (number_at h.chunks o)) ≡ (swept_heap a).room
+    room_by None e C last = nothing (is_last_empty (map (in_snapshot a) a.chunks)) (sym room ∙ ap (room_at h.chunks) e)
+    room_by (Some i) e C last = room_of_some i C last e (has kept (chunk_at h.chunks i)) refl
+
+    pub plain_room : room_of plain ≡ (swept_heap a).room
+    plain_room = room_by h.current refl F.shaped.current F.last

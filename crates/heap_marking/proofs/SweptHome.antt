@@ -1,0 +1,243 @@
+-- A sweep leaves in a home just what its snapshot names.
+use Rattle.std.proofs.Common.{◌≡◌, ℕ, ◌*◌, ◌/◌, arith, All, not, Bool, true, false, Option, Some, None, List, [], ◌∷◌, filter, length, option_map, slice_get, inl, inr, refl, ap, sym, subst, ◌∙◌}
+use Rattle.std.proofs.lemmas.Bool.{cases_eq, false≢true}
+use Rattle.std.proofs.lemmas.Option.{same_Some}
+use Rattle.std.proofs.lemmas.List.Elements.{All-head, All-tail}
+use Rattle.listed.proofs.Members.{in_from_kept, in_kept}
+use Rattle.object_layout.specs.declared.word.Addr.{Addr}
+use Rattle.object_layout.specs.Content.{Content}
+use Rattle.alloc_path.specs.Heap.{Heap as HeapOfCode, IsFresh, room_of, with_places}
+use Rattle.alloc_path.specs.Units.{unit_count}
+use Rattle.alloc_path.proofs.HeapLemmas.{fresh_cons}
+use Rattle.chunk_pool.specs.declared.pool.Held.{Held}
+use Rattle.chunk_pool.specs.Chunks.{Chunks, held_at, owner_of, units_held}
+use Rattle.hh_model.specs.declared.data.State.{State}
+use Rattle.hh_model.specs.Effect.{row_of}
+use Rattle.run_ledger.specs.declared.data.Heap.{Heap as Account}
+use Rattle.run_ledger.specs.declared.data.Ledger.{Ledger}
+use Rattle.run_ledger.specs.Heaps.{heap_of, left_in, or_fresh, swept_heap, with_heap}
+use Rattle.run_ledger.proofs.Members.{holds_from_in, in_from_holds}
+use Rattle.inner_mark_gc.specs.Marks.{marked_of}
+use Rattle.inner_mark_gc.specs.Swept.{AreGiven, gone_of, goes, swept, units_kept}
+use Rattle.inner_mark_gc.proofs.Finding.{all_from}
+use Rattle.ledger_steps.proofs.Ahead.{heap_then, with_at}
+use Rattle.core_relation.specs.Changes.{KeepsJust}
+use Rattle.core_relation.specs.Layout.{AreLaidOut}
+use Rattle.core_relation.specs.Stands.{HasNames, HomeStands}
+use Rattle.core_relation.specs.Value.{Chunk, Home, In, Seen, Value, objects, objects_in, sources}
+use Rattle.core_relation.proofs.Members.{in_map, map_in}
+use Rattle.shared_value.specs.declared.rest.Rest.{Rest}
+use Rattle.shared_value.specs.declared.rest.Work.{Work}
+use Rattle.shared_value.specs.declared.rest.Work.TheVariants.{Calls, Result}
+use Rattle.heap_marking.specs.MarkCauses.{marking_cause}
+use Rattle.shared_value.specs.Measured.{AreMeasured}
+use Rattle.shared_value.specs.Objects.{chunk_of, chunks_of}
+use Rattle.shared_value.specs.Stands.{HeapForm, IsWorld}
+use Rattle.shared_value.specs.World.{World, accounts, home_by, home_of, value_of}
+use Rattle.shared_value.proofs.HeapForms.{places_form}
+use Rattle.shared_value.proofs.Entering.{unheld_at_rest}
+use Rattle.shared_value.proofs.LaidFrom.{inside_from, laid_from}
+use Rattle.shared_value.proofs.Leading.{home_chunks}
+use Rattle.shared_value.proofs.LeafSources.{fresh_by, owner_none}
+use Rattle.heap_marking.proofs.SweptCells.{is_there}
+use Rattle.heap_marking.proofs.SweptChunks.{gone, has, left, objects_left}
+use Rattle.heap_marking.proofs.SweptForm as form
+use Rattle.heap_marking.proofs.SweptPlaces.{left_was, one_number}
+use Rattle.heap_marking.proofs.SweptStart as start
+use Rattle.heap_marking.proofs.SweptStart.{room_there, since_there}
+use Rattle.heap_marking.proofs.SweptUnits.{know, names_left}
+
+-- what goes with a task beside its heap
+abbrev frames_by : (h g : HeapOfCode) (n : ℕ) (x : Work) → (home_by h n x).frames ≡ (home_by g n x).frames
+frames_by h g n (Calls s) = refl
+frames_by h g n (Result k r) = refl
+
+abbrev result_by : (h g : HeapOfCode) (n : ℕ) (x : Work) → (home_by h n x).result ≡ (home_by g n x).result
+result_by h g n (Calls s) = refl
+result_by h g n (Result k r) = refl
+
+abbrev count_by : (h g : HeapOfCode) (n : ℕ) (x : Work) → (home_by h n x).count ≡ (home_by g n x).count
+count_by h g n (Calls s) = refl
+count_by h g n (Result k r) = refl
+
+pub idle_home : (r : Rest) → (home_of r).begun ≡ None
+idle_home r = by r.work
+  where
+    by : (x : Work) → (home_by r.heap r.allocations x).begun ≡ None
+    by (Calls s) = refl
+    by (Result k b) = refl
+
+-- a heap that has found nothing, or has, is there
+pub there_by : (l : Ledger) (t n : ℕ) → (heap_of l t).marked ≡ Some n → heap_of (with_heap l t swept_heap) t ≡ swept_heap (heap_of l t)
+there_by l t n some = by (slice_get l.heaps t) refl
+  where
+    none_some : {A : Type 0} → ◌≡◌ {A = Option ℕ} None (Some n) → A
+    none_some q = absurd cc
+
+    by : (o : Option Account) → slice_get l.heaps t ≡ o → heap_of (with_heap l t swept_heap) t ≡ swept_heap (heap_of l t)
+    by None e = none_some (sym (ap (λ o. (or_fresh o).marked) e) ∙ some)
+    by (Some h) e = ap or_fresh (with_at l t swept_heap ∙ ap (heap_then swept_heap) e) ∙ sym (ap (λ o. swept_heap (or_fresh o)) e)
+
+module _ (w : World) (I : IsWorld w) (on : (accounts w).end ≡ None) (t : ℕ) (free : marking_cause w t ≡ None) (none_left : left_in (heap_of (accounts w) t) ≡ 0) where
+  abbrev l : Ledger
+  l = accounts w
+
+  abbrev v : Value
+  v = value_of w
+
+  abbrev a : Account
+  a = heap_of (accounts w) t
+
+  abbrev pub r : Rest
+  r = (start.Z w I on t free).rest
+
+  abbrev pub kept : List Addr
+  kept = marked_of (start.Z w I on t free).marks
+
+  abbrev ks : List Content
+  ks = r.heap.chunks
+
+  F : HeapForm r.heap
+  F = start.form w I on t free
+
+  abbrev now : List Content
+  now = left kept r.heap.chunks
+
+  abbrev plain : HeapOfCode
+  plain = form.plain kept r.heap F (start.none w I on t free) (start.large w I on t free)
+
+  -- WHAT GOES
+  gone_is : gone_of r.heap kept ≡ gone kept ks
+  gone_is = form.gone_plain kept r.heap F (start.none w I on t free) (start.large w I on t free)
+
+  gone_was : (c : Content) → In (gone kept ks) c → In ks c × (has kept c ≡ false)
+  gone_was c i = let f = in_from_kept (goes kept None) ks c i in (f.0, by (has kept c) f.1)
+    where
+      by : (b : Bool) → not b ≡ true → b ≡ false
+      by true e = absurd (false≢true e)
+      by false e = refl
+
+  -- what is left has none of its numbers
+  left_off : (x : Content) → In ks x → has kept x ≡ true → IsFresh (gone kept ks) x.number
+  left_off x i h = fresh_by (gone kept ks) x.number (λ c j e.
+      let g = gone_was c j in
+      false≢true (sym g.1 ∙ (ap (has kept) (one_number ks c x F.shaped.apart g.0 i e) ∙ h)))
+
+  owned_was : (c : Content) → In ks c → owner_of w.pool c.number ≡ Some t
+  owned_was c i = (start.H w I on t free).owned (chunk_of c) (subst (λ cs. In cs (chunk_of c)) (sym (start.chunks_here w I on t free)) (in_map chunk_of ks c i))
+
+  pub measured_was : AreMeasured w.pool t ks
+  measured_was = I.measured t r (start.Z w I on t free).there (unheld_at_rest w t I on (start.rests w I on t free))
+
+  -- as the pool counts it
+  pub units_go : units_kept w.pool (gone_of r.heap kept) ≡ unit_count (gone_of r.heap kept)
+  units_go = subst (λ gs. units_kept w.pool gs ≡ unit_count gs) (sym gone_is) (by (gone kept ks) (λ c i. (gone_was c i).0))
+    where
+      by : (gs : List Content) → ((c : Content) → In gs c → In ks c) → units_kept w.pool gs ≡ unit_count gs
+      by [] f = refl
+      by (c ∷ gs) f =
+          let one : units_held (held_at w.pool c.number) ≡ c.size / 1024 = ap units_held (measured_was c (f c (inl refl))) in
+          let whole : c.size ≡ 1024 * (c.size / 1024) = F.whole c (f c (inl refl)) in
+          let go : units_kept w.pool gs ≡ unit_count gs = by gs (λ d i. f d (inr i)) in
+          omega (arith, one, whole, go)
+
+  pub owned_gone : All (λ c. owner_of w.pool c.number ≡ Some t) (gone_of r.heap kept)
+  owned_gone = all_from (λ (c : Content). owner_of w.pool c.number ≡ Some t) (gone_of r.heap kept) (λ c i. owned_was c (gone_was c (subst (λ gs. In gs c) gone_is i)).0)
+
+  module _ (pool : Chunks) (G : AreGiven w.pool pool (gone_of r.heap kept)) (slots spare : ℕ) where
+    abbrev pub heap' : HeapOfCode
+    heap' = with_places (swept r.heap kept) slots spare
+
+    abbrev pub rest' : Rest
+    rest' = record r { heap = heap' }
+
+    heap_is : heap' ≡ with_places plain slots spare
+    heap_is = ap (λ h. with_places h slots spare) (form.swept_plain kept r.heap F (start.none w I on t free) (start.large w I on t free))
+
+    pub form_then : HeapForm heap'
+    form_then = subst HeapForm (sym heap_is) (places_form plain slots spare (form.plain_form kept r.heap F (start.none w I on t free) (start.large w I on t free)))
+
+    chunks_are : heap'.chunks ≡ now
+    chunks_are = ap (λ (h : HeapOfCode). h.chunks) heap_is
+
+    others : (n : ℕ) → IsFresh (gone kept ks) n → held_at pool n ≡ held_at w.pool n
+    others n f = G.others n (subst (λ gs. IsFresh gs n) (sym gone_is) f)
+
+    pub measured_then : AreMeasured pool t heap'.chunks
+    measured_then c i =
+        let x = left_was kept ks c (subst (λ cs. In cs c) chunks_are i) in
+        subst (λ (z : Content). held_at pool z.number ≡ Some (record { owner = t; units = z.size / 1024 })) x.3 (others x.0.number (left_off x.0 x.1 x.2) ∙ measured_was x.0 x.1)
+
+    -- WHO OWNS CHUNKS
+    pub owners : (n u : ℕ) → (u ≡ t → ⊥) → owner_of w.pool n ≡ Some u → owner_of pool n ≡ Some u
+    owners n u ne o =
+        ap (option_map (λ (h : Held). h.owner)) (others n (fresh_by (gone kept ks) n (λ c i q. ne (same_Some u t (sym o ∙ (ap (owner_of w.pool) (sym q) ∙ owned_was c (gone_was c i).0)))))) ∙ o
+
+    pub owned : (n u : ℕ) → owner_of pool n ≡ Some u → owner_of w.pool n ≡ Some u
+    owned n u o = by (gone_of r.heap kept) G.free (G.others n)
+      where
+        by : (gs : List Content) → All (λ c. held_at pool c.number ≡ None) gs → (IsFresh gs n → held_at pool n ≡ held_at w.pool n) → owner_of w.pool n ≡ Some u
+        by [] f other = sym (ap (option_map (λ (h : Held). h.owner)) (other refl)) ∙ o
+        by (c ∷ gs) f other = elim (cases_eq c.number n) [
+          | inl q ↦ absurd (owner_none pool n u (subst (λ z. held_at pool z ≡ None) q (All-head (λ (c : Content). held_at pool c.number ≡ None) c gs f)) o)
+          | inr ne ↦ by gs (All-tail (λ (c : Content). held_at pool c.number ≡ None) c gs f) (λ fr. other (fresh_cons c gs n ne fr))
+        ]
+
+    -- THE HOME, in a value and accounts that have it so
+    module _ (v' : Value) (L : Ledger) (home : v'.homes t ≡ home_of rest') (owner : v'.owner ≡ owner_of pool) (account : heap_of L t ≡ swept_heap a) (machine : L.machine ≡ l.machine) where
+      chunks_then : (v'.homes t).chunks ≡ chunks_of now
+      chunks_then = ap (λ (h : Home). h.chunks) home ∙ (home_chunks rest' ∙ ap chunks_of chunks_are)
+
+      objects_then : objects v' t ≡ filter (is_there kept) (objects_in (chunks_of ks))
+      objects_then = ap objects_in chunks_then ∙ objects_left kept ks (form.filled kept r.heap F (start.none w I on t free) (start.large w I on t free))
+
+      objects_before : objects v t ≡ objects_in (chunks_of ks)
+      objects_before = ap objects_in (start.chunks_here w I on t free)
+
+      was : (o : Seen) → In (objects v' t) o → In (objects v t) o × (is_there kept o ≡ true)
+      was o i =
+          let f = in_from_kept (is_there kept) (objects_in (chunks_of ks)) o (subst (λ os. In os o) objects_then i) in
+          (subst (λ os. In os o) (sym objects_before) f.0, f.1)
+
+      chunk_was : (c : Chunk) → In (v'.homes t).chunks c → (x : Content) × In ks x × (has kept x ≡ true) × (x.number ≡ c.number)
+      chunk_was c i =
+          let y = map_in chunk_of now c (subst (λ cs. In cs c) chunks_then i) in
+          let x = left_was kept ks y.0 y.1 in
+          (x.0, x.1, x.2, ap (λ (z : Content). z.number) x.3 ∙ ap (λ (z : Chunk). z.number) y.2)
+
+      home_then : HomeStands v' L t
+      home_then = record {
+        names = subst (λ cs. HasNames cs (heap_of L t)) (sym chunks_then) (subst (HasNames (chunks_of now)) (sym account)
+            (names_left kept l.machine a ks (form.filled kept r.heap F (start.none w I on t free) (start.large w I on t free)) (start.names w I on t free) (start.agree w I on t free none_left) (know w I on t free)));
+        room = ap (λ (h : Home). h.room) home ∙ (room_there rest' ∙ (ap room_of heap_is
+            ∙ (form.plain_room kept r.heap F (start.none w I on t free) (start.large w I on t free) a (start.names w I on t free).small (start.room w I on t free) (start.agree w I on t free none_left) ∙ sym (ap (λ (z : Account). z.room) account))));
+        since = ap (λ (h : Home). h.since) home ∙ (since_there rest' ∙ (start.since w I on t free ∙ sym (ap (λ (z : Account). z.since) account)));
+        count = ap (λ (h : Home). h.count) home ∙ (count_by heap' r.heap r.allocations r.work ∙ (ap (λ (h : Home). h.count) (sym (start.here w I on t free))
+            ∙ ((start.H w I on t free).count ∙ ap (λ (m : State). length (row_of (slice_get m.store t))) (sym machine))));
+        owned = λ c i.
+            let x = chunk_was c i in
+            ap (λ (f : ℕ → Option ℕ). f c.number) owner ∙ (ap (owner_of pool) (sym x.3) ∙ (ap (option_map (λ (h : Held). h.owner)) (others x.0.number (left_off x.0 x.1 x.2)) ∙ owned_was x.0 x.1));
+        inside = λ c o i j. inside_from now c o (subst (λ cs. In cs c) chunks_then i) j;
+        once = λ o q i j e. (start.H w I on t free).once o q (was o i).0 (was q j).0 e;
+        named = λ o q i j e. (start.H w I on t free).named o q (was o i).0 (was q j).0 e;
+        laid = subst (λ cs. AreLaidOut cs (heap_of L t).reserved) (sym chunks_then) (subst (λ (z : Account). AreLaidOut (chunks_of now) z.reserved) (sym account)
+            (laid_from plain (form.plain_formed kept r.heap F (start.none w I on t free) (start.large w I on t free)) a.reserved (start.nothing_reserved w I on t free)));
+      }
+
+      pub keeps_just : ((u : ℕ) → (u ≡ t → ⊥) → v'.homes u ≡ v.homes u) → ((u : ℕ) → sources v' u ≡ sources v u) → KeepsJust v v' l L t a.snapshot
+      keeps_just off noted = record {
+        home = home_then;
+        kept = λ o i n.
+            let j : In (objects_in (chunks_of ks)) o = subst (λ os. In os o) objects_before i in
+            subst (λ os. In os o) (sym objects_then) (in_kept (is_there kept) (objects_in (chunks_of ks)) o j (start.agree w I on t free none_left o j ∙ holds_from_in a.snapshot o.name n));
+        only = λ o i.
+            let x = was o i in
+            let j : In (objects_in (chunks_of ks)) o = subst (λ os. In os o) objects_before x.0 in
+            (x.0, in_from_holds a.snapshot o.name (sym (start.agree w I on t free none_left o j) ∙ x.1));
+        frames = ap (λ (h : Home). h.frames) home ∙ (frames_by heap' r.heap r.allocations r.work ∙ ap (λ (h : Home). h.frames) (sym (start.here w I on t free)));
+        result = ap (λ (h : Home). h.result) home ∙ (result_by heap' r.heap r.allocations r.work ∙ ap (λ (h : Home). h.result) (sym (start.here w I on t free)));
+        others = off;
+        owners = λ n u ne o. ap (λ (f : ℕ → Option ℕ). f n) owner ∙ owners n u ne o;
+        owned = λ n u o. owned n u (ap (λ (f : ℕ → Option ℕ). f n) (sym owner) ∙ o);
+        sources = noted;
+      }

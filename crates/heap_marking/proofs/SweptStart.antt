@@ -1,0 +1,162 @@
+-- What is known of a heap that is marked to its end, before it is swept.
+use Rattle.std.proofs.Common.{◌≡◌, ℕ, zero, suc, arith, not, Bool, true, false, Option, Some, None, slice_get, refl, ap, sym, subst, ◌∙◌}
+use Rattle.listed.proofs.Members.{contains_from_in, in_from_contains}
+use Rattle.alloc_path.specs.Heap.{room_of}
+use Rattle.hh_model.specs.declared.data.Status.{Status}
+use Rattle.hh_model.specs.declared.data.Status.TheVariants.{Running, Waiting, Ended, Joined}
+use Rattle.hh_model.specs.declared.data.Task.{Task}
+use Rattle.hh_model.specs.Step.{is_running, is_waiting, runs, waits}
+use Rattle.run_ledger.specs.declared.data.Heap.{Heap as Account}
+use Rattle.run_ledger.specs.declared.data.Ledger.{Ledger}
+use Rattle.run_ledger.specs.Heaps.{heap_of, held_in, left_in}
+use Rattle.run_ledger.specs.Reachable.{holds_name}
+use Rattle.run_ledger.proofs.History.{snapshots_are_held}
+use Rattle.run_ledger.proofs.Members.{holds_from_in, in_from_holds}
+use Rattle.run_ledger.proofs.Use.{chunks_are_used}
+use Rattle.inner_mark_gc.specs.Marks.{IsDone, has_address, marked_of}
+use Rattle.inner_mark_gc.proofs.Addresses.{has_in, in_has}
+use Rattle.inner_mark_gc.proofs.Kept.{all_marked_is_done}
+use Rattle.task_machine.specs.Accounts.{AreReserved, IsCounted}
+use Rattle.ledger_steps.specs.Accounts.{Rests}
+use Rattle.core_relation.specs.Layout.{AreLaidOut}
+use Rattle.core_relation.specs.Marking.{MarkedBy}
+use Rattle.core_relation.specs.Since.{kept as kept_of}
+use Rattle.core_relation.specs.Stands.{HasNames, HomeStands}
+use Rattle.core_relation.specs.Value.{Home, In, Seen, Value, objects, objects_in}
+use Rattle.core_relation.specs.Whole.{StandsFor}
+use Rattle.core_relation.proofs.MarksAll.{marks_are_all}
+use Rattle.core_relation.proofs.Members.{in_map}
+use Rattle.shared_value.specs.declared.rest.Rest.{Rest}
+use Rattle.shared_value.specs.declared.rest.Work.{Work}
+use Rattle.shared_value.specs.declared.rest.Work.TheVariants.{Calls, Result}
+use Rattle.heap_marking.specs.MarkCauses.{marking_cause}
+use Rattle.heap_marking.specs.MarkStand.{StandsMarked}
+use Rattle.shared_value.specs.Objects.{chunk_of, chunks_of}
+use Rattle.shared_value.specs.World.{World, accounts, home_by, home_in, home_of, totals_of, value_of}
+use Rattle.shared_value.specs.Stands.{HeapForm, IsWorld}
+use Rattle.shared_value.proofs.Counts.{counted_from}
+use Rattle.shared_value.proofs.HeapForms.{reserved_none}
+use Rattle.shared_value.proofs.Leading.{home_chunks}
+use Rattle.heap_marking.proofs.MarkBegun as begun
+use Rattle.heap_marking.proofs.MarkReady.{marks_stand}
+use Rattle.shared_value.proofs.Now.{stands_now}
+use Rattle.heap_marking.proofs.SweptChunks.{Agrees}
+use Rattle.heap_marking.proofs.SweptForm.{HoldLarge}
+
+-- a task doesn't run and wait
+apart : (o : Option Task) → is_running o ≡ true → is_waiting o ≡ true → ⊥
+apart None a b = absurd cc
+apart (Some x) a b = by x.status a b
+  where
+    by : (s : Status) → runs s ≡ true → waits s ≡ true → ⊥
+    by Running a b = absurd cc
+    by Waiting a b = absurd cc
+    by (Ended n q) a b = absurd cc
+    by Joined a b = absurd cc
+
+pub room_there : (r : Rest) → (home_of r).room ≡ room_of r.heap
+room_there r = by r.work
+  where
+    by : (x : Work) → (home_by r.heap r.allocations x).room ≡ room_of r.heap
+    by (Calls s) = refl
+    by (Result n b) = refl
+
+pub since_there : (r : Rest) → (home_of r).since ≡ r.heap.since
+since_there r = by r.work
+  where
+    by : (x : Work) → (home_by r.heap r.allocations x).since ≡ r.heap.since
+    by (Calls s) = refl
+    by (Result n b) = refl
+
+same_truth : (a b : Bool) → (a ≡ true → b ≡ true) → (b ≡ true → a ≡ true) → a ≡ b
+same_truth true b f g = sym (f refl)
+same_truth false true f g = g refl
+same_truth false false f g = refl
+
+module _ (w : World) (I : IsWorld w) (on : (accounts w).end ≡ None) (t : ℕ) (free : marking_cause w t ≡ None) where
+  abbrev l : Ledger
+  l = accounts w
+
+  abbrev v : Value
+  v = value_of w
+
+  abbrev a : Account
+  a = heap_of (accounts w) t
+
+  pub Z : StandsMarked w t
+  Z = marks_stand w t I on free
+
+  pub S : StandsFor v (totals_of w) l
+  S = stands_now w I on
+
+  pub rests : Rests l t
+  rests = begun.rests w I on t Z.rest Z.there Z.wait Z.keeps
+
+  pub M : MarkedBy v l t (Some Z.marks)
+  M = subst (MarkedBy v l t) Z.at (S.marks t Z.keeps)
+
+  pub form : HeapForm Z.rest.heap
+  form = I.heaps t Z.rest Z.there
+
+  pub H : HomeStands v l t
+  H = S.homes.homes t rests
+
+  pub here : v.homes t ≡ home_of Z.rest
+  here = ap home_in Z.there
+
+  pub chunks_here : (v.homes t).chunks ≡ chunks_of Z.rest.heap.chunks
+  chunks_here = ap (λ (h : Home). h.chunks) here ∙ home_chunks Z.rest
+
+  pub laid : AreLaidOut (chunks_of Z.rest.heap.chunks) a.reserved
+  laid = subst (λ cs. AreLaidOut cs a.reserved) chunks_here H.laid
+
+  pub names : HasNames (chunks_of Z.rest.heap.chunks) a
+  names = subst (λ cs. HasNames cs a) chunks_here H.names
+
+  pub room : room_of Z.rest.heap ≡ a.room
+  room = sym (room_there Z.rest) ∙ (ap (λ (h : Home). h.room) (sym here) ∙ H.room)
+
+  pub since : Z.rest.heap.since ≡ a.since
+  since = sym (since_there Z.rest) ∙ (ap (λ (h : Home). h.since) (sym here) ∙ H.since)
+
+  counted : IsCounted Z.rest.heap a
+  counted = counted_from Z.rest.heap a form names room since laid.reserved
+
+  -- no chunk is reserved while the task waits
+  pub nothing_reserved : a.reserved ≡ 0
+  nothing_reserved = by a.reserved refl
+    where
+      by : (n : ℕ) → a.reserved ≡ n → a.reserved ≡ 0
+      by zero e = e
+      by (suc n) e = absurd (apart (slice_get l.machine.tasks t) ((chunks_are_used w.program w.settings w.journal.items I.legal).reserved t (omega (arith, e))).runs Z.wait)
+
+  pub none : Z.rest.heap.reserved ≡ None
+  none = reserved_none Z.rest.heap form Z.rest.heap.reserved refl (subst (AreReserved Z.rest.heap.chunks Z.rest.heap.reserved) nothing_reserved counted.reserved)
+
+  pub large : HoldLarge Z.rest.heap.chunks
+  large k i q = laid.large (chunk_of k) (in_map chunk_of Z.rest.heap.chunks k i) (ap not q)
+
+  -- its objects in the value
+  pub object_there : (o : Seen) → In (objects_in (chunks_of Z.rest.heap.chunks)) o → In (objects v t) o
+  object_there o i = subst (λ cs. In (objects_in cs) o) (sym chunks_here) i
+
+  module _ (none_left : left_in a ≡ 0) where
+    -- what is marked is just what the snapshot names
+    pub agree : Agrees (marked_of Z.marks) (holds_name a.snapshot) (objects_in (chunks_of Z.rest.heap.chunks))
+    agree o i = same_truth (has_address (marked_of Z.marks) o.at) (holds_name a.snapshot o.name) named marked
+      where
+        named : has_address (marked_of Z.marks) o.at ≡ true → holds_name a.snapshot o.name ≡ true
+        named e =
+            let q = M.0.each o.at (has_in (marked_of Z.marks) o.at e) in
+            let same : q.0 ≡ o = H.once q.0 o q.1 (object_there o i) q.2 in
+            holds_from_in a.snapshot o.name (subst (λ (x : Seen). In a.snapshot x.name) same q.3)
+
+        marked : holds_name a.snapshot o.name ≡ true → has_address (marked_of Z.marks) o.at ≡ true
+        marked e =
+            let held = snapshots_are_held w.program w.settings w.journal.items t I.legal Z.wait in
+            in_has (marked_of Z.marks) o.at
+            ((marks_are_all v l t (marked_of Z.marks) S.homes rests held.once (λ n j. in_from_contains (held_in a) n (held.held n (contains_from_in a.snapshot n j))) M.0).0 none_left o (object_there o i) (in_from_holds a.snapshot o.name e))
+
+    -- and all that was found is marked
+    pub done : IsDone Z.marks
+    done = all_marked_is_done Z.further.fork (kept_of v t) Z.marks Z.rest.heap.chunks Z.further.own Z.further.marks ((Z.further.left M.0).1 none_left)

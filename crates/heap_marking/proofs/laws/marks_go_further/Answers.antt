@@ -1,0 +1,5 @@
+use Rattle.heap_marking.proofs.MarkFurther as proved
+use Rattle.heap_marking.proofs.laws.marks_go_further.Goals as goal
+
+pub returns : goal.returns
+returns c = proved.marks_go_further

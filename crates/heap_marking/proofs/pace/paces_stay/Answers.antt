@@ -1,0 +1,5 @@
+use Rattle.heap_marking.proofs.PaceStands as proved
+use Rattle.heap_marking.proofs.pace.paces_stay.Goals as goal
+
+pub returns : goal.returns
+returns c = proved.paces_stay

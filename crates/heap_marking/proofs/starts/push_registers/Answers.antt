@@ -1,0 +1,21 @@
+use Rattle.std.proofs.Common.{ℕ, ◌<◌, ◌++◌, List, Option, arith, length, length-append, append_assoc, take, ap, sym, ◌∙◌}
+use Rattle.std.specs.List.{flat_map}
+use Rattle.object_layout.specs.declared.word.Addr.{Addr}
+use Rattle.remembered_set.specs.Moved.{into}
+use Rattle.task_frames.specs.declared.frames.Frame.{Frame}
+use Rattle.task_frames.specs.Stack.{frames_of, references_of}
+use Rattle.leaf_copy_gc.specs.Survivors.{held_by}
+use Rattle.heap_marking.proofs.StartLists.{frames_more}
+use Rattle.heap_marking.proofs.starts.push_registers.Goals as goal
+
+pub loop-frame-preserved : goal.loop-frame-preserved
+loop-frame-preserved c =
+    let g : Option Addr → List Addr = into c.args.heap.now.chunks in
+    let fs : List Frame = frames_of c.args.frames.now in
+    let k : ℕ = c.loop-frame.frame in
+    let within : k < length fs = omega (arith, length-append c.args.frames.now.below) in
+    c.in_ok-push_all_own.ensures
+    ∙ (ap (λ rs. c.loop-frame.starts.items ++ flat_map g rs) c.references_in-references.ensures
+    ∙ (ap (λ xs. xs ++ flat_map g (references_of fs k)) c.loop-frame.invariant
+    ∙ (append_assoc c.args.starts.now.items (flat_map g (held_by (take k fs))) (flat_map g (references_of fs k))
+    ∙ ap (λ ys. c.args.starts.now.items ++ ys) (sym (frames_more g fs k within)))))

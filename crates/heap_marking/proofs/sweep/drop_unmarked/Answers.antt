@@ -1,0 +1,71 @@
+use Rattle.std.proofs.Common.{false, true, ◌≡◌, ◌<◌, arith, Some, length, length-set, slice_set, ap, sym, subst, ◌∙◌, ℕ, List, Option, None, refl, slice_get}
+use Rattle.std.proofs.lemmas.Option.{same_Some}
+use Rattle.listed.proofs.Members.{got_within}
+use Rattle.alloc_path.specs.Heap.{Heap}
+use Rattle.inner_mark_gc.specs.Marks.{Marks}
+use Rattle.shared_value.specs.declared.rest.Rest.{Rest}
+use Rattle.heap_marking.specs.Sweeping.{SweepsHome}
+use Rattle.shared_value.specs.World.{flat, marks_at, rest_at}
+use Rattle.shared_value.proofs.Replaced.{set_twice}
+use Rattle.std.specs.Prelude.{IsSome}
+use Rattle.heap_marking.proofs.sweep.drop_unmarked.Goals as goal
+
+pub sweep-requires-clause-room : goal.sweep-requires-clause-room
+sweep-requires-clause-room c =
+    let is : rest_at c.args.homes.now c.args.t ≡ Some c.in-Some.rest = ap flat c.at_mut.ensures.value ∙ (sym c.replace.ensures.value ∙ c.in-Some.is) in
+    let at : marks_at c.args.marks.now c.args.t ≡ Some c.in-Some-replace.marking = ap flat c.at_mut-2.ensures.value ∙ (sym c.replace-2.ensures.value ∙ c.in-Some-replace.is) in
+    (c.requires.can c.in-Some.rest c.in-Some-replace.marking is at).room
+
+pub sweep-requires-clause-in_use : goal.sweep-requires-clause-in_use
+sweep-requires-clause-in_use c =
+    let is : rest_at c.args.homes.now c.args.t ≡ Some c.in-Some.rest = ap flat c.at_mut.ensures.value ∙ (sym c.replace.ensures.value ∙ c.in-Some.is) in
+    let at : marks_at c.args.marks.now c.args.t ≡ Some c.in-Some-replace.marking = ap flat c.at_mut-2.ensures.value ∙ (sym c.replace-2.ensures.value ∙ c.in-Some-replace.is) in
+    (c.requires.can c.in-Some.rest c.in-Some-replace.marking is at).in_use
+
+pub set-requires : goal.set-requires
+set-requires c =
+    let long : length (slice_set c.args.homes.now c.args.t c.replace.new.dest) ≡ length c.args.homes.now = length-set c.args.homes.now c.args.t c.replace.new.dest in
+    let within : c.args.t < length c.args.homes.now = got_within c.args.homes.now c.args.t c.at_mut.result.now c.at_mut.ensures.value in
+    omega (arith, long, within)
+
+pub returns-clause-swept : goal.returns-clause-swept
+returns-clause-swept c = λ r m there marked.
+    let is : rest_at c.args.homes.now c.args.t ≡ Some c.in-Some.rest = ap flat c.at_mut.ensures.value ∙ (sym c.replace.ensures.value ∙ c.in-Some.is) in
+    let at : marks_at c.args.marks.now c.args.t ≡ Some c.in-Some-replace.marking = ap flat c.at_mut-2.ensures.value ∙ (sym c.replace-2.ensures.value ∙ c.in-Some-replace.is) in
+    let same_r : c.in-Some.rest ≡ r = same_Some c.in-Some.rest r (sym is ∙ there) in
+    let same_m : c.in-Some-replace.marking ≡ m = same_Some c.in-Some-replace.marking m (sym at ∙ marked) in
+    let Swept : Rest → Marks → Type 0 = λ x y. SweepsHome c.args.homes.now c.set.new.self c.args.pool.now c.sweep.new.pool c.args.t x y in
+    subst (λ (x : Rest). Swept x m) same_r (subst (λ (y : Marks). Swept c.in-Some.rest y) same_m (record {
+      slots = c.sweep.new.heap.slots;
+      spare = c.sweep.new.heap.spare;
+      homes = c.set.ensures
+          ∙ (set_twice c.args.homes.now c.args.t c.replace.new.dest _
+          ∙ ap (λ (h : Heap). slice_set c.args.homes.now c.args.t (Some (let z : Rest = record c.in-Some.rest { heap = h } in z))) c.sweep.ensures.heap);
+      given = c.sweep.ensures.pool;
+    }))
+
+not_some : false ≡ true → ⊥
+not_some e = cc
+
+-- who has something has a place
+by_some : {A : Type 0} (xs : List (Option A)) (t : ℕ) (o : Option (Option A)) → slice_get xs t ≡ o → IsSome (flat o) → t < length xs
+by_some xs t None e i = absurd cc
+by_some xs t (Some x) e i = got_within xs t x e
+
+pub at_mut-requires : goal.at_mut-requires
+at_mut-requires c = by_some c.args.homes.now c.args.t (slice_get c.args.homes.now c.args.t) refl c.requires.home
+
+pub at_mut-requires-2 : goal.at_mut-requires-2
+at_mut-requires-2 c = by_some c.args.marks.now c.args.t (slice_get c.args.marks.now c.args.t) refl c.requires.marking
+
+pub unreachable-requires : goal.unreachable-requires
+unreachable-requires c = not_some (subst IsSome (ap flat c.at_mut.ensures.value ∙ (sym c.replace.ensures.value ∙ c.in_default.is)) c.requires.home)
+
+pub sweep-requires-clause-done : goal.sweep-requires-clause-done
+sweep-requires-clause-done c =
+    let is : rest_at c.args.homes.now c.args.t ≡ Some c.in-Some.rest = ap flat c.at_mut.ensures.value ∙ (sym c.replace.ensures.value ∙ c.in-Some.is) in
+    let at : marks_at c.args.marks.now c.args.t ≡ Some c.in-Some-replace.marking = ap flat c.at_mut-2.ensures.value ∙ (sym c.replace-2.ensures.value ∙ c.in-Some-replace.is) in
+    (c.requires.can c.in-Some.rest c.in-Some-replace.marking is at).done
+
+pub returns-clause-marks : goal.returns-clause-marks
+returns-clause-marks c = ap (slice_set c.args.marks.now c.args.t) c.replace-2.ensures.after

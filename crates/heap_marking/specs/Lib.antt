@@ -1,0 +1,6 @@
+pub mod Starts
+pub mod Marking
+pub mod MarkCauses
+pub mod MarkStand
+pub mod Sweeping
+pub mod Pace

@@ -1,0 +1,46 @@
+-- Why the heap of a task is neither marked nor swept, as the shared value tells it.
+use Rattle.std.specs.Prelude.{◌≡◌, ◌==◌, ℕ, Bool, true, false, Option, Some, None, is_some, nat_le, slice_get}
+use Rattle.run_trace.specs.declared.entry.Kind.TheVariants.{Mark, More, Sweep}
+use Rattle.run_trace.specs.Settings.{Limits}
+use Rattle.run_ledger.specs.declared.data.Refused.{Refused}
+use Rattle.run_ledger.specs.declared.data.Refused.TheVariants.{Left, Marked, Marking, NotDue, NotMarking, NotWaiting, Swept}
+use Rattle.run_ledger.specs.Entries.{counted, kind_refusal, refused_if, refused_unless}
+use Rattle.run_ledger.specs.Heaps.{heap_of, left_in, marked_in, sweep_number, words_in}
+use Rattle.heap_tree.specs.declared.state.State.{State}
+use Rattle.heap_tree.specs.declared.state.State.TheVariants.{Ready, Out, Waiting, Ended, Joined}
+use Rattle.heap_tree.specs.Node.{state_of}
+use Rattle.shared_value.specs.Causes.{or_else}
+use Rattle.shared_value.specs.World.{World, accounts, marks_at, noted_in}
+use Rattle.shared_value.specs.Stands.{IsWorld}
+
+abbrev pub is_state_waiting : Option State → Bool
+is_state_waiting None = false
+is_state_waiting (Some Ready) = false
+is_state_waiting (Some Out) = false
+is_state_waiting (Some Waiting) = true
+is_state_waiting (Some Ended) = false
+is_state_waiting (Some Joined) = false
+
+-- for what its task is at, or since it was swept
+abbrev pub waiting_cause : World → ℕ → Option Refused
+waiting_cause w t = refused_unless (is_state_waiting (state_of w.tree t)) NotWaiting (refused_unless (noted_in (slice_get w.sets t)).keeps Swept None)
+
+-- or since it isn't being marked
+abbrev pub marking_cause : World → ℕ → Option Refused
+marking_cause w t = or_else (waiting_cause w t) (refused_unless (is_some (marks_at w.marks t)) NotMarking None)
+
+-- or since it has too few words
+abbrev pub words_cause : Limits → ℕ → Option Refused
+words_cause s words = refused_unless (nat_le s.inner words) (NotDue words) None
+
+-- THE LAW: entries that mark and sweep are refused so
+pub record MarksAreRefused (w : World) (k t : ℕ) : Type 0 where
+  pub mark : kind_refusal w.program w.settings (accounts w) k (Mark t)
+      ≡ or_else (waiting_cause w t) (refused_if (is_some (marks_at w.marks t)) Marking (words_cause w.settings (words_in (accounts w).machine (heap_of (accounts w) t))))
+  pub more : (n : ℕ) → kind_refusal w.program w.settings (accounts w) k (More t n) ≡ or_else (marking_cause w t) (refused_if (left_in (heap_of (accounts w) t) == 0) Marked None)
+  pub sweep : (given : ℕ) → kind_refusal w.program w.settings (accounts w) k (Sweep t given)
+      ≡ or_else (marking_cause w t) (
+      refused_unless (left_in (heap_of (accounts w) t) == 0) (Left (marked_in (heap_of (accounts w) t))) (counted given (sweep_number (accounts w).machine (heap_of (accounts w) t)) None))
+
+abbrev pub MarksRefuse : Type 0
+MarksRefuse = (w : World) (k t : ℕ) → IsWorld w → (accounts w).end ≡ None → MarksAreRefused w k t

@@ -1,0 +1,126 @@
+-- What is kept of a worker's own entries, and how it tells what the pace asks.
+use Rattle.std.specs.Prelude.{◌≡◌, ◌⊎◌, ◌==◌, ◌&&◌, ◌++◌, ◌∷◌, ◌<◌, ℕ, not, Bool, true, false, Option, Some, None, List, [], is_some, nat_le, slice_get}
+use Rattle.run_trace.specs.Entry.{Event}
+use Rattle.run_trace.specs.Settings.{Limits}
+use Rattle.hh_model.specs.declared.data.Strand.{Strand}
+use Rattle.hh_model.specs.declared.data.Task.{Task}
+use Rattle.hh_model.specs.Step.{is_waiting, joined, parents, strand_of, waits}
+use Rattle.heap_tree.specs.declared.state.State.{State}
+use Rattle.heap_tree.specs.declared.state.State.TheVariants.{Ready, Out, Waiting, Ended, Joined}
+use Rattle.run_ledger.specs.declared.data.Ledger.{Ledger}
+use Rattle.run_ledger.specs.declared.data.Previous.{Previous as PreviousEntry}
+use Rattle.run_ledger.specs.declared.data.Previous.TheVariants.{Other as OtherEntry, Ran as RanEntry, Forked as ForkedEntry}
+use Rattle.run_ledger.specs.declared.data.WorkerPace.{WorkerPace}
+use Rattle.run_ledger.specs.Heaps.{heap_of, words_in}
+use Rattle.run_ledger.specs.Pace.{is_unmarked, waits_on}
+use Rattle.heap_marking.specs.declared.pace.Fork.{Fork}
+use Rattle.heap_marking.specs.declared.pace.Pace.{Pace}
+use Rattle.heap_marking.specs.declared.pace.Previous.{Previous}
+use Rattle.heap_marking.specs.declared.pace.Previous.TheVariants.{Other, Ran, Forked}
+use Rattle.shared_value.specs.Entered.{refused, Enters}
+use Rattle.shared_value.specs.Stands.{IsWorld}
+use Rattle.shared_value.specs.World.{World, accounts}
+
+-- ---- FORKS
+
+-- the task has joined since that fork
+abbrev pub HasGoneOn : Ledger → Strand → Type 0
+HasGoneOn l s = (x : Task) × (slice_get l.machine.tasks s.task ≡ Some x) × (s.joins < x.joins)
+
+-- a fork that is told by its task and a child is the one that ended this strand: the task waits on it as long as the child hasn't
+-- joined, and has gone on since where it has
+pub record TellsFork (l : Ledger) (f : Fork) (s : Strand) : Type 0 where
+  pub task : f.task ≡ s.task
+  pub child : parents l.machine.tasks f.left ≡ Some s.task
+  pub waits : joined l.machine.tasks f.left ≡ false → waits_on l s ≡ true
+  pub past : joined l.machine.tasks f.left ≡ true → HasGoneOn l s
+
+abbrev pub is_parent : Option ℕ → ℕ → Bool
+is_parent None t = false
+is_parent (Some p) t = p == t
+
+-- a child of t that hasn't joined
+abbrev pub is_live_child : List Task → ℕ → ℕ → Bool
+is_live_child tasks t c = is_parent (parents tasks c) t && not (joined tasks c)
+
+abbrev pub IsLiveChild : List Task → ℕ → Option ℕ → Type 0
+IsLiveChild tasks t (Some c) = is_live_child tasks t c ≡ true
+IsLiveChild tasks t None = (c : ℕ) → is_live_child tasks t c ≡ false
+
+-- the fork on which the task t waits, or none where it doesn't wait
+abbrev pub IsForkOf : Ledger → ℕ → Option Fork → Option Task → Type 0
+IsForkOf l t None o = is_waiting o ≡ false
+IsForkOf l t (Some f) None = ⊥
+IsForkOf l t (Some f) (Some x) = (waits x.status ≡ true) × TellsFork l f (strand_of t x)
+
+-- the state of a task that has joined
+abbrev pub is_state_joined : Option State → Bool
+is_state_joined None = false
+is_state_joined (Some Ready) = false
+is_state_joined (Some Out) = false
+is_state_joined (Some Waiting) = false
+is_state_joined (Some Ended) = false
+is_state_joined (Some Joined) = true
+
+-- ---- MARKINGS
+
+-- a marking that is over for good: its task has gone on, or its heap was swept
+abbrev pub IsOver : Ledger → Strand → Type 0
+IsOver l s = HasGoneOn l s ⊎ ((waits_on l s ≡ true) × ((heap_of l s.task).swept ≡ true))
+
+-- a fork after which the heap was marked
+pub record TellsMark (l : Ledger) (f : Fork) (s : Strand) : Type 0 where
+  pub fork : TellsFork l f s
+  pub marked : waits_on l s ≡ true → (is_some (heap_of l s.task).marked ≡ true) ⊎ ((heap_of l s.task).swept ≡ true)
+
+-- the code has the last one at the end, the definition at the beginning; those that are over may be missing
+abbrev pub KeepsMarks : Ledger → List Fork → List Strand → Type 0
+KeepsMarks l forks [] = forks ≡ []
+KeepsMarks l forks (s ∷ ss) =
+    (IsOver l s × KeepsMarks l forks ss)
+    ⊎ ((front : List Fork) × (f : Fork) × (forks ≡ front ++ f ∷ []) × TellsMark l f s × KeepsMarks l front ss)
+
+-- a marking is under way, as its fork tells
+abbrev pub is_going : Ledger → Fork → Bool
+is_going l f = not (joined l.machine.tasks f.left) && (is_waiting (slice_get l.machine.tasks f.task) && not (heap_of l f.task).swept)
+
+-- a heap is to be marked, as the fork of its task tells
+abbrev pub is_to_begin : Limits → Ledger → Fork → Bool
+is_to_begin s l f =
+    not (joined l.machine.tasks f.left)
+    && (is_waiting (slice_get l.machine.tasks f.task) && (is_unmarked (heap_of l f.task) && nat_le s.inner (words_in l.machine (heap_of l f.task))))
+
+-- the last of these markings that is under way
+abbrev pub IsLastGoing : Ledger → List Fork → Option Fork → Type 0
+IsLastGoing l forks None = (k : ℕ) (f : Fork) → slice_get forks k ≡ Some f → is_going l f ≡ false
+IsLastGoing l forks (Some f) =
+    (k : ℕ) × (slice_get forks k ≡ Some f) × (is_going l f ≡ true) × ((j : ℕ) (g : Fork) → k < j → slice_get forks j ≡ Some g → is_going l g ≡ false)
+
+-- ---- A WORKER'S ENTRIES
+
+abbrev pub KeepsPrevious : Ledger → Previous → PreviousEntry → Type 0
+KeepsPrevious l Other OtherEntry = Unit {0}
+KeepsPrevious l Other RanEntry = ⊥
+KeepsPrevious l Other (ForkedEntry s) = ⊥
+KeepsPrevious l Ran OtherEntry = ⊥
+KeepsPrevious l Ran RanEntry = Unit {0}
+KeepsPrevious l Ran (ForkedEntry s) = ⊥
+KeepsPrevious l (Forked f) OtherEntry = ⊥
+KeepsPrevious l (Forked f) RanEntry = ⊥
+KeepsPrevious l (Forked f) (ForkedEntry s) = TellsFork l f s
+
+-- after steps, which ended with this fork or with none
+abbrev pub previous_of : Option Fork → Previous
+previous_of None = Ran
+previous_of (Some f) = Forked f
+
+-- what is kept tells the same forks as the definition
+pub record KeepsPace (l : Ledger) (q : Pace) (x : WorkerPace) : Type 0 where
+  pub previous : KeepsPrevious l q.previous x.previous
+  pub marks : KeepsMarks l q.marks.items x.marks
+
+-- THE LAW: an accepted entry keeps what is kept
+abbrev pub PacesStay : Type 0
+PacesStay =
+    (w after : World) (e : Event) (q : Pace) (x : WorkerPace) → IsWorld w → Enters w after e → refused w e ≡ None
+    → KeepsPace (accounts w) q x → KeepsPace (accounts after) q x

@@ -1,0 +1,31 @@
+-- Where the marking of a heap begins: at what its remembered fields hold of it, and at what its task's registers do.
+use Rattle.std.specs.Prelude.{ℕ, Option, Some, None, List, [], ◌++◌, slice_get}
+use Rattle.std.specs.List.{flat_map}
+use Rattle.object_layout.specs.declared.word.Addr.{Addr}
+use Rattle.remembered_set.specs.declared.remembered.Source.{Source}
+use Rattle.remembered_set.specs.Moved.{into, targets_of}
+use Rattle.leaf_copy_gc.specs.Survivors.{held_by}
+use Rattle.task_frames.specs.Stack.{frames_of}
+use Rattle.shared_value.specs.declared.heaps.Heaps.{Heaps}
+use Rattle.shared_value.specs.declared.rest.Rest.{Rest}
+use Rattle.shared_value.specs.declared.rest.Work.{Work}
+use Rattle.shared_value.specs.declared.rest.Work.TheVariants.{Calls, Result}
+use Rattle.shared_value.specs.RestingHeaps.{refs_in}
+use Rattle.shared_value.specs.Roots.{heaps_of, sources_of}
+use Rattle.shared_value.specs.World.{World, rest_at}
+
+-- the references of a task's frames
+abbrev pub registers_of : Work → List (Option Addr)
+registers_of (Calls s) = held_by (frames_of s)
+registers_of (Result k r) = []
+
+-- of a heap at rest, with these remembered fields
+abbrev pub starts_in : Heaps → List Source → Rest → List Addr
+starts_in heaps sources r = targets_of refs_in heaps r.heap.chunks sources ++ flat_map (into r.heap.chunks) (registers_of r.work)
+
+abbrev pub starts_by : Heaps → List Source → Option Rest → List Addr
+starts_by heaps sources None = []
+starts_by heaps sources (Some r) = starts_in heaps sources r
+
+abbrev pub starts_of : World → ℕ → List Addr
+starts_of w t = starts_by (heaps_of w) (sources_of (slice_get w.sets t)) (rest_at w.homes t)

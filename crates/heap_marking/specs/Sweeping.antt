@@ -1,0 +1,25 @@
+-- What a sweep asks of a heap and leaves of it.
+use Rattle.std.specs.Prelude.{◌≡◌, ℕ, false, All, IsSome, Option, Some, List, [], slice_set}
+use Rattle.alloc_path.specs.Heap.{Heap, with_places}
+use Rattle.chunk_pool.specs.Chunks.{Chunks, held_at}
+use Rattle.inner_mark_gc.specs.Marks.{HasRoom, IsDone, Marks, marked_of}
+use Rattle.inner_mark_gc.specs.Swept.{AreGiven, gone_of, swept}
+use Rattle.write_barrier.specs.Stored.{Content}
+use Rattle.shared_value.specs.declared.rest.Rest.{Rest}
+
+-- all that was found is marked, and the heap's chunks are in use
+pub record CanSweep (h : Heap) (m : Marks) (pool : Chunks) : Type 0 where
+  pub done : IsDone m
+  pub room : HasRoom h.chunks m
+  pub in_use : All (λ k. IsSome (held_at pool k.number)) h.chunks
+
+-- the home of t has just what is marked in its heap, and the chunks that go are given back
+pub record SweepsHome (old new : List (Option Rest)) (pool pool' : Chunks) (t : ℕ) (r : Rest) (m : Marks) : Type 0 where
+  pub slots : ℕ
+  pub spare : ℕ
+  pub homes : new ≡ slice_set old t (Some (record r { heap = with_places (swept r.heap (marked_of m)) slots spare }))
+  pub given : AreGiven pool pool' (gone_of r.heap (marked_of m))
+
+-- a set that keeps no overwritten references any more
+abbrev pub forgotten : Content → Content
+forgotten c = record c { kept = []; keeps = false }

@@ -1,0 +1,18 @@
+// Marking and sweeping the heaps of tasks that wait, and the pace at which a worker owes it.
+#![tactic(auto)]
+
+mod causes;
+mod laws;
+mod mark_places;
+mod pace;
+mod starts;
+mod sweep;
+
+pub use causes::{is_waiting, words_cause};
+pub use laws::{
+    marks_begin, marks_count, marks_enter, marks_go_further, marks_refuse, marks_stand,
+};
+pub use mark_places::put_marking;
+pub use pace::{Fork, Pace, Previous, is_joined, is_parent, paces_stay};
+pub use starts::starts_by;
+pub use sweep::{drop_unmarked, forget_kept};

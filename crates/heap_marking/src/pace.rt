@@ -1,0 +1,107 @@
+// What is kept of a worker's own entries, as far as the pace of inner collections asks.
+
+ghost use Rattle.std.specs.Prelude.{◌≡◌, None, ◌∷◌, ◌++◌, ◌<◌, ◌-◌, [], OnOk};
+ghost use Rattle.heap_marking.specs.Pace.{is_parent, is_state_joined, previous_of, PacesStay};
+
+use heap_tree::State;
+use listed::Roomy;
+use std::alloc::{AllocError, Global};
+
+/// A fork: the task that forked, and a child of it, the left one where its number is known.
+#[derive(Clone, Copy)]
+pub struct Fork {
+    pub task: u32,
+    pub left: u32,
+}
+
+/// A worker's previous entry, as far as the pace asks.
+#[derive(Clone, Copy)]
+pub enum Previous {
+    /// None, or no steps.
+    Other,
+    /// Steps that forked nothing.
+    Ran,
+    /// Steps that ended with this fork.
+    Forked(Fork),
+}
+
+/// What is kept of a worker's own entries, as far as the pace asks.
+#[derive(Drop)]
+pub struct Pace {
+    pub previous: Previous,
+    /// The forks after which the worker began to mark the heap of the task that waits, the last one at the end.
+    pub marks: Roomy<Fork>,
+}
+
+impl Pace {
+    /// Of a worker without an entry.
+    pub fn new(alloc: Global) -> Pace
+        ensures previous { result.previous ≡ Previous.Other }
+        ensures marks { result.marks.items ≡ [] }
+    {
+        Pace {
+            previous: Previous::Other,
+            marks: Roomy::new(alloc),
+        }
+    }
+
+    /// Makes a place for one marking more.
+    pub fn reserve(&mut self) -> Result<(), AllocError>
+        ensures previous { self.new.previous ≡ self.old.previous }
+        ensures items { self.new.marks.items ≡ self.old.marks.items }
+        ensures room { OnOk result (0 < self.new.marks.room) }
+    {
+        self.marks.reserve(1)
+    }
+
+    /// After steps, which ended with this fork where they ended with one.
+    pub fn after_steps(&mut self, fork: Option<Fork>)
+        ensures { self.new ≡ record self.old { previous = previous_of fork } }
+    {
+        self.previous = match fork {
+            Some(fork) => Previous::Forked(fork),
+            None => Previous::Ran,
+        };
+    }
+
+    /// After the marking of a heap has begun, whose task waits on this fork.
+    pub fn after_mark(&mut self, fork: Fork)
+        requires { 0 < self.old.marks.room }
+        ensures { self.new ≡ record { previous = Previous.Other; marks = record { items = self.old.marks.items ++ fork ∷ []; room = self.old.marks.room - 1 } } }
+    {
+        self.previous = Previous::Other;
+        self.marks.push_reserved(fork);
+    }
+
+    /// After any other entry.
+    pub fn after_other(&mut self)
+        ensures { self.new ≡ record self.old { previous = Previous.Other } }
+    {
+        self.previous = Previous::Other;
+    }
+}
+
+/// An accepted entry keeps what is kept of each worker.
+pub fn paces_stay()
+    ensures { PacesStay }
+{}
+
+/// Whether a task that is at this has joined.
+pub fn is_joined(state: Option<State>) -> bool
+    ensures { result ≡ is_state_joined state }
+{
+    match state {
+        Some(State::Joined) => true,
+        _ => false,
+    }
+}
+
+/// Whether this is the parent.
+pub fn is_parent(parent: Option<u32>, t: u32) -> bool
+    ensures { result ≡ is_parent parent t }
+{
+    match parent {
+        Some(parent) => parent == t,
+        None => false,
+    }
+}

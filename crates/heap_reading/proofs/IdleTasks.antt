@@ -1,0 +1,231 @@
+-- No worker holds a task that doesn't run, whether or not the run has ended: once it is done the root is handed back, and no task runs.
+use Rattle.std.proofs.Common.{◌≡◌, ◌⊎◌, ℕ, zero, suc, ◌+◌, ◌-◌, Bool, true, false, cond, Option, Some, None, is_none, List, [], ◌∷◌, ◌++◌, ◌&&◌, nat_lt, slice_get, inl, inr, refl, ap, sym, subst, ◌∙◌}
+use Rattle.std.proofs.lemmas.Bool.{cases_eq}
+use Rattle.hh_lang.specs.Form.{IsProgram, ProgramText}
+use Rattle.hh_model.specs.declared.data.End.{End}
+use Rattle.hh_model.specs.declared.data.End.TheVariants.{Done}
+use Rattle.hh_model.specs.declared.data.State.{State}
+use Rattle.hh_model.specs.declared.data.Status.{Status}
+use Rattle.hh_model.specs.declared.data.Status.TheVariants.{Running, Waiting, Ended, Joined}
+use Rattle.hh_model.specs.declared.data.Task.{Task}
+use Rattle.hh_model.specs.Step.{asked, can_step, goes_on, is_left, is_running, runs, step}
+use Rattle.run_trace.specs.declared.entry.Kind.{Kind}
+use Rattle.run_trace.specs.declared.entry.Kind.TheVariants.{Took, Ran, Chunk, Begin, End as EndOf, PutOff, Mark, More, Sweep, Fuel}
+use Rattle.run_trace.specs.Entry.{Event}
+use Rattle.run_trace.specs.Settings.{Limits}
+use Rattle.run_ledger.specs.declared.data.Heap.{Heap}
+use Rattle.run_ledger.specs.declared.data.Ledger.{Ledger}
+use Rattle.run_ledger.specs.declared.data.Refused.{Refused}
+use Rattle.run_ledger.specs.declared.data.RunEnd.{RunEnd}
+use Rattle.run_ledger.specs.declared.data.RunEnd.TheVariants.{Machine, Pool}
+use Rattle.run_ledger.specs.Heaps.{emptied, forked_heap, fresh, heap_at, heap_of, in_use, let_go, merged, or_fresh, with_heap, with_heap_at, within}
+use Rattle.run_ledger.specs.Steps.{allocated_by, allocated_in, join_heaps, moved_on, moved_to, settled, stepped_to, task_step, task_steps}
+use Rattle.run_ledger.specs.Entries.{after, chunk_units, refusal, with_chunk}
+use Rattle.run_ledger.specs.Journals.{is_legal, ledger_of}
+use Rattle.run_ledger.proofs.Journals.{entry_tells}
+use Rattle.run_ledger.proofs.Cuts.{journals_can_be_cut}
+use Rattle.run_ledger.proofs.Machine.{stepped_machine}
+use Rattle.ledger_steps.specs.Accounts.{Rests, rested}
+use Rattle.ledger_steps.specs.Last.{EndsDone, GoesOn, Halts, IdleRest, IsOfKind, LastKind, Private, Reading, Writing, Printing, Forking, Ending, Joining, Finishing, Halting, Runs}
+use Rattle.ledger_steps.proofs.Ahead.{with_machine}
+use Rattle.ledger_steps.proofs.Along.{steps_know}
+use Rattle.ledger_steps.proofs.Root.{root_alone}
+use Rattle.ledger_steps.proofs.Split.{entry_runs, legal_idle}
+use Rattle.core_relation.specs.Whole.{handed}
+use Rattle.core_relation.proofs.DoneHands.{done_hands_all}
+use Rattle.core_relation.proofs.HandedBack.{handed_halt, handed_on}
+use Rattle.shared_value.proofs.Entered.{accounts_then, legal_then}
+use Rattle.shared_value.proofs.Entering.{none_by}
+
+-- WHILE THE MACHINE GOES ON SO DOES THE RUN, over steps of a task
+abbrev Goes : Ledger → Type 0
+Goes l = l.machine.end ≡ None → l.end ≡ None
+
+heap_end : (l : Ledger) (t : ℕ) (f : Heap → Heap) → (with_heap l t f).end ≡ l.end
+heap_end l t f = by (heap_at l t)
+  where
+    by : (o : Option Heap) → (with_heap_at l t f o).end ≡ l.end
+    by None = refl
+    by (Some h) = refl
+
+join_end : (l : Ledger) (p c : ℕ) → (join_heaps l p c).end ≡ l.end
+join_end l p c =
+    let f : Heap → Heap = λ h. merged h (heap_of l c) (heap_of l (c + 1)) in
+    heap_end (with_heap (with_heap l p f) c emptied) (c + 1) emptied ∙ (heap_end (with_heap l p f) c emptied ∙ heap_end l p f)
+
+moved_on_end : (l : Ledger) (t : ℕ) (parent : Option ℕ) (s : Status) → (moved_on l t parent s).end ≡ l.end
+moved_on_end l t parent Running = refl
+moved_on_end l t parent Waiting = heap_end (record l { heaps = l.heaps ++ fresh ∷ fresh ∷ [] }) t (forked_heap (within l t))
+moved_on_end l t parent (Ended k n) = heap_end l t let_go
+moved_on_end l t None Joined = refl
+moved_on_end l t (Some p) Joined = join_end l p (cond (is_left t) t (t - 1))
+
+moved_end : (l : Ledger) (t : ℕ) (o : Option Task) → (moved_to l t o).end ≡ l.end
+moved_end l t None = refl
+moved_end l t (Some x) = moved_on_end l t x.parent x.status
+
+settled_end : (l : Ledger) (t : ℕ) (o : Option End) → o ≡ None → (settled l t o).end ≡ l.end
+settled_end l t None e = moved_end l t (slice_get l.machine.tasks t)
+settled_end l t (Some x) e = absurd cc
+
+allocated_end : (l : Ledger) (t : ℕ) (o : Option ℕ) → (allocated_by l t o).end ≡ l.end
+allocated_end l t None = refl
+allocated_end l t (Some w) = heap_end l t _
+
+alive : (o : Option End) (b : Bool) → goes_on o b ≡ true → o ≡ None
+alive None b h = refl
+alive (Some e) b h = absurd cc
+
+step_goes : (p : ProgramText) (l : Ledger) (t : ℕ) → Goes l → Goes (task_step p l t)
+step_goes p l t g = by (can_step l.machine t) refl
+  where
+    by : (c : Bool) → can_step l.machine t ≡ c → Goes (cond c (stepped_to (allocated_in p l t) t (step p l.machine t)) (record l { steps = l.steps + 1 }))
+    by false e = g
+    by true e = λ h.
+        settled_end (record (allocated_in p l t) { machine = step p l.machine t; steps = (allocated_in p l t).steps + 1 }) t (step p l.machine t).end (sym (ap (λ (z : State). z.end) (stepped_machine (allocated_in p l t) t (step p l.machine t))) ∙ h)
+        ∙ (allocated_end l t (asked p l.machine t) ∙ g (alive l.machine.end (is_running (slice_get l.machine.tasks t)) e))
+
+steps_go : (p : ProgramText) (k : ℕ) (l : Ledger) (t : ℕ) → Goes l → Goes (task_steps p l t k)
+steps_go p zero l t g = g
+steps_go p (suc k) l t g = steps_go p k (task_step p l t) t (step_goes p l t g)
+
+-- PAST ONE ENTRY
+abbrev pub IdleHanded : Ledger → Type 0
+IdleHanded l = (u : ℕ) → is_running (slice_get l.machine.tasks u) ≡ false → Rests (handed l) u
+
+abbrev pub DoneIdles : Ledger → Type 0
+DoneIdles l = l.end ≡ Some (Machine Done) → (u : ℕ) → is_running (slice_get l.machine.tasks u) ≡ false
+
+record Idles (l : Ledger) : Type 0 where
+  handed_back : IdleHanded l
+  done : DoneIdles l
+
+not_ended : {A : Type 0} {e : RunEnd} (o : Option RunEnd) → o ≡ None → o ≡ Some e → A
+not_ended o n e = by (sym n ∙ e)
+  where
+    by : {A : Type 0} {e : RunEnd} → ◌≡◌ {A = Option RunEnd} None (Some e) → A
+    by q = absurd cc
+
+module _ (p : ProgramText) (s : Limits) (before : List Event) (I : IsProgram p) (legal : is_legal p s before ≡ true) where
+  abbrev l : Ledger
+  l = ledger_of p s before
+
+  module _ (on : l.end ≡ None) where
+    idle : IdleRest l
+    idle = legal_idle p s before legal on
+
+    module _ (e : Event) (free : refusal p s l e ≡ None) where
+      same : ledger_of p s (before ++ e ∷ []) ≡ after p s l e
+      same = accounts_then p s before e
+
+      -- the run goes on
+      going : (after p s l e).end ≡ None → Idles (after p s l e)
+      going n = record {
+        handed_back = λ u h. subst (λ (z : Ledger). Rests z u) (sym (handed_on (after p s l e) n))
+            (subst IdleRest same (legal_idle p s (before ++ e ∷ []) (legal_then p s before e legal free) (ap (λ (z : Ledger). z.end) same ∙ n)) u h);
+        done = λ q. not_ended (after p s l e).end n q;
+      }
+
+    chunk_idle : (w t : ℕ) → refusal p s l (record { worker = w; kind = Chunk t }) ≡ None → (full : Bool) → nat_lt s.chunks (in_use l + chunk_units (asked p l.machine t)) ≡ full → Idles (after p s l (record { worker = w; kind = Chunk t }))
+    chunk_idle w t free true e =
+        subst Idles (sym (ap (λ b. cond b (record l { end = Some (Pool (in_use l)) }) (with_heap l t (with_chunk (asked p l.machine t)))) e)) (record { handed_back = λ u h. idle u h; done = λ q. absurd cc })
+    chunk_idle w t free false e =
+        going (record { worker = w; kind = Chunk t }) free (ap (λ b. (cond b (record l { end = Some (Pool (in_use l)) }) (with_heap l t (with_chunk (asked p l.machine t)))).end) e ∙ (heap_end l t (with_chunk (asked p l.machine t)) ∙ on))
+
+    -- a run of steps
+    module _ (w t k : ℕ) (free : refusal p s l (record { worker = w; kind = Ran t (suc k) }) ≡ None) where
+      abbrev l' : Ledger
+      l' = task_steps p l t (suc k)
+
+      E : Runs p s l l' t w k
+      E = entry_runs p s before w t k I legal free
+
+      abbrev m : Ledger
+      m = task_steps p l t k
+
+      more : l'.machine.end ≡ None → Idles l'
+      more n = going (record { worker = w; kind = Ran t (suc k) }) free (steps_go p (suc k) l t (λ x. on) n)
+
+      halted : Halts m l' → Idles l'
+      halted H = record {
+        handed_back = λ u h. subst (λ (z : Ledger). Rests z u) (sym (handed_halt m l' H)) (ap (λ hs. (or_fresh (slice_get hs u)).worker) H.heaps ∙ E.idle u (ap (λ (z : State). is_running (slice_get z.tasks u)) (sym H.machine) ∙ h));
+        done = λ q. absurd (H.other (same_end H.end (sym H.is ∙ q)));
+      }
+        where
+          same_end : (e : End) → Some (Machine e) ≡ Some (Machine Done) → e ≡ Done
+          same_end e q = cc
+
+      -- where the root ends nobody else runs
+      alone : EndsDone m l' t E.splits.task → (u : ℕ) → (u ≡ t → ⊥) → is_running (slice_get m.machine.tasks u) ≡ false
+      alone D u ne = by (slice_get m.machine.tasks u) refl
+        where
+          by_runs : (y : Task) → slice_get m.machine.tasks u ≡ Some y → (b : Bool) → is_running (Some y) ≡ b → b ≡ false
+          by_runs y is false q = refl
+          by_runs y is true q =
+              absurd (ne (root_alone m (steps_know p s t k l E.task E.knows (inr E.collects) E.at E.runs E.can E.splits.private).sound E.root t u E.splits.task y E.splits.at.task (ap runs E.splits.at.runs) D.root is q))
+
+          by : (o : Option Task) → slice_get m.machine.tasks u ≡ o → is_running o ≡ false
+          by None is = refl
+          by (Some y) is = by_runs y is (is_running (Some y)) refl
+
+      ended : EndsDone m l' t E.splits.task → (u : ℕ) → is_running (slice_get l'.machine.tasks u) ≡ false
+      ended D u =
+          ap (λ (z : State). is_running (slice_get z.tasks u)) (sym (with_machine l' t let_go)) ∙ elim (cases_eq u t) [
+            | inl e ↦ ap (λ z. is_running (slice_get (rested l' t).machine.tasks z)) e ∙ ap is_running D.ends.ended
+            | inr ne ↦ ap is_running (D.ends.alone.tasks u ne) ∙ (ap (λ (z : State). is_running (slice_get z.tasks u)) (with_machine m t let_go) ∙ alone D u ne)
+          ]
+
+      ran_by : (kind : LastKind) → IsOfKind p m l' t E.splits.task E.splits.line kind → (GoesOn kind → l'.machine.end ≡ None) → Idles l'
+      ran_by Private K go = more (go tt)
+      ran_by Reading K go = more (go tt)
+      ran_by Writing K go = more (go tt)
+      ran_by Printing K go = more (go tt)
+      ran_by Forking K go = more (go tt)
+      ran_by Ending K go = more (go tt)
+      ran_by Joining K go = more (go tt)
+      ran_by Finishing K go = record { handed_back = λ u h. done_hands_all p s l l' t w k E K.ended u; done = λ q u. ended K u }
+      ran_by Halting K go = halted K
+
+    entry_idle : (w : ℕ) (kind : Kind) → refusal p s l (record { worker = w; kind = kind }) ≡ None → Idles (after p s l (record { worker = w; kind = kind }))
+    entry_idle w (Took t) free = going (record { worker = w; kind = Took t }) free (heap_end l t _ ∙ on)
+    entry_idle w (Ran t zero) free = going (record { worker = w; kind = Ran t zero }) free on
+    entry_idle w (Ran t (suc k)) free = let R = E w t k free in ran_by w t k free R.splits.kind R.splits.last R.splits.on
+    entry_idle w (Chunk t) free = chunk_idle w t free (nat_lt s.chunks (in_use l + chunk_units (asked p l.machine t))) refl
+    entry_idle w (Begin t) free = going (record { worker = w; kind = Begin t }) free (heap_end l t _ ∙ on)
+    entry_idle w (EndOf t x y z) free = going (record { worker = w; kind = EndOf t x y z }) free (heap_end l t _ ∙ on)
+    entry_idle w (PutOff t) free = going (record { worker = w; kind = PutOff t }) free (heap_end l t _ ∙ on)
+    entry_idle w (Mark t) free = going (record { worker = w; kind = Mark t }) free (heap_end l t _ ∙ on)
+    entry_idle w (More t n) free = going (record { worker = w; kind = More t n }) free (heap_end l t _ ∙ on)
+    entry_idle w (Sweep t n) free = going (record { worker = w; kind = Sweep t n }) free (heap_end l t _ ∙ on)
+    entry_idle w Fuel free = record { handed_back = λ u h. idle u h; done = λ q. absurd cc }
+
+-- OF A JOURNAL: it is empty, or has a last entry
+last_of : {A : Type 0} (xs : List A) → (xs ≡ []) ⊎ ((ys : List A) × (y : A) × (xs ≡ ys ++ y ∷ []))
+last_of [] = inl refl
+last_of (x ∷ xs) = elim (last_of xs) [
+  | inl e ↦ inr ([], x, ap (λ z. x ∷ z) e)
+  | inr r ↦ inr (x ∷ r.0, r.1, ap (λ z. x ∷ z) r.2)
+]
+
+journal_idles : (p : ProgramText) (s : Limits) (journal : List Event) → IsProgram p → is_legal p s journal ≡ true → Idles (ledger_of p s journal)
+journal_idles p s journal I legal = elim (last_of journal) [
+  | inl e ↦ subst (λ j. Idles (ledger_of p s j)) (sym e) (record { handed_back = λ u h. legal_idle p s [] refl refl u h; done = λ q. absurd cc })
+  | inr r ↦ subst (λ j. Idles (ledger_of p s j)) (sym r.2) (by r.0 r.1 (subst (λ j. is_legal p s j ≡ true) r.2 legal))
+]
+  where
+    by : (before : List Event) (e : Event) → is_legal p s (before ++ e ∷ []) ≡ true → Idles (ledger_of p s (before ++ e ∷ []))
+    by before e h =
+        let cut = (journals_can_be_cut p s before (e ∷ [])).legal.0 h in
+        let free : refusal p s (ledger_of p s before) e ≡ None = first (refusal p s (ledger_of p s before) e) cut.1 in
+        let on : (ledger_of p s before).end ≡ None = none_by (ledger_of p s before).end (entry_tells p s (ledger_of p s before) e (ap is_none free)).0 in
+        subst Idles (sym (accounts_then p s before e)) (entry_idle p s before I cut.0 on e.worker e.kind free)
+      where
+        first : (o : Option Refused) → (is_none o && true) ≡ true → o ≡ None
+        first None q = refl
+        first (Some c) q = absurd cc
+
+pub journal_idle : (p : ProgramText) (s : Limits) (journal : List Event) → IsProgram p → is_legal p s journal ≡ true → IdleHanded (ledger_of p s journal)
+journal_idle p s journal I legal = (journal_idles p s journal I legal).handed_back
+
+pub done_idles : (p : ProgramText) (s : Limits) (journal : List Event) → IsProgram p → is_legal p s journal ≡ true → DoneIdles (ledger_of p s journal)
+done_idles p s journal I legal = (journal_idles p s journal I legal).done

@@ -1,0 +1,297 @@
+-- What the heaps of tasks hold that don't run, as their homes count it.
+use Rattle.std.proofs.Common.{◌≡◌, ℕ, zero, suc, ◌+◌, ◌-◌, ◌*◌, ◌^◌, ◌<◌, ◌≤◌, ◌==◌, ◌++◌, arith, Bool, true, false, cond, not, Option, Some, None, List, [], ◌∷◌, length, length-append, map, min, is_some, option_map, slice_get, inl, inr, refl, ap, ap₂, sym, subst, ◌∙◌}
+use Rattle.std.specs.List.{flat_map}
+use Rattle.std.proofs.lemmas.Bool.{cases_eq}
+use Rattle.std.proofs.lemmas.List.{append-nil, append_assoc}
+use Rattle.std.proofs.lemmas.List.Sums.{sum_by-append, sum_by-cons}
+use Rattle.std.proofs.lemmas.Option.{same_Some}
+use Rattle.listed.proofs.Members.{contains_from_in}
+use Rattle.object_layout.specs.Chunks.{held_words, object_count}
+use Rattle.object_layout.specs.Content.{Content}
+use Rattle.alloc_path.specs.Heap.{counted}
+use Rattle.heap_tree.specs.declared.state.State.{State}
+use Rattle.heap_tree.specs.declared.state.State.TheVariants.{Ready, Out, Waiting as Waits', Ended as Ended', Joined as Joined'}
+use Rattle.heap_tree.specs.Node.{Node}
+use Rattle.hh_model.specs.declared.data.Name.{Name}
+use Rattle.hh_model.specs.declared.data.State.{State as Machine}
+use Rattle.hh_model.specs.declared.data.Status.{Status}
+use Rattle.hh_model.specs.declared.data.Status.TheVariants.{Running, Waiting, Ended, Joined}
+use Rattle.hh_model.specs.declared.data.Task.{Task}
+use Rattle.hh_model.specs.Step.{is_running, runs}
+use Rattle.hh_model.specs.Store.{IsStored}
+use Rattle.hh_model.specs.declared.data.End.TheVariants.{Done, Trapped, Entangled}
+use Rattle.run_ledger.specs.declared.data.Heap.{Heap as Account}
+use Rattle.run_ledger.specs.declared.data.Ledger.{Ledger}
+use Rattle.run_ledger.specs.declared.data.RunEnd.{RunEnd}
+use Rattle.run_ledger.specs.declared.data.RunEnd.TheVariants.{Fuel, Machine as MachineEnd, Pool}
+use Rattle.run_ledger.specs.Heaps.{heap_of, held, held_in, in_use, let_go, or_fresh, small_in, words_at, words_of, words_sum}
+use Rattle.run_ledger.specs.Report.{kept, kept_from}
+use Rattle.run_ledger.proofs.Holders.{tasks_are_held_once}
+use Rattle.run_ledger.proofs.Bounds.{steps_are_bounded}
+use Rattle.run_ledger.proofs.Counted.{journals_are_counted}
+use Rattle.run_ledger.proofs.Space.{heaps_fit, use_is_bounded}
+use Rattle.run_ledger.proofs.Stocks.{names_are_held_once}
+use Rattle.ledger_steps.specs.Accounts.{Rests, rested}
+use Rattle.ledger_steps.proofs.Ahead.{with_off}
+use Rattle.ledger_steps.proofs.Rested.{rested_view}
+use Rattle.core_relation.specs.Stands.{HasNames, Stands, large_chunks, names_of, small_chunks}
+use Rattle.core_relation.specs.Value.{In, Seen, objects_in}
+use Rattle.core_relation.specs.Whole.{Node as SeenNode, State as SeenState, by_end, handed, state_by}
+use Rattle.core_relation.specs.Whole.{Ready as IsReady, Out as IsOut, Waits, HasEnded, HasJoined}
+use Rattle.shared_value.specs.declared.rest.Rest.{Rest}
+use Rattle.heap_reading.specs.HeldNames.{is_state_running, kept_of}
+use Rattle.shared_value.specs.Objects.{chunk_of, chunks_of}
+use Rattle.shared_value.specs.World.{World, accounts, home_in, node_of, rest_at, state_of, value_of}
+use Rattle.shared_value.specs.Stands.{IsWorld}
+use Rattle.shared_value.proofs.AllWords.{words_are}
+use Rattle.shared_value.proofs.SameLength.{same_length}
+use Rattle.heap_reading.proofs.IdleTasks.{journal_idle}
+use Rattle.shared_value.proofs.Leading.{home_chunks}
+use Rattle.shared_value.proofs.ObjectCounts.{objects_counted}
+use Rattle.shared_value.proofs.Now.{goes_by}
+use Rattle.shared_value.proofs.ObjectCounts.{name_in}
+
+-- WHO RUNS, by the tree
+seen_runs : SeenState → Bool
+seen_runs IsReady = true
+seen_runs IsOut = true
+seen_runs Waits = false
+seen_runs HasEnded = false
+seen_runs HasJoined = false
+
+by_state : (a : State) → is_state_running (Some a) ≡ seen_runs (state_of a)
+unfolding seen_runs
+by_state Ready = refl
+by_state Out = refl
+by_state Waits' = refl
+by_state Ended' = refl
+by_state Joined' = refl
+
+by_status : (s : Status) (o : Option ℕ) → seen_runs (state_by s o) ≡ runs s
+unfolding seen_runs
+by_status Running None = refl
+by_status Running (Some w) = refl
+by_status Waiting o = refl
+by_status (Ended n r) o = refl
+by_status Joined o = refl
+
+abbrev told : Option ℕ → Task → SeenNode
+told o x = record { parent = x.parent; state = state_by x.status o }
+
+runs_by : (n : Option Node) (x : Option Task) (o : Option ℕ) → option_map node_of n ≡ option_map (told o) x → is_state_running (option_map (λ m. m.state) n) ≡ is_running x
+runs_by None None o e = refl
+runs_by None (Some x) o e = absurd cc
+runs_by (Some m) None o e = absurd cc
+runs_by (Some m) (Some x) o e = by_state m.state ∙ (ap (λ y. seen_runs y.state) (same_Some (node_of m) (told o x) e) ∙ by_status x.status o)
+
+-- HOW MANY names small chunks and large ones have
+small_many : List Content → ℕ
+small_many ks = length (flat_map (λ ns. ns) (map names_of (small_chunks (chunks_of ks))))
+
+large_many : List Content → ℕ
+large_many ks = length (map name_in (objects_in (large_chunks (chunks_of ks))))
+
+length_names : (os : List Seen) → length (map name_in os) ≡ length os
+length_names [] = refl
+length_names (o ∷ os) = ap suc (length_names os)
+
+chunks_many : (ks : List Content) → small_many ks + large_many ks ≡ length (objects_in (chunks_of ks))
+unfolding small_many large_many
+chunks_many [] = refl
+chunks_many (k ∷ ks) = by (k.size == 1024) (chunks_many ks) ∙ sym (length-append (chunk_of k).objects (objects_in (chunks_of ks)))
+  where
+    by : (b : Bool) → small_many ks + large_many ks ≡ length (objects_in (chunks_of ks))
+        → length (flat_map (λ ns. ns) (map names_of (cond (not (not b)) (chunk_of k ∷ small_chunks (chunks_of ks)) (small_chunks (chunks_of ks)))))
+        + length (map name_in (objects_in (cond (not b) (chunk_of k ∷ large_chunks (chunks_of ks)) (large_chunks (chunks_of ks))))) ≡ length (chunk_of k).objects + length (objects_in (chunks_of ks))
+    by true go =
+        let own = length_names (chunk_of k).objects in
+        let both = length-append (names_of (chunk_of k)) (flat_map (λ ns. ns) (map names_of (small_chunks (chunks_of ks)))) in
+        omega (arith, own, both, go)
+    by false go =
+        let own = length_names ((chunk_of k).objects ++ objects_in (large_chunks (chunks_of ks))) in
+        let rest = length_names (objects_in (large_chunks (chunks_of ks))) in
+        let both = length-append (chunk_of k).objects (objects_in (large_chunks (chunks_of ks))) in
+        omega (arith, own, rest, both, go)
+
+held_many : (a : Account) (ks : List Content) → HasNames (chunks_of ks) a → length (held_in a) ≡ length (objects_in (chunks_of ks))
+unfolding small_many large_many
+held_many a ks N =
+    length-append (small_in a) a.large
+    ∙ (ap₂ (λ x y. length (flat_map (λ ns. ns) x) + length y) (sym N.small) (sym N.large)
+    ∙ chunks_many ks)
+
+-- OF A TASK that doesn't run
+pub handed_held : (l : Ledger) (t : ℕ) → held_in (heap_of (handed l) t) ≡ held_in (heap_of l t)
+handed_held l t = by l.end
+  where
+    root : held_in (heap_of (rested l 0) t) ≡ held_in (heap_of l t)
+    root = elim (cases_eq t 0) [
+      | inl e ↦ ap (λ z. held_in (heap_of (rested l 0) z)) e ∙ (rested_view held_in (λ z. refl) l 0 ∙ ap (λ z. held_in (heap_of l z)) (sym e))
+      | inr ne ↦ ap (λ o. held_in (or_fresh o)) (with_off l 0 t let_go ne)
+    ]
+
+    by : (o : Option RunEnd) → held_in (heap_of (by_end l o) t) ≡ held_in (heap_of l t)
+    by None = refl
+    by (Some (Fuel n)) = refl
+    by (Some (Pool n)) = refl
+    by (Some (MachineEnd Done)) = root
+    by (Some (MachineEnd (Trapped kind u line))) = refl
+    by (Some (MachineEnd (Entangled u v))) = refl
+
+module _ (w : World) (I : IsWorld w) (t : ℕ) where
+  abbrev l : Ledger
+  l = accounts w
+
+  same_machine : (handed l).machine ≡ l.machine
+  same_machine = (goes_by l l.end).machine
+
+  pub runs_is : is_state_running (option_map (λ m. m.state) (slice_get w.tree t)) ≡ is_running (slice_get l.machine.tasks t)
+  runs_is =
+      runs_by (slice_get w.tree t) (slice_get (handed l).machine.tasks t) (heap_of (handed l) t).worker (I.stands.totals.node t)
+      ∙ ap (λ (m : Machine). is_running (slice_get m.tasks t)) same_machine
+
+  pub none_of : is_running (slice_get l.machine.tasks t) ≡ true → kept_of l t ≡ []
+  none_of e = ap (λ b. cond b [] (held_in (heap_of l t))) e
+
+  module _ (idle : is_running (slice_get l.machine.tasks t) ≡ false) where
+    rests : Rests (handed l) t
+    rests = journal_idle w.program w.settings w.journal.items I.form I.legal t idle
+
+    V : Stands (value_of w) (handed l)
+    V = I.stands.homes
+
+    kept_is : kept_of l t ≡ held_in (heap_of l t)
+    kept_is = ap (λ b. cond b [] (held_in (heap_of l t))) idle
+
+    names_are : (ks : List Content) → ((value_of w).homes t).chunks ≡ chunks_of ks → HasNames (chunks_of ks) (heap_of (handed l) t)
+    names_are ks here = subst (λ cs. HasNames cs (heap_of (handed l) t)) here (V.homes t rests).names
+
+    many_by : (ks : List Content) → ((value_of w).homes t).chunks ≡ chunks_of ks → length (objects_in (chunks_of ks)) ≡ length (kept_of l t)
+    many_by ks here = sym (held_many (heap_of (handed l) t) ks (names_are ks here)) ∙ (ap length (handed_held l t) ∙ ap length (sym kept_is))
+
+    here_by : (o : Option Rest) → rest_at w.homes t ≡ o → ((value_of w).homes t).chunks ≡ (home_in o).chunks
+    here_by o e = ap (λ x. (home_in x).chunks) e
+
+    -- its objects and their words
+    pub objects_are : (r : Rest) → rest_at w.homes t ≡ Some r → object_count r.heap.chunks ≡ length (kept_of l t)
+    objects_are r there = objects_counted r.heap.chunks (I.heaps t r there).tidy ∙ many_by r.heap.chunks (here_by (Some r) there ∙ home_chunks r)
+
+    pub words_kept : (r : Rest) → rest_at w.homes t ≡ Some r → held_words r.heap.chunks ≡ words_sum l.machine (kept_of l t)
+    words_kept r there =
+        sym (words_are (value_of w) (handed l) t r.heap.chunks V rests (here_by (Some r) there ∙ home_chunks r) (I.heaps t r there).tidy)
+        ∙ ap₂ (λ (m : Machine) ns. words_sum m ns) same_machine (handed_held l t ∙ sym kept_is)
+
+    -- without a home it holds nothing
+    pub nothing_kept : rest_at w.homes t ≡ None → kept_of l t ≡ []
+    nothing_kept none = empty (kept_of l t) (many_by [] (here_by None none))
+      where
+        empty : (ns : List Name) → 0 ≡ length ns → ns ≡ []
+        empty [] e = refl
+        empty (n ∷ ns) e = absurd cc
+
+-- TASK BY TASK
+abbrev pub kept_before : Ledger → ℕ → List Name
+kept_before l zero = []
+kept_before l (suc t) = kept_before l t ++ kept_of l t
+
+pub kept_more : (l : Ledger) (t : ℕ) → kept_before l (t + 1) ≡ kept_before l t ++ kept_of l t
+kept_more l t = ap (kept_before l) (let e : t + 1 ≡ suc t = omega arith in e)
+
+-- what the heaps from t on hold
+kept_on : (l : Ledger) (hs : List Account) (t : ℕ) → ((i : ℕ) → slice_get hs i ≡ slice_get l.heaps (t + i)) → kept_before l t ++ kept_from l.machine.tasks hs t ≡ kept_before l (t + length hs)
+kept_on l [] t same = append-nil (kept_before l t) ∙ ap (kept_before l) (let e : t ≡ t + 0 = omega arith in e)
+kept_on l (h ∷ hs) t same =
+    by (is_running (slice_get l.machine.tasks t)) refl
+    ∙ (ap (λ ns. ns ++ kept_from l.machine.tasks hs (t + 1)) (sym (kept_more l t))
+    ∙ (kept_on l hs (t + 1) (λ i. same (suc i) ∙ ap (slice_get l.heaps) (let e : t + suc i ≡ t + 1 + i = omega arith in e))
+    ∙ ap (kept_before l) (let e : t + 1 + length hs ≡ t + suc (length hs) = omega arith in e)))
+  where
+    here : heap_of l t ≡ h
+    here = ap or_fresh (ap (slice_get l.heaps) (let e : t ≡ t + 0 = omega arith in e) ∙ sym (same 0))
+
+    by : (b : Bool) → is_running (slice_get l.machine.tasks t) ≡ b
+        → kept_before l t ++ cond b (kept_from l.machine.tasks hs (t + 1)) (held_in h ++ kept_from l.machine.tasks hs (t + 1)) ≡ (kept_before l t ++ kept_of l t) ++ kept_from l.machine.tasks hs (t + 1)
+    by true e =
+        ap (λ ns. ns ++ kept_from l.machine.tasks hs (t + 1)) (sym (append-nil (kept_before l t)) ∙ ap (λ b. kept_before l t ++ cond b [] (held_in (heap_of l t))) (sym e))
+    by false e =
+        sym (append_assoc (kept_before l t) (held_in h) (kept_from l.machine.tasks hs (t + 1)))
+        ∙ ap (λ ns. (kept_before l t ++ ns) ++ kept_from l.machine.tasks hs (t + 1)) (sym (ap (λ b. cond b [] (held_in (heap_of l t))) e ∙ ap held_in here))
+
+pub kept_all : (l : Ledger) → kept_before l (length l.heaps) ≡ kept l
+kept_all l = ap (kept_before l) (let e : length l.heaps ≡ 0 + length l.heaps = omega arith in e) ∙ sym (kept_on l l.heaps 0 (λ i. ap (slice_get l.heaps) (let e : i ≡ 0 + i = omega arith in e)))
+
+-- 64 BITS COUNT IT
+stored_most : (m : Machine) (ns : List Name) → ((n : Name) → In ns n → IsStored m n) → length ns ≤ words_sum m ns
+stored_most m [] stored = omega arith
+stored_most m (n ∷ ns) stored =
+    let o = stored n (inl refl) in
+    let a : words_at m n ≡ 2 + length o.0.refs + length o.0.ints = ap words_of o.1 in
+    let b = sum_by-cons (words_at m) n ns in
+    let c = stored_most m ns (λ k i. stored k (inr i)) in
+    omega (arith, a, b, c)
+
+module _ (g : List Name → ℕ) (add : (xs ys : List Name) → g (xs ++ ys) ≡ g xs + g ys) where
+  kept_least : (tasks : List Task) (heaps : List Account) (t : ℕ) → g (kept_from tasks heaps t) ≤ g (flat_map held_in heaps)
+  kept_least tasks [] t = omega arith
+  kept_least tasks (h ∷ hs) t = by (is_running (slice_get tasks t)) (kept_least tasks hs (t + 1)) (add (held_in h) (flat_map held_in hs)) (add (held_in h) (kept_from tasks hs (t + 1)))
+    where
+      by : (b : Bool) → g (kept_from tasks hs (t + 1)) ≤ g (flat_map held_in hs) → g (held_in h ++ flat_map held_in hs) ≡ g (held_in h) + g (flat_map held_in hs)
+          → g (held_in h ++ kept_from tasks hs (t + 1)) ≡ g (held_in h) + g (kept_from tasks hs (t + 1))
+          → g (cond b (kept_from tasks hs (t + 1)) (held_in h ++ kept_from tasks hs (t + 1))) ≤ g (held_in h ++ flat_map held_in hs)
+      by true r a b = omega (arith, r, a)
+      by false r a b = omega (arith, r, a, b)
+
+module _ (w : World) (I : IsWorld w) where
+  abbrev k : Ledger
+  k = accounts w
+
+  few_words : words_sum k.machine (held k) ≤ 2 ^ 26
+  few_words =
+      let u : in_use k ≤ w.settings.chunks = (use_is_bounded w.program w.settings w.journal.items I.legal).now in
+      let c : w.settings.chunks ≤ 65536 = I.limits.chunks.1 in
+      let f : words_sum k.machine (held k) ≤ 1024 * in_use k = (heaps_fit w.program w.settings w.journal.items I.legal).words in
+      omega (arith, u, c, f)
+
+  pub words_few : words_sum k.machine (kept k) ≤ 2 ^ 26
+  words_few =
+      let a : words_sum k.machine (kept k) ≤ words_sum k.machine (held k) = kept_least (words_sum k.machine) (sum_by-append (words_at k.machine)) k.machine.tasks k.heaps 0 in
+      let f = few_words in
+      omega (arith, a, f)
+
+  pub objects_few : length (kept k) ≤ 2 ^ 26
+  objects_few =
+      let H = names_are_held_once w.program w.settings w.journal.items I.legal in
+      let o : length (held k) ≤ words_sum k.machine (held k) = stored_most k.machine (held k) (λ n i. H.stored n (contains_from_in (held k) n i)) in
+      let a : length (kept k) ≤ length (held k) = kept_least length length-append k.machine.tasks k.heaps 0 in
+      let f = few_words in
+      omega (arith, o, a, f)
+
+  -- each task has a home
+  homes_long : length w.homes ≡ length k.machine.tasks
+  homes_long =
+      I.made
+      ∙ (same_length w.tree (handed k).machine.tasks
+      (λ u. sym (some_map node_of (slice_get w.tree u)) ∙ (ap is_some (I.stands.totals.node u) ∙ some_map (told (heap_of (handed k) u).worker) (slice_get (handed k).machine.tasks u)))
+      ∙ ap (λ (m : Machine). length m.tasks) (goes_by k k.end).machine)
+    where
+      some_map : {A B : Type 0} (f : A → B) (o : Option A) → is_some (option_map f o) ≡ is_some o
+      some_map f None = refl
+      some_map f (Some x) = refl
+
+  pub homes_few : length w.homes < 2 ^ 32
+  homes_few =
+      let c = (journals_are_counted w.program w.settings w.journal.items).counts.made in
+      let s = steps_are_bounded w.program w.settings w.journal.items I.legal in
+      let d = I.limits.fuel.1 in
+      let h = homes_long in
+      omega (arith, c, s, d, h)
+
+  pub kept_homes : kept_before k (length w.homes) ≡ kept k
+  kept_homes = ap (kept_before k) (homes_long ∙ sym (tasks_are_held_once w.program w.settings w.journal.items I.legal).as_many) ∙ kept_all k
+
+-- one more task counted
+pub counted_more : (a b c d : ℕ) → a ≡ counted c → b ≡ counted d → min (a + b) (2 ^ 64 - 1) ≡ counted (c + d)
+counted_more a b c d e f = omega (arith, e, f)
+
+pub counted_few : (n : ℕ) → n ≤ 2 ^ 26 → counted n ≡ n
+counted_few n few = omega (arith, few)

@@ -1,0 +1,166 @@
+-- The tree of a shared value and the machine's tasks, whether or not the run has ended.
+use Rattle.std.proofs.Common.{◌≡◌, ℕ, Bool, true, false, Option, Some, None, List, [], ◌∷◌, option_map, slice_get, inl, inr, refl, ap, sym, subst, ◌∙◌}
+use Rattle.std.proofs.lemmas.Bool.{false≢true}
+use Rattle.std.proofs.lemmas.Option.{same_Some}
+use Rattle.heap_tree.specs.declared.state.State.{State}
+use Rattle.heap_tree.specs.declared.state.State.TheVariants.{Ready, Out, Waiting as Waits', Ended as Ended', Joined as Joined'}
+use Rattle.heap_tree.specs.Node.{Node, parent_in, parent_of}
+use Rattle.hh_model.specs.declared.data.State.{State as Machine}
+use Rattle.hh_model.specs.declared.data.Status.{Status}
+use Rattle.hh_model.specs.declared.data.Status.TheVariants.{Running, Waiting, Ended, Joined}
+use Rattle.hh_model.specs.declared.data.Task.{Task}
+use Rattle.hh_model.specs.Paths.{AreOwners, IsWalkOfJoined}
+use Rattle.hh_model.specs.Step.{is_joined, is_over, joined, owner_of, parent_of as parents_in, parents}
+use Rattle.hh_model.specs.Tree.{TreeOf, joins_in, waiting}
+use Rattle.hh_model.proofs.PathLaws.{owners_are_walks}
+use Rattle.run_ledger.specs.declared.data.Ledger.{Ledger}
+use Rattle.run_ledger.specs.Heaps.{heap_of}
+use Rattle.run_ledger.specs.Sound.{SoundLedger}
+use Rattle.run_ledger.proofs.Journals.{legal_sound}
+use Rattle.core_relation.specs.Whole.{Node as SeenNode, State as SeenState, handed, state_by}
+use Rattle.core_relation.specs.Whole.{Ready as IsReady, Out as IsOut, Waits, HasEnded, HasJoined}
+use Rattle.shared_value.specs.World.{World, accounts, node_of, state_of}
+use Rattle.shared_value.specs.Stands.{IsWorld}
+use Rattle.shared_value.proofs.Now.{goes_by}
+
+-- WHO HAS JOINED
+has_joined : SeenState → Bool
+has_joined IsReady = false
+has_joined IsOut = false
+has_joined Waits = false
+has_joined HasEnded = false
+has_joined HasJoined = true
+
+by_status : (s : Status) (o : Option ℕ) → has_joined (state_by s o) ≡ is_over s
+unfolding has_joined
+by_status Running None = refl
+by_status Running (Some w) = refl
+by_status Waiting o = refl
+by_status (Ended n r) o = refl
+by_status Joined o = refl
+
+joined_state : (s : State) → s ≡ Joined' → has_joined (state_of s) ≡ true
+unfolding has_joined
+joined_state s e = ap (λ z. has_joined (state_of z)) e
+
+live_state : (s : State) → (s ≡ Joined' → ⊥) → has_joined (state_of s) ≡ false
+unfolding has_joined
+live_state Ready off = refl
+live_state Out off = refl
+live_state Waits' off = refl
+live_state Ended' off = refl
+live_state Joined' off = absurd (off refl)
+
+abbrev told : Option ℕ → Task → SeenNode
+told o x = record { parent = x.parent; state = state_by x.status o }
+
+-- a node and the task that it stands for
+pub record IsNodeOf (worker : Option ℕ) (n : Node) (x : Task) : Type 0 where
+  pub parent : n.parent ≡ x.parent
+  pub state : state_of n.state ≡ state_by x.status worker
+
+task_by : (worker : Option ℕ) (n : Node) (x : Option Task) → Some (node_of n) ≡ option_map (told worker) x → (y : Task) × (x ≡ Some y) × IsNodeOf worker n y
+task_by worker n None e = absurd cc
+task_by worker n (Some y) e =
+    let same = same_Some (node_of n) (told worker y) e in
+    (y, refl, record { parent = ap (λ (z : SeenNode). z.parent) same; state = ap (λ (z : SeenNode). z.state) same })
+
+node_by : (worker : Option ℕ) (n : Option Node) (x : Task) → option_map node_of n ≡ Some (told worker x) → (m : Node) × (n ≡ Some m) × IsNodeOf worker m x
+node_by worker None x e = absurd cc
+node_by worker (Some m) x e =
+    let same = same_Some (node_of m) (told worker x) e in
+    (m, refl, record { parent = ap (λ (z : SeenNode). z.parent) same; state = ap (λ (z : SeenNode). z.state) same })
+
+-- OWNERS
+walk_end : (par : ℕ → Option ℕ) (jd : ℕ → Bool) (t a b : ℕ) (ps qs : List ℕ) → IsWalkOfJoined par jd t ps a → IsWalkOfJoined par jd t qs b → jd a ≡ false → jd b ≡ false → a ≡ b
+walk_end par jd t a b [] [] e f la lb = sym e ∙ f
+walk_end par jd t a b [] (q ∷ qs) e f la lb = absurd (false≢true (sym la ∙ (ap jd (sym e) ∙ f.0)))
+walk_end par jd t a b (p ∷ ps) [] e f la lb = absurd (false≢true (sym lb ∙ (ap jd (sym f) ∙ e.0)))
+walk_end par jd t a b (p ∷ ps) (q ∷ qs) e f la lb =
+    let same : q ≡ p = same_Some q p (sym f.1 ∙ e.1) in
+    walk_end par jd p a b ps qs e.2 (subst (λ z. IsWalkOfJoined par jd z qs b) same f.2) la lb
+
+module _ (w : World) (I : IsWorld w) where
+  abbrev l : Ledger
+  l = accounts w
+
+  pub same_machine : (handed l).machine ≡ l.machine
+  same_machine = (goes_by l l.end).machine
+
+  pub sound : SoundLedger l
+  sound = legal_sound w.program w.settings w.journal.items I.legal
+
+  pub tree_of : TreeOf l.machine.tasks l.machine.edges
+  tree_of = sound.kept.tree
+
+  pub owners : AreOwners (parents l.machine.tasks) (joined l.machine.tasks) (waiting l.machine.tasks)
+  owners = owners_are_walks _ (parents l.machine.tasks) (joined l.machine.tasks) (waiting l.machine.tasks) (joins_in l.machine.tasks) l.machine.edges tree_of
+
+  abbrev worker : ℕ → Option ℕ
+  worker t = (heap_of (handed l) t).worker
+
+  nodes : (t : ℕ) → option_map node_of (slice_get w.tree t) ≡ option_map (told (worker t)) (slice_get l.machine.tasks t)
+  nodes t = I.stands.totals.node t ∙ ap (λ (m : Machine). option_map (told (worker t)) (slice_get m.tasks t)) same_machine
+
+  pub task_of : (t : ℕ) (n : Node) → slice_get w.tree t ≡ Some n → (x : Task) × (slice_get l.machine.tasks t ≡ Some x) × IsNodeOf (worker t) n x
+  task_of t n e = task_by (worker t) n (slice_get l.machine.tasks t) (sym (ap (option_map node_of) e) ∙ nodes t)
+
+  pub node_at : (t : ℕ) (x : Task) → slice_get l.machine.tasks t ≡ Some x → (n : Node) × (slice_get w.tree t ≡ Some n) × IsNodeOf (worker t) n x
+  node_at t x e = node_by (worker t) (slice_get w.tree t) x (nodes t ∙ ap (option_map (told (worker t))) e)
+
+  pub joined_now : (t : ℕ) (n : Node) → slice_get w.tree t ≡ Some n → n.state ≡ Joined' → joined l.machine.tasks t ≡ true
+  unfolding has_joined
+  joined_now t n e j =
+      let k = task_of t n e in
+      ap is_joined k.1 ∙ (sym (by_status k.0.status (worker t)) ∙ (ap has_joined (sym k.2.state) ∙ joined_state n.state j))
+
+  pub live_now : (t : ℕ) (n : Node) → slice_get w.tree t ≡ Some n → (n.state ≡ Joined' → ⊥) → joined l.machine.tasks t ≡ false
+  unfolding has_joined
+  live_now t n e j =
+      let k = task_of t n e in
+      ap is_joined k.1 ∙ (sym (by_status k.0.status (worker t)) ∙ (ap has_joined (sym k.2.state) ∙ live_state n.state j))
+
+  pub parent_now : (t : ℕ) (n : Node) → slice_get w.tree t ≡ Some n → parents l.machine.tasks t ≡ n.parent
+  parent_now t n e =
+      let k = task_of t n e in
+      ap parents_in k.1 ∙ sym k.2.parent
+
+  pub unmade_now : (t : ℕ) → slice_get w.tree t ≡ None → slice_get l.machine.tasks t ≡ None
+  unmade_now t e = by (slice_get l.machine.tasks t) (sym (nodes t) ∙ ap (option_map node_of) e)
+    where
+      by : (o : Option Task) → option_map (told (worker t)) o ≡ None → o ≡ None
+      by None z = refl
+      by (Some x) z = absurd cc
+
+  -- who has joined owns nothing: what it had is its parent's
+  pub owner_up : (t p : ℕ) → joined l.machine.tasks t ≡ true → parents l.machine.tasks t ≡ Some p → owner_of l.machine.tasks t ≡ owner_of l.machine.tasks p
+  owner_up t p j e =
+      let a = owners.walks t in
+      let b = owners.walks p in
+      walk_end (parents l.machine.tasks) (joined l.machine.tasks) t (owner_of l.machine.tasks t) (owner_of l.machine.tasks p) a.0 (p ∷ b.0) a.1 (j, e, b.1) (owners.live t) (owners.live p)
+
+  pub owner_live : (t : ℕ) → joined l.machine.tasks t ≡ false → owner_of l.machine.tasks t ≡ t
+  owner_live t live = owners.own t live
+
+  -- as the tree tells it
+  state_in : (n : Option Node) (s : State) → option_map (λ (m : Node). m.state) n ≡ Some s → (m : Node) × (n ≡ Some m) × (m.state ≡ s)
+  state_in None s e = absurd cc
+  state_in (Some m) s e = (m, refl, same_Some m.state s e)
+
+  pub told_joined : (t : ℕ) → option_map (λ (m : Node). m.state) (slice_get w.tree t) ≡ Some Joined' → joined l.machine.tasks t ≡ true
+  told_joined t e = let k = state_in (slice_get w.tree t) Joined' e in joined_now t k.0 k.1 k.2
+
+  pub told_live : (t : ℕ) (o : Option State) → option_map (λ (m : Node). m.state) (slice_get w.tree t) ≡ o → (o ≡ Some Joined' → ⊥) → joined l.machine.tasks t ≡ false
+  told_live t None e off = ap is_joined (unmade_now t (none_in (slice_get w.tree t) e))
+    where
+      none_in : (n : Option Node) → option_map (λ (m : Node). m.state) n ≡ None → n ≡ None
+      none_in None z = refl
+      none_in (Some m) z = absurd cc
+  told_live t (Some s) e off = let k = state_in (slice_get w.tree t) s e in live_now t k.0 k.1 (λ j. off (ap Some (sym k.2 ∙ j)))
+
+  pub told_parent : (t : ℕ) → parent_of w.tree t ≡ parents l.machine.tasks t
+  told_parent t = by (slice_get w.tree t) refl
+    where
+      by : (o : Option Node) → slice_get w.tree t ≡ o → parent_in o ≡ parents l.machine.tasks t
+      by None e = sym (ap parents_in (unmade_now t e))
+      by (Some n) e = sym (parent_now t n e)

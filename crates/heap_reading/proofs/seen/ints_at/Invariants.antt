@@ -1,0 +1,11 @@
+use Rattle.std.proofs.Common.{◌≡◌, All, take}
+use Rattle.std.specs.Prelude.{FitsSigned}
+use Rattle.std.specs.Int.{w64}
+use Rattle.object_layout.specs.Place.{object_at}
+use Rattle.heap_reading.proofs.seen.ints_at.Given as goal
+
+abbrev pub invariant-loop-field : goal.invariant-loop-field
+invariant-loop-field l = record {
+  ints : l.ints ≡ take l.field (object_at l.chunk.cells l.at).ints;
+  fit : All (FitsSigned w64) (take l.field (object_at l.chunk.cells l.at).ints);
+}

@@ -1,0 +1,20 @@
+use Rattle.std.proofs.Common.{◌≡◌, ◌^◌, ◌<◌, ap, ◌∙◌, IfSome, Option, Some, None, ◌++◌, ◌∷◌, [], sym, map, take}
+use Rattle.object_layout.specs.Cell.{IsPlace, IsRef}
+use Rattle.object_layout.specs.declared.word.Addr.{Addr}
+use Rattle.object_layout.specs.Layout.{word_of_ref}
+use Rattle.object_layout.specs.Place.{object_at}
+use Rattle.heap_reading.proofs.ObjectReads.{all_next, map_next}
+use Rattle.heap_reading.proofs.seen.refs_at.Goals as goal
+
+near_of : (r : Option Addr) → IsPlace r → IfSome r (λ a. a.chunk < 2 ^ 32) → IsRef r
+near_of None place short = tt
+near_of (Some a) place short = (place, short)
+
+pub loop-field-preserved : goal.loop-field-preserved
+loop-field-preserved c =
+    let refs = (object_at c.args.chunk.now.cells c.args.at).refs in
+    record {
+      refs = c.in_ok-push.ensures.ok ∙ (ap (λ z. z ++ c.reference_number.result ∷ []) c.loop-field.invariant.refs
+          ∙ (ap (λ z. map word_of_ref (take c.loop-field.field refs) ++ z ∷ []) c.reference_number.ensures.number ∙ sym (map_next word_of_ref refs c.loop-field.field c.ref_at.result c.ref_at.ensures.value)));
+      near = all_next IsRef refs c.loop-field.field c.ref_at.result c.ref_at.ensures.value (near_of c.ref_at.result c.ref_at.ensures.place c.reference_number.ensures.short) c.loop-field.invariant.near;
+    }

@@ -1,0 +1,11 @@
+use Rattle.std.proofs.Common.{◌≡◌, All, map, take}
+use Rattle.object_layout.specs.Cell.{IsRef}
+use Rattle.object_layout.specs.Layout.{word_of_ref}
+use Rattle.object_layout.specs.Place.{object_at}
+use Rattle.heap_reading.proofs.seen.refs_at.Given as goal
+
+abbrev pub invariant-loop-field : goal.invariant-loop-field
+invariant-loop-field l = record {
+  refs : l.refs ≡ map word_of_ref (take l.field (object_at l.chunk.cells l.at).refs);
+  near : All IsRef (take l.field (object_at l.chunk.cells l.at).refs);
+}

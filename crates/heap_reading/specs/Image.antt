@@ -1,0 +1,94 @@
+-- What an image is told of the shared value: tasks, chunks, objects and remembered fields, each in rising order.
+use Rattle.std.specs.Prelude.{◌≡◌, ◌⊎◌, ◌↔◌, ◌<◌, ◌*◌, ◌==◌, ℕ, FitsSigned, Option, Some, None, List, [], ◌∷◌, All, map, slice_get, if◌then◌else◌}
+use Rattle.std.specs.Int.{w64}
+use Rattle.listed.specs.Members.{In}
+use Rattle.object_layout.specs.Cell.{IsRef}
+use Rattle.object_layout.specs.Layout.{word_of_ref}
+use Rattle.task_machine.specs.Place.{birth_of}
+use Rattle.chunk_pool.specs.declared.pool.Held.{Held}
+use Rattle.chunk_pool.specs.Chunks.{held_at, owner_of as holder_of}
+use Rattle.heap_tree.specs.declared.state.State.TheVariants.{Joined}
+use Rattle.heap_tree.specs.Node.{state_of}
+use Rattle.hh_model.specs.Step.{owner_of}
+use Rattle.core_relation.specs.Value.{Chunk, Seen as SeenAt, Source, In as HasItem, sources}
+use Rattle.heap_reading.specs.declared.live.Live.{Live}
+use Rattle.heap_reading.specs.declared.live.InUse.{InUse}
+use Rattle.heap_reading.specs.declared.seen.Seen.{Seen}
+use Rattle.heap_reading.specs.declared.noted.Field.{Field}
+use Rattle.heap_reading.specs.HeldNames.{is_state_running}
+use Rattle.shared_value.specs.World.{World, accounts, value_of}
+
+-- LISTS
+
+-- each item comes before all behind it
+abbrev pub Rises : {A : Type 0} → (A → A → Type 0) → List A → Type 0
+Rises before [] = Unit {0}
+Rises {A} before (x ∷ xs) = ((y : A) → In xs y → before x y) × Rises before xs
+
+-- just the items that are so, each once, in this order
+pub record AreAll {A : Type 0} (before : A → A → Type 0) (Is : A → Type 0) (xs : List A) : Type 0 where
+  pub rising : Rises before xs
+  pub each : (x : A) → In xs x ↔ Is x
+
+-- TASKS
+
+abbrev pub LiveBefore : Live → Live → Type 0
+LiveBefore x y = x.number < y.number
+
+-- a task that was made and hasn't joined
+pub record IsLive (w : World) (x : Live) : Type 0 where
+  pub is : slice_get w.tree x.number ≡ Some (record { parent = x.parent; state = x.state })
+  pub live : x.state ≡ Joined → ⊥
+
+-- CHUNKS
+
+abbrev pub ChunkBefore : InUse → InUse → Type 0
+ChunkBefore c d = c.number < d.number
+
+-- a chunk in use: its owner is the task that it was given to, followed to its parent as long as that has joined
+pub record IsInUse (w : World) (c : InUse) : Type 0 where
+  pub held : Held
+  pub is : held_at w.pool c.number ≡ Some held
+  pub owner : c.owner ≡ owner_of (accounts w).machine.tasks held.owner
+  pub words : c.words ≡ 1024 * held.units
+
+-- OBJECTS
+
+-- those of the chunk of a number
+abbrev pub objects_numbered : ℕ → List Chunk → List SeenAt
+objects_numbered number [] = []
+objects_numbered number (k ∷ ks) = if k.number == number then k.objects else objects_numbered number ks
+
+-- in the heap of a task, unless that runs
+abbrev pub objects_owned : World → ℕ → Option ℕ → List SeenAt
+objects_owned w number None = []
+objects_owned w number (Some t) = if is_state_running (state_of w.tree t) then [] else objects_numbered number ((value_of w).homes t).chunks
+
+-- in its owner's heap
+abbrev pub objects_of : World → ℕ → List SeenAt
+objects_of w number = objects_owned w number (holder_of w.pool number)
+
+-- with addresses as numbers, 0 for nil
+abbrev pub shown : SeenAt → Seen
+shown o = record { at = word_of_ref (Some o.at); birth = birth_of o.name; mutable = o.mutable; refs = map word_of_ref o.refs; ints = o.ints }
+
+-- words hold its fields
+pub record IsInWords (o : SeenAt) : Type 0 where
+  pub refs : All IsRef o.refs
+  pub ints : All (FitsSigned w64) o.ints
+
+abbrev pub AreInWords : List SeenAt → Type 0
+AreInWords os = (o : SeenAt) → HasItem os o → IsInWords o
+
+-- REMEMBERED FIELDS
+
+abbrev pub field_of : Source → Field
+field_of s = record { object = word_of_ref (Some s.object); field = s.field }
+
+-- by the object, then by the field
+abbrev pub FieldBefore : Field → Field → Type 0
+FieldBefore f g = (f.object < g.object) ⊎ ((f.object ≡ g.object) × (f.field < g.field))
+
+-- the set of the task's heap has it
+abbrev pub IsNoted : World → ℕ → Field → Type 0
+IsNoted w t f = (s : Source) × HasItem (sources (value_of w) t) s × (f ≡ field_of s)

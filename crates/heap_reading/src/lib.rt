@@ -1,0 +1,10 @@
+// What the heaps of tasks that don't run hold, as it is told.
+#![tactic(auto)]
+
+mod live;
+mod noted;
+mod seen;
+
+pub use live::{InUse, Live};
+pub use noted::{Field, fields_of};
+pub use seen::{Seen, number_of, seen_in};

@@ -1,0 +1,31 @@
+// Remembered fields as they are told.
+
+ghost use Rattle.std.specs.Prelude.{◌≡◌, ◌<◌, IfOk, map};
+ghost use Rattle.heap_reading.specs.Image.{field_of};
+ghost use Rattle.shared_value.specs.World.{source_of};
+
+use crate::seen::number_of;
+use remembered_set::Source;
+use std::alloc::{AllocError, Global};
+
+/// A reference field of the object at an address, which is told as a number. Fields are ordered by the object, then by the
+/// field.
+#[derive(Clone, Copy, PartialEq, Eq, PartialOrd, Ord)]
+pub struct Field {
+    pub object: u64,
+    pub field: u32,
+}
+
+/// The fields as they were noted.
+pub fn fields_of(alloc: Global, sources: &[Source]) -> Result<Vec<Field>, AllocError>
+    ensures { IfOk result (λ fields. fields.items ≡ map (λ s. field_of (source_of s)) sources.now) }
+{
+    let mut fields = Vec::new(alloc);
+    for source in sources {
+        fields.push(Field {
+            object: number_of(source.object),
+            field: source.field,
+        })?;
+    }
+    Ok(fields)
+}

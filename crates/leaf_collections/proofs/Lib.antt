@@ -1,0 +1,13 @@
+pub mod Needs
+pub mod Due
+pub mod PutOff
+pub mod BeginCauses
+pub mod NewChunks
+pub mod Beginning
+pub mod BeginPart
+pub mod BeginCall
+pub mod Growing
+pub mod Grown
+pub mod Chunked
+pub mod LeafEnds
+pub mod LeafRefusals

@@ -1,0 +1,6 @@
+use Rattle.std.proofs.Common.{◌≡◌, ◌≤◌, ◌+◌, ◌++◌, length, map, take}
+use Rattle.shared_value.specs.LeafBegin.{number_of}
+use Rattle.leaf_collections.proofs.leaf_begin.note_numbers.Given as goal
+
+abbrev pub invariant-loop-chunk : goal.invariant-loop-chunk
+invariant-loop-chunk l = record { items : l.numbers.items ≡ l.fn.numbers.items ++ map number_of (take l.chunk-index l.chunks); room : length l.chunks ≤ l.numbers.room + l.chunk-index }

@@ -1,0 +1,47 @@
+// How large a chunk a part gets, and why it gets none.
+
+ghost use Rattle.std.specs.Prelude.{◌≡◌, ◌<◌, ◌^◌, IfSome, None};
+ghost use Rattle.run_ledger.specs.Entries.{chunk_units};
+ghost use Rattle.shared_value.specs.Causes.{chunk_cause};
+
+use run_ledger::Refused;
+use task_machine::Private;
+
+/// How many units a chunk has for an object of so many words.
+pub fn units_for(words: Option<u32>) -> u32
+    requires { IfSome words (λ n. n < 2 ^ 22) }
+    ensures units { result ≡ chunk_units words }
+    ensures few { result < 2 ^ 22 }
+    ensures some { 0 < result }
+{
+    match words {
+        None => 1,
+        Some(words) => {
+            if words <= 1024 {
+                1
+            } else {
+                (words + 1023) / 1024
+            }
+        }
+    }
+}
+
+/// Why no chunk is given to a part.
+pub fn cause_by(part: &Private, words: Option<u32>) -> Option<Refused>
+    ensures { result ≡ chunk_cause part.now words }
+{
+    if part.begun.is_some() {
+        return Some(Refused::Collecting);
+    }
+    let Some(words) = words else {
+        return Some(Refused::NotNeeded(part.heap.room()));
+    };
+    if part.leaf_limit <= part.heap.since() {
+        return Some(Refused::Due(part.heap.since()));
+    }
+    if part.heap.has_place(words) {
+        Some(Refused::NotNeeded(part.heap.room()))
+    } else {
+        None
+    }
+}

@@ -1,0 +1,38 @@
+// When a leaf collection of a part is due, and how many chunks it takes.
+
+ghost use Rattle.std.specs.Prelude.{◌≡◌, ◌≤◌, ◌^◌};
+ghost use Rattle.shared_value.specs.Due.{due_cause, take_by};
+
+use run_ledger::Refused;
+use task_machine::Private;
+
+/// How many chunks a leaf collection takes for small objects of so many words.
+pub fn chunks_for(words: u64) -> u64
+    ensures take { result ≡ take_by words }
+    ensures few { result ≤ 2 ^ 56 }
+{
+    let full = words / 1024;
+    let rest = words % 1024;
+    let units = if rest == 0 { full } else { full + 1 };
+    if units == 0 { 1 } else { 2 * units - 1 }
+}
+
+/// Why a leaf collection of a part neither begins nor is put off.
+pub fn due_cause(part: &Private, words: Option<u32>) -> Option<Refused>
+    ensures { result ≡ due_cause part.now words }
+{
+    if part.begun.is_some() {
+        return Some(Refused::Collecting);
+    }
+    let since = part.heap.since();
+    match words {
+        None => Some(Refused::NotDue(since)),
+        Some(_) => {
+            if part.leaf_limit <= since {
+                None
+            } else {
+                Some(Refused::NotDue(since))
+            }
+        }
+    }
+}

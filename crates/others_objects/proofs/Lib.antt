@@ -1,0 +1,17 @@
+pub mod Foreign
+pub mod Others
+pub mod OtherPaths
+pub mod OtherSteps
+pub mod OtherReads
+pub mod OtherLines
+pub mod OtherEntries
+pub mod OtherHomes
+pub mod Noting
+pub mod OtherWritten
+pub mod OtherStores
+pub mod StoreKinds
+pub mod OtherStored
+pub mod StoreEntries
+pub mod Rooms
+pub mod StoppedReads
+pub mod BeyondOther

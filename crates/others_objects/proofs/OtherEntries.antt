@@ -1,0 +1,127 @@
+-- Entries of a part's fresh steps and one that works on an object of another task, as the calls have them.
+use Rattle.std.proofs.Common.{◌≡◌, ℕ, ℤ, suc, ◌+◌, ◌++◌, arith, Option, Some, None, ◌∷◌, [], refl, ap, sym, subst, ◌∙◌}
+use Rattle.std.proofs.lemmas.Option.{same_Some}
+use Rattle.listed.specs.Space.{Space}
+use Rattle.object_layout.specs.declared.word.Addr.{Addr}
+use Rattle.hh_lang.specs.declared.program.Line.{Line}
+use Rattle.run_trace.specs.declared.entry.Kind.TheVariants.{Ran}
+use Rattle.run_trace.specs.Entry.{Event}
+use Rattle.hh_model.specs.declared.data.Frame.{Frame as ModelFrame}
+use Rattle.hh_model.specs.declared.data.Name.{Name}
+use Rattle.hh_model.specs.declared.data.Task.{Task}
+use Rattle.hh_model.specs.Effect.{onward, with_int, with_ref}
+use Rattle.hh_model.specs.Step.{fetched}
+use Rattle.run_ledger.specs.declared.data.Ledger.{Ledger}
+use Rattle.run_ledger.specs.Steps.{task_steps}
+use Rattle.task_frames.specs.declared.frames.Frame.{Frame}
+use Rattle.task_frames.specs.Stack.{with_int as with_number, with_next, with_reference}
+use Rattle.task_machine.specs.declared.part.Private.{Private}
+use Rattle.ledger_steps.specs.Last.{Splits}
+use Rattle.core_relation.specs.Reads.{FrameIsRead}
+use Rattle.core_relation.proofs.Carry.{all_set}
+use Rattle.core_relation.proofs.Store.{goes_on}
+use Rattle.others_objects.specs.declared.other.OtherStep.{OtherStep}
+use Rattle.others_objects.specs.declared.other.OtherStep.TheVariants.{SetsNumber, SetsReference}
+use Rattle.shared_value.specs.World.{World, accounts, frame_of}
+use Rattle.shared_value.specs.Stands.{IsWorld}
+use Rattle.shared_value.specs.Fits.{Fits, OthersFit}
+use Rattle.own_steps.specs.Alone.{GoesAlone, IsShared, alone_event}
+use Rattle.shared_value.specs.Entered.{refused}
+use Rattle.others_objects.specs.Other.{ReadsTo, SaysOther, TellsOther, then_places}
+use Rattle.own_steps.proofs.AloneEntries.{last_free}
+use Rattle.own_steps.proofs.LastEntry as last
+use Rattle.own_steps.proofs.LastEntry.{last_event}
+use Rattle.others_objects.proofs.OtherReads.{read_goes, read_others, read_part, read_world}
+
+module _ (w : World) (k : ℕ) (p : Private) (I : IsWorld w) (F : Fits w k p) (shared : IsShared w p) (free : refused w (alone_event k p) ≡ None) where
+  more : suc p.fresh ≡ p.fresh + 1
+  more = omega arith
+
+  abbrev pub free_so : refused w (last_event k p) ≡ None
+  free_so = last_free w k p I F shared free
+
+  abbrev pub t : ℕ
+  t = p.task
+
+  abbrev pub M : Ledger
+  M = task_steps w.program (accounts w) t p.fresh
+
+  abbrev pub S : Splits w.program w.settings (accounts w) (last.L w k p I F shared free_so) t p.fresh
+  S = last.S w k p I F shared free_so
+
+  -- what is known of the next step in the machine then
+  pub said : (does : OtherStep) (number : ℕ) → TellsOther w p does number → (S.line.number ≡ number) × SaysOther w.program (then_places w p) p M.machine t S.task S.line does
+  said does number T =
+      let task : T.task ≡ S.task = same_Some T.task S.task (sym T.is ∙ S.at.task) in
+      let line : T.line ≡ S.line = same_Some T.line S.line (sym T.next ∙ (ap (λ (x : Task). fetched_of x) task ∙ S.at.next)) in (
+        ap (λ (z : Line). z.number) (sym line) ∙ T.number_is,
+        subst (λ (x : Task). SaysOther w.program (then_places w p) p M.machine t x S.line does) task (subst (λ (z : Line). SaysOther w.program (then_places w p) p M.machine t T.task z does) line T.says),
+      )
+    where
+      fetched_of : Task → Option Line
+      fetched_of x = fetched w.program x.top
+
+  -- A READ
+  module _ (top : ModelFrame) (T : ReadsTo M.machine t S.task S.line top) (g : Frame) (read : FrameIsRead (then_places w p) (frame_of p.frames.top) S.task.top → FrameIsRead (then_places w p) (frame_of g) top) (j : Space Event) where
+    abbrev read_entered : World
+    read_entered = record w { steps = w.steps + (p.fresh + 1); journal = record { items = w.journal.items ++ alone_event k p ∷ []; room = j.room } }
+
+    abbrev read_to : Private
+    read_to = record p { frames = record { below = p.frames.below; top = g }; fresh = 0 }
+
+    read_is : record w { steps = w.steps + suc p.fresh; journal = record { items = w.journal.items ++ last_event k p ∷ []; room = j.room } } ≡ read_entered
+    read_is = ap (λ n. let z : World = record w { steps = w.steps + n; journal = record { items = w.journal.items ++ record { worker = k; kind = Ran p.task n } ∷ []; room = j.room } } in z) more
+
+    read_world_so : IsWorld read_entered
+    read_world_so = subst IsWorld read_is (read_world w k p I F shared free_so top T g read j)
+
+    read_goes_so : GoesAlone w read_entered k p read_to
+    read_goes_so = record {
+      enters = record { journal = refl; program = refl; settings = refl; halted = refl };
+      goes = subst (λ (z : World). (accounts z).end ≡ None) read_is (read_goes w k p I F shared free_so top T g read j);
+      fits = subst (λ (z : World). Fits z k read_to) read_is (read_part w k p I F shared free_so top T g read j);
+      part = refl;
+      others = subst (λ (z : World). OthersFit w z k) read_is (read_others w k p I F shared free_so top T g read j);
+    }
+
+  -- of a number
+  module _ (d : ℕ) (z : ℤ) (line : ℕ) (T : TellsOther w p (SetsNumber d z) line) (j : Space Event) where
+    number_read : FrameIsRead (then_places w p) (frame_of p.frames.top) S.task.top → FrameIsRead (then_places w p) (frame_of (with_next (with_number p.frames d z) (p.frames.top.next + 1)).top) (onward (with_int S.task.top d z))
+    number_read h = goes_on (then_places w p) (Some (d, z)) (frame_of p.frames.top) S.task.top h
+
+    abbrev number_part : Private
+    number_part = record p { frames = with_next (with_number p.frames d z) (p.frames.top.next + 1); fresh = 0 }
+
+    abbrev number_after : World
+    number_after = record w { steps = w.steps + (p.fresh + 1); journal = record { items = w.journal.items ++ alone_event k p ∷ []; room = j.room } }
+
+    pub number_world : IsWorld number_after
+    number_world = read_world_so (onward (with_int S.task.top d z)) (said (SetsNumber d z) line T).1 (with_next (with_number p.frames d z) (p.frames.top.next + 1)).top number_read j
+
+    pub number_goes : GoesAlone w number_after k p number_part
+    number_goes = read_goes_so (onward (with_int S.task.top d z)) (said (SetsNumber d z) line T).1 (with_next (with_number p.frames d z) (p.frames.top.next + 1)).top number_read j
+
+  -- of a reference
+  module _ (d : ℕ) (r : Option Addr) (line : ℕ) (T : TellsOther w p (SetsReference d r) line) (j : Space Event) where
+    abbrev name : Option Name
+    name = (said (SetsReference d r) line T).1.0
+
+    reference_read : FrameIsRead (then_places w p) (frame_of p.frames.top) S.task.top → FrameIsRead (then_places w p) (frame_of (with_next (with_reference p.frames d r) (p.frames.top.next + 1)).top) (onward (with_ref S.task.top d name))
+    reference_read h = record {
+      function = h.function;
+      next = ap (λ n. n + 1) h.next;
+      ints = h.ints;
+      refs = all_set (then_places w p) p.frames.top.refs S.task.top.refs d r name h.refs (said (SetsReference d r) line T).1.2;
+    }
+
+    abbrev reference_part : Private
+    reference_part = record p { frames = with_next (with_reference p.frames d r) (p.frames.top.next + 1); fresh = 0 }
+
+    abbrev reference_after : World
+    reference_after = record w { steps = w.steps + (p.fresh + 1); journal = record { items = w.journal.items ++ alone_event k p ∷ []; room = j.room } }
+
+    pub reference_world : IsWorld reference_after
+    reference_world = read_world_so (onward (with_ref S.task.top d name)) (said (SetsReference d r) line T).1.1 (with_next (with_reference p.frames d r) (p.frames.top.next + 1)).top reference_read j
+
+    pub reference_goes : GoesAlone w reference_after k p reference_part
+    reference_goes = read_goes_so (onward (with_ref S.task.top d name)) (said (SetsReference d r) line T).1.1 (with_next (with_reference p.frames d r) (p.frames.top.next + 1)).top reference_read j

@@ -1,0 +1,222 @@
+-- What the next instruction of a part does with an object that another task owns, as the object's cell, the tree and the pool
+-- tell it.
+use Rattle.std.specs.Prelude.{◌≡◌, ℕ, ◌+◌, ◌<◌, pos, not, Bool, true, false, Option, Some, None, List, IsSome, length, slice_get, slice_index_or, unwrap_or, if◌then◌else◌}
+use Rattle.object_layout.specs.declared.word.Addr.{Addr}
+use Rattle.object_layout.specs.Cell.{Cell, IsObject}
+use Rattle.object_layout.specs.Chunks.{cell_of, object_of, put_object}
+use Rattle.object_layout.specs.Content.{Content}
+use Rattle.heap_tree.specs.Node.{Node, is_on_path}
+use Rattle.chunk_pool.specs.Chunks.{Chunks, held_at, owner_of}
+use Rattle.write_barrier.specs.Stored.{content_at, IsOwned}
+use Rattle.task_frames.specs.declared.frames.Frame.{Frame}
+use Rattle.task_frames.specs.Stack.{Stack, with_int as with_number, with_next}
+use Rattle.hh_lang.specs.declared.instr.Instr.{Instr}
+use Rattle.hh_lang.specs.declared.instr.Instr.TheVariants.{Getr, Geti, Putr, Puti, Cntr, Cnti, Freeze, Cas}
+use Rattle.hh_lang.specs.declared.program.Line.{Line}
+use Rattle.hh_lang.specs.Form.{ProgramText}
+use Rattle.hh_model.specs.declared.data.End.TheVariants.{Entangled, Trapped}
+use Rattle.hh_model.specs.declared.data.Frame.{Frame as ModelFrame}
+use Rattle.hh_model.specs.declared.data.Name.{Name}
+use Rattle.hh_model.specs.declared.data.Object.{Object}
+use Rattle.hh_model.specs.declared.data.State.{State}
+use Rattle.hh_model.specs.declared.data.Task.{Task}
+use Rattle.hh_model.specs.declared.data.Trap.TheVariants.{Nil as NilTrap, Range, Frozen as FrozenTrap}
+use Rattle.hh_model.specs.Effect.{Goes, effect, flat, int_in, object_at, onward, place_in, ref_in, same_name, with_int, with_ref}
+use Rattle.hh_model.specs.Step.{ended_by, fetched, setting, step}
+use Rattle.run_ledger.specs.Steps.{owns, touched}
+use Rattle.ledger_steps.specs.Accounts.{rested}
+use Rattle.ledger_steps.specs.Last.{JustReads}
+use Rattle.task_machine.specs.declared.part.Private.{Private}
+use Rattle.object_layout.specs.References.{same_reference}
+use Rattle.task_machine.specs.Plan.{int_of, ref_of}
+use Rattle.core_relation.specs.Fits.{with_home}
+use Rattle.core_relation.specs.Reads.{Reads}
+use Rattle.core_relation.specs.Stands.{Place}
+use Rattle.own_steps.specs.declared.alone.Alone.{Alone}
+use Rattle.own_steps.specs.declared.alone.Alone.TheVariants.{Goes as GoesOn, Over, Done, Beyond}
+use Rattle.others_objects.specs.declared.other.OtherStep.{OtherStep}
+use Rattle.others_objects.specs.declared.other.OtherStep.TheVariants.{SetsNumber, SetsReference, Stops, Traps, StoresReference, Swaps, StoresNumber}
+use Rattle.shared_value.specs.declared.rest.Rest.{Rest}
+use Rattle.shared_value.specs.World.{World, rest_at, value_of}
+use Rattle.shared_value.specs.Fits.{Fits, home_of_part}
+use Rattle.own_steps.specs.Alone.{GoesAlone, HaltsAlone, machine_after, then_accounts}
+
+-- ---- WHETHER IT WORKS ON ONE
+
+abbrev pub is_other_line : State → ℕ → Task → Option Line → Bool
+is_other_line m t x None = false
+is_other_line m t x (Some line) = not (owns m.tasks t (touched x.top line.instr))
+
+abbrev pub is_other_by : ProgramText → State → ℕ → Option Task → Bool
+is_other_by p m t None = false
+is_other_by p m t (Some x) = is_other_line m t x (fetched p x.top)
+
+-- the task's next step works on an object that another task owns
+abbrev pub is_other : ProgramText → State → ℕ → Bool
+is_other p m t = is_other_by p m t (slice_get m.tasks t)
+
+abbrev pub IsOther : World → Private → Type 0
+IsOther w p = is_other w.program (machine_after w p) p.task ≡ true
+
+-- ---- THE OBJECT
+
+-- the address of the object that an instruction works on: that in its object register alone
+abbrev pub object_named : Frame → Instr → Option Addr
+object_named f (Getr d o k) = ref_of f o
+object_named f (Geti d o k) = ref_of f o
+object_named f (Putr o k v) = ref_of f o
+object_named f (Puti o k v) = ref_of f o
+object_named f (Cntr d o) = ref_of f o
+object_named f (Cnti d o) = ref_of f o
+object_named f (Freeze o) = ref_of f o
+object_named f (Cas d o k e v) = ref_of f o
+object_named f _ = None
+
+-- the object at a is there to be read: each reference that it has, if it isn't nil, points into a chunk in use, whose owner
+-- was made
+pub record IsReadable (made : ℕ) (pool : Chunks) (t : ℕ) (ks : List Content) (a : Addr) : Type 0 where
+  pub object : IsObject (cell_of ks a).mark
+  pub reader : t < made
+  pub refs : (i : ℕ) (r : Option Addr) → slice_get (object_of ks a).refs i ≡ Some r → IsOwned made pool r
+
+-- ---- WHAT IT DOES
+
+-- the address of an object of this owner goes into a register where the owner stands on the reader's path, else the read is
+-- stopped
+abbrev pub yields : List Node → ℕ → ℕ → Addr → Option ℕ → OtherStep
+yields tree t d a None = SetsReference d (Some a)
+yields tree t d a (Some u) = if is_on_path tree u t then SetsReference d (Some a) else Stops u
+
+abbrev pub reads_into : List Node → Chunks → ℕ → ℕ → Option Addr → OtherStep
+reads_into tree pool t d None = SetsReference d None
+reads_into tree pool t d (Some a) = yields tree t d a (owner_of pool a.chunk)
+
+abbrev pub or_range : Option ℕ → (ℕ → OtherStep) → OtherStep
+or_range None go = Traps Range
+or_range (Some i) go = go i
+
+abbrev pub or_frozen : Cell → OtherStep → OtherStep
+or_frozen c go = if c.mutable then go else Traps FrozenTrap
+
+-- a compare and swap, where the field holds this
+abbrev pub swaps : ℕ → Addr → Option Addr → Option Addr → ℕ → Option Addr → OtherStep
+swaps d a held expected i value = if same_reference held expected then Swaps d a i value else SetsNumber d (pos 0)
+
+-- of an instruction on the object of another task at an address, whose cell is c
+abbrev pub other_step : List Node → Chunks → Private → Addr → Cell → Instr → OtherStep
+other_step tree pool part a c (Getr d o k) = or_range (place_in (length c.refs) (int_of part.frames.top k)) (λ i. reads_into tree pool part.task d (unwrap_or (slice_get c.refs i) None))
+other_step tree pool part a c (Geti d o k) = or_range (place_in (length c.ints) (int_of part.frames.top k)) (λ i. SetsNumber d (unwrap_or (slice_get c.ints i) (pos 0)))
+other_step tree pool part a c (Cntr d o) = SetsNumber d (pos (length c.refs))
+other_step tree pool part a c (Cnti d o) = SetsNumber d (pos (length c.ints))
+other_step tree pool part a c (Freeze o) = Traps FrozenTrap
+other_step tree pool part a c (Putr o k v) = or_range (place_in (length c.refs) (int_of part.frames.top k)) (λ i. or_frozen c (StoresReference a i (ref_of part.frames.top v)))
+other_step tree pool part a c (Puti o k v) = or_range (place_in (length c.ints) (int_of part.frames.top k)) (λ i. or_frozen c (StoresNumber a i (int_of part.frames.top v)))
+other_step tree pool part a c (Cas d o k e v) =
+    or_range (place_in (length c.refs) (int_of part.frames.top k)) (λ i. or_frozen c (swaps d a (unwrap_or (slice_get c.refs i) None) (ref_of part.frames.top e) i (ref_of part.frames.top v)))
+-- no other instruction works on an object
+other_step tree pool part a c _ = Traps NilTrap
+
+-- ---- WHAT THE MACHINE DOES: the task t is x, and takes this line
+
+-- it reads an object, and goes on with this frame
+pub record ReadsTo (m : State) (t : ℕ) (x : Task) (line : Line) (frame : ModelFrame) : Type 0 where
+  pub name : Name
+  pub object : Object
+  pub touches : touched x.top line.instr ≡ Some name
+  pub is : object_at m.store name ≡ Some object
+  pub reads : JustReads x line.instr object frame
+  pub does : effect (setting m t x) x.top m.store line.instr ≡ Goes frame m.store
+
+-- it writes the reference field i, whose number is in the register k, of the object in the register o
+pub record WritesReference (m : State) (t : ℕ) (x : Task) (line : Line) (o k i : ℕ) : Type 0 where
+  pub name : Name
+  pub object : Object
+  pub named : ref_in x.top o ≡ Some name
+  pub is : object_at m.store name ≡ Some object
+  pub place : place_in (length object.refs) (int_in x.top k) ≡ Some i
+  pub frame : ModelFrame
+  pub store : List (List Object)
+  pub does : effect (setting m t x) x.top m.store line.instr ≡ Goes frame store
+
+-- the same of a number field
+pub record WritesNumber (m : State) (t : ℕ) (x : Task) (line : Line) (o k i : ℕ) : Type 0 where
+  pub name : Name
+  pub object : Object
+  pub named : ref_in x.top o ≡ Some name
+  pub is : object_at m.store name ≡ Some object
+  pub place : place_in (length object.ints) (int_in x.top k) ≡ Some i
+  pub frame : ModelFrame
+  pub store : List (List Object)
+  pub does : effect (setting m t x) x.top m.store line.instr ≡ Goes frame store
+
+-- an address stands for a name where the map `at` has it so
+abbrev pub SaysOther : ProgramText → (Name → Addr → Type 0) → Private → State → ℕ → Task → Line → OtherStep → Type 0
+SaysOther p at part m t x line (SetsNumber d z) = ReadsTo m t x line (onward (with_int x.top d z))
+SaysOther p at part m t x line (SetsReference d r) = (n : Option Name) × ReadsTo m t x line (onward (with_ref x.top d n)) × Reads at r n
+SaysOther p at part m t x line (Stops u) = step p m t ≡ ended_by m (Entangled t u)
+SaysOther p at part m t x line (Traps kind) = step p m t ≡ ended_by m (Trapped kind t line.number)
+SaysOther p at part m t x line (StoresReference a i r) =
+    (o : ℕ) × (k : ℕ) × (b : ℕ) × (line.instr ≡ Putr o k b) × (ref_of part.frames.top o ≡ Some a) × WritesReference m t x line o k i × (r ≡ ref_of part.frames.top b)
+SaysOther p at part m t x line (Swaps d a i r) =
+    (o : ℕ) × (k : ℕ) × (e : ℕ) × (b : ℕ) × (line.instr ≡ Cas d o k e b) × (ref_of part.frames.top o ≡ Some a) × (y : WritesReference m t x line o k i) × (same_name (flat (slice_get y.object.refs i)) (ref_in x.top e) ≡ true) × (r ≡ ref_of part.frames.top b)
+SaysOther p at part m t x line (StoresNumber a i z) =
+    (o : ℕ) × (k : ℕ) × (b : ℕ) × (line.instr ≡ Puti o k b) × (ref_of part.frames.top o ≡ Some a) × WritesNumber m t x line o k i × (z ≡ int_of part.frames.top b)
+
+pub record TellsOtherOf (p : ProgramText) (at : Name → Addr → Type 0) (part : Private) (m : State) (t : ℕ) (does : OtherStep) (number : ℕ) : Type 0 where
+  pub task : Task
+  pub line : Line
+  pub is : slice_get m.tasks t ≡ Some task
+  pub next : fetched p task.top ≡ Some line
+  pub number_is : line.number ≡ number
+  pub says : SaysOther p at part m t task line does
+
+-- where names lie after the part's fresh steps
+abbrev pub then_places : World → Private → Name → Addr → Type 0
+then_places w p = Place (with_home (value_of w) p.task (home_of_part p)) (rested (then_accounts w p) p.task)
+
+abbrev pub TellsOther : World → Private → OtherStep → ℕ → Type 0
+TellsOther w p does number = TellsOtherOf w.program (then_places w p) p (then_accounts w p).machine p.task does number
+
+-- ---- WHAT THE CALL ANSWERS
+
+-- the steps are entered: the part goes on, or the run has ended
+abbrev pub OtherAnswered : World → World → ℕ → Private → Alone → Type 0
+OtherAnswered w after k p (GoesOn q) = GoesAlone w after k p q
+OtherAnswered w after k p (Over q) = HaltsAlone w after k p q
+OtherAnswered w after k p Done = ⊥
+OtherAnswered w after k p (Beyond q) = ⊥
+
+-- ---- WRITES
+
+-- the field i of the object at an address is there to be written, in the heap of its owner, and what stands in it may be let go
+pub record IsWritable (made : ℕ) (pool : Chunks) (homes : List (Option Rest)) (a : Addr) (i : ℕ) : Type 0 where
+  pub owner : ℕ
+  pub rest : Rest
+  pub owns : owner_of pool a.chunk ≡ Some owner
+  pub used : IsSome (held_at pool a.chunk)
+  pub inside : owner < made
+  pub home : owner < length homes
+  pub there : rest_at homes owner ≡ Some rest
+  pub object : IsObject (cell_of rest.heap.chunks a).mark
+  pub field : i < length (object_of rest.heap.chunks a).refs
+  pub overwritten : IsOwned made pool (slice_index_or (object_of rest.heap.chunks a).refs i None)
+
+-- what goes with a task, once the cell of an object of its heap is another
+abbrev pub put_rest : Rest → Addr → Cell → Rest
+put_rest r a d = record r { heap = record r.heap { chunks = put_object r.heap.chunks a d } }
+
+-- the write of a reference, which may be one of a compare and swap that finds what it expects
+abbrev pub store_of : Option ℕ → Addr → ℕ → Option Addr → OtherStep
+store_of None a i r = StoresReference a i r
+store_of (Some d) a i r = Swaps d a i r
+
+-- the frames then
+abbrev pub store_frames : Option ℕ → Stack → Stack
+store_frames None s = with_next s (s.top.next + 1)
+store_frames (Some d) s = with_next (with_number s d (pos 1)) (s.top.next + 1)
+
+-- the value is the same, but for how much more the sets have room
+pub record SameButRoom (w after : World) : Type 0 where
+  pub same : after ≡ record w { sets = after.sets }
+  pub sets : (t : ℕ) → content_at after.sets t ≡ content_at w.sets t
+  pub fit : (k : ℕ) (p : Private) → Fits w k p → Fits after k p

@@ -1,0 +1,191 @@
+-- Entries of a part's fresh steps and a last one, as the calls have them.
+use Rattle.std.proofs.Common.{◌≡◌, ℕ, ℤ, suc, ◌+◌, ◌<◌, ◌≤◌, ◌^◌, ◌++◌, ◌||◌, ◌&&◌, arith, not, Bool, true, Option, Some, None, [], ◌∷◌, slice_get, slice_set, is_none, is_some, length, refl, ap, ap₂, sym, subst, ◌∙◌}
+use Rattle.listed.specs.Space.{Space}
+use Rattle.hh_lang.specs.declared.instr.Instr.{Instr}
+use Rattle.hh_lang.specs.declared.instr.Instr.TheVariants.{Ret}
+use Rattle.hh_lang.specs.declared.program.Line.{Line}
+use Rattle.run_trace.specs.declared.entry.Kind.TheVariants.{Ran}
+use Rattle.run_trace.specs.Entry.{Event}
+use Rattle.hh_model.specs.declared.data.End.{End}
+use Rattle.hh_model.specs.declared.data.End.TheVariants.{Done, Trapped}
+use Rattle.hh_model.specs.declared.data.State.{State as MachineState}
+use Rattle.hh_model.specs.declared.data.Task.{Task}
+use Rattle.hh_model.specs.declared.data.Trap.{Trap}
+use Rattle.hh_model.specs.Step.{ended_by, fetched, step}
+use Rattle.heap_tree.specs.declared.state.State.TheVariants.{Ended}
+use Rattle.heap_tree.specs.Node.{with_state}
+use Rattle.run_ledger.specs.declared.data.RunEnd.TheVariants.{Machine}
+use Rattle.run_ledger.specs.Steps.{has_no_caller, owns, touched}
+use Rattle.run_ledger.proofs.Bounds.{ran_tells}
+use Rattle.task_frames.specs.Stack.{with_next}
+use Rattle.ledger_steps.specs.Accounts.{Rests}
+use Rattle.core_relation.specs.Whole.{handed}
+use Rattle.task_machine.specs.declared.part.Private.{Private}
+use Rattle.task_machine.specs.Ready.{FitsSome, IsSafe}
+use Rattle.task_machine.proofs.Agreement.{some_next, some_safe}
+use Rattle.shared_value.specs.declared.next.Ending.TheVariants.{Beyond, Prints, Returns, Traps}
+use Rattle.shared_value.specs.World.{World, accounts}
+use Rattle.shared_value.specs.Stands.{IsWorld}
+use Rattle.shared_value.specs.Fits.{Fits, OthersFit}
+use Rattle.shared_value.specs.Next.{is_beyond, is_beyond_by, is_beyond_line, is_joint}
+use Rattle.own_steps.specs.Alone.{FinishesAlone, GoesAlone, HaltsAlone, IsShared, Tells, alone_event, ended_rest, machine_after, then_accounts}
+use Rattle.shared_value.specs.Entered.{refused}
+use Rattle.own_steps.proofs.Finished.{done_ends, done_others, done_rests, done_world, has_home, has_node}
+use Rattle.own_steps.proofs.Halted.{halted_ends, halted_others, halted_part, halted_world}
+use Rattle.own_steps.proofs.LastEntry as last
+use Rattle.own_steps.proofs.LastEntry.{last_event}
+use Rattle.own_steps.proofs.LastSteps.{event_is, fits_machine, machine_same}
+use Rattle.shared_value.proofs.Now.{steps_now}
+use Rattle.own_steps.proofs.Printed.{output_goes, output_others, output_part, output_world}
+
+-- a step that can't be done ends the run so
+pub trap_is : (w : World) (p : Private) (kind : Trap) (number : ℕ) → Tells w p (Traps kind) number → step w.program (then_accounts w p).machine p.task ≡ ended_by (then_accounts w p).machine (Trapped kind p.task number)
+trap_is w p kind number T = T.says ∙ ap (λ n. ended_by (then_accounts w p).machine (Trapped kind p.task n)) T.number_is
+
+module _ (w : World) (k : ℕ) (p : Private) (I : IsWorld w) (F : Fits w k p) (shared : IsShared w p) (free : refused w (alone_event k p) ≡ None) where
+  pub last_free : refused w (last_event k p) ≡ None
+  last_free = ap (refused w) (sym (event_is k p)) ∙ free
+
+  more : suc p.fresh ≡ p.fresh + 1
+  more = omega arith
+
+  pub runs_on : (accounts w).end ≡ None
+  runs_on = last.on w k p I F shared last_free
+
+  -- the counts are small
+  pub alone_small : (w.steps < 1000000000) × (p.fresh ≤ 256)
+  alone_small =
+      let a = ran_tells w.program w.settings (accounts w) k p.task (suc p.fresh) (ap is_none last_free) in
+      let b : w.steps ≡ (accounts w).steps = steps_now w I in
+      let c = I.limits.fuel.1 in
+      (omega (arith, a.2, b, c), shared.few)
+
+  -- the part fits a machine
+  pub fits_some : FitsSome w.program p
+  fits_some = let G = fits_machine w k p I F shared runs_on in (_, _, G)
+
+  pub next_small : p.frames.top.next + 1 < 2 ^ 32
+  next_small = some_next w.program p fits_some I.form
+
+  pub is_safe : IsSafe p
+  is_safe = some_safe w.program p fits_some
+
+  -- AN OUTPUT
+  module _ (value : ℤ) (line : ℕ) (T : Tells w p (Prints value) line) (j : Space Event) where
+    abbrev printed : World
+    printed = record w { outputs = w.outputs ++ value ∷ []; steps = w.steps + (p.fresh + 1); journal = record { items = w.journal.items ++ alone_event k p ∷ []; room = j.room } }
+
+    printed_is : record w { outputs = w.outputs ++ value ∷ []; steps = w.steps + suc p.fresh; journal = record { items = w.journal.items ++ last_event k p ∷ []; room = j.room } } ≡ printed
+    printed_is =
+        ap (λ n. let z : World = record w { outputs = w.outputs ++ value ∷ []; steps = w.steps + n; journal = record { items = w.journal.items ++ record { worker = k; kind = Ran p.task n } ∷ []; room = j.room } } in z) more
+
+    pub printed_world : IsWorld printed
+    printed_world = subst IsWorld printed_is (output_world w k p I F shared last_free value line T j)
+
+    pub printed_goes : GoesAlone w printed k p (record p { frames = with_next p.frames (p.frames.top.next + 1); fresh = 0 })
+    printed_goes = record {
+      enters = record { journal = refl; program = refl; settings = refl; halted = refl };
+      goes = subst (λ (z : World). (accounts z).end ≡ None) printed_is (output_goes w k p I F shared last_free value line T j);
+      fits = subst (λ (z : World). Fits z k (record p { frames = with_next p.frames (p.frames.top.next + 1); fresh = 0 })) printed_is (output_part w k p I F shared last_free value line T j);
+      part = refl;
+      others = subst (λ (z : World). OthersFit w z k) printed_is (output_others w k p I F shared last_free value line T j);
+    }
+
+  -- THE RUN ENDS, and all else is as it was
+  module _ (x : End) (other : x ≡ Done → ⊥) (is : step w.program (then_accounts w p).machine p.task ≡ ended_by (then_accounts w p).machine x) (j : Space Event) where
+    abbrev halted : World
+    halted = record w { steps = w.steps + (p.fresh + 1); journal = record { items = w.journal.items ++ alone_event k p ∷ []; room = j.room }; end = Some (Machine x) }
+
+    halted_is : record w { steps = w.steps + suc p.fresh; journal = record { items = w.journal.items ++ last_event k p ∷ []; room = j.room }; end = Some (Machine x) } ≡ halted
+    halted_is =
+        ap (λ n. let z : World = record w { steps = w.steps + n; journal = record { items = w.journal.items ++ record { worker = k; kind = Ran p.task n } ∷ []; room = j.room }; end = Some (Machine x) } in z) more
+
+    pub halt_world : IsWorld halted
+    halt_world = subst IsWorld halted_is (halted_world w k p I F shared last_free x other is j)
+
+    pub halts_alone : HaltsAlone w halted k p (record p { fresh = 0 })
+    halts_alone = record {
+      enters = record { journal = refl; program = refl; settings = refl; halted = refl };
+      halts = (x, subst (λ (z : World). (accounts z).end ≡ Some (Machine x)) halted_is (halted_ends w k p I F shared last_free x other is j), other);
+      fits = subst (λ (z : World). Fits z k (record p { fresh = 0 })) halted_is (halted_part w k p I F shared last_free x other is j);
+      part = refl;
+      others = subst (λ (z : World). OthersFit w z k) halted_is (halted_others w k p I F shared last_free x other is j);
+    }
+
+  -- THE ROOT'S END
+  module _ (line : ℕ) (T : Tells w p Returns line) (root : p.task ≡ 0) (j : Space Event) where
+    abbrev finished : World
+    finished = record w {
+      tree = with_state w.tree p.task Ended;
+      homes = slice_set w.homes p.task (Some (ended_rest p));
+      hands = slice_set w.hands k None;
+      steps = w.steps + (p.fresh + 1);
+      journal = record { items = w.journal.items ++ alone_event k p ∷ []; room = j.room };
+      end = Some (Machine Done);
+    }
+
+    finished_is : record w {
+      tree = with_state w.tree p.task Ended;
+      homes = slice_set w.homes p.task (Some (ended_rest p));
+      hands = slice_set w.hands k None;
+      steps = w.steps + suc p.fresh;
+      journal = record { items = w.journal.items ++ last_event k p ∷ []; room = j.room };
+      end = Some (Machine Done);
+    } ≡ finished
+    finished_is =
+        ap (λ n. let z : World = record w {
+          tree = with_state w.tree p.task Ended;
+          homes = slice_set w.homes p.task (Some (ended_rest p));
+          hands = slice_set w.hands k None;
+          steps = w.steps + n;
+          journal = record { items = w.journal.items ++ record { worker = k; kind = Ran p.task n } ∷ []; room = j.room };
+          end = Some (Machine Done);
+        } in z) more
+
+    pub node_there : p.task < length w.tree
+    node_there = has_node w k p I F shared last_free line T root
+
+    pub home_there : p.task < length w.homes
+    home_there = has_home w k p I F shared last_free line T root
+
+    pub finished_world : IsWorld finished
+    finished_world = subst IsWorld finished_is (done_world w k p I F shared last_free line T root j)
+
+    pub finishes_alone : FinishesAlone w finished k p
+    finishes_alone = record {
+      enters = record { journal = refl; program = refl; settings = refl; halted = refl };
+      done = subst (λ (z : World). (accounts z).end ≡ Some (Machine Done)) finished_is (done_ends w k p I F shared last_free line T root j);
+      rest = λ u. subst (λ (z : World). Rests (handed (accounts z)) u) finished_is (done_rests w k p I F shared last_free line T root j u);
+      others = subst (λ (z : World). OthersFit w z k) finished_is (done_others w k p I F shared last_free line T root j);
+    }
+
+  -- WHERE OTHER TASKS HAVE PART IN THE STEP
+  abbrev m : MachineState
+  m = (last.M w k p I F shared last_free).machine
+
+  beyond_line : (x : Task) (line : Line) → slice_get m.tasks p.task ≡ Some x → fetched w.program x.top ≡ Some line → (is_joint x line.instr || not (owns m.tasks p.task (touched x.top line.instr))) ≡ true → is_beyond w.program (machine_after w p) p.task ≡ true
+  beyond_line x line is next h =
+      ap (λ (z : MachineState). is_beyond w.program z p.task) (machine_same w k p I F shared runs_on)
+      ∙ (ap (is_beyond_by w.program m p.task) is ∙ (ap (is_beyond_line m p.task x) next ∙ h))
+
+  pub other_beyond : (line : ℕ) → Tells w p Beyond line → is_beyond w.program (machine_after w p) p.task ≡ true
+  other_beyond line T = beyond_line T.task T.line T.is T.next T.says
+
+  -- the last return of a task that another one forked
+  or_left : (a b : Bool) → a ≡ true → (a || b) ≡ true
+  or_left a b h = ap (λ c. c || b) h
+
+  pub child_beyond : (line : ℕ) → Tells w p Returns line → (p.task ≡ 0 → ⊥) → is_beyond w.program (machine_after w p) p.task ≡ true
+  child_beyond line T ne =
+      beyond_line T.task T.line T.is T.next
+      (or_left (is_joint T.task T.line.instr) (not (owns m.tasks p.task (touched T.task.top T.line.instr))) (joint T.task T.line.instr T.says.0 T.says.1 (parent T.task T.is)))
+    where
+      joint : (x : Task) (i : Instr) → i ≡ Ret → x.below ≡ [] → is_some x.parent ≡ true → is_joint x i ≡ true
+      joint x i e lone par = ap (is_joint x) e ∙ ap₂ (λ fs b. has_no_caller fs && b) lone par
+
+      parent : (x : Task) → slice_get m.tasks p.task ≡ Some x → is_some x.parent ≡ true
+      parent x is = by x.parent refl
+        where
+          by : (o : Option ℕ) → x.parent ≡ o → is_some o ≡ true
+          by (Some q) e = refl
+          by None e = absurd (ne ((last.runs_so w k p I F shared last_free).root p.task x is e))

@@ -1,0 +1,130 @@
+-- A part whose next step isn't private, before the run's end: what that step does, and how an entry with it splits.
+use Rattle.std.proofs.Common.{◌≡◌, ℕ, zero, suc, ◌+◌, ◌≤◌, ◌||◌, arith, Bool, true, false, cond, min, nat_le, Option, Some, None, is_some, refl, ap, ap₂, sym, subst, ◌∙◌, le-leb}
+use Rattle.std.proofs.lemmas.Bool.{cond-false, cond-true, false≢true}
+use Rattle.hh_lang.specs.declared.program.Line.{Line}
+use Rattle.hh_lang.specs.Form.{ProgramText}
+use Rattle.run_trace.specs.declared.entry.Kind.TheVariants.{Ran}
+use Rattle.run_trace.specs.Entry.{Event}
+use Rattle.run_trace.specs.Settings.{Limits}
+use Rattle.hh_model.specs.declared.data.State.{State}
+use Rattle.hh_model.specs.Step.{asked, fetched}
+use Rattle.run_ledger.specs.declared.data.Ledger.{Ledger}
+use Rattle.run_ledger.specs.declared.data.Refused.{Refused}
+use Rattle.run_ledger.specs.declared.data.Refused.TheVariants.{Collecting, Long}
+use Rattle.run_ledger.specs.Heaps.{heap_of, lacks_room}
+use Rattle.run_ledger.specs.Steps.{is_due, is_in_need, is_private, most_steps, on_asked, standing, task_step, task_steps}
+use Rattle.run_ledger.specs.Entries.{kind_refusal, refused_if, refused_unless}
+use Rattle.ledger_steps.specs.Accounts.{ArePrivate}
+use Rattle.task_machine.specs.declared.part.Private.{Private}
+use Rattle.task_machine.specs.Fits.{FitsNow as FitsMachine}
+use Rattle.task_machine.specs.Place.{Places}
+use Rattle.task_machine.proofs.Agreement.{has_line, same_line}
+use Rattle.core_relation.specs.Fits.{FitsAt as FitsValue, ahead}
+use Rattle.core_relation.proofs.Quiet.{aside_is}
+use Rattle.shared_value.specs.World.{World, accounts, value_of}
+use Rattle.shared_value.specs.Stands.{IsWorld}
+use Rattle.shared_value.specs.Fits.{Fits, part_of}
+use Rattle.shared_value.specs.Links.{above_of}
+use Rattle.shared_value.specs.Next.{ending, line_asks, next_line}
+use Rattle.own_steps.specs.Alone.{IsShared, Tells, alone_event, machine_after}
+use Rattle.shared_value.specs.Causes.{first_cause, or_else}
+use Rattle.shared_value.specs.Entered.{refused}
+use Rattle.shared_value.proofs.Asking.{asks_is}
+use Rattle.own_steps.proofs.Endings.{asks_none, ending_tells}
+use Rattle.shared_value.proofs.Linked as link
+use Rattle.shared_value.proofs.Begun.{at_part}
+use Rattle.shared_value.proofs.Now.{end_now}
+use Rattle.shared_value.proofs.Refusals.{refused_is}
+use Rattle.shared_value.proofs.Running.{fits_now, goes}
+
+-- private steps and one more, which isn't
+standing_last : (p : ProgramText) (s : Limits) (t k : ℕ) (l : Ledger) → ArePrivate p s l t k → is_due s p (task_steps p l t k) t ≡ false → is_in_need p (task_steps p l t k) t ≡ false → is_private p (task_steps p l t k).machine t ≡ false
+    → standing s p l t (suc k) ≡ suc k
+standing_last p s t zero l h due need shared =
+    cond-false (is_due s p l t || is_in_need p l t) 0 (cond (is_private p l.machine t) (suc (standing s p (task_step p l t) t 0)) 1) (ap₂ (λ a b. a || b) due need)
+    ∙ cond-false (is_private p l.machine t) (suc (standing s p (task_step p l t) t 0)) 1 shared
+standing_last p s t (suc k) l h due need shared =
+    cond-false (is_due s p l t || is_in_need p l t) 0 (cond (is_private p l.machine t) (suc (standing s p (task_step p l t) t (suc k))) 1) (ap₂ (λ a b. a || b) h.0 h.1)
+    ∙ (cond-true (is_private p l.machine t) (suc (standing s p (task_step p l t) t (suc k))) 1 h.2 ∙ ap suc (standing_last p s t k (task_step p l t) h.3 due need shared))
+
+module _ (w : World) (k : ℕ) (p : Private) (I : IsWorld w) (F : Fits w k p) (shared : IsShared w p) (on : (accounts w).end ≡ None) where
+  abbrev t : ℕ
+  t = p.task
+
+  abbrev l : Ledger
+  l = accounts w
+
+  abbrev M : Ledger
+  M = task_steps w.program l t p.fresh
+
+  V : FitsValue w.program w.settings (part_of w.settings p) (value_of w) l
+  V = fits_now w k p I F on
+
+  abbrev above : Places
+  above = above_of (value_of w) l t
+
+  pub fits_machine : FitsMachine w.program p M.machine above
+  fits_machine = subst (λ (m : State). FitsMachine w.program p m above) (link.machine_is w k p I F on) (link.first_fits w k p I F on)
+
+  -- the machine that the contracts speak of
+  pub machine_same : machine_after w p ≡ M.machine
+  machine_same = ap (λ (z : Ledger). (ahead w.program (part_of w.settings p) z).machine) (aside_is l (goes w k p I F on)) ∙ link.machine_is w k p I F on
+
+  pub shared_now : is_private w.program M.machine t ≡ false
+  shared_now = ap (λ (m : State). is_private w.program m t) (sym machine_same) ∙ shared.last
+
+  -- the line that comes next
+  pub some_line : (line : Line) × (next_line w.program p ≡ Some line)
+  some_line = has_line w.program p M.machine above fits_machine I.form
+
+  at : (line : Line) → next_line w.program p ≡ Some line → fetched w.program fits_machine.task.top ≡ Some line
+  at line e = sym (same_line w.program p M.machine above fits_machine) ∙ e
+
+  pub tells : (line : Line) → next_line w.program p ≡ Some line → Tells w p (ending p line.instr) line.number
+  tells line e = ending_tells w.program p M.machine above fits_machine line (at line e) shared_now
+
+  asks : asked w.program M.machine t ≡ None
+  asks =
+      asks_is w k p I F on
+      ∙ (ap (line_asks p.field_limit p.frames.top) some_line.1 ∙ asks_none w.program p M.machine above fits_machine some_line.0 (at some_line.0 some_line.1) shared_now)
+
+  pub not_due : is_due w.settings w.program M t ≡ false
+  not_due = ap (λ o. on_asked o (λ n. nat_le w.settings.leaf (heap_of M t).since)) asks
+
+  pub not_in_need : is_in_need w.program M t ≡ false
+  not_in_need = ap (λ o. on_asked o (lacks_room (heap_of M t))) asks
+
+  -- one step more than the fresh ones can stand in the entry
+  stands_so : standing w.settings w.program l t (suc p.fresh) ≡ suc p.fresh
+  stands_so = standing_last w.program w.settings t p.fresh l V.private not_due not_in_need shared_now
+
+  pub last_kind : kind_refusal w.program w.settings l k (Ran t (suc p.fresh)) ≡ refused_if (is_some p.begun) Collecting None
+  last_kind =
+      let few : p.fresh ≤ 256 = shared.few in
+      let m : ℕ = min most_steps (standing w.settings w.program l t (suc p.fresh)) in
+      let fits : nat_le (suc p.fresh) m ≡ true = le-leb (suc p.fresh) m (omega (arith, stands_so, few)) in
+      at_part w k p F on (refused_unless (nat_le (suc p.fresh) m) (Long m) None) ∙ ap (λ b. refused_if (is_some p.begun) Collecting (refused_unless b (Long m) None)) fits
+
+-- WHY IT IS REFUSED
+
+pub event_is : (k : ℕ) (p : Private) → alone_event k p ≡ record { worker = k; kind = Ran p.task (suc p.fresh) }
+event_is k p = ap (λ n. let e : Event = record { worker = k; kind = Ran p.task n } in e) (let q : p.fresh + 1 ≡ suc p.fresh = omega arith in q)
+
+end_by : (a b c : Bool) (x y z : Refused) → refused_if a x (refused_if b y (refused_unless c z None)) ≡ None → a ≡ false
+end_by true b c x y z h = absurd cc
+end_by false b c x y z h = refl
+
+else_same : (o rest other : Option Refused) → (o ≡ None → rest ≡ other) → or_else o rest ≡ or_else o other
+else_same None rest other h = h refl
+else_same (Some c) rest other h = refl
+
+nothing_some : {A : Type 0} (o : Option A) → is_some o ≡ false → o ≡ None
+nothing_some None h = refl
+nothing_some (Some x) h = absurd (false≢true (sym h))
+
+pub alone_answer : (w : World) (k : ℕ) (p : Private) → IsWorld w → Fits w k p → IsShared w p → refused w (alone_event k p) ≡ or_else (first_cause w.end w.steps w.settings k false) (refused_if (is_some p.begun) Collecting None)
+alone_answer w k p I F shared =
+    ap (refused w) (event_is k p)
+    ∙ (refused_is w I (record { worker = k; kind = Ran p.task (suc p.fresh) })
+    ∙ else_same (first_cause w.end w.steps w.settings k false) (kind_refusal w.program w.settings (accounts w) k (Ran p.task (suc p.fresh))) (refused_if (is_some p.begun) Collecting None)
+    (λ h. last_kind w k p I F shared (sym (end_now w I) ∙ nothing_some w.end (end_by (is_some w.end) _ _ _ _ _ h))))

@@ -1,0 +1,17 @@
+pub mod Further
+pub mod Bounded
+pub mod Endings
+pub mod LastKinds
+pub mod Depths
+pub mod LastSteps
+pub mod LastEntry
+pub mod Printed
+pub mod Halted
+pub mod Finished
+pub mod AloneEntries
+pub mod FormOutline
+pub mod HomeRead
+pub mod AfterSteps
+pub mod FitsAgain
+pub mod Apart
+pub mod OtherKinds

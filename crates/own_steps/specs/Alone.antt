@@ -1,0 +1,112 @@
+-- An entry of a part's fresh steps and its next one, which isn't private.
+use Rattle.std.specs.Prelude.{◌≤◌, ◌≡◌, ◌≢◌, ℕ, ◌+◌, ◌||◌, not, true, false, Option, Some, None, [], slice_get}
+use Rattle.hh_lang.specs.declared.instr.Instr.TheVariants.{Out, Ret}
+use Rattle.hh_lang.specs.declared.program.Line.{Line}
+use Rattle.hh_lang.specs.Form.{ProgramText}
+use Rattle.run_trace.specs.declared.entry.Kind.TheVariants.{Ran}
+use Rattle.run_trace.specs.Entry.{Event}
+use Rattle.hh_model.specs.declared.data.End.{End}
+use Rattle.hh_model.specs.declared.data.End.TheVariants.{Done, Trapped}
+use Rattle.hh_model.specs.declared.data.State.{State}
+use Rattle.hh_model.specs.declared.data.Task.{Task}
+use Rattle.hh_model.specs.Effect.{int_in}
+use Rattle.hh_model.specs.Step.{ended_by, fetched, step}
+use Rattle.run_ledger.specs.declared.data.Ledger.{Ledger}
+use Rattle.run_ledger.specs.declared.data.RunEnd.{RunEnd}
+use Rattle.run_ledger.specs.declared.data.RunEnd.TheVariants.{Machine}
+use Rattle.run_ledger.specs.Steps.{is_private, owns, task_steps, touched}
+use Rattle.ledger_steps.specs.Accounts.{Rests}
+use Rattle.core_relation.specs.Whole.{handed}
+use Rattle.task_machine.specs.declared.part.Private.{Private}
+use Rattle.own_steps.specs.declared.alone.Alone.{Alone}
+use Rattle.own_steps.specs.declared.alone.Alone.TheVariants.{Goes, Over, Done as IsDone, Beyond as BeyondAlone}
+use Rattle.shared_value.specs.declared.next.Ending.{Ending}
+use Rattle.shared_value.specs.declared.next.Ending.TheVariants.{Prints, Returns, Traps, Beyond}
+use Rattle.task_machine.specs.Plan.{int_of, ref_of}
+use Rattle.shared_value.specs.declared.rest.Rest.{Rest}
+use Rattle.shared_value.specs.declared.rest.Work.TheVariants.{Result}
+use Rattle.shared_value.specs.World.{World, accounts}
+use Rattle.shared_value.specs.Fits.{Fits, OthersFit, beyond}
+use Rattle.shared_value.specs.Next.{is_beyond, is_joint}
+use Rattle.shared_value.specs.Entered.{Enters}
+
+-- its entry
+abbrev pub alone_event : ℕ → Private → Event
+alone_event worker p = record { worker = worker; kind = Ran p.task (p.fresh + 1) }
+
+-- the machine after the part's fresh steps
+abbrev pub machine_after : World → Private → State
+machine_after w p = (beyond w.program (accounts w) p).machine
+
+-- the accounts then
+abbrev pub then_accounts : World → Private → Ledger
+then_accounts w p = task_steps w.program (accounts w) p.task p.fresh
+
+-- the part's next step isn't private, and stands in one entry with its fresh ones
+pub record IsShared (w : World) (p : Private) : Type 0 where
+  pub last : is_private w.program (machine_after w p) p.task ≡ false
+  pub few : p.fresh ≤ 256
+
+-- the steps are entered, and the part goes on
+pub record GoesAlone (w after : World) (k : ℕ) (p q : Private) : Type 0 where
+  pub enters : Enters w after (alone_event k p)
+  pub goes : (accounts after).end ≡ None
+  pub fits : Fits after k q
+  -- its frames alone are others, and no step is fresh
+  pub part : q ≡ record p { frames = q.frames; fresh = 0 }
+  pub others : OthersFit w after k
+
+-- a step has ended the run that can't be done, or is a read that is stopped
+abbrev pub HasHalted : Option RunEnd → Type 0
+HasHalted end = (e : End) × (end ≡ Some (Machine e)) × (e ≢ Done)
+
+-- the steps are entered, and the last of them ended the run and left all else as it was: the part is as before it
+pub record HaltsAlone (w after : World) (k : ℕ) (p q : Private) : Type 0 where
+  pub enters : Enters w after (alone_event k p)
+  pub halts : HasHalted (accounts after).end
+  pub fits : Fits after k q
+  -- no step is fresh
+  pub part : q ≡ record p { fresh = 0 }
+  pub others : OthersFit w after k
+
+-- the steps are entered, the last of them is the root's last return, and the run is done
+pub record FinishesAlone (w after : World) (k : ℕ) (p : Private) : Type 0 where
+  pub enters : Enters w after (alone_event k p)
+  pub done : (accounts after).end ≡ Some (Machine Done)
+  -- every heap is handed back
+  pub rest : (t : ℕ) → Rests (handed (accounts after)) t
+  pub others : OthersFit w after k
+
+-- nothing is entered, since other tasks have part in the next step
+pub record IsBeyond (w after : World) (p q : Private) : Type 0 where
+  pub same : after ≡ w
+  pub part : q ≡ p
+  pub beyond : is_beyond w.program (machine_after w p) p.task ≡ true
+
+abbrev pub Answered : World → World → ℕ → Private → Alone → Type 0
+Answered w after k p (Goes q) = GoesAlone w after k p q
+Answered w after k p (Over q) = HaltsAlone w after k p q
+Answered w after k p IsDone = FinishesAlone w after k p
+Answered w after k p (BeyondAlone q) = IsBeyond w after p q
+
+-- what goes with a task whose last frame returned
+abbrev pub ended_rest : Private → Rest
+ended_rest p = record { work = Result (int_of p.frames.top 0) (ref_of p.frames.top 0); heap = p.heap; allocations = p.allocations }
+
+-- ---- what the next step does in the machine m: x is the task, and line the line that it takes
+abbrev pub SaysOf : ProgramText → State → ℕ → Task → Line → Ending → Type 0
+SaysOf p m t x line (Prints v) = (a : ℕ) × (line.instr ≡ Out a) × (v ≡ int_in x.top a)
+SaysOf p m t x line Returns = (line.instr ≡ Ret) × (x.below ≡ [])
+SaysOf p m t x line (Traps kind) = step p m t ≡ ended_by m (Trapped kind t line.number)
+SaysOf p m t x line Beyond = (is_joint x line.instr || not (owns m.tasks t (touched x.top line.instr))) ≡ true
+
+pub record TellsOf (p : ProgramText) (m : State) (t : ℕ) (ending : Ending) (number : ℕ) : Type 0 where
+  pub task : Task
+  pub line : Line
+  pub is : slice_get m.tasks t ≡ Some task
+  pub next : fetched p task.top ≡ Some line
+  pub number_is : line.number ≡ number
+  pub says : SaysOf p m t task line ending
+
+abbrev pub Tells : World → Private → Ending → ℕ → Type 0
+Tells w p ending number = TellsOf w.program (then_accounts w p).machine p.task ending number

@@ -1,6 +1,0 @@
-use Rattle.std.proofs.Common.{◌≡◌, ◌≤◌, ◌+◌, ◌++◌, length, map, take}
-use Rattle.shared_tree.specs.LeafBegin.{number_of}
-use Rattle.shared_tree.proofs.leaf_begin.note_numbers.Given as goal
-
-abbrev pub invariant-loop-chunk : goal.invariant-loop-chunk
-invariant-loop-chunk l = record { items : l.numbers.items ≡ l.fn.numbers.items ++ map number_of (take l.chunk-index l.chunks); room : length l.chunks ≤ l.numbers.room + l.chunk-index }

@@ -1,9 +1,0 @@
-use Rattle.std.proofs.Common.{◌≡◌, length, take}
-use Rattle.inner_mark_gc.specs.Swept.{AreGiven}
-use Rattle.shared_tree.proofs.leaf_end.give_all.Given as goal
-
-abbrev pub invariant-loop-chunk : goal.invariant-loop-chunk
-invariant-loop-chunk l = record {
-  taken : l.yielded ≡ take (length l.yielded) l.fn.chunks.items;
-  pool : AreGiven l.fn.pool l.pool l.yielded;
-}

@@ -1,7 +1,0 @@
-use Rattle.std.proofs.Common.{◌≡◌, ◌++◌, take}
-use Rattle.std.specs.List.{flat_map}
-use Rattle.remembered_set.specs.Moved.{into}
-use Rattle.shared_tree.proofs.starts.push_all_own.Given as goal
-
-abbrev pub invariant-loop-reference : goal.invariant-loop-reference
-invariant-loop-reference l = l.starts.items ≡ l.fn.starts.items ++ flat_map (into l.heap.chunks) (take l.reference-index l.references)

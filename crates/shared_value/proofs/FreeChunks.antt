@@ -1,0 +1,112 @@
+-- Whether the free chunks are enough for a leaf collection of a part.
+use Rattle.std.proofs.Common.{◌≡◌, ℕ, suc, ◌+◌, ◌-◌, ◌^◌, ◌<◌, ◌≤◌, arith, Option, None, List, [], ◌∷◌, length, map, nat_le, inl, inr, refl, ap, ap₂, sym, subst, ◌∙◌}
+use Rattle.std.specs.List.{flat_map}
+use Rattle.std.proofs.lemmas.Bool.{cases_lt, lt-leb}
+use Rattle.object_layout.specs.declared.word.Addr.{Addr}
+use Rattle.object_layout.specs.Chunks.{small_words}
+use Rattle.hh_model.specs.declared.data.Name.{Name}
+use Rattle.hh_model.specs.declared.data.State.{State}
+use Rattle.hh_model.specs.Effect.{object_at}
+use Rattle.run_ledger.specs.declared.data.Heap.{Heap as Account}
+use Rattle.run_ledger.specs.declared.data.Ledger.{Ledger}
+use Rattle.run_ledger.specs.Heaps.{heap_of, let_go, small_in, take_of, words_of, words_sum}
+use Rattle.run_ledger.specs.Entries.{is_pool_enough}
+use Rattle.chunk_pool.specs.Chunks.{units_in_use}
+use Rattle.alloc_path.specs.Heap.{counted}
+use Rattle.task_machine.specs.declared.part.Private.{Private}
+use Rattle.task_machine.specs.Accounts.{small_lists}
+use Rattle.ledger_steps.specs.Accounts.{aside, rested}
+use Rattle.ledger_steps.proofs.Ahead.{with_machine}
+use Rattle.ledger_steps.proofs.Rested.{rested_view, rested_worker}
+use Rattle.core_relation.specs.Layout.{AreLaidOut}
+use Rattle.core_relation.specs.Fits.{with_home}
+use Rattle.core_relation.specs.Reads.{AllRead}
+use Rattle.core_relation.specs.Stands.{HomeStands, Stands, names_of, small_chunks}
+use Rattle.core_relation.specs.Value.{Home, In, Seen, Value, objects_in}
+use Rattle.core_relation.proofs.Members.{in_map, in_objects}
+use Rattle.core_relation.proofs.With.{at_home}
+use Rattle.shared_value.specs.Objects.{chunk_of}
+use Rattle.shared_value.specs.World.{World, accounts, value_of}
+use Rattle.shared_value.specs.Stands.{IsWorld}
+use Rattle.shared_value.specs.Fits.{Fits, home_of_part}
+use Rattle.shared_value.specs.Due.{take_by}
+use Rattle.shared_value.proofs.Counts.{small_names}
+use Rattle.shared_value.proofs.Now.{used_now}
+use Rattle.shared_value.proofs.SmallWords.{SameWords, small_counted}
+
+-- both lists have as many
+pub refs_long : (at : Name → Addr → Type 0) (rs : List (Option Addr)) (xs : List (Option Name)) → AllRead at rs xs → length rs ≡ length xs
+refs_long at [] [] h = refl
+refs_long at [] (x ∷ xs) h = absurd h
+refs_long at (r ∷ rs) [] h = absurd h
+refs_long at (r ∷ rs) (x ∷ xs) h = ap suc (refs_long at rs xs h.1)
+
+-- a part without fresh steps
+module _ (w : World) (k : ℕ) (p : Private) (I : IsWorld w) (F : Fits w k (record p { fresh = 0 })) where
+  abbrev l : Ledger
+  l = accounts w
+
+  abbrev t : ℕ
+  t = p.task
+
+  abbrev h : Home
+  h = home_of_part (record p { fresh = 0 })
+
+  abbrev v' : Value
+  v' = with_home (value_of w) t h
+
+  abbrev L : Ledger
+  L = rested (aside l) t
+
+  W : Stands v' L
+  W = F.fits.part.fits.stands
+
+  at_rest : (heap_of L t).worker ≡ None
+  at_rest = rested_worker (aside l) t
+
+  H : HomeStands v' L t
+  H = W.homes t at_rest
+
+  here : v'.homes t ≡ h
+  here = at_home (value_of w) t h
+
+  store_is : L.machine.store ≡ l.machine.store
+  store_is = ap (λ (m : State). m.store) (with_machine (aside l) t let_go)
+
+  words_same : (o : Seen) → In (objects_in h.chunks) o → SameWords l.machine o
+  words_same o i =
+      let c = W.contents t o at_rest (subst (λ (z : Home). In (objects_in z.chunks) o) (sym here) i) in
+      ap (λ s. words_of (object_at s o.name)) (sym store_is)
+      ∙ (ap words_of c.1 ∙ ap₂ (λ a b. 2 + a + b) (sym (refs_long _ o.refs c.0.refs c.2.refs)) (ap length (sym c.2.ints)))
+
+  chunks_are : (heap_of l t).chunks ≡ small_lists p.heap.chunks
+  chunks_are =
+      sym (rested_view (λ (z : Account). z.chunks) (λ z. refl) (aside l) t)
+      ∙ (sym H.names.small ∙ (ap (λ (z : Home). map names_of (small_chunks z.chunks)) here ∙ small_names p.heap.chunks))
+
+  laid : AreLaidOut h.chunks (heap_of L t).reserved
+  laid = subst (λ (z : Home). AreLaidOut z.chunks (heap_of L t).reserved) here H.laid
+
+  -- the words of its small objects are those of their names
+  pub small_is : words_sum l.machine (small_in (heap_of l t)) ≡ small_words p.heap.chunks
+  small_is =
+      ap (λ ns. words_sum l.machine (flat_map (λ xs. xs) ns)) chunks_are
+      ∙ small_counted l.machine p.heap.chunks F.form.tidy F.form.within F.form.whole (λ c i. laid.large (chunk_of c) (in_map chunk_of p.heap.chunks c i))
+      (λ c o i j. words_same o (in_objects h.chunks (chunk_of c) o (in_map chunk_of p.heap.chunks c i) j))
+
+  pub take_is : take_of l.machine (heap_of l t) ≡ take_by (small_words p.heap.chunks)
+  take_is = ap take_by small_is
+
+  enough_by : (used n limit : ℕ) → limit ≤ 65536 → nat_le (used + take_by (counted n)) limit ≡ nat_le (used + take_by n) limit
+  enough_by used n limit few = elim (cases_lt n (2 ^ 64 - 1)) [
+    | inl lt ↦ ap (λ z. nat_le (used + take_by z) limit) (let q : counted n ≡ n = omega (arith, lt) in q)
+    | inr le ↦ lt-leb (used + take_by (counted n)) limit (many (counted n) (omega (arith, le))) ∙ sym (lt-leb (used + take_by n) limit (many n (omega (arith, le))))
+  ]
+    where
+      many : (z : ℕ) → 2 ^ 40 ≤ z → limit < used + take_by z
+      many z big = omega (arith, big, few)
+
+  pub enough_is : nat_le (units_in_use w.pool + take_by (counted (small_words p.heap.chunks))) w.settings.chunks ≡ is_pool_enough w.settings l t
+  enough_is =
+      enough_by (units_in_use w.pool) (small_words p.heap.chunks) w.settings.chunks I.limits.chunks.1
+      ∙ ap₂ (λ a b. nat_le (a + b) w.settings.chunks) (used_now w I) (sym take_is)

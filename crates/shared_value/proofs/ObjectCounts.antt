@@ -1,0 +1,31 @@
+-- The objects that are read of chunks: their names, and how many there are.
+use Rattle.std.proofs.Common.{◌≡◌, ℕ, ◌+◌, ◌++◌, arith, None, List, [], ◌∷◌, All, length, length-append, refl}
+use Rattle.std.proofs.lemmas.List.Elements.{All-head, All-tail}
+use Rattle.object_layout.specs.Cell.{Born, Cell, Hole, Mark, Moved, moved_to, size_of}
+use Rattle.object_layout.specs.Chunks.{held_size, object_count, one_each, sum_in}
+use Rattle.object_layout.specs.Content.{Content}
+use Rattle.alloc_path.specs.Heap.{AreTidy, IsTidy}
+use Rattle.hh_model.specs.declared.data.Name.{Name}
+use Rattle.core_relation.specs.Value.{Seen, objects_in}
+use Rattle.shared_value.specs.Objects.{chunk_of, chunks_of, objects_from, seen_by}
+
+abbrev pub name_in : Seen → Name
+name_in o = o.name
+
+-- AS MANY OBJECTS are counted as are read
+cells_counted : (cs : List Cell) (number at : ℕ) → All (λ c. moved_to c.mark ≡ None) cs → sum_in one_each cs ≡ length (objects_from number at cs)
+cells_counted [] number at t = refl
+cells_counted (c ∷ cs) number at t = by c.mark (All-head (λ (d : Cell). moved_to d.mark ≡ None) c cs t) (cells_counted cs number (at + size_of c) (All-tail (λ (d : Cell). moved_to d.mark ≡ None) c cs t))
+  where
+    by : (m : Mark) → moved_to m ≡ None → sum_in one_each cs ≡ length (objects_from number (at + size_of c) cs) → held_size m 1 + sum_in one_each cs ≡ length (seen_by number at c m (objects_from number (at + size_of c) cs))
+    by (Born b) e go = omega (arith, go)
+    by (Moved to) e go = absurd cc
+    by Hole e go = omega (arith, go)
+
+pub objects_counted : (ks : List Content) → AreTidy ks → object_count ks ≡ length (objects_in (chunks_of ks))
+objects_counted [] t = refl
+objects_counted (k ∷ ks) t =
+    let one : sum_in one_each k.cells ≡ length (chunk_of k).objects = cells_counted k.cells k.number 0 (All-head IsTidy k ks t).unmoved in
+    let rest : object_count ks ≡ length (objects_in (chunks_of ks)) = objects_counted ks (All-tail IsTidy k ks t) in
+    let sum : length ((chunk_of k).objects ++ objects_in (chunks_of ks)) ≡ length (chunk_of k).objects + length (objects_in (chunks_of ks)) = length-append (chunk_of k).objects (objects_in (chunks_of ks)) in
+    omega (arith, one, rest, sum)

@@ -1,0 +1,200 @@
+-- What remembered fields hold of a heap at rest, as far as it points into the heap, are its roots.
+use Rattle.std.proofs.Common.{◌≡◌, ℕ, zero, suc, ◌<◌, arith, Bool, true, false, cond, Option, Some, None, List, [], ◌∷◌, inl, inr, length, map, slice_get, is_some, refl, ap, sym, subst, ◌∙◌}
+use Rattle.std.specs.Prelude.{slice_index_or}
+use Rattle.std.specs.List.{AllByRecursion}
+use Rattle.std.proofs.lemmas.Bool.{false≢true}
+use Rattle.std.proofs.lemmas.Option.{get_or_from_slice_get, same_Some}
+use Rattle.listed.proofs.Members.{in_append_cases, in_append_left, in_append_right}
+use Rattle.object_layout.specs.declared.word.Addr.{Addr}
+use Rattle.object_layout.specs.Chunks.{has_chunk, place_in}
+use Rattle.object_layout.specs.Content.{Content}
+use Rattle.remembered_set.specs.declared.remembered.Source.{Source}
+use Rattle.remembered_set.specs.Moved.{AreFields, held_by, into, targets_of}
+use Rattle.hh_model.specs.declared.data.Name.{Name}
+use Rattle.hh_model.specs.declared.data.Object.{Object}
+use Rattle.hh_model.specs.Effect.{object_at}
+use Rattle.run_ledger.specs.declared.data.Ledger.{Ledger}
+use Rattle.ledger_steps.specs.Accounts.{Rests, own}
+use Rattle.core_relation.specs.Begins.{AreRoots, IsRoot}
+use Rattle.core_relation.specs.Stands.{IsSource, Place, Stands}
+use Rattle.core_relation.specs.Value.{Chunk, In, Lies, Seen, Value, objects, objects_in, sources}
+use Rattle.core_relation.proofs.Members.{in_chunk, in_map, map_in}
+use Rattle.core_relation.proofs.Roots.{name_at}
+use Rattle.shared_value.specs.declared.heaps.Heaps.{Heaps}
+use Rattle.shared_value.specs.Objects.{chunk_of, chunks_of}
+use Rattle.shared_value.specs.World.{source_of}
+use Rattle.shared_value.specs.RestingHeaps.{refs_in}
+use Rattle.shared_value.proofs.Cells.{fresh_off}
+use Rattle.shared_value.proofs.FreeChunks.{refs_long}
+use Rattle.shared_value.proofs.Linked.{placed_in}
+
+-- ---- LISTS
+
+got_index : {A : Type 0} (xs : List A) (i : ℕ) (d : A) → i < length xs → slice_get xs i ≡ Some (slice_index_or xs i d)
+got_index [] i d lt = absurd (omega (arith, lt))
+got_index (x ∷ xs) zero d lt = refl
+got_index (x ∷ xs) (suc i) d lt = got_index xs i d (omega (arith, lt))
+
+got_less : {A : Type 0} (xs : List A) (i : ℕ) (x : A) → slice_get xs i ≡ Some x → i < length xs
+got_less [] i x e = absurd cc
+got_less (y ∷ ys) zero x e = omega arith
+got_less (y ∷ ys) (suc i) x e = let r = got_less ys i x e in omega (arith, r)
+
+all_in : {A : Type 0} (P : A → Type 0) (xs : List A) → ((x : A) → In xs x → P x) → AllByRecursion P xs
+all_in P [] f = tt
+all_in P (x ∷ xs) f = (f x (inl refl), all_in P xs (λ y i. f y (inr i)))
+
+pub into_tells : (ks : List Content) (o : Option Addr) (a : Addr) → In (into ks o) a → (o ≡ Some a) × (has_chunk ks a.chunk ≡ true)
+into_tells ks None a i = absurd i
+into_tells ks (Some b) a i = by (has_chunk ks b.chunk) refl i
+  where
+    by : (v : Bool) → has_chunk ks b.chunk ≡ v → In (cond v (b ∷ []) []) a → (Some b ≡ Some a) × (has_chunk ks a.chunk ≡ true)
+    by true e (inl q) = (ap Some q, ap (λ (z : Addr). has_chunk ks z.chunk) (sym q) ∙ e)
+    by true e (inr j) = absurd j
+    by false e j = absurd j
+
+pub into_there : (ks : List Content) (o : Option Addr) (a : Addr) → o ≡ Some a → has_chunk ks a.chunk ≡ true → In (into ks o) a
+into_there ks o a e h = subst (λ z. In (into ks z) a) (sym e) (subst (λ v. In (cond v (a ∷ []) []) a) (sym h) (inl refl))
+
+module _ {S : Type 0} (refs_at : S → Addr → List (Option Addr)) (h : S) (ks : List Content) where
+  targets_tell : (ss : List Source) (a : Addr) → In (targets_of refs_at h ks ss) a → (s : Source) × In ss s × (held_by refs_at h s ≡ Some a) × (has_chunk ks a.chunk ≡ true)
+  targets_tell [] a i = absurd i
+  targets_tell (s ∷ ss) a i = elim (in_append_cases (into ks (held_by refs_at h s)) (targets_of refs_at h ks ss) a i) [
+    | inl j ↦ let t = into_tells ks (held_by refs_at h s) a j in (s, inl refl, t.0, t.1)
+    | inr j ↦ let r = targets_tell ss a j in (r.0, inr r.1, r.2, r.3)
+  ]
+
+  targets_there : (ss : List Source) (s : Source) (a : Addr) → In ss s → held_by refs_at h s ≡ Some a → has_chunk ks a.chunk ≡ true → In (targets_of refs_at h ks ss) a
+  targets_there [] s a i e c = absurd i
+  targets_there (x ∷ ss) s a (inl q) e c =
+      in_append_left (into ks (held_by refs_at h x)) (targets_of refs_at h ks ss) a (into_there ks (held_by refs_at h x) a (ap (held_by refs_at h) q ∙ e) c)
+  targets_there (x ∷ ss) s a (inr j) e c = in_append_right (into ks (held_by refs_at h x)) (targets_of refs_at h ks ss) a (targets_there ss s a j e c)
+
+-- ---- CHUNKS
+
+pub chunk_in : (ks : List Content) (number : ℕ) → has_chunk ks number ≡ true → (k : Content) × In ks k × (k.number ≡ number)
+chunk_in ks number h = by (place_in ks number) refl h
+  where
+    by : (o : Option ℕ) → place_in ks number ≡ o → is_some o ≡ true → (k : Content) × In ks k × (k.number ≡ number)
+    by None e h = absurd (false≢true h)
+    by (Some i) e h = placed_in ks number i e
+
+pub has_it : (ks : List Content) (k : Content) (number : ℕ) → In ks k → k.number ≡ number → has_chunk ks number ≡ true
+has_it ks k number i q = by (place_in ks number) refl
+  where
+    by : (o : Option ℕ) → place_in ks number ≡ o → is_some o ≡ true
+    by None e = absurd (fresh_off ks k number e i q)
+    by (Some j) e = refl
+
+-- ---- A VALUE THAT STANDS, and a heap at rest with these chunks and remembered fields; heaps by whose words the objects of all other
+-- heaps are read
+module _ (v : Value) (l : Ledger) (t : ℕ) (W : Stands v l) (at_rest : Rests l t) (ks : List Content) (here : (v.homes t).chunks ≡ chunks_of ks) (ss : List Source) (sources_are : sources v t ≡ map source_of ss) (hs : Heaps)
+    (read : (u : ℕ) → (u ≡ t → ⊥) → Rests l u → (o : Seen) → In (objects v u) o → refs_in hs o.at ≡ o.refs) where
+  -- the owner of a resting home's object
+  owner_at : (u : ℕ) → Rests l u → (o : Seen) → In (objects v u) o → v.owner o.at.chunk ≡ Some u
+  owner_at u r o i =
+      let c = in_chunk (v.homes u).chunks o i in
+      ap v.owner ((W.homes u r).inside c.0 o c.1 c.2) ∙ (W.homes u r).owned c.0 c.1
+
+  -- a source's object, in its home
+  record SourceAt (s : Source) : Type 0 where
+    home : ℕ
+    rests : Rests l home
+    object : Seen
+    there : In (objects v home) object
+    at : object.at ≡ s.object
+    refs : refs_in hs s.object ≡ object.refs
+    field : s.field < length object.refs
+
+  refs_at_home : (u : ℕ) → (u ≡ t → ⊥) → Rests l u → (o : Seen) → In (objects v u) o → (a : Addr) → o.at ≡ a → refs_in hs a ≡ o.refs
+  refs_at_home u ne r o i a e = ap (refs_in hs) (sym e) ∙ read u ne r o i
+
+  source_at : (s : Source) → In ss s → SourceAt s
+  source_at s i =
+      let S : IsSource v l t (source_of s) = W.sources t (source_of s) (subst (λ xs. In xs (source_of s)) (sym sources_are) (in_map source_of ss s i)) in
+      let lies : Lies (v.homes (own l S.name)).chunks S.name s.object = S.place.here S.rests in
+      let o : Seen = lies.0 in
+      let c = W.contents (own l S.name) o S.rests lies.1 in
+      let same : S.object ≡ c.0 = same_Some S.object c.0 (sym S.is ∙ (ap (object_at l.machine.store) (sym lies.2.name) ∙ c.1)) in
+      let long : length o.refs ≡ length S.object.refs = refs_long (Place v l) o.refs c.0.refs c.2.refs ∙ ap (λ (z : Object). length z.refs) (sym same) in
+      let within : s.field < length S.object.refs = S.field in
+      record {
+        home = own l S.name;
+        rests = S.rests;
+        object = o;
+        there = lies.1;
+        at = lies.2.at;
+        refs = refs_at_home (own l S.name) S.below S.rests o lies.1 s.object lies.2.at;
+        field = omega (arith, long, within);
+      }
+
+  -- EACH SOURCE IS A FIELD
+  pub are_fields : AreFields refs_in hs ss
+  are_fields = all_in (λ s. s.field < length (refs_in hs s.object)) ss (λ s i. let A = source_at s i in subst (λ rs. s.field < length rs) (sym A.refs) A.field)
+
+  -- an address in a chunk of the heap that stands for a name is the place of its object
+  pub lies_here : (n : Name) (a : Addr) → Place v l n a → v.owner a.chunk ≡ Some t → (q : Seen) × In (objects_in (chunks_of ks)) q × (q.at ≡ a)
+  lies_here n a p mine =
+      let owned : own l n ≡ t = same_Some (own l n) t (sym p.chunk ∙ mine) in
+      let lies : Lies (v.homes t).chunks n a = subst (λ z. Lies (v.homes z).chunks n a) owned (p.here (subst (Rests l) (sym owned) at_rest)) in
+      (lies.0, subst (λ cs. In (objects_in cs) lies.0) here lies.1, lies.2.at)
+
+  -- whose chunk it is
+  pub own_chunk : (number : ℕ) → has_chunk ks number ≡ true → v.owner number ≡ Some t
+  own_chunk number h =
+      let c = chunk_in ks number h in
+      ap v.owner (sym c.2) ∙ (W.homes t at_rest).owned (chunk_of c.0) (subst (λ cs. In cs (chunk_of c.0)) (sym here) (in_map chunk_of ks c.0 c.1))
+
+  pub object_chunk : (q : Seen) → In (objects_in (chunks_of ks)) q → has_chunk ks q.at.chunk ≡ true
+  object_chunk q i =
+      let c = in_chunk (chunks_of ks) q i in
+      let d = map_in chunk_of ks c.0 c.1 in
+      has_it ks d.0 q.at.chunk d.1 (ap (λ (z : Chunk). z.number) d.2 ∙ sym ((W.homes t at_rest).inside c.0 q (subst (λ cs. In cs c.0) (sym here) c.1) c.2))
+
+  -- the object in the heap to which a reference of another home's object leads
+  leads_here : (u : ℕ) → Rests l u → (o : Seen) → In (objects v u) o → (i : ℕ) (a : Addr) → slice_get o.refs i ≡ Some (Some a) → v.owner a.chunk ≡ Some t → (q : Seen) × In (objects_in (chunks_of ks)) q × (q.at ≡ a)
+  leads_here u r o j i a e mine =
+      let c = W.contents u o r j in
+      let n = name_at (Place v l) o.refs c.0.refs i a c.2.refs e in
+      lies_here n.0 a n.2 mine
+
+  abbrev held : List Addr
+  held = targets_of refs_in hs ks ss
+
+  -- THE ROOTS
+  pub are_roots : AreRoots v l t (targets_of refs_in hs ks ss)
+  are_roots a = (to, from)
+    where
+      to : In held a → IsRoot v l t a
+      to i =
+          let T = targets_tell refs_in hs ks ss a i in
+          let A = source_at T.0 T.1 in
+          let holds : slice_get A.object.refs T.0.field ≡ Some (slice_index_or A.object.refs T.0.field None) = got_index A.object.refs T.0.field None A.field in
+          let is : slice_index_or A.object.refs T.0.field None ≡ Some a = ap (λ rs. slice_index_or rs T.0.field None) (sym A.refs) ∙ T.2 in
+          record {
+            source = source_of T.0;
+            home = A.home;
+            object = A.object;
+            rests = A.rests;
+            noted = subst (λ xs. In xs (source_of T.0)) (sym sources_are) (in_map source_of ss T.0 T.1);
+            there = A.there;
+            at = A.at;
+            holds = holds ∙ ap Some is;
+            into = own_chunk a.chunk T.3;
+          }
+
+      from : IsRoot v l t a → In held a
+      from R =
+          let s = map_in source_of ss R.source (subst (λ xs. In xs R.source) sources_are R.noted) in
+          let S : IsSource v l t R.source = W.sources t R.source R.noted in
+          let owner : own l S.name ≡ R.home = same_Some (own l S.name) R.home (sym S.place.chunk ∙ (ap (λ (z : Addr). v.owner z.chunk) (sym R.at) ∙ owner_at R.home R.rests R.object R.there)) in
+          let at : R.object.at ≡ s.0.object = R.at ∙ ap (λ z. z.object) (sym s.2) in
+          let holds : slice_get R.object.refs s.0.field ≡ Some (Some a) = ap (λ z. slice_get R.object.refs z.field) s.2 ∙ R.holds in
+          let refs : refs_in hs s.0.object ≡ R.object.refs = refs_at_home R.home (λ e. S.below (owner ∙ e)) R.rests R.object R.there s.0.object at in
+          let is : held_by refs_in hs s.0 ≡ Some a = ap (λ rs. slice_index_or rs s.0.field None) refs ∙ get_or_from_slice_get R.object.refs s.0.field (Some a) None holds in
+          let q = leads_here R.home R.rests R.object R.there R.source.field a R.holds R.into in
+          targets_there refs_in hs ks ss s.0 a s.1 is (ap (λ (z : Addr). has_chunk ks z.chunk) (sym q.2) ∙ object_chunk q.0 q.1)
+
+  -- and each is an object of the heap
+  pub root_here : (a : Addr) → In (targets_of refs_in hs ks ss) a → (q : Seen) × In (objects_in (chunks_of ks)) q × (q.at ≡ a)
+  root_here a i = let R = (are_roots a).0 i in leads_here R.home R.rests R.object R.there R.source.field a R.holds R.into

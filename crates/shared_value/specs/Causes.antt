@@ -1,0 +1,61 @@
+-- Why entries are refused, as the shared value tells it.
+use Rattle.std.specs.Prelude.{ℕ, ◌&&◌, not, Bool, true, false, Option, Some, None, is_some, nat_le, nat_lt}
+use Rattle.run_trace.specs.declared.entry.Kind.{Kind}
+use Rattle.run_trace.specs.declared.entry.Kind.TheVariants.{Took, Ran, Chunk, Begin, End, PutOff, Mark, More, Sweep, Fuel}
+use Rattle.run_trace.specs.Settings.{Limits}
+use Rattle.run_ledger.specs.declared.data.Refused.{Refused}
+use Rattle.run_ledger.specs.declared.data.Refused.TheVariants.{Collecting, Due, Over, Spent, NoWorker, NotNeeded, NotReady, NotSpent}
+use Rattle.run_ledger.specs.declared.data.RunEnd.{RunEnd}
+use Rattle.run_ledger.specs.Entries.{refused_if, refused_unless, refused_holding}
+use Rattle.heap_tree.specs.declared.state.State.{State}
+use Rattle.heap_tree.specs.declared.state.State.TheVariants.{Ready, Out, Waiting, Ended, Joined}
+use Rattle.alloc_path.specs.Heap.{place_for, room_of}
+use Rattle.task_machine.specs.declared.part.Private.{Private}
+use Rattle.heap_tree.specs.Node.{state_of}
+use Rattle.std.specs.Prelude.{slice_get}
+use Rattle.shared_value.specs.World.{World, flat}
+
+-- the causes that come before what the entry says
+abbrev pub first_cause : Option RunEnd → ℕ → Limits → ℕ → Bool → Option Refused
+first_cause end steps s worker fuel = refused_if (is_some end) Over (refused_if (nat_le s.fuel steps && not fuel) (Spent steps) (refused_unless (nat_lt worker s.workers) NoWorker None))
+
+-- the first cause, or the next one
+abbrev pub or_else : Option Refused → Option Refused → Option Refused
+or_else None rest = rest
+or_else (Some cause) rest = Some cause
+
+abbrev pub is_state_ready : Option State → Bool
+is_state_ready None = false
+is_state_ready (Some Ready) = true
+is_state_ready (Some Out) = false
+is_state_ready (Some Waiting) = false
+is_state_ready (Some Ended) = false
+is_state_ready (Some Joined) = false
+
+abbrev pub took_cause : World → ℕ → ℕ → Option Refused
+took_cause w k t = refused_unless (is_state_ready (state_of w.tree t)) NotReady (refused_holding (flat (slice_get w.hands k)) None)
+
+abbrev pub fuel_cause : World → Option Refused
+fuel_cause w = refused_unless (nat_le w.settings.fuel w.steps) (NotSpent w.steps) None
+
+-- of a part that is amid no leaf collection and allocates so many words next, or nothing: why no chunk is given to it
+abbrev pub need_cause : Private → Option ℕ → Option Refused
+need_cause p None = Some (NotNeeded (room_of p.heap))
+need_cause p (Some words) = refused_if (nat_le p.leaf_limit p.heap.since) (Due p.heap.since) (refused_if (is_some (place_for p.heap words)) (NotNeeded (room_of p.heap)) None)
+
+-- of any part
+abbrev pub chunk_cause : Private → Option ℕ → Option Refused
+chunk_cause p asks = refused_if (is_some p.begun) Collecting (need_cause p asks)
+
+-- the task that an entry's worker has to hold, where it has to hold one
+abbrev pub task_held : Kind → Option ℕ
+task_held (Took t) = None
+task_held (Ran t k) = Some t
+task_held (Chunk t) = Some t
+task_held (Begin t) = Some t
+task_held (End t taken given left) = Some t
+task_held (PutOff t) = Some t
+task_held (Mark t) = None
+task_held (More t n) = None
+task_held (Sweep t given) = None
+task_held Fuel = None

@@ -1,0 +1,14 @@
+pub mod Objects
+pub mod World
+pub mod Stands
+pub mod Fits
+pub mod Next
+pub mod Entered
+pub mod Causes
+pub mod Due
+pub mod RestingHeaps
+pub mod Roots
+pub mod LeafBegin
+pub mod Links
+pub mod Again
+pub mod Measured

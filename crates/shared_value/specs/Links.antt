@@ -1,0 +1,28 @@
+-- The first meaning of a part that fits: the machine after its fresh steps, and where the shared value has the names of the
+-- tasks above it.
+use Rattle.std.specs.Prelude.{ℕ, ◌==◌, Option, Some, None, List, [], ◌∷◌, if◌then◌else◌, is_none}
+use Rattle.object_layout.specs.declared.word.Addr.{Addr}
+use Rattle.hh_model.specs.declared.data.Name.{Name}
+use Rattle.run_ledger.specs.declared.data.Ledger.{Ledger}
+use Rattle.run_ledger.specs.Heaps.{heap_of}
+use Rattle.run_ledger.specs.Reachable.{is_name}
+use Rattle.task_machine.specs.declared.part.Private.{Private}
+use Rattle.task_machine.specs.Place.{Places}
+use Rattle.task_machine.specs.Fits.{FitsNow as FitsMachine}
+use Rattle.core_relation.specs.Value.{Seen, Value, objects}
+use Rattle.ledger_steps.specs.Accounts.{own}
+use Rattle.shared_value.specs.World.{World, accounts, value_of}
+use Rattle.shared_value.specs.Fits.{beyond}
+
+-- where the first object of this name lies
+abbrev pub find_at : List Seen → Name → Option Addr
+find_at [] n = None
+find_at (o ∷ os) n = if is_name o.name n then Some o.at else find_at os n
+
+-- the addresses of the names that other tasks own, of those that no worker holds
+abbrev pub above_of : Value → Ledger → ℕ → Places
+above_of v l t n = if own l n == t then None else (if is_none (heap_of l (own l n)).worker then find_at (objects v (own l n)) n else None)
+
+-- the part fits the machine
+abbrev pub FitsFirst : World → Private → Type 0
+FitsFirst w p = FitsMachine w.program p (beyond w.program (accounts w) p).machine (above_of (value_of w) (accounts w) p.task)

@@ -1,0 +1,44 @@
+-- What every shared value keeps.
+use Rattle.std.specs.Prelude.{◌≡◌, ℕ, ◌<◌, ◌*◌, ◌/◌, ◌^◌, true, Some, [], length}
+use Rattle.object_layout.specs.Chunks.{chunk_at}
+use Rattle.object_layout.specs.Content.{Content}
+use Rattle.alloc_path.specs.Heap.{AreTidy, AreWithin, Heap}
+use Rattle.hh_lang.specs.Form.{IsProgram}
+use Rattle.run_trace.specs.Settings.{AreLimits}
+use Rattle.run_ledger.specs.Journals.{is_legal}
+use Rattle.task_machine.specs.Accounts.{IsLastLarge, IsLastSmall}
+use Rattle.task_machine.specs.Fits.{IsShaped}
+use Rattle.core_relation.specs.Value.{In}
+use Rattle.core_relation.specs.Whole.{StandsForAll}
+use Rattle.shared_value.specs.declared.rest.Rest.{Rest}
+use Rattle.shared_value.specs.Measured.{RestsAreMeasured}
+use Rattle.shared_value.specs.Objects.{AreNear, chunk_of}
+use Rattle.shared_value.specs.World.{World, accounts, rest_at, totals_of, value_of}
+
+-- what of a heap alone is known, whoever holds it
+pub record HeapForm (h : Heap) : Type 0 where
+  pub shaped : IsShaped h
+  pub near : AreNear h.chunks
+  pub tidy : AreTidy h.chunks
+  pub within : AreWithin h.chunks
+  pub last : IsLastSmall h.chunks h.current
+  pub last_large : IsLastLarge h.chunks h.reserved
+  -- 64 bits count the words placed
+  pub since : h.since < 2 ^ 64
+  -- each chunk has whole units, and a large one without objects is the reserved one
+  pub whole : (k : Content) → In h.chunks k → k.size ≡ 1024 * (k.size / 1024)
+  pub spare : (i : ℕ) → i < length h.chunks → ((chunk_at h.chunks i).size ≡ 1024 → ⊥) → (chunk_of (chunk_at h.chunks i)).objects ≡ [] → h.reserved ≡ Some i
+
+-- its journal is legal, and it stands for its journal; the root of a run that is done is handed back
+pub record IsWorld (w : World) : Type 0 where
+  pub limits : AreLimits w.settings
+  pub form : IsProgram w.program
+  pub legal : is_legal w.program w.settings w.journal.items ≡ true
+  pub made : length w.homes ≡ length w.tree
+  pub noted : length w.sets ≡ length w.tree
+  pub workers : length w.hands ≡ w.settings.workers
+  pub limit : w.pool.limit ≡ w.settings.chunks
+  pub stands : StandsForAll (value_of w) (totals_of w) (accounts w)
+  pub heaps : (t : ℕ) (r : Rest) → rest_at w.homes t ≡ Some r → HeapForm r.heap
+  -- the pool has just the units of each chunk
+  pub measured : RestsAreMeasured w.pool w.homes w.hands

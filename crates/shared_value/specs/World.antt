@@ -1,0 +1,150 @@
+-- The shared value as contracts see it, and what it holds as the relation to the accounts speaks of it.
+use Rattle.std.specs.Prelude.{ℕ, ℤ, pos, Bool, false, Option, Some, None, List, [], ◌∷◌, map, replicate, slice_get, option_map}
+use Rattle.object_layout.specs.declared.word.Addr.{Addr}
+use Rattle.hh_lang.specs.Form.{ProgramText}
+use Rattle.run_trace.specs.Entry.{Event}
+use Rattle.run_trace.specs.Settings.{Limits}
+use Rattle.run_ledger.specs.declared.data.Ledger.{Ledger}
+use Rattle.run_ledger.specs.declared.data.RunEnd.{RunEnd}
+use Rattle.run_ledger.specs.Journals.{ledger_of}
+use Rattle.listed.specs.Space.{Space}
+use Rattle.alloc_path.specs.Heap.{Heap, room_of}
+use Rattle.heap_tree.specs.declared.state.State.{State}
+use Rattle.heap_tree.specs.declared.state.State.TheVariants.{Ready, Out, Waiting, Ended, Joined}
+use Rattle.heap_tree.specs.Node.{Node}
+use Rattle.chunk_pool.specs.Chunks.{Chunks, owner_of, units_in_use}
+use Rattle.remembered_set.specs.declared.remembered.Source.{Source}
+use Rattle.write_barrier.specs.declared.sets.SetOf.{SetOf}
+use Rattle.inner_mark_gc.specs.Marks.{Marks}
+use Rattle.task_frames.specs.declared.frames.Frame.{Frame}
+use Rattle.task_frames.specs.Stack.{Stack}
+use Rattle.task_machine.specs.declared.part.Begun.{Begun as BegunPart}
+use Rattle.core_relation.specs.Value.{Begun, Frame as SeenFrame, Home, Noted, Source as SeenSource, Value}
+use Rattle.core_relation.specs.Whole.{Node as SeenNode, State as SeenState, Totals}
+use Rattle.core_relation.specs.Whole.{Ready as IsReady, Out as IsOut, Waits, HasEnded, HasJoined}
+use Rattle.shared_value.specs.declared.rest.Rest.{Rest}
+use Rattle.shared_value.specs.declared.rest.Work.{Work}
+use Rattle.shared_value.specs.declared.rest.Work.TheVariants.{Calls, Result}
+use Rattle.shared_value.specs.Objects.{chunks_of}
+
+pub record World : Type 0 where
+  pub program : ProgramText
+  pub settings : Limits
+  -- the tasks made, by number
+  pub tree : List Node
+  pub pool : Chunks
+  -- what goes with each task that no worker holds
+  pub homes : List (Option Rest)
+  pub sets : List SetOf
+  -- what is marked of each heap that is being marked; tasks behind the last have none
+  pub marks : List (Option Marks)
+  -- the task that each worker holds
+  pub hands : List (Option ℕ)
+  pub outputs : List ℤ
+  pub journal : Space Event
+  pub steps : ℕ
+  pub end : Option RunEnd
+  -- some worker has met want of memory, and no more entries are to be made
+  pub halted : Bool
+
+-- all but its journal
+abbrev pub without_journal : World → World
+without_journal w = record w { journal = record { items = []; room = 0 } }
+
+-- the accounts of its journal
+abbrev pub accounts : World → Ledger
+accounts w = ledger_of w.program w.settings w.journal.items
+
+-- the root before its first step
+abbrev pub first_rest : ProgramText → ℕ → ℕ → Rest
+first_rest p slots spare = record {
+  work = Calls (record { below = []; top = record { function = p.main; next = 0; ints = replicate 16 (pos 0); refs = replicate 16 None } });
+  heap = record { chunks = []; current = None; reserved = None; since = 0; slots = slots; spare = spare };
+  allocations = 0;
+}
+
+-- ---- HOMES
+
+abbrev pub frame_of : Frame → SeenFrame
+frame_of f = record { function = f.function; next = f.next; ints = f.ints; refs = f.refs }
+
+-- the top frame, and then those that wait, the oldest first
+abbrev pub frames_of : Stack → List SeenFrame
+frames_of s = frame_of s.top ∷ map frame_of s.below
+
+abbrev pub no_home : Home
+no_home = record { chunks = []; room = 0; since = 0; count = 0; frames = []; result = (pos 0, None); begun = None }
+
+-- a leaf collection that a part has begun, if it has
+abbrev pub begun_of : Option BegunPart → Option Begun
+begun_of None = None
+begun_of (Some b) = Some (record { roots = b.roots; news = b.news })
+
+-- a heap and a count of allocations, and the frames of a task at work
+abbrev pub home_with : Heap → ℕ → List SeenFrame → ℤ × Option Addr → Home
+home_with h count frames result = record { chunks = chunks_of h.chunks; room = room_of h; since = h.since; count = count; frames = frames; result = result; begun = None }
+
+abbrev pub home_by : Heap → ℕ → Work → Home
+home_by h count (Calls s) = home_with h count (frames_of s) (pos 0, None)
+home_by h count (Result k r) = home_with h count [] (k, r)
+
+abbrev pub home_of : Rest → Home
+home_of r = home_by r.heap r.allocations r.work
+
+abbrev pub flat : {A : Type 0} → Option (Option A) → Option A
+flat None = None
+flat (Some o) = o
+
+abbrev pub home_in : Option Rest → Home
+home_in None = no_home
+home_in (Some r) = home_of r
+
+abbrev pub rest_at : List (Option Rest) → ℕ → Option Rest
+rest_at homes t = flat (slice_get homes t)
+
+-- ---- WHAT IS NOTED
+
+abbrev pub source_of : Source → SeenSource
+source_of s = record { object = s.object; field = s.field }
+
+abbrev pub noted_in : Option SetOf → Noted
+noted_in None = record { sources = []; kept = []; keeps = false; marked = None }
+noted_in (Some s) = record { sources = map source_of s.remembered.sources; kept = s.kept.items; keeps = s.keeps; marked = None }
+
+-- ---- THE WHOLE
+
+abbrev pub value_by : List (Option Rest) → List SetOf → Chunks → Value
+value_by homes sets pool = record {
+  homes = λ t. home_in (rest_at homes t);
+  noted = λ t. noted_in (slice_get sets t);
+  owner = owner_of pool;
+}
+
+abbrev pub marks_at : List (Option Marks) → ℕ → Option Marks
+marks_at marks t = flat (slice_get marks t)
+
+abbrev pub with_marks : List (Option Marks) → Value → Value
+with_marks marks v = record v { noted = λ t. record (v.noted t) { marked = marks_at marks t } }
+
+abbrev pub value_of : World → Value
+value_of w = with_marks w.marks (value_by w.homes w.sets w.pool)
+
+abbrev pub state_of : State → SeenState
+state_of Ready = IsReady
+state_of Out = IsOut
+state_of Waiting = Waits
+state_of Ended = HasEnded
+state_of Joined = HasJoined
+
+abbrev pub node_of : Node → SeenNode
+node_of n = record { parent = n.parent; state = state_of n.state }
+
+abbrev pub totals_of : World → Totals
+totals_of w = record {
+  node = λ t. option_map node_of (slice_get w.tree t);
+  hand = λ k. flat (slice_get w.hands k);
+  used = units_in_use w.pool;
+  steps = w.steps;
+  outputs = w.outputs;
+  end = w.end;
+}
