@@ -144,6 +144,29 @@ module _ (number : ℕ) (ws : List ℕ) (used : ℕ) (v : Content) (is : seen nu
   seen_again vs n cs h len =
       rw (held_read vs n cs h, len, ← is)
 
+-- the words of the objects alone hold them
+held_cut : (ws : List ℕ) (used : ℕ) (cs : List Cell) → HoldsCells ws used cs → HoldsCells (take used ws) used cs
+held_cut ws used cs h =
+    let within : used ≤ length ws = h.within in
+    let sized : length ws < 2 ^ 32 = h.sized in
+    let len : length (take used ws) ≡ used = length-take-le used ws within in
+    record {
+      within = omega arith;
+      laid = take-take used used ws (omega arith) ∙ h.laid;
+      each = h.each;
+      sized = omega arith;
+    }
+
+pub seen_cut : (number : ℕ) (ws : List ℕ) (used : ℕ) (v : Content) → seen number ws used ≡ v → HoldsCells ws used (cells_in ws used) →
+    (vs : List ℕ) → vs ≡ take used ws → seen number vs used ≡ record v { size = words_in v.cells }
+seen_cut number ws used v is inv vs e =
+    let h = seen_holds number ws used v is inv in
+    let within : used ≤ length ws = h.within in
+    let n : number ≡ v.number = ap (λ (x : Content). x.number) is in
+    let k : cells_in vs used ≡ v.cells = rw e (held_read (take used ws) used v.cells (held_cut ws used v.cells h)) in
+    let l : length vs ≡ words_in v.cells = rw e (length-take-le used ws within ∙ sym (held_used ws used v.cells h)) in
+    rw (k, l, n) refl
+
 -- what is known of an object of a chunk
 pub record ObjectIn (ws : List ℕ) (used : ℕ) (v : Content) (at : ℕ) : Type 0 where
   pub holds : HoldsCells ws used v.cells

@@ -189,7 +189,7 @@ cell_at-push (c ∷ cs) d (suc n) h = rw (le-leb (size_of c) (suc n) h.0) (cell_
 
 -- past the first object
 module _ (c : Cell) (cs : List Cell) (p : ℕ) where
-  cell_at-past : (n : ℕ) → n ≡ size_of c + p → cell_at (c ∷ cs) n ≡ cell_at cs p
+  pub cell_at-past : (n : ℕ) → n ≡ size_of c + p → cell_at (c ∷ cs) n ≡ cell_at cs p
   cell_at-past zero e = absurd (omega arith)
   cell_at-past (suc n) e = let f : suc n - size_of c ≡ p = omega arith in rw (le-leb (size_of c) (suc n) (omega arith)) (ap (cell_at cs) f)
 

@@ -10,6 +10,7 @@ use Rattle.object_layout.specs.declared.word.Addr.{Addr}
 use Rattle.object_layout.specs.declared.word.Header.{Header}
 use Rattle.object_layout.specs.Cell.{Cell, Mark, Born, Moved, Hole, IsCell, IsMark, IsPlace, IsRef, IsBorn, IsObject, moved_to, header_of}
 use Rattle.object_layout.specs.Layout.{words_of_cell, word_of_ref, word_of_mark, header_word, is_gone, nrefs_of, nints_of, mutable_of, gone_of, ref_of_word, birth_of_word}
+use Rattle.object_layout.specs.Piece.{lasts}
 use Rattle.object_layout.proofs.WordLemmas.{nrefs_of-header_word, nints_of-header_word, mutable_of-header_word, gone_of-header_word, ref_of_word-word_of_ref, word_of_ref-lt, birth_of_word-word_of_birth}
 
 pub header_is : (c : Cell) → get_or (words_of_cell c) 0 0 ≡ header_word (length c.refs) (length c.ints) c.mutable (is_gone c.mark)
@@ -108,3 +109,13 @@ gone_object (Moved to) w e r =
     let above : w ≢ 0 = λ z. absurd (omega arith) in
     rw (ne_eqb w 0 above) (λ _. tt, λ _. refl)
 gone_object Hole w e r = rw (eq-eqb w 0 r) (λ h. cc, λ h. absurd h)
+
+pub born_frozen : (m : Mark) (b : Bool) → is_gone m ≡ false → not b ≡ lasts m b
+born_frozen (Born n) b e = refl
+born_frozen (Moved to) b e = cc
+born_frozen Hole b e = cc
+
+pub gone_frozen : (m : Mark) (b g : Bool) → is_gone m ≡ true → g ≡ true → not g ≡ lasts m b
+gone_frozen (Born n) b g e t = cc
+gone_frozen (Moved to) b g e t = rw t refl
+gone_frozen Hole b g e t = rw t refl

@@ -4,6 +4,7 @@ ghost use Rattle.std.specs.Prelude.{◌≡◌, ◌+◌, ◌-◌, ◌*◌, ◌^�
 ghost use Rattle.object_layout.specs.Cell.{header_of, size_of, new_cell, IsPlace, IsBorn, IsObject, moved_to, with_ref, with_refs, with_int, with_ints, with_mark, filled_cell, frozen, Born, Moved, Hole, IsCell};
 ghost use Rattle.object_layout.specs.Chunks.{with_cell};
 ghost use Rattle.object_layout.specs.Layout.{words_of_cell};
+ghost use Rattle.object_layout.specs.Piece.{is_frozen};
 ghost use Rattle.object_layout.specs.Place.{words_in, IsCellAt, IsObjectAt, cell_at, object_at, put_cell, cells_from};
 
 use crate::word::{
@@ -79,6 +80,18 @@ impl Chunk {
         ensures { self.new ≡ record self.old { number = number } }
     {
         self.number = number;
+    }
+
+    /// A chunk of just the words that its objects and holes take, with copies of them.
+    pub(crate) fn copy(&self, alloc: Global) -> Result<Chunk, AllocError>
+        ensures { IfOk result (λ c. c ≡ record self.now { size = words_in self.now.cells }) }
+    {
+        let words = Vec::from_slice(alloc, &self.words[..self.used as usize])?;
+        Ok(Chunk {
+            number: self.number,
+            words,
+            used: self.used,
+        })
     }
 
     /// Forgets its objects and holes.
@@ -245,6 +258,15 @@ pub fn is_born_at(chunk: &Chunk, at: u32) -> bool
     ensures { IsTrue result ↔ IsBorn (cell_at chunk.now.cells at).mark }
 {
     !is_gone_word(word_at(chunk, at, 0))
+}
+
+/// Whether what begins there is an immutable object that bears its birth name.
+pub(crate) fn is_frozen_at(chunk: &Chunk, at: u32) -> bool
+    requires { IsCellAt chunk.now.cells at }
+    ensures { result ≡ is_frozen (cell_at chunk.now.cells at) }
+{
+    let word = word_at(chunk, at, 0);
+    !is_gone_word(word) && !header_from_word(word).mutable
 }
 
 /// The kind of the object.

@@ -3,6 +3,7 @@
 
 mod chunk;
 mod laws;
+mod piece;
 mod reference;
 mod word;
 mod words;
@@ -17,6 +18,7 @@ pub use laws::{
     objects_have_chunks, objects_lie_there, push_leaves_others, put_changes_one,
     put_moves_no_chunk, put_where_pushed, same_address, second_put_stays, sifted_are_kept,
 };
+pub use piece::Piece;
 pub use reference::is_same_reference;
 pub use word::{Addr, Birth, Header};
 pub use words::Words;
