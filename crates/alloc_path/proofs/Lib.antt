@@ -3,3 +3,4 @@ pub mod PlacedLaws
 pub mod Settled
 pub mod Near
 pub mod Counting
+pub mod ViewLemmas

@@ -2,3 +2,5 @@ pub mod Heap
 pub mod Units
 pub mod FieldLaws
 pub mod PlaceLaws
+pub mod View
+pub mod Links

@@ -113,7 +113,7 @@ fn behind(place: Option<usize>, before: usize) -> Option<usize>
 }
 
 // Adds to a table how far these chunks stand before a base.
-fn index_chunks(table: &mut HashMap<u32, usize>, chunks: &[Chunk], base: usize)
+pub(crate) fn index_chunks(table: &mut HashMap<u32, usize>, chunks: &[Chunk], base: usize)
     requires apart { AreApart chunks.now }
     requires new { (i : ℕ) → i < length chunks.now → get nat_eq table.old (chunk_at chunks.now i).number ≡ None }
     requires room { length chunks.now ≤ spare table.old }
