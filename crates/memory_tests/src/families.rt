@@ -123,7 +123,7 @@ impl Family {
         let Some(last) = self.sides.last() else {
             return false;
         };
-        match forked(self.alloc, &mut self.tree, last.task, top) {
+        match forked(self.alloc, &mut self.tree, last.task, &last.heap, None, top) {
             Some((left, right)) => add_sides(self.alloc, &mut self.sides, left, right),
             None => false,
         }

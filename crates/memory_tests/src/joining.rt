@@ -6,6 +6,7 @@ ghost use Rattle.object_layout.specs.Chunks.{AreApart};
 ghost use Rattle.fork_join.specs.Joined.{AreInUse, HasRoom, HaveEnded};
 
 use crate::soundness::is_fresh;
+use alloc_path::{LeafHeap, View};
 use chunk_pool::Pool;
 use fork_join::{Child, EndedChild, Side, finish, fork, join, make_room};
 use heap_tree::{State, Tree};
@@ -75,8 +76,15 @@ fn are_all_apart(left: &[Chunk], right: &[Chunk], behind: &[Chunk]) -> bool
     }
 }
 
-/// A worker takes a task, and it forks, if it may: its children begin the functions 5 and 6.
-pub fn forked(alloc: Global, tree: &mut Tree, t: u32, top: &Frames) -> Option<(Child, Child)> {
+/// A worker takes a task of this heap, and it forks, if it may: its children begin the functions 5 and 6.
+pub fn forked(
+    alloc: Global,
+    tree: &mut Tree,
+    t: u32,
+    heap: &LeafHeap,
+    above: Option<&View>,
+    top: &Frames,
+) -> Option<(Child, Child)> {
     if t >= tree.made() || tree.made() >= 100000 || tree.depth(t) >= 1000 {
         return None;
     }
@@ -84,12 +92,12 @@ pub fn forked(alloc: Global, tree: &mut Tree, t: u32, top: &Frames) -> Option<(C
     if tree.state(t) != Some(State::Out) {
         return None;
     }
-    fork(alloc, tree, t, top, 5, 6).ok()
+    fork(alloc, tree, t, heap, above, top, 5, 6).ok()
 }
 
-/// Whether a task forks. Its children are let go.
+/// Whether a task without chunks forks. Its children are let go.
 pub fn has_forked(alloc: Global, tree: &mut Tree, t: u32, top: &Frames) -> bool {
-    forked(alloc, tree, t, top).is_some()
+    forked(alloc, tree, t, &LeafHeap::new(alloc), None, top).is_some()
 }
 
 /// A worker takes a child, and it ends: the parent that goes on. None where it is no child.

@@ -3,6 +3,7 @@
 use crate::families::{Family, Field, Outcome};
 use crate::joining::{ended, forked, has_forked};
 use crate::scenes::one_frame;
+use alloc_path::LeafHeap;
 use fork_join::Child;
 use heap_tree::{State, Tree};
 use object_layout::Addr;
@@ -44,7 +45,7 @@ fn begins(child: &Child, task: u32, function: u32) -> bool {
 
 // Whether the left and the right child of the root begin so.
 fn begin(alloc: Global, tree: &mut Tree, top: &Frames) -> Option<(bool, bool)> {
-    let (left, right) = forked(alloc, tree, 0, top)?;
+    let (left, right) = forked(alloc, tree, 0, &LeafHeap::new(alloc), None, top)?;
     Some((begins(&left, 1, 5), begins(&right, 2, 6)))
 }
 

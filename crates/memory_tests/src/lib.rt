@@ -34,4 +34,6 @@ mod sweeps;
 #[cfg(test)]
 mod trees;
 #[cfg(test)]
+mod views;
+#[cfg(test)]
 mod writes;
