@@ -5,7 +5,9 @@ use Rattle.hh_lang.specs.declared.instr.Instr.TheVariants.{Set, Mov, Movr, Nil a
 use Rattle.hh_lang.specs.Form.{ProgramText}
 use Rattle.run_trace.specs.Settings.{Limits}
 use Rattle.hh_model.specs.declared.data.State.{State}
-use Rattle.hh_model.specs.Step.{can_step, goes_on, is_running, runs}
+use Rattle.hh_model.specs.Step.{can_step, goes_on, is_joined, is_running, is_waiting, runs}
+use Rattle.hh_model.proofs.Runs.{running_tells}
+use Rattle.ledger_steps.proofs.Tree.{leaf_alone}
 use Rattle.run_ledger.specs.declared.data.Ledger.{Ledger}
 use Rattle.run_ledger.specs.Heaps.{heap_of, or_fresh}
 use Rattle.run_ledger.specs.Steps.{task_steps}
@@ -87,7 +89,10 @@ module _ (p : ProgramText) (s : Limits) (v v' : Value) (l l' : Ledger) (t w k : 
 
   -- before the last step
   alike_m : AlikeFor r.task l m
-  alike_m = alike_alone p s r l m t ne (steps_alone_all p s t k l (E.knows.sound, E.collects) S.private) (steps_limit p s t k l S.private) (steps_end p s t k l S.private) (steps_off p s t k l r.task off S.private)
+  alike_m =
+      alike_alone p s r l m t ne
+      (λ z. ne (leaf_alone l E.knows.sound t r.task (ap is_waiting E.at ∙ (running_tells E.task.status E.runs).1) (ap is_joined R.is ∙ (running_tells R.task.status R.runs).0) z))
+      (steps_alone_all p s t k l (E.knows.sound, E.collects) S.private) (steps_limit p s t k l S.private) (steps_end p s t k l S.private) (steps_off p s t k l r.task off S.private)
 
   know_m : Knows m
   know_m = steps_know p s t k l E.task E.knows (inr E.collects) E.at E.runs E.can S.private

@@ -9,7 +9,7 @@ use Rattle.hh_model.specs.declared.data.State.{State}
 use Rattle.hh_model.specs.declared.data.End.{End}
 use Rattle.hh_model.specs.Step.{step, fetched}
 use Rattle.run_ledger.specs.declared.data.Ledger.{Ledger}
-use Rattle.run_ledger.specs.Steps.{task_step, task_steps, is_due, is_in_need, is_private, is_private_by, is_private_line, standing, is_open, owns, touched}
+use Rattle.run_ledger.specs.Steps.{task_step, task_steps, is_due, is_in_need, is_private, is_private_by, is_private_line, standing, is_open, works_alone}
 use Rattle.run_ledger.proofs.Machine.{task_step_machine}
 use Rattle.run_journal.specs.declared.ran.Stood.{Stood}
 use Rattle.run_journal.specs.declared.ran.Stood.TheVariants.{Not, Last, More}
@@ -24,7 +24,7 @@ three_and false b c = refl
 
 private_line : (p : ProgramText) (m : State) (t : ℕ) (x : Task) (o : Option Line) → is_private_line p m t x o ≡ (is_own_line m t x o && is_none (step p m t).end)
 private_line p m t x None = refl
-private_line p m t x (Some line) = sym (three_and (not (is_open x line.instr)) (owns m.tasks t (touched x.top line.instr)) (is_none (step p m t).end))
+private_line p m t x (Some line) = sym (three_and (not (is_open x line.instr)) (works_alone m t x.top line.instr) (is_none (step p m t).end))
 
 private_by : (p : ProgramText) (m : State) (t : ℕ) (o : Option Task) → is_private_by p m t o ≡ (is_own_by p m t o && is_none (step p m t).end)
 private_by p m t None = refl

@@ -19,7 +19,7 @@ use Rattle.hh_model.specs.Step.{step, can_step, asked, fetched, owner_of, strand
 use Rattle.run_ledger.specs.declared.data.Ledger.{Ledger}
 use Rattle.run_ledger.specs.declared.data.Heap.{Heap}
 use Rattle.run_ledger.specs.Heaps.{fresh, with_heap, forked_heap, heap_of, or_fresh, begun_in, held_in, is_small, units, words_at, words_in, units_in, in_use}
-use Rattle.run_ledger.specs.Steps.{touched, is_open, owns, join_heaps, is_due, is_in_need, is_private, task_step, task_steps, standing}
+use Rattle.run_ledger.specs.Steps.{is_open, join_heaps, is_due, is_in_need, is_private, task_step, task_steps, standing, works_alone}
 use Rattle.run_journal.specs.declared.ran.Stood.{Stood}
 use Rattle.run_journal.specs.declared.ran.Stood.TheVariants.{Not, Last, More}
 
@@ -73,10 +73,10 @@ pub record Steady (l : Ledger) : Type 0 where
   pub paired : ArePaired l
 
 -- the next step of a running task is no output, no fork and no end of the task, and reads or writes no object that another
--- task owns
+-- task owns, but that it may read an immutable object of an ancestor
 abbrev pub is_own_line : State → ℕ → Task → Option Line → Bool
 is_own_line m t x None = false
-is_own_line m t x (Some line) = not (is_open x line.instr) && owns m.tasks t (touched x.top line.instr)
+is_own_line m t x (Some line) = not (is_open x line.instr) && works_alone m t x.top line.instr
 
 abbrev pub is_own_by : ProgramText → State → ℕ → Option Task → Bool
 is_own_by p m t None = false

@@ -1,11 +1,11 @@
 // Which steps are private.
 
 ghost use Rattle.std.specs.Prelude.{◌≡◌, ◌&&◌, not, Option, Some, None, slice_get};
-ghost use Rattle.run_ledger.specs.Steps.{touched, is_open, owns};
+ghost use Rattle.run_ledger.specs.Steps.{is_frozen_above, is_open, is_read, owns, touched, works_alone};
 ghost use Rattle.run_journal.specs.Book.{is_own, is_own_line, is_own_by};
 
 use crate::accounts::Accounts;
-use hh_lang::{Instr, Program};
+use hh_lang::{Instr, Line, Program};
 use hh_model::{Frame, Name, State, Task};
 
 // The object that an instruction reads or writes.
@@ -46,8 +46,40 @@ fn owns(machine: &State, task: u32, name: Option<Name>) -> bool
     }
 }
 
+// Whether an instruction reads a field of its object, or how many there are, and writes nothing.
+fn is_read(instr: Instr) -> bool
+    ensures { result ≡ is_read instr }
+{
+    matches!(
+        instr,
+        Instr::Getr(_, _, _) | Instr::Geti(_, _, _) | Instr::Cntr(_, _) | Instr::Cnti(_, _)
+    )
+}
+
+// Whether the task or one above it owns the object, and it is immutable.
+fn is_frozen_above(machine: &State, task: u32, name: Option<Name>) -> bool
+    ensures { result ≡ is_frozen_above machine.now task name }
+{
+    let Some(name) = name else {
+        return false;
+    };
+    machine.is_on_path(machine.owner(name.task), task)
+        && match machine.object(name) {
+            None => false,
+            Some(object) => !object.mutable,
+        }
+}
+
+// Whether an instruction works on the task's own object or on none, or reads an immutable object of an ancestor.
+fn works_alone(machine: &State, t: u32, frame: &Frame, line: &Line) -> bool
+    ensures { result ≡ works_alone machine.now t frame.now line.now.instr }
+{
+    owns(machine, t, touched(frame, line.instr))
+        || (is_read(line.instr) && is_frozen_above(machine, t, touched(frame, line.instr)))
+}
+
 /// Whether the task's next step is no output, no fork and no end of the task, and reads or writes no object that another
-/// task owns.
+/// task owns, but that it may read an immutable object of an ancestor.
 pub(crate) fn is_own(program: &Program, machine: &State, t: u32) -> bool
     ensures { result ≡ is_own program.now machine.now t }
 {
@@ -57,7 +89,7 @@ pub(crate) fn is_own(program: &Program, machine: &State, t: u32) -> bool
     match program.line(task.top.function, task.top.next) {
         None => false,
         Some(line) => {
-            !is_open(task, line.instr) && owns(machine, t, touched(&task.top, line.instr))
+            !is_open(task, line.instr) && works_alone(machine, t, &task.top, &line)
         }
     }
 }

@@ -6,14 +6,15 @@ use Rattle.hh_lang.specs.declared.instr.Instr.TheVariants.{Getr, Geti, Putr, Put
 use Rattle.hh_lang.specs.declared.program.Line.{Line}
 use Rattle.hh_lang.specs.Form.{ProgramText}
 use Rattle.hh_model.specs.declared.data.Name.{Name}
+use Rattle.hh_model.specs.declared.data.Object.{Object}
 use Rattle.hh_model.specs.declared.data.Frame.{Frame}
 use Rattle.hh_model.specs.declared.data.Status.{Status}
 use Rattle.hh_model.specs.declared.data.Status.TheVariants.{Running, Waiting, Ended, Joined}
 use Rattle.hh_model.specs.declared.data.Task.{Task}
 use Rattle.hh_model.specs.declared.data.End.{End}
 use Rattle.hh_model.specs.declared.data.State.{State}
-use Rattle.hh_model.specs.Effect.{row_of, ref_in}
-use Rattle.hh_model.specs.Step.{step, can_step, fetched, asked, owner_of, is_left}
+use Rattle.hh_model.specs.Effect.{object_at, row_of, ref_in}
+use Rattle.hh_model.specs.Step.{step, can_step, fetched, asked, owner_of, is_left, is_on_path}
 use Rattle.run_ledger.specs.declared.data.Ledger.{Ledger}
 use Rattle.run_ledger.specs.declared.data.RunEnd.TheVariants.{Machine}
 use Rattle.run_ledger.specs.Heaps.{heap_of, with_heap, within, placed, lacks_room, fresh, forked_heap, merged, emptied, let_go}
@@ -103,16 +104,38 @@ abbrev pub owns : List Task → ℕ → Option Name → Bool
 owns tasks t None = true
 owns tasks t (Some n) = owner_of tasks n.task == t
 
+-- it reads a field of its object, or how many there are, and writes nothing
+abbrev pub is_read : Instr → Bool
+is_read (Getr d o k) = true
+is_read (Geti d o k) = true
+is_read (Cntr d o) = true
+is_read (Cnti d o) = true
+is_read _ = false
+
+-- the object is there, and immutable
+abbrev pub is_frozen : Option Object → Bool
+is_frozen None = false
+is_frozen (Some o) = not o.mutable
+
+-- the task or one above it owns the object, and it is immutable
+abbrev pub is_frozen_above : State → ℕ → Option Name → Bool
+is_frozen_above m t None = false
+is_frozen_above m t (Some n) = is_on_path m.tasks (owner_of m.tasks n.task) t && is_frozen (object_at m.store n)
+
+-- the object that an instruction reads or writes is the task's own, or there is none; or it reads an immutable object of an ancestor
+abbrev pub works_alone : State → ℕ → Frame → Instr → Bool
+works_alone m t f i = owns m.tasks t (touched f i) || (is_read i && is_frozen_above m t (touched f i))
+
 abbrev pub is_private_line : ProgramText → State → ℕ → Task → Option Line → Bool
 is_private_line p m t x None = false
-is_private_line p m t x (Some line) = not (is_open x line.instr) && (owns m.tasks t (touched x.top line.instr) && is_none (step p m t).end)
+is_private_line p m t x (Some line) = not (is_open x line.instr) && (works_alone m t x.top line.instr && is_none (step p m t).end)
 
 abbrev pub is_private_by : ProgramText → State → ℕ → Option Task → Bool
 is_private_by p m t None = false
 is_private_by p m t (Some x) = is_private_line p m t x (fetched p x.top)
 
 -- the next step of a running task is private: it is no output, no fork, no end of the task or of the run, and reads or
--- writes no object that another task owns
+-- writes no object that another task owns, but that it may read an immutable object of an ancestor
 abbrev pub is_private : ProgramText → State → ℕ → Bool
 is_private p m t = is_private_by p m t (slice_get m.tasks t)
 
