@@ -1,7 +1,7 @@
 -- What the views of tasks show of the heaps above them, through each kind of change.
 use Rattle.std.proofs.Common.{◌≡◌, ℕ, ℤ, ◌==◌, ◌&&◌, suc, Bool, true, false, not, cond, is_some, Option, Some, None, List, [], ◌∷◌, map, filter, slice_get, ◌⊎◌, inl, inr, refl, ap, ap₂, sym, subst, ◌∙◌}
 use Rattle.std.specs.List.{AllByRecursion, IsDistinct, list_any}
-use Rattle.std.proofs.lemmas.Bool.{cases_eq, both_ways, and_parts, eq-eqb, eqb-true, cond-true, cond-false, false_from_ne_true}
+use Rattle.std.proofs.lemmas.Bool.{cases_eq, both_ways, and_from, and_parts, eq-eqb, eqb-true, cond-true, cond-false, false_from_ne_true}
 use Rattle.std.proofs.lemmas.Option.{same_Some}
 use Rattle.listed.proofs.Members.{in_from_any}
 use Rattle.object_layout.specs.declared.word.Addr.{Addr}
@@ -9,58 +9,36 @@ use Rattle.hh_model.specs.declared.data.Task.{Task}
 use Rattle.hh_model.specs.declared.data.Status.TheVariants.{Running}
 use Rattle.hh_model.specs.Step.{is_joined, is_on_path, is_waiting}
 use Rattle.hh_model.specs.declared.data.Name.{Name}
+use Rattle.hh_model.specs.declared.data.Object.{Object}
+use Rattle.hh_model.specs.Effect.{object_at}
 use Rattle.run_ledger.specs.declared.data.Heap.{Heap}
 use Rattle.run_ledger.specs.declared.data.Ledger.{Ledger}
 use Rattle.run_ledger.specs.Heaps.{heap_of}
 use Rattle.run_ledger.specs.Sound.{SoundLedger}
-use Rattle.core_relation.specs.Value.{Seen, Chunk, Source, Home, Value, In, objects, objects_in, sources, led, is_source, rewritten_refs, rewritten, is_at, put_at}
+use Rattle.core_relation.specs.Value.{Seen, Chunk, Source, Home, Value, In, objects, objects_in, sources, led, is_source, rewritten_refs, rewritten, is_at, put_at, frozen_chunk, frozen_chunks, chunk_of, seen_at, seen_in, shown_at, as_shown}
 use Rattle.core_relation.specs.Layout.{AreLaidOut}
 use Rattle.ledger_steps.specs.Accounts.{own, Rests}
-use Rattle.core_relation.specs.Stands.{HomeStands, Stands}
+use Rattle.core_relation.specs.Stands.{HomeStands, IsShown, Stands}
 use Rattle.ledger_steps.specs.Kinds.{ForksTask, JoinsTasks, CanJoin}
 use Rattle.core_relation.specs.Changes.{ForksHome, advanced, JoinsHomes, KeepsJust, Moves, WritesAt}
 use Rattle.ledger_steps.proofs.Tree.{leaf_alone}
 use Rattle.core_relation.proofs.Members.{in_map, in_chunk, in_objects}
 use Rattle.core_relation.proofs.Mapped.{from_mapped}
-use Rattle.core_relation.proofs.Write.{at_is, is_at_it}
 
--- what is immutable of these chunks
-abbrev pub frozen_chunk : Chunk → Chunk
-frozen_chunk k = record k { objects = filter (λ o. not o.mutable) k.objects }
+-- which object lies there
+pub at_is : (a : Addr) (o : Seen) → is_at a o ≡ true → o.at ≡ a
+at_is a o e =
+    let p = and_parts (o.at.chunk == a.chunk) (o.at.offset == a.offset) e in
+    let c : o.at.chunk ≡ a.chunk = eqb-true o.at.chunk a.chunk p.0 in
+    let f : o.at.offset ≡ a.offset = eqb-true o.at.offset a.offset p.1 in
+    λ i. record { chunk = c i; offset = f i }
 
-abbrev pub frozen_chunks : List Chunk → List Chunk
-frozen_chunks ks = map frozen_chunk ks
+pub is_at_it : (a : Addr) (o : Seen) → o.at ≡ a → is_at a o ≡ true
+is_at_it a o e =
+    and_from (o.at.chunk == a.chunk) (o.at.offset == a.offset) (eq-eqb o.at.chunk a.chunk (ap (λ (b : Addr). b.chunk) e)) (eq-eqb o.at.offset a.offset (ap (λ (b : Addr). b.offset) e))
 
--- the first chunk of a number
-abbrev pub chunk_of : List Chunk → ℕ → Option Chunk
-chunk_of [] a = None
-chunk_of (k ∷ ks) a = cond (k.number == a) (Some k) (chunk_of ks a)
-
-abbrev pub seen_at : List Seen → Addr → Option Seen
-seen_at [] a = None
-seen_at (o ∷ os) a = cond (is_at a o) (Some o) (seen_at os a)
-
-abbrev pub seen_in : Option Chunk → Addr → Option Seen → Option Seen
-seen_in None a below = below
-seen_in (Some k) a below = seen_at k.objects a
-
--- the nearest level that has the address's chunk decides
-abbrev pub shown_at : List (List Chunk) → Addr → Option Seen
-shown_at [] a = None
-shown_at (ks ∷ kss) a = seen_in (chunk_of ks a.chunk) a (shown_at kss a)
-
-abbrev pub as_shown : Seen → Option Seen
-as_shown o = cond o.mutable None (Some o)
-
-abbrev pub Views : Type 0
-Views = ℕ → List (List Chunk)
-
--- of each task above, what is immutable in its home is shown at its address, and nothing that is mutable is
-abbrev pub IsShown : Value → Views → Ledger → ℕ → Type 0
-IsShown v views l t = (u : ℕ) (o : Seen) → is_on_path l.machine.tasks u t ≡ true → (u ≡ t → ⊥) → Rests l u → In (objects v u) o → shown_at (views t) o.at ≡ as_shown o
-
-abbrev pub AreShown : Value → Views → Ledger → Type 0
-AreShown v views l = (t : ℕ) → Rests l t → is_joined (slice_get l.machine.tasks t) ≡ false → IsShown v views l t
+abbrev AreShown : Value → Ledger → Type 0
+AreShown v l = (t : ℕ) → Rests l t → is_joined (slice_get l.machine.tasks t) ≡ false → IsShown v l t
 
 -- THE LEVEL OF A HOME
 
@@ -145,9 +123,9 @@ level_passes v l t u o below H K ne i =
     ne (same_Some u t (sym (K.owned c.0 c.1) ∙ (ap v.owner (sym (K.inside c.0 o c.1 c.2) ∙ sym e) ∙ H.owned k j)))))
 
 -- A FORK
-module _ (v v' : Value) (views views' : Views) (l l' : Ledger) (t a b g h : ℕ) (x : Task) (V : Stands v l) (T : AreShown v views l) (rests : Rests l t)
+module _ (v v' : Value) (l l' : Ledger) (t a b g h : ℕ) (x : Task) (V : Stands v l) (T : AreShown v l) (rests : Rests l t)
     (live : is_joined (slice_get l.machine.tasks t) ≡ false) (F : ForksTask l l' t a b g h x) (C : ForksHome v v' t a b g h)
-    (same : (z : ℕ) → (z ≡ a → ⊥) → (z ≡ b → ⊥) → views' z ≡ views z) where
+    (same : (z : ℕ) → (z ≡ a → ⊥) → (z ≡ b → ⊥) → (v'.homes z).view ≡ (v.homes z).view) where
   -- an object of any home was there before, and its task is none of the children
   none_new : (z : ℕ) (o : Seen) → (z ≡ a) ⊎ (z ≡ b) → In (objects v' z) o → ⊥
   none_new z o (inl e) i = subst (λ (k : Home). In (objects_in k.chunks) o) (ap v'.homes e ∙ C.left) i
@@ -163,50 +141,52 @@ module _ (v v' : Value) (views views' : Views) (l l' : Ledger) (t a b g h : ℕ)
   ]
 
   -- a child
-  child_shown : (z : ℕ) → ((u : ℕ) → is_on_path l'.machine.tasks u z ≡ true → (u ≡ z) ⊎ (is_on_path l.machine.tasks u t ≡ true)) → views' z ≡ frozen_chunks (v.homes t).chunks ∷ views t → IsShown v' views' l' z
+  child_shown : (z : ℕ) → ((u : ℕ) → is_on_path l'.machine.tasks u z ≡ true → (u ≡ z) ⊎ (is_on_path l.machine.tasks u t ≡ true)) → (v'.homes z).view ≡ frozen_chunks (v.homes t).chunks ∷ (v.homes t).view → IsShown v' l' z
   child_shown z above new u o up ne r i =
       let w = was u o r i in
       ap (λ s. shown_at s o.at) new ∙ elim (above u up) [
         | inl e ↦ absurd (ne e)
         | inr p ↦ elim (cases_eq u t) [
-          | inl e ↦ level_shows v l t o (views t) (V.homes t rests) (subst (λ k. In (objects v k) o) e w.1)
-          | inr nt ↦ level_passes v l t u o (views t) (V.homes t rests) (V.homes u w.0) nt w.1 ∙ T t rests live u o p nt w.0 w.1
+          | inl e ↦ level_shows v l t o (v.homes t).view (V.homes t rests) (subst (λ k. In (objects v k) o) e w.1)
+          | inr nt ↦ level_passes v l t u o (v.homes t).view (V.homes t rests) (V.homes u w.0) nt w.1 ∙ T t rests live u o p nt w.0 w.1
         ]
       ]
 
-  pub left_shown : views' a ≡ frozen_chunks (v.homes t).chunks ∷ views t → IsShown v' views' l' a
+  pub left_shown : (v'.homes a).view ≡ frozen_chunks (v.homes t).chunks ∷ (v.homes t).view → IsShown v' l' a
   left_shown new = child_shown a F.above_left new
 
-  pub right_shown : views' b ≡ frozen_chunks (v.homes t).chunks ∷ views t → IsShown v' views' l' b
+  pub right_shown : (v'.homes b).view ≡ frozen_chunks (v.homes t).chunks ∷ (v.homes t).view → IsShown v' l' b
   right_shown new = child_shown b F.above_right new
 
   -- any other
-  pub rest_shown : (z : ℕ) → (z ≡ a → ⊥) → (z ≡ b → ⊥) → Rests l z → is_joined (slice_get l.machine.tasks z) ≡ false → IsShown v' views' l' z
+  pub rest_shown : (z : ℕ) → (z ≡ a → ⊥) → (z ≡ b → ⊥) → Rests l z → is_joined (slice_get l.machine.tasks z) ≡ false → IsShown v' l' z
   rest_shown z na nb rz lz u o up ne r i =
       let w = was u o r i in
       ap (λ s. shown_at s o.at) (same z na nb) ∙ T z rz lz u o (sym (F.paths u z na nb) ∙ up) ne w.0 w.1
 
 -- A JOIN: the parent runs on, so it stands above nobody else that is live
-module _ (v v' : Value) (views views' : Views) (l l' : Ledger) (p c d : ℕ) (x : Task) (rl rr : ℤ × Option Name) (al ar : ℤ × Option Addr) (S' : SoundLedger l') (T : AreShown v views l) (J : JoinsTasks l l' p c d x rl rr) (C : JoinsHomes v v' p c d al ar)
-    (K : CanJoin l p c d x) (same : (z : ℕ) → views' z ≡ views z) where
-  pub join_shown : (z : ℕ) → Rests l z → is_joined (slice_get l.machine.tasks z) ≡ false → is_joined (slice_get l'.machine.tasks z) ≡ false → IsShown v' views' l' z
-  join_shown z rz lz lz' u o up ne r i = elim (cases_eq u p) [
-    | inl e ↦ absurd (ne (leaf_alone l' S' u z (ap (λ k. is_waiting (slice_get l'.machine.tasks k)) e ∙ ap is_waiting J.resumed) lz' up))
+module _ (v v' : Value) (l l' : Ledger) (p c d : ℕ) (x : Task) (rl rr : ℤ × Option Name) (al ar : ℤ × Option Addr) (nobody : (z : ℕ) → is_joined (slice_get l.machine.tasks z) ≡ false → is_on_path l.machine.tasks p z ≡ true → (z ≡ p → ⊥) × (z ≡ c → ⊥) × (z ≡ d → ⊥) → ⊥) (T : AreShown v l) (J : JoinsTasks l l' p c d x rl rr) (C : JoinsHomes v v' p c d al ar)
+    (K : CanJoin l p c d x) (z : ℕ) (same : (v'.homes z).view ≡ (v.homes z).view) where
+  pub join_shown : Rests l z → is_joined (slice_get l.machine.tasks z) ≡ false → is_joined (slice_get l'.machine.tasks z) ≡ false → IsShown v' l' z
+  join_shown rz lz lz' u o up ne r i = elim (cases_eq u p) [
+    | inl e ↦
+      let gone : (k : ℕ) → is_joined (slice_get l'.machine.tasks k) ≡ true → z ≡ k → ⊥ = λ k g f. both_ways (is_joined (slice_get l'.machine.tasks z)) lz' (ap (λ y. is_joined (slice_get l'.machine.tasks y)) f ∙ g) in
+      absurd (nobody z lz (ap (λ y. is_on_path l.machine.tasks y z) (sym e) ∙ (sym (J.paths u z) ∙ up)) ((λ f. ne (e ∙ sym f)), gone c J.left, gone d J.right))
     | inr np ↦ elim (cases_eq u c) [
       | inl e ↦ absurd (subst (λ (k : Home). In (objects_in k.chunks) o) (ap v'.homes e ∙ C.left) i)
       | inr nc ↦ elim (cases_eq u d) [
         | inl e ↦ absurd (subst (λ (k : Home). In (objects_in k.chunks) o) (ap v'.homes e ∙ C.right) i)
         | inr nd ↦
-          ap (λ s. shown_at s o.at) (same z)
+          ap (λ s. shown_at s o.at) same
           ∙ T z rz lz u o (sym (J.paths u z) ∙ up) ne (ap (λ (k : Heap). k.worker) (sym (J.heaps u np nc nd)) ∙ r) (subst (λ (k : Home). In (objects_in k.chunks) o) (C.others u np nc nd) i)
       ]
     ]
   ]
 
 -- A WRITE: what is written is mutable, and stays so
-module _ (v v' : Value) (views views' : Views) (l l' : Ledger) (t : ℕ) (a : Addr) (f : Seen → Seen) (T : AreShown v views l) (C : WritesAt v v' t a f)
+module _ (v v' : Value) (l l' : Ledger) (t : ℕ) (a : Addr) (f : Seen → Seen) (T : AreShown v l) (C : WritesAt v v' t a f)
     (kind : (o : Seen) → (f o).mutable ≡ o.mutable) (written : (u : ℕ) (o : Seen) → In (objects v u) o → Rests l u → o.at ≡ a → o.mutable ≡ true)
-    (same : (z : ℕ) → views' z ≡ views z) (paths : (u z : ℕ) → is_on_path l'.machine.tasks u z ≡ is_on_path l.machine.tasks u z) (rests : (u : ℕ) → Rests l' u → Rests l u) where
+    (same : (z : ℕ) → (v'.homes z).view ≡ (v.homes z).view) (paths : (u z : ℕ) → is_on_path l'.machine.tasks u z ≡ is_on_path l.machine.tasks u z) (rests : (u : ℕ) → Rests l' u → Rests l u) where
   one_name : (o : Seen) → (put_at a f o).name ≡ o.name
   one_name o = by (is_at a o)
     where
@@ -230,17 +210,17 @@ module _ (v v' : Value) (views views' : Views) (l l' : Ledger) (t : ℕ) (a : Ad
           e ∙ (cond-true q.mutable None (Some q) m ∙ sym (ap as_shown (cond-true (is_at a q) (f q) q h) ∙ cond-true (f q).mutable None (Some (f q)) (kind q ∙ m)))
       by false h = e ∙ sym (ap as_shown (cond-false (is_at a q) (f q) q h))
 
-  pub write_shown : (z : ℕ) → Rests l z → is_joined (slice_get l.machine.tasks z) ≡ false → IsShown v' views' l' z
+  pub write_shown : (z : ℕ) → Rests l z → is_joined (slice_get l.machine.tasks z) ≡ false → IsShown v' l' z
   write_shown z rz lz u o up ne r i =
       let w = from_mapped (put_at a f) one_name one_at (v.homes u).chunks o (subst (λ ks. In (objects_in ks) o) (C.chunks u) i) in
       let at : o.at ≡ w.0.at = ap (λ (q : Seen). q.at) (sym w.2) ∙ one_at w.0 in
-      ap₂ (λ s b. shown_at s b) (same z) at ∙ subst (λ (q : Seen). shown_at (views z) w.0.at ≡ as_shown q) w.2
-      (one_shown (shown_at (views z) w.0.at) u w.0 (rests u r) w.1 (T z rz lz u w.0 (sym (paths u z) ∙ up) ne (rests u r) w.1))
+      ap₂ (λ s b. shown_at s b) (same z) at ∙ subst (λ (q : Seen). shown_at (v.homes z).view w.0.at ≡ as_shown q) w.2
+      (one_shown (shown_at (v.homes z).view w.0.at) u w.0 (rests u r) w.1 (T z rz lz u w.0 (sym (paths u z) ∙ up) ne (rests u r) w.1))
 
 -- A SWEEP: objects only go
-module _ (v v' : Value) (views views' : Views) (l l' : Ledger) (t : ℕ) (names : List Name) (T : AreShown v views l) (C : KeepsJust v v' l l' t names)
-    (same : (z : ℕ) → views' z ≡ views z) (paths : (u z : ℕ) → is_on_path l'.machine.tasks u z ≡ is_on_path l.machine.tasks u z) (rests : (u : ℕ) → Rests l' u → Rests l u) where
-  pub sweep_shown : (z : ℕ) → Rests l z → is_joined (slice_get l.machine.tasks z) ≡ false → IsShown v' views' l' z
+module _ (v v' : Value) (l l' : Ledger) (t : ℕ) (names : List Name) (T : AreShown v l) (C : KeepsJust v v' l l' t names)
+    (same : (z : ℕ) → (v'.homes z).view ≡ (v.homes z).view) (paths : (u z : ℕ) → is_on_path l'.machine.tasks u z ≡ is_on_path l.machine.tasks u z) (rests : (u : ℕ) → Rests l' u → Rests l u) where
+  pub sweep_shown : (z : ℕ) → Rests l z → is_joined (slice_get l.machine.tasks z) ≡ false → IsShown v' l' z
   sweep_shown z rz lz u o up ne r i = ap (λ s. shown_at s o.at) (same z) ∙ T z rz lz u o (sym (paths u z) ∙ up) ne (rests u r) (elim (cases_eq u t) [
     | inl e ↦ subst (λ k. In (objects v k) o) (sym e) (C.only o (subst (λ k. In (objects v' k) o) e i)).0
     | inr nt ↦ subst (λ (k : Home). In (objects_in k.chunks) o) (C.others u nt) i
@@ -260,9 +240,22 @@ module _ (f : Addr → Addr) (ss : List Source) where
       none q.0 q.1 (λ j. record { chunk = c j; offset = o j })) in
       ap₂ (λ x xs. x ∷ xs) (cond-false (list_any (is_source a i) ss) (led f r) r out) (refs_left a (suc i) rs none)
 
-module _ (v v' : Value) (views views' : Views) (l l' : Ledger) (t : ℕ) (names : List Name) (f : Addr → Addr) (S : SoundLedger l) (T : AreShown v views l) (C : Moves v v' l l' t names f) (idle : is_waiting (slice_get l.machine.tasks t) ≡ false)
+-- what is remembered is mutable
+pub noted_mutable : (v : Value) (l : Ledger) (t u : ℕ) (o : Seen) (s : Source) → Stands v l → In (objects v u) o → Rests l u → In (sources v t) s → s.object ≡ o.at → o.mutable ≡ true
+noted_mutable v l t u o s V i r j e =
+    let k = V.sources t s j in
+    let q = k.place.here k.rests in
+    let c = in_chunk (v.homes u).chunks o i in
+    let H = V.homes u r in
+    let mine : own l k.name ≡ u = same_Some (own l k.name) u (sym k.place.chunk ∙ (ap (λ (b : Addr). v.owner b.chunk) e ∙ (ap v.owner (H.inside c.0 o c.1 c.2) ∙ H.owned c.0 c.1))) in
+    let same : q.0 ≡ o = H.once q.0 o (subst (λ z. In (objects v z) q.0) mine q.1) i (q.2.at ∙ e) in
+    let x = V.contents u o r i in
+    let is : k.object ≡ x.0 = same_Some k.object x.0 (sym k.is ∙ (ap (object_at l.machine.store) (sym q.2.name ∙ ap (λ (z : Seen). z.name) same) ∙ x.1)) in
+    x.2.mutable ∙ (ap (λ (z : Object). z.mutable) (sym is) ∙ k.mutable)
+
+module _ (v v' : Value) (l l' : Ledger) (t : ℕ) (names : List Name) (f : Addr → Addr) (S : SoundLedger l) (T : AreShown v l) (C : Moves v v' l l' t names f) (idle : is_waiting (slice_get l.machine.tasks t) ≡ false)
     (noted : (u : ℕ) (o : Seen) (s : Source) → In (objects v u) o → Rests l u → In (sources v t) s → s.object ≡ o.at → o.mutable ≡ true)
-    (same : (z : ℕ) → views' z ≡ views z) (paths : (u z : ℕ) → is_on_path l'.machine.tasks u z ≡ is_on_path l.machine.tasks u z) (rests : (u : ℕ) → Rests l' u → Rests l u) where
+    (same : (z : ℕ) → (v'.homes z).view ≡ (v.homes z).view) (paths : (u z : ℕ) → is_on_path l'.machine.tasks u z ≡ is_on_path l.machine.tasks u z) (rests : (u : ℕ) → Rests l' u → Rests l u) where
   abbrev ss : List Source
   ss = sources v t
 
@@ -273,7 +266,7 @@ module _ (v v' : Value) (views views' : Views) (l l' : Ledger) (t : ℕ) (names 
       by true m = e ∙ (cond-true q.mutable None (Some q) m ∙ sym (cond-true q.mutable None (Some (rewritten f ss q)) m))
       by false m = e ∙ ap (λ rs. as_shown (record q { refs = rs })) (sym (refs_left f ss q.at 0 q.refs (λ z j h. both_ways q.mutable m (noted u q z i r j h))))
 
-  pub collection_shown : (z : ℕ) → Rests l z → is_joined (slice_get l.machine.tasks z) ≡ false → IsShown v' views' l' z
+  pub collection_shown : (z : ℕ) → Rests l z → is_joined (slice_get l.machine.tasks z) ≡ false → IsShown v' l' z
   collection_shown z rz lz u o up ne r i =
       let up' : is_on_path l.machine.tasks u z ≡ true = sym (paths u z) ∙ up in
       elim (cases_eq u t) [
@@ -281,6 +274,6 @@ module _ (v v' : Value) (views views' : Views) (l l' : Ledger) (t : ℕ) (names 
         | inr nt ↦
           let w = from_mapped (rewritten f ss) (λ q. refl) (λ q. refl) (v.homes u).chunks o (subst (λ (k : Home). In (objects_in k.chunks) o) (C.others u nt) i) in
           let at : o.at ≡ w.0.at = ap (λ (q : Seen). q.at) (sym w.2) in
-          ap₂ (λ s b. shown_at s b) (same z) at ∙ subst (λ (q : Seen). shown_at (views z) w.0.at ≡ as_shown q) w.2
-          (one_led (shown_at (views z) w.0.at) u w.0 (rests u r) w.1 (T z rz lz u w.0 up' ne (rests u r) w.1))
+          ap₂ (λ s b. shown_at s b) (same z) at ∙ subst (λ (q : Seen). shown_at (v.homes z).view w.0.at ≡ as_shown q) w.2
+          (one_led (shown_at (v.homes z).view w.0.at) u w.0 (rests u r) w.1 (T z rz lz u w.0 up' ne (rests u r) w.1))
       ]

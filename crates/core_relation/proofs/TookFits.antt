@@ -58,6 +58,7 @@ module _ (p : ProgramText) (s : Limits) (q : Part) (v v' : Value) (l : Ledger) (
           chunks = λ u e. ap (λ (z : Home). length z.chunks) (same u);
           frames = λ u. ap (λ (z : Home). z.frames) (same u);
           result = λ u. ap (λ (z : Home). z.result) (same u);
+          view = λ u. ap (λ (z : Home). z.view) (same u);
           owner = λ i u e. C.owner i ∙ e;
           taken = λ i u e. inl (sym (C.owner i) ∙ e);
           begun = λ u e. ap (λ (z : Home). z.begun) (same u);

@@ -5,7 +5,7 @@ use Rattle.core_relation.specs.Value.{Home, Value}
 use Rattle.core_relation.specs.Whole.{Node, Totals, Ready}
 
 abbrev pub no_home : Home
-no_home = record { chunks = []; room = 0; since = 0; count = 0; frames = []; result = (pos 0, None); begun = None }
+no_home = record { chunks = []; room = 0; since = 0; count = 0; frames = []; result = (pos 0, None); begun = None; view = [] }
 
 abbrev pub first_home : ProgramText → ℕ → Home
 first_home p zero = record no_home { frames = record { function = p.main; next = 0; ints = replicate 16 (pos 0); refs = replicate 16 None } ∷ [] }
