@@ -13,7 +13,7 @@ use Rattle.task_machine.specs.declared.plan.Plan.{Plan}
 use Rattle.task_machine.specs.declared.plan.Plan.TheVariants.{Pause, SetInt, SetReference, Return, New, Pack, WriteReference, WriteInt, Swap, Freeze}
 use Rattle.task_machine.specs.declared.plan.Spot.{Spot}
 use Rattle.object_layout.specs.References.{same_reference}
-use Rattle.task_machine.specs.Plan.{allocating, int_of, or_shared, own_in, planned, ref_of, unless_frozen}
+use Rattle.task_machine.specs.Plan.{counts_ints, counts_refs, own_or_shown, reads_int, reads_ref, shown_of, allocating, int_of, or_shared, own_in, planned, ref_of, unless_frozen}
 use Rattle.task_machine.specs.Run.{IsCall, IsCallPlan}
 
 abbrev Not : Plan → Type 0
@@ -44,6 +44,10 @@ module _ (part : Private) where
   abbrev of_ints : Spot → ℕ → Option ℕ
   of_ints s k = field_in (length (cell s).ints) (int_of part.frames.top k)
 
+  seen : (o : ℕ) (q : Option Spot) (go : Cell → Plan) → ((c : Cell) → Not (go c)) → Not (own_or_shown part (ref_of part.frames.top o) q go)
+  seen o None go f = shared (shown_of part.view (ref_of part.frames.top o)) go f
+  seen o (Some s) go f = f (object_of part.heap.chunks s.object)
+
   pub call_planned : (i : Instr) → IsCallPlan (planned part i) → IsCall i
   call_planned (Set d k) h = h
   call_planned (Mov d a) h = h
@@ -57,17 +61,17 @@ module _ (part : Private) where
       shared (counts_in part.field_limit (int_of part.frames.top a) (int_of part.frames.top b)) (λ n. allocating part (2 + n.0 + n.1) (New d n.0 n.1)) (λ n. alloc part (2 + n.0 + n.1) (New d n.0 n.1) (λ h. h)) h
   call_planned (PackOf d r i) h = alloc part (2 + r + i) (Pack d r i) (λ h. h) h
   call_planned (Getr d o k) h =
-      shared (spot o) (λ s. or_shared (of_refs s k) (λ at. SetReference d (unwrap_or (slice_get (cell s).refs at) None))) (λ s. shared (of_refs s k) (λ at. SetReference d (unwrap_or (slice_get (cell s).refs at) None)) (λ at h. h)) h
+      seen o (spot o) (reads_ref part.frames.top d k) (λ c. shared (field_in (length c.refs) (int_of part.frames.top k)) (λ at. SetReference d (unwrap_or (slice_get c.refs at) None)) (λ at h. h)) h
   call_planned (Geti d o k) h =
-      shared (spot o) (λ s. or_shared (of_ints s k) (λ at. SetInt d (unwrap_or (slice_get (cell s).ints at) (pos 0)))) (λ s. shared (of_ints s k) (λ at. SetInt d (unwrap_or (slice_get (cell s).ints at) (pos 0))) (λ at h. h)) h
+      seen o (spot o) (reads_int part.frames.top d k) (λ c. shared (field_in (length c.ints) (int_of part.frames.top k)) (λ at. SetInt d (unwrap_or (slice_get c.ints at) (pos 0))) (λ at h. h)) h
   call_planned (Putr o k v) h =
       shared (spot o) (λ s. or_shared (of_refs s k) (λ at. unless_frozen (cell s) (WriteReference s at (ref_of part.frames.top v))))
       (λ s. shared (of_refs s k) (λ at. unless_frozen (cell s) (WriteReference s at (ref_of part.frames.top v))) (λ at. either (cell s).mutable (WriteReference s at (ref_of part.frames.top v)) (Pause Shared) (λ h. h) (λ h. h))) h
   call_planned (Puti o k v) h =
       shared (spot o) (λ s. or_shared (of_ints s k) (λ at. unless_frozen (cell s) (WriteInt s at (int_of part.frames.top v))))
       (λ s. shared (of_ints s k) (λ at. unless_frozen (cell s) (WriteInt s at (int_of part.frames.top v))) (λ at. either (cell s).mutable (WriteInt s at (int_of part.frames.top v)) (Pause Shared) (λ h. h) (λ h. h))) h
-  call_planned (Cntr d o) h = shared (spot o) (λ s. SetInt d (pos (length (cell s).refs))) (λ s h. h) h
-  call_planned (Cnti d o) h = shared (spot o) (λ s. SetInt d (pos (length (cell s).ints))) (λ s h. h) h
+  call_planned (Cntr d o) h = seen o (spot o) (counts_refs d) (λ c h. h) h
+  call_planned (Cnti d o) h = seen o (spot o) (counts_ints d) (λ c h. h) h
   call_planned (FreezeOf o) h = shared (spot o) (λ s. Freeze s) (λ s h. h) h
   call_planned (Cas d o k e v) h =
       let swap : Spot → ℕ → Plan = λ s at. cond (same_reference (unwrap_or (slice_get (cell s).refs at) None) (ref_of part.frames.top e)) (Swap d s at (ref_of part.frames.top v)) (SetInt d (pos 0)) in

@@ -21,6 +21,7 @@ first_part p h leaf limit = record {
   task = 0;
   frames = record { below = []; top = record { function = p.main; next = 0; ints = replicate 16 (pos 0); refs = replicate 16 None } };
   heap = h;
+  view = [];
   allocations = 0;
   leaf_limit = leaf;
   field_limit = limit;
@@ -66,6 +67,7 @@ root_now p h leaf limit k c r =
       stack = record { top = record { function = refl; next = refl; ints = refl; refs = at_nils nowhere 16 }; below = tt };
       heap = subst Q (sym k) (empty_stands p limit);
       shape = empty_shape h k c r;
+      shown = λ n a o e. absurd (none_some a e);
     }
 
 pub root_fits : (p : ProgramText) (h : Heap) (leaf limit : ℕ) → h.chunks ≡ [] → h.current ≡ None → h.reserved ≡ None → Fits p (first_part p h leaf limit) (start p limit) nowhere
@@ -92,6 +94,7 @@ now_changed p old m above F h fresh begun H S = record {
   stack = F.stack;
   heap = H;
   shape = S;
+  shown = F.shown;
 }
 
 -- and behind its fresh steps, where they are as many

@@ -39,7 +39,7 @@ impl Private {
         ensures { result ≡ planned self.now (Instr.Getr target object index) }
     {
         let Some(own) = self.own(object) else {
-            return SHARED;
+            return self.show_getr(target, object, index);
         };
         let chunk = self.chunk_of(own);
         let offset = own.object.offset;
@@ -54,7 +54,7 @@ impl Private {
         ensures { result ≡ planned self.now (Instr.Geti target object index) }
     {
         let Some(own) = self.own(object) else {
-            return SHARED;
+            return self.show_geti(target, object, index);
         };
         let chunk = self.chunk_of(own);
         let offset = own.object.offset;
@@ -107,7 +107,7 @@ impl Private {
         ensures { result ≡ planned self.now (Instr.Cntr target object) }
     {
         let Some(own) = self.own(object) else {
-            return SHARED;
+            return self.show_cntr(target, object);
         };
         let header = header_at(self.chunk_of(own), own.object.offset);
         Plan::SetInt(target, header.nrefs as i64)
@@ -118,7 +118,7 @@ impl Private {
         ensures { result ≡ planned self.now (Instr.Cnti target object) }
     {
         let Some(own) = self.own(object) else {
-            return SHARED;
+            return self.show_cnti(target, object);
         };
         let header = header_at(self.chunk_of(own), own.object.offset);
         Plan::SetInt(target, header.nints as i64)
