@@ -94,7 +94,7 @@ impl Remembered {
     }
 
     /// What the sources hold now, as far as it points into these chunks: the addresses in the
-    /// order of the sources.
+    /// order of the sources. Without sources it looks at no chunk.
     pub fn targets<W: Words>(
         &self,
         alloc: Global,
@@ -104,6 +104,9 @@ impl Remembered {
         requires { AreFields W.refs_at words.now self.now.sources }
         ensures { IfOk result (λ v. v.items ≡ targets_of W.refs_at words.now heap.now self.now.sources) }
     {
+        if self.sources.is_empty() {
+            return Ok(Vec::new(alloc));
+        }
         let mut numbers = HashSet::new(alloc);
         numbers.reserve(heap.len())?;
         number_chunks(&mut numbers, heap);
