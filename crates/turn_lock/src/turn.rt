@@ -17,7 +17,7 @@ use std::sync::Wait;
 use std::{hint, thread};
 
 // After so many vain tries for the turn, who tries lets other threads run before each further one.
-const PATIENCE: u32 = 16;
+const PATIENCE: u32 = 7;
 
 /// A value that workers take in turns, each by its seat. Threads share it by reference.
 #[derive(Drop)]
@@ -89,7 +89,8 @@ impl<T: Kept + Drop> Turn<T> {
         self.table.shared.load::<Looks>(seat, 0) / 2
     }
 
-    /// Takes the turn and the value, as soon as no other seat has the turn.
+    /// Takes the turn and the value, as soon as no other seat has the turn. While one has it, this only
+    /// looks at the word, which then stays with all processors that look.
     pub fn take<R: Wait>(&self, rt: &R, seat: &mut Seat<T>) -> T
         requires { HasNoTurn (identity self.now) seat.old }
         ensures turn { HasTurn (identity self.now) seat.new result }
@@ -99,8 +100,10 @@ impl<T: Kept + Drop> Turn<T> {
     {
         let mut tries = 0;
         for _ in rt.forever() {
-            if self.table.shared.fetch_or::<Takes<T>>(seat, 0, 1) % 2 == 0 {
-                return self.table.shared.exchange(seat, 0, None).unwrap();
+            if self.table.shared.peek(0) % 2 == 0 {
+                if self.table.shared.fetch_or::<Takes<T>>(seat, 0, 1) % 2 == 0 {
+                    return self.table.shared.exchange(seat, 0, None).unwrap();
+                }
             }
             tries = pause(tries);
         }
@@ -143,10 +146,13 @@ impl<T: Kept + Drop> Turn<T> {
     }
 }
 
-// A pause after so many vain tries; the answer is how many there are with this one, as far as it matters.
+// A pause after so many vain tries, each twice as long as the one before, up to the point where other threads run;
+// the answer is how many tries there are with this one, as far as it matters.
 fn pause(tries: u32) -> u32 {
     if tries < PATIENCE {
-        hint::spin_loop();
+        for _ in 0..1u32 << tries {
+            hint::spin_loop();
+        }
         return tries + 1;
     }
     thread::yield_now();
