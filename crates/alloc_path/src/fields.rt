@@ -17,10 +17,16 @@ impl LeafHeap {
         self.space.owns(object)
     }
 
-    /// At which place the chunk of a number stands; None where the heap has none.
+    /// At which place the chunk of a number stands; None where the heap has none. It looks first at the
+    /// chunk that is being filled, and then in the table.
     pub fn place_of(&self, number: u32) -> Option<usize>
         ensures { result ≡ place_in self.now.chunks number }
     {
+        if let Some(filled) = self.space.current() {
+            if self.space.chunks()[filled].number() == number {
+                return Some(filled);
+            }
+        }
         self.space.place_of(number)
     }
 

@@ -2,8 +2,8 @@
 
 ghost use Rattle.std.specs.Prelude.{◌≡◌, ◌+◌, ◌^◌, ◌<◌, ◌≤◌, ◌++◌, ◌∷◌, [], length, option_copied, option_map, slice_get, is_some, IfSome, Some, None};
 ghost use Rattle.object_layout.specs.Cell.{Born, Moved, frozen, header_of, moved_to, size_of, with_int, with_mark, IsBorn, IsObject, IsPlace};
-ghost use Rattle.object_layout.specs.Place.{cell_at, words_in};
-ghost use Rattle.object_layout.specs.Chunks.{cell_of, chunk_at, has_chunk, object_of, place_in, place_of, put_object};
+ghost use Rattle.object_layout.specs.Place.{cell_at, put_cell, words_in, IsObjectAt};
+ghost use Rattle.object_layout.specs.Chunks.{cell_of, chunk_at, has_chunk, next_address, object_of, place_in, place_of, put_object};
 ghost use Rattle.alloc_path.specs.FieldLaws.{with_ref_of};
 
 use super::space::Space;
@@ -41,8 +41,8 @@ impl Space {
         self.chunk(object.chunk)
     }
 
-    // The place of the chunk of a number that the heap has.
-    fn own_place(&self, number: u32) -> usize
+    /// The place of the chunk of a number that the heap has.
+    pub fn own_place(&self, number: u32) -> usize
         requires { place_of self.now.chunks number < length self.now.chunks }
         ensures { result ≡ place_of self.now.chunks number }
     {
@@ -55,6 +55,14 @@ impl Space {
         ensures { cell_at result.now.cells object.offset ≡ cell_of self.now.chunks object }
     {
         &self.chunks[self.own_place(object.chunk)]
+    }
+
+    /// The chunk in which an object of this heap lies, where it is known at which place that stands.
+    pub fn chunk_in(&self, place: usize, object: Addr) -> &Chunk
+        requires { place_in self.now.chunks object.chunk ≡ Some place }
+        ensures { cell_at result.now.cells object.offset ≡ cell_of self.now.chunks object }
+    {
+        &self.chunks[place]
     }
 
     /// Whether the address lies in a chunk of this heap.
@@ -183,9 +191,34 @@ impl Space {
         requires place { IsPlace (Some to) }
         ensures { self.new ≡ record self.old { chunks = put_object self.old.chunks object (with_mark (cell_of self.old.chunks object) (Moved to)) } }
     {
-        let i = self.own_place(object.chunk);
-        let chunk = &mut self.chunks[i];
+        let place = self.own_place(object.chunk);
+        self.forward_in(place, object, to);
+    }
+
+    /// The same, where it is known at which place the object's chunk stands.
+    pub fn forward_in(&mut self, place: usize, object: Addr, to: Addr)
+        requires place { place_in self.old.chunks object.chunk ≡ Some place }
+        requires object { IsObject (cell_of self.old.chunks object).mark }
+        requires to { IsPlace (Some to) }
+        ensures { self.new ≡ record self.old { chunks = put_object self.old.chunks object (with_mark (cell_of self.old.chunks object) (Moved to)) } }
+    {
+        let chunk = &mut self.chunks[place];
         forward(chunk, object.offset, to);
+    }
+
+    /// Writes a copy of an object, under this birth name, behind those of a chunk that isn't of this heap, and leaves
+    /// its new address in its old place: where it is known at which place the object's chunk stands.
+    pub fn move_in(&mut self, place: usize, object: Addr, birth: Birth, to: &mut Chunk) -> Addr
+        requires place { place_in self.old.chunks object.chunk ≡ Some place }
+        requires object { IsObject (cell_of self.old.chunks object).mark }
+        requires room { words_in to.old.cells + size_of (cell_of self.old.chunks object) ≤ to.old.size }
+        requires begins { words_in to.old.cells < 1024 }
+        ensures address { result ≡ next_address to.old }
+        ensures copied { to.new ≡ record to.old { cells = to.old.cells ++ with_mark (cell_of self.old.chunks object) (Born birth) ∷ [] } }
+        ensures left { self.new ≡ record self.old { chunks = put_object self.old.chunks object (with_mark (cell_of self.old.chunks object) (Moved result)) } }
+    {
+        let chunk = &mut self.chunks[place];
+        move_behind(chunk, object.offset, birth, to)
     }
 
     /// Names an object, which bears this birth name from then on.
@@ -197,4 +230,24 @@ impl Space {
         let chunk = &mut self.chunks[i];
         set_birth(chunk, object.offset, birth);
     }
+}
+
+// Writes a copy of an object of another chunk, under this birth name, behind the others, and leaves its new address in
+// its old place.
+fn move_behind(from: &mut Chunk, at: u32, birth: Birth, to: &mut Chunk) -> Addr
+    requires object { IsObjectAt from.old.cells at }
+    requires room { words_in to.old.cells + size_of (cell_at from.old.cells at) ≤ to.old.size }
+    requires begins { words_in to.old.cells < 1024 }
+    ensures address { result ≡ next_address to.old }
+    ensures copied { to.new ≡ record to.old { cells = to.old.cells ++ with_mark (cell_at from.old.cells at) (Born birth) ∷ [] } }
+    ensures left { from.new ≡ record from.old { cells = put_cell from.old.cells at (with_mark (cell_at from.old.cells at) (Moved result)) } }
+{
+    set_birth(from, at, birth);
+    let offset = copy_behind(from, at, to);
+    let address = Addr {
+        chunk: to.number(),
+        offset,
+    };
+    forward(from, at, address);
+    address
 }

@@ -1,0 +1,19 @@
+use Rattle.std.proofs.Common.{ap, sym, ◌∙◌, arith}
+use Rattle.object_layout.specs.Content.{Content}
+use Rattle.object_layout.specs.Place.{cell_at}
+use Rattle.object_layout.proofs.ChunkLaws as chunks
+use Rattle.alloc_path.proofs.HeapLemmas as heap
+use Rattle.alloc_path.proofs.space.Space.chunk_in.Goals as goal
+
+pub index-requires : goal.index-requires
+index-requires c =
+    let l = (heap.place_found c.self.inside.chunks.items c.args.object.chunk c.args.place (rw (← c.self.view_is) at c.requires)).1 in
+    omega arith
+
+pub returns : goal.returns
+returns c =
+    let at = heap.place_found c.self.inside.chunks.items c.args.object.chunk c.args.place (rw (← c.self.view_is) at c.requires) in
+    let place = at.0 in
+    let l = at.1 in
+    let found = chunks.cell_of-found c.self.inside.chunks.items c.args.object c.index.result.now (omega arith) in
+    rw (← c.self.view_is) (ap (λ (k : Content). cell_at k.cells c.args.object.offset) (rw place at c.index.ensures) ∙ sym found)

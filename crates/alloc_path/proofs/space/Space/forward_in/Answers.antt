@@ -1,0 +1,35 @@
+use Rattle.std.proofs.Common.{arith, refl, sym}
+use Rattle.object_layout.specs.Cell.{Moved, with_mark}
+use Rattle.object_layout.specs.Place.{cell_at}
+use Rattle.object_layout.proofs.ChunkLaws as chunks
+use Rattle.alloc_path.proofs.HeapLemmas as heap
+use Rattle.alloc_path.proofs.space.Space.forward_in.Goals as goal
+
+pub index_mut-chunk-requires : goal.index_mut-chunk-requires
+index_mut-chunk-requires c =
+    let o = rw (← c.self.view_is) at c.requires.object in
+    let found = (heap.place_found c.self.inside.chunks.items c.args.object.chunk c.args.place (rw (← c.self.view_is) at c.requires.place)).0 in
+    let in' = chunks.chunk_of_object c.self.inside.chunks.items c.args.object o in
+    omega arith
+
+pub forward-requires-clause-object : goal.forward-requires-clause-object
+forward-requires-clause-object c =
+    let o = rw (← c.self.view_is) at c.requires.object in
+    let found = (heap.place_found c.self.inside.chunks.items c.args.object.chunk c.args.place (rw (← c.self.view_is) at c.requires.place)).0 in
+    rw (heap.own_cell c.self.inside.chunks.items c.args.object c.args.place c.index_mut-chunk.result.now o found c.index_mut-chunk.ensures.value) at o
+
+pub invariant_of-self : goal.invariant_of-self
+invariant_of-self c =
+    let o = rw (← c.self.view_is) at c.requires.object in
+    let found = (heap.place_found c.self.inside.chunks.items c.args.object.chunk c.args.place (rw (← c.self.view_is) at c.requires.place)).0 in
+    rw c.forward.ensures
+    (heap.own_kept c.self.inside.chunks.items c.args.object c.args.place c.index_mut-chunk.result.now o found c.index_mut-chunk.ensures.value
+    _ _ _ _ _ _ _ _ c.self.invariant (with_mark (cell_at c.index_mut-chunk.result.now.cells c.args.object.offset) (Moved c.args.to)) (λ n. sym (heap.held_object (cell_at c.index_mut-chunk.result.now.cells c.args.object.offset).mark n (rw (heap.own_cell c.self.inside.chunks.items c.args.object c.args.place c.index_mut-chunk.result.now o found c.index_mut-chunk.ensures.value) at o))) refl)
+
+pub returns : goal.returns
+returns c =
+    let o = rw (← c.self.view_is) at c.requires.object in
+    let found = (heap.place_found c.self.inside.chunks.items c.args.object.chunk c.args.place (rw (← c.self.view_is) at c.requires.place)).0 in
+    let cell = heap.own_cell c.self.inside.chunks.items c.args.object c.args.place c.index_mut-chunk.result.now o found c.index_mut-chunk.ensures.value in
+    let put = heap.own_put c.self.inside.chunks.items c.args.object c.args.place c.index_mut-chunk.result.now o found c.index_mut-chunk.ensures.value in
+    rw (← c.self.view_is, c.forward.ensures, cell, put (with_mark (cell_at c.index_mut-chunk.result.now.cells c.args.object.offset) (Moved c.args.to)))
