@@ -4,7 +4,7 @@ use Rattle.object_layout.specs.declared.word.Addr.{Addr}
 use Rattle.object_layout.specs.declared.word.Birth.{Birth}
 use Rattle.object_layout.specs.Cell.{Cell, Mark, Born, Moved, Hole, IsBorn, IsObject, moved_to, with_mark}
 use Rattle.object_layout.specs.Content.{Content}
-use Rattle.object_layout.specs.Chunks.{cell_of, place_of}
+use Rattle.object_layout.specs.Chunks.{cell_of, place_in, place_of}
 use Rattle.object_layout.specs.Graph.{IsHeld, IsSound}
 use Rattle.object_layout.proofs.ChunkLaws as laws
 use Rattle.listed.proofs.Members.{In}
@@ -115,6 +115,15 @@ visit_live h a b r e f = born_live (cell_of h a).mark b (birth_live (cell_of h a
 
 pub visited_all_targets : (s : Search) (v : Option Addr) (k : List Content) → k ≡ (visited s v).heap → (rs : List (Option Addr)) → All (IsTarget s.heap) rs → All (IsTarget k) rs
 visited_all_targets s v k e rs all = λ i r l. subst (λ (h : List Content). IsTarget h (get_or rs i r)) (sym e) (visited_targets s v (get_or rs i r) (all i r l))
+
+at_place : (s : Search) (x : Addr) (b : Option Birth) (n : ℕ) → place_in (visited_at s x b).heap n ≡ place_in s.heap n
+at_place s x None n = refl
+at_place s x (Some b) n = laws.place_in-put s.heap x (with_mark (cell_of s.heap x) (Moved x)) n
+
+-- no chunk moves
+pub visited_place : (s : Search) (v : Option Addr) (n : ℕ) → place_in (visited s v).heap n ≡ place_in s.heap n
+visited_place s None n = refl
+visited_place s (Some x) n = at_place s x (birth_in (cell_of s.heap x).mark) n
 
 at_refs : (s : Search) (x : Addr) (b : Option Birth) (a : Addr) → (cell_of (visited_at s x b).heap a).refs ≡ (cell_of s.heap a).refs
 at_refs s x None a = refl

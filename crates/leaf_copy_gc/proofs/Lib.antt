@@ -11,6 +11,7 @@ pub mod Moves
 pub mod Rooms
 mod Leading
 mod Larges
+mod NoLarge
 mod Evacuated
 pub mod Numbers
 pub mod Extent

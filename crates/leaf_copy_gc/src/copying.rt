@@ -1,16 +1,15 @@
 // Copies survivors into new chunks, in their order.
 
-ghost use Rattle.std.specs.Prelude.{◌≡◌, ◌+◌, ◌≤◌, ◌<◌, [], ◌∷◌, ◌++◌, length, vec_len, vec_capacity, fold, reverse, true};
+ghost use Rattle.std.specs.Prelude.{◌≡◌, ◌+◌, ◌≤◌, ◌<◌, [], ◌∷◌, ◌++◌, length, vec_len, vec_capacity, fold, reverse, true, Some};
 ghost use Rattle.object_layout.specs.Cell.{Moved, size_of, with_mark, IsObject};
-ghost use Rattle.object_layout.specs.Chunks.{cell_of, next_address, put_object};
-ghost use Rattle.object_layout.specs.Place.{words_in};
+ghost use Rattle.object_layout.specs.Chunks.{cell_of, place_in, put_object};
 ghost use Rattle.leaf_copy_gc.specs.Survivors.{with_chunks};
 ghost use Rattle.leaf_copy_gc.specs.Laid.{is_small, next_place, opened, placed, room_in, HasRoom, Laying};
 ghost use Rattle.leaf_copy_gc.specs.Copying.{copied, copied_one, survivor_cell, Copying, IsReady};
 
 use crate::lists::Survivor;
 use alloc_path::Space;
-use object_layout::{Addr, Chunk};
+use object_layout::{Addr, Chunk, header_at};
 
 /// How many words a small object has at most.
 pub(crate) const SMALL: u32 = 1024;
@@ -21,6 +20,16 @@ pub(crate) fn size_at(heap: &Space, object: Addr) -> u32
     ensures { result ≡ size_of (cell_of heap.now.chunks object) }
 {
     let header = heap.own_header(object);
+    2 + header.nrefs + header.nints
+}
+
+// The same of an object whose chunk stands at this place.
+fn size_in(heap: &Space, place: usize, object: Addr) -> u32
+    requires place { place_in heap.now.chunks object.chunk ≡ Some place }
+    requires object { IsObject (cell_of heap.now.chunks object).mark }
+    ensures { result ≡ size_of (cell_of heap.now.chunks object) }
+{
+    let header = header_at(heap.chunk_in(place, object), object.offset);
     2 + header.nrefs + header.nints
 }
 
@@ -50,8 +59,9 @@ fn open(laid: &mut Vec<Chunk>, spare: &mut Vec<Chunk>, size: u32)
     }
 }
 
-// Copies an object behind those of the last new chunk, and leaves its new address.
-fn copy_last(heap: &mut Space, survivor: Survivor, laid: &mut [Chunk]) -> Addr
+// Copies an object, whose chunk stands at this place, behind those of the last new chunk, and leaves its new address.
+fn copy_last(heap: &mut Space, place: usize, survivor: Survivor, laid: &mut [Chunk]) -> Addr
+    requires place { place_in heap.old.chunks survivor.old.chunk ≡ Some place }
     requires object { IsObject (cell_of heap.old.chunks survivor.old).mark }
     requires room { size_of (cell_of heap.old.chunks survivor.old) ≤ room_in laid.old }
     requires begins { (next_place laid.old).offset < 1024 }
@@ -59,35 +69,22 @@ fn copy_last(heap: &mut Space, survivor: Survivor, laid: &mut [Chunk]) -> Addr
     ensures laid { laid.new ≡ placed laid.old (survivor_cell heap.old.chunks survivor) }
     ensures left { heap.new ≡ with_chunks heap.old (put_object heap.old.chunks survivor.old (with_mark (cell_of heap.old.chunks survivor.old) (Moved result))) }
 {
-    heap.own_set_birth(survivor.old, survivor.birth);
     let last = laid.len() - 1;
-    let address = copy_to(heap, survivor.old, &mut laid[last]);
-    heap.own_forward(survivor.old, address);
-    address
+    heap.move_in(place, survivor.old, survivor.birth, &mut laid[last])
 }
 
-// Copies an object behind those of a new chunk.
-fn copy_to(heap: &Space, object: Addr, chunk: &mut Chunk) -> Addr
-    requires object { IsObject (cell_of heap.now.chunks object).mark }
-    requires room { words_in chunk.old.cells + size_of (cell_of heap.now.chunks object) ≤ chunk.old.size }
-    ensures address { result ≡ next_address chunk.old }
-    ensures copied { chunk.new ≡ record chunk.old { cells = chunk.old.cells ++ cell_of heap.now.chunks object ∷ [] } }
-{
-    let offset = heap.own_copy(object, chunk);
-    Addr {
-        chunk: chunk.number(),
-        offset,
-    }
-}
-
-// Copies one small survivor.
+// Copies one small survivor of so many words, whose chunk stands at this place.
 fn copy_one(
     heap: &mut Space,
+    place: usize,
+    size: u32,
     survivor: Survivor,
     laid: &mut Vec<Chunk>,
     spare: &mut Vec<Chunk>,
     moved: &mut Vec<(Addr, Addr)>,
 )
+    requires place { place_in heap.old.chunks survivor.old.chunk ≡ Some place }
+    requires size { size ≡ size_of (cell_of heap.old.chunks survivor.old) }
     requires object { IsObject (cell_of heap.old.chunks survivor.old).mark }
     requires room { HasRoom (record { laid = laid.old.items; spare = reverse spare.old.items }) (size_of (cell_of heap.old.chunks survivor.old)) }
     requires chunks { vec_len laid.old + vec_len spare.old ≤ vec_capacity laid.old }
@@ -99,9 +96,8 @@ fn copy_one(
     ensures list { vec_len moved.new ≡ vec_len moved.old + 1 }
     ensures list_room { vec_capacity moved.new ≡ vec_capacity moved.old }
 {
-    let size = size_at(heap, survivor.old);
     open(laid, spare, size);
-    let address = copy_last(heap, survivor, laid);
+    let address = copy_last(heap, place, survivor, laid);
     moved.push_reserved((survivor.old, address));
 }
 
@@ -124,8 +120,10 @@ fn copy_small(
     ensures list { vec_len moved.new ≤ vec_len moved.old + 1 }
     ensures list_room { vec_capacity moved.new ≡ vec_capacity moved.old }
 {
-    if size_at(heap, survivor.old) <= SMALL {
-        copy_one(heap, survivor, laid, spare, moved);
+    let place = heap.own_place(survivor.old.chunk);
+    let size = size_in(heap, place, survivor.old);
+    if size <= SMALL {
+        copy_one(heap, place, size, survivor, laid, spare, moved);
     }
 }
 

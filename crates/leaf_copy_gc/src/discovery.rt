@@ -1,9 +1,10 @@
 // Finds what survives.
 
-ghost use Rattle.std.specs.Prelude.{◌≡◌, ◌+◌, ◌≤◌, ◌<◌, ◌↔◌, [], length, vec_len, vec_capacity, fold, map, All, Contains, Some};
+ghost use Rattle.std.specs.Prelude.{◌≡◌, ◌+◌, ◌≤◌, ◌<◌, ◌↔◌, [], length, vec_len, vec_capacity, fold, map, option_map, slice_get, All, Contains, IfSome, Some};
 ghost use Rattle.std.specs.List.{IsDistinct};
 ghost use Rattle.object_layout.specs.Cell.{IsObject};
-ghost use Rattle.object_layout.specs.Chunks.{cell_of, same_address};
+ghost use Rattle.object_layout.specs.Place.{cell_at, IsObjectAt};
+ghost use Rattle.object_layout.specs.Chunks.{cell_of, place_in, same_address};
 ghost use Rattle.leaf_copy_gc.specs.Survivors.{as_reference, held_by, live_count, olds, outside, with_chunks, HaveNames, IsSurvivor};
 ghost use Rattle.leaf_copy_gc.specs.Search.{all_found, birth_in, visited, IsTarget, Search};
 ghost use Rattle.object_layout.specs.declared.word.Addr.{Addr};
@@ -12,21 +13,37 @@ ghost use Rattle.task_frames.specs.Stack.{frames_of};
 
 use crate::lists::Survivor;
 use alloc_path::Space;
-use object_layout::{Addr, Birth};
+use object_layout::{Addr, Birth, Chunk, birth_at, forwarded_at, header_at, ref_at};
 use task_frames::Frames;
 
-// The birth name of the object at an address, if it lies in the heap and bears it still.
-fn birth_of(heap: &Space, object: Addr) -> Option<Birth>
-    requires { IsTarget heap.now.chunks (Some object) }
-    ensures { result ≡ birth_in (cell_of heap.now.chunks object).mark }
+// An object that bears its birth name still: that name, and at which place its chunk stands.
+#[derive(Clone, Copy)]
+struct Live {
+    birth: Birth,
+    place: usize,
+}
+
+// The birth name of an object of a chunk, if it bears it still.
+fn birth_in(chunk: &Chunk, at: u32) -> Option<Birth>
+    requires { IsObjectAt chunk.now.cells at }
+    ensures { result ≡ birth_in (cell_at chunk.now.cells at).mark }
 {
-    if !heap.owns(object) {
-        return None;
-    }
-    match heap.own_forwarded(object) {
+    match forwarded_at(chunk, at) {
         Some(_) => None,
-        None => Some(heap.own_birth(object)),
+        None => Some(birth_at(chunk, at)),
     }
+}
+
+// The object at an address, if it lies in the heap and bears its birth name still.
+fn live_at(heap: &Space, object: Addr) -> Option<Live>
+    requires { IsTarget heap.now.chunks (Some object) }
+    ensures birth { option_map (λ l. l.birth) result ≡ birth_in (cell_of heap.now.chunks object).mark }
+    ensures place { IfSome result (λ l. place_in heap.now.chunks object.chunk ≡ Some l.place) }
+{
+    let place = heap.place_of(object.chunk)?;
+    let chunk = heap.chunk_in(place, object);
+    let birth = birth_in(chunk, object.offset)?;
+    Some(Live { birth, place })
 }
 
 // Takes the object at an address among those found, if it lies in the heap and is not found yet.
@@ -39,10 +56,10 @@ fn visit(heap: &mut Space, reference: Option<Addr>, found: &mut Vec<Survivor>)
     ensures room { vec_capacity found.new ≡ vec_capacity found.old }
 {
     if let Some(address) = reference {
-        if let Some(birth) = birth_of(heap, address) {
-            heap.own_forward(address, address);
+        if let Some(live) = live_at(heap, address) {
+            heap.forward_in(live.place, address, address);
             found.push_reserved(Survivor {
-                birth,
+                birth: live.birth,
                 old: address,
             });
         }
@@ -63,6 +80,25 @@ fn visit_all(heap: &mut Space, references: &[Option<Addr>], found: &mut Vec<Surv
     }
 }
 
+// How many references an object has, whose chunk stands at this place.
+fn refs_in(heap: &Space, place: usize, object: Addr) -> u32
+    requires place { place_in heap.now.chunks object.chunk ≡ Some place }
+    requires object { IsObject (cell_of heap.now.chunks object).mark }
+    ensures { result ≡ length (cell_of heap.now.chunks object).refs }
+{
+    header_at(heap.chunk_in(place, object), object.offset).nrefs
+}
+
+// A reference of an object, whose chunk stands at this place.
+fn ref_in(heap: &Space, place: usize, object: Addr, field: u32) -> Option<Addr>
+    requires place { place_in heap.now.chunks object.chunk ≡ Some place }
+    requires object { IsObject (cell_of heap.now.chunks object).mark }
+    requires field { field < length (cell_of heap.now.chunks object).refs }
+    ensures { slice_get (cell_of heap.now.chunks object).refs field ≡ Some result }
+{
+    ref_at(heap.chunk_in(place, object), object.offset, field)
+}
+
 // Follows each reference of an object.
 fn visit_refs(heap: &mut Space, object: Addr, found: &mut Vec<Survivor>)
     requires object { IsObject (cell_of heap.old.chunks object).mark }
@@ -73,8 +109,9 @@ fn visit_refs(heap: &mut Space, object: Addr, found: &mut Vec<Survivor>)
     ensures count { vec_len found.new + live_count heap.new.chunks ≡ vec_len found.old + live_count heap.old.chunks }
     ensures room { vec_capacity found.new ≡ vec_capacity found.old }
 {
-    for field in 0..heap.own_header(object).nrefs {
-        let reference = heap.own_ref(object, field);
+    let place = heap.own_place(object.chunk);
+    for field in 0..refs_in(heap, place, object) {
+        let reference = ref_in(heap, place, object, field);
         visit(heap, reference, found);
     }
 }

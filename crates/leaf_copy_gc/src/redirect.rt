@@ -1,8 +1,8 @@
 // Leads references to where their objects are now.
 
-ghost use Rattle.std.specs.Prelude.{◌≡◌, ◌+◌, ◌≤◌, ◌<◌, length, map, fold, All};
+ghost use Rattle.std.specs.Prelude.{◌≡◌, ◌+◌, ◌≤◌, ◌<◌, length, map, fold, All, IsTrue};
 ghost use Rattle.object_layout.specs.Cell.{IsObject, IsPlace};
-ghost use Rattle.object_layout.specs.Chunks.{cell_of};
+ghost use Rattle.object_layout.specs.Chunks.{cell_of, held_words, small_words};
 ghost use Rattle.object_layout.specs.Place.{cell_at, put_cell, IsObjectAt};
 ghost use Rattle.task_frames.specs.Stack.{frames_of};
 ghost use Rattle.leaf_copy_gc.specs.Survivors.{held_by, with_chunks};
@@ -12,7 +12,7 @@ ghost use Rattle.leaf_copy_gc.specs.Redirected.{followed_at, followed_large, fol
 use crate::copying::{SMALL, size_at};
 use crate::lists::Survivor;
 use alloc_path::Space;
-use object_layout::{Addr, Chunk, header_at, next_at, ref_at, set_ref};
+use object_layout::{Addr, Chunk, forwarded_at, header_at, next_at, ref_at, set_ref};
 use task_frames::Frames;
 
 // Where the object of a reference is now.
@@ -23,13 +23,10 @@ fn follow(heap: &Space, reference: Option<Addr>) -> Option<Addr>
 {
     match reference {
         None => None,
-        Some(address) => {
-            if heap.owns(address) {
-                heap.own_forwarded(address)
-            } else {
-                reference
-            }
-        }
+        Some(address) => match heap.own_chunk(address) {
+            None => reference,
+            Some(chunk) => forwarded_at(chunk, address.offset),
+        },
     }
 }
 
@@ -111,11 +108,22 @@ fn follow_if_large(heap: &mut Space, survivor: Survivor)
     }
 }
 
-/// Leads the references of the large survivors, where they are.
+// Whether the heap holds small objects alone, as its counts tell.
+fn has_small_alone(heap: &Space) -> bool
+    ensures { IsTrue result → small_words heap.now.chunks ≡ held_words heap.now.chunks }
+{
+    let words = heap.words();
+    words < u64::MAX && heap.small_words() == words
+}
+
+/// Leads the references of the large survivors, where they are. Where no object of the heap is large, it looks at none.
 pub fn follow_larges(heap: &mut Space, found: &[Survivor])
     requires { CanFollow heap.old.chunks found.now }
     ensures { heap.new ≡ with_chunks heap.old (fold followed_large heap.old.chunks found.now) }
 {
+    if has_small_alone(heap) {
+        return;
+    }
     for &survivor in found {
         follow_if_large(heap, survivor);
     }
