@@ -1,6 +1,6 @@
 // Many chunks at once: they are made before the first of them gets a number.
 
-ghost use Rattle.std.specs.Prelude.{◌≡◌, ◌+◌, ◌^◌, ◌<◌, ◌≤◌, All, IfOk, None, OnOk, Some, length, vec_capacity, vec_len};
+ghost use Rattle.std.specs.Prelude.{◌≡◌, ◌+◌, ◌*◌, ◌^◌, ◌<◌, ◌≤◌, [], All, IfOk, None, OnOk, Some, length, vec_capacity, vec_len};
 ghost use Rattle.slab.specs.Slab.{slab_len, HasRoomFor, Updates};
 ghost use Rattle.chunk_pool.specs.Chunks.{held_in, one_unit, AreChunks, IsBlank, NumbersBehind};
 
@@ -9,17 +9,65 @@ use object_layout::Chunk;
 use slab::Slab;
 use std::alloc::{AllocError, Global};
 
-/// So many empty chunks of one unit, without numbers of their own.
-pub fn blank_chunks(alloc: Global, count: u32) -> Result<Vec<Chunk>, AllocError>
+// How many words a chunk of one unit has.
+const UNIT: u32 = 1024;
+
+/// An empty chunk of this number and so many units: one of those kept, where that will do, or a new one.
+pub fn chunk_of(
+    alloc: Global,
+    kept: &mut Vec<Chunk>,
+    number: u32,
+    units: u32,
+) -> Result<Chunk, AllocError>
+    requires few { units < 2 ^ 22 }
+    requires blank { All IsBlank kept.old.items }
+    ensures chunk { IfOk result (λ c. c ≡ record { number = number; size = 1024 * units; cells = [] }) }
+    ensures blank { All IsBlank kept.new.items }
+{
+    if units == 1 {
+        if let Some(mut chunk) = kept.pop() {
+            chunk.renumber(number);
+            return Ok(chunk);
+        }
+    }
+    Chunk::new(alloc, number, units)
+}
+
+/// So many empty chunks of one unit, without numbers of their own: those kept, as far as they go, and new ones.
+pub fn blank_chunks(
+    alloc: Global,
+    kept: &mut Vec<Chunk>,
+    count: u32,
+) -> Result<Vec<Chunk>, AllocError>
+    requires { All IsBlank kept.old.items }
     ensures count { IfOk result (λ v. length v.items ≡ count) }
     ensures blank { IfOk result (λ v. All IsBlank v.items) }
+    ensures kept { All IsBlank kept.new.items }
 {
     let mut blank = Vec::new(alloc);
     for _ in 0..count {
-        let chunk = Chunk::new(alloc, 0, 1)?;
+        let chunk = chunk_of(alloc, kept, 0, 1)?;
         blank.push(chunk)?;
     }
     Ok(blank)
+}
+
+/// Makes places to keep all chunks that are in use, should they come back, once so many units more are taken.
+pub fn make_places(kept: &mut Vec<Chunk>, used: u32, more: u32) -> Result<(), AllocError>
+    ensures { kept.new.items ≡ kept.old.items }
+{
+    kept.reserve(used as usize + more as usize)
+}
+
+/// Keeps a chunk of one unit, without its objects, where there is a place for it; else it is let go.
+pub fn keep(kept: &mut Vec<Chunk>, mut chunk: Chunk)
+    requires { All IsBlank kept.old.items }
+    ensures { All IsBlank kept.new.items }
+{
+    if chunk.size() == UNIT && kept.len() < kept.capacity() {
+        chunk.clear();
+        kept.push_reserved(chunk);
+    }
 }
 
 /// Makes places for so many numbers of 32 bits. A table that has no such number left is as good as no

@@ -3,10 +3,10 @@
 ghost use Rattle.std.specs.Prelude.{◌≡◌, ℕ, ◌+◌, ◌*◌, ◌^◌, ◌<◌, ◌≤◌, ◌↔◌, [], OnErr, OnOk, IfOk, Err, Some, IsSome};
 ghost use Rattle.chunk_pool.specs.Chunks.{held_at, owner_of, units_in_use, AreChunks, Takes, TakesAll, Gives, Relabels};
 
-use crate::numbers::{blank_chunks, make_numbers, number_all};
+use crate::numbers::{blank_chunks, chunk_of, keep, make_numbers, make_places, number_all};
 use object_layout::Chunk;
 use slab::Slab;
-use std::alloc::{AllocError, Global};
+use std::alloc::Global;
 use std::marker::Model;
 
 /// What the pool keeps of a chunk in use: the task that owns it, and its units of 1,024 words.
@@ -26,22 +26,27 @@ pub enum NotTaken {
 }
 
 /// The chunks in use, up to a limit in units of 1,024 words.
+///
+/// Chunks of one unit that come back are kept without their objects, and are handed out again: with those in use
+/// they are never more than were once in use.
 #[derive(Drop)]
 pub struct Pool {
     limit: u32,
     used: u32,
     slots: Slab<Held>,
+    kept: Vec<Chunk>,
     alloc: Global,
 }
 
 impl Model for Pool {
-    ghost use Rattle.chunk_pool.specs.Chunks.{Chunks, IsWithin};
+    ghost use Rattle.std.specs.Prelude.{All};
+    ghost use Rattle.chunk_pool.specs.Chunks.{Chunks, IsBlank, IsWithin};
 
     ghost Value = { Chunks };
 
     ghost view = { λ p. record { limit = p.limit; slots = p.slots.slots } };
 
-    ghost invariant = { λ p. IsWithin p.limit p.used p.slots.slots };
+    ghost invariant = { λ p. IsWithin p.limit p.used p.slots.slots × All IsBlank p.kept.items };
 }
 
 impl Pool {
@@ -54,6 +59,7 @@ impl Pool {
             limit,
             used: 0,
             slots: Slab::new(alloc),
+            kept: Vec::new(alloc),
             alloc,
         }
     }
@@ -72,6 +78,9 @@ impl Pool {
         if units > self.limit - self.used {
             return Err(NotTaken::Full);
         }
+        if make_places(&mut self.kept, self.used, units).is_err() {
+            return Err(NotTaken::NoMemory);
+        }
         if self.slots.reserve(1).is_err() {
             return Err(NotTaken::NoMemory);
         }
@@ -79,7 +88,7 @@ impl Pool {
         let Ok(number) = u32::try_from(self.slots.vacant_key()) else {
             return Err(NotTaken::NoMemory);
         };
-        let Ok(chunk) = Chunk::new(self.alloc, number, units) else {
+        let Ok(chunk) = chunk_of(self.alloc, &mut self.kept, number, units) else {
             return Err(NotTaken::NoMemory);
         };
         self.slots.insert_reserved(Held { owner, units });
@@ -105,7 +114,10 @@ impl Pool {
         if count > self.limit - self.used {
             return Err(NotTaken::Full);
         }
-        let Ok(mut blank) = blank_chunks(self.alloc, count) else {
+        if make_places(&mut self.kept, self.used, count).is_err() {
+            return Err(NotTaken::NoMemory);
+        }
+        let Ok(mut blank) = blank_chunks(self.alloc, &mut self.kept, count) else {
             return Err(NotTaken::NoMemory);
         };
         if list.reserve(count as usize).is_err() {
@@ -127,6 +139,7 @@ impl Pool {
         let number = chunk.number() as usize;
         let held = self.slots.remove(number);
         self.used -= held.units;
+        keep(&mut self.kept, chunk);
     }
 
     /// What is kept of the chunk of a number, if that is in use.

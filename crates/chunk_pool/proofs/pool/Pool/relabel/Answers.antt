@@ -11,7 +11,7 @@ invariant_of-self c =
     let h = c.in-Some.held.now in
     let g : Held = record h { owner = c.args.owner } in
     let was : get_or xs n None ≡ Some h = sym c.in-Some.ensures.value in
-    relabels_within p.limit p.used xs _ c.self.invariant n (set_elsewhere xs n (Some g)) h g was (set_there xs n h (Some g) was) refl
+    (relabels_within p.limit p.used xs _ c.self.invariant.0 n (set_elsewhere xs n (Some g)) h g was (set_there xs n h (Some g) was) refl, c.self.invariant.1)
 
 pub returns : goal.returns
 returns c =
@@ -21,4 +21,4 @@ returns c =
     let h = c.in-Some.held.now in
     let g : Held = record h { owner = c.args.owner } in
     let was : get_or xs n None ≡ Some h = sym c.in-Some.ensures.value in
-    rw (← c.self.view_is) (relabels p.limit p.used xs _ c.self.invariant n (set_elsewhere xs n (Some g)) h c.args.owner was (set_there xs n h (Some g) was))
+    rw (← c.self.view_is) (relabels p.limit p.used xs _ c.self.invariant.0 n (set_elsewhere xs n (Some g)) h c.args.owner was (set_there xs n h (Some g) was))
