@@ -255,7 +255,15 @@ impl<'p> Accounts<'p> {
     pub(crate) fn is_due(&self, task: u32) -> bool
         ensures { result ≡ is_due self.now.limits self.now.program self.now.ledger task }
     {
-        match self.asked(task) {
+        self.is_due_by(task, self.asked(task))
+    }
+
+    /// The same, where it is known what the step asks for.
+    pub(crate) fn is_due_by(&self, task: u32, words: Option<usize>) -> bool
+        requires { words ≡ asked self.now.program self.now.ledger.machine task }
+        ensures { result ≡ is_due self.now.limits self.now.program self.now.ledger task }
+    {
+        match words {
             Some(_) => self.limits.leaf() as u64 <= self.since(task),
             None => false,
         }
@@ -265,7 +273,15 @@ impl<'p> Accounts<'p> {
     pub(crate) fn is_in_need(&self, task: u32) -> bool
         ensures { result ≡ is_in_need self.now.program self.now.ledger task }
     {
-        match self.asked(task) {
+        self.is_in_need_by(task, self.asked(task))
+    }
+
+    /// The same, where it is known what the step asks for.
+    pub(crate) fn is_in_need_by(&self, task: u32, words: Option<usize>) -> bool
+        requires { words ≡ asked self.now.program self.now.ledger.machine task }
+        ensures { result ≡ is_in_need self.now.program self.now.ledger task }
+    {
+        match words {
             Some(words) if words <= 1024 => (self.room(task) as usize) < words,
             Some(words) => self.reserved(task) as usize != units_of(words),
             None => false,

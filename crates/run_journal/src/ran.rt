@@ -56,11 +56,12 @@ impl<'p> Accounts<'p> {
         ensures stood { IfOk result (λ how. how ≡ stood self.old.limits self.old.program self.old.ledger t) }
         ensures after { IfOk result (λ how. self.new ≡ went_on self.old (after_stood self.old.program self.old.ledger t how)) }
     {
-        if self.is_due(t) || self.is_in_need(t) {
+        let words = self.asked(t);
+        if self.is_due_by(t, words) || self.is_in_need_by(t, words) {
             return Ok(Stood::Not);
         }
         let own = self.is_own(t);
-        self.step(t)?;
+        self.step(t, words)?;
         let ended = self.has_ended();
         Ok(stood_by(own, ended))
     }

@@ -4,7 +4,7 @@ ghost use Rattle.hh_model.specs.Effect.{row_of};
 ghost use Rattle.std.specs.Prelude.{◌≡◌, ℕ, ◌+◌, ◌<◌, ◌^◌, Option, Some, None, true, false, length, slice_get, OnOk};
 ghost use Rattle.run_ledger.specs.Heaps.{heap_of, in_use, or_fresh, with_heap, let_go};
 ghost use Rattle.run_ledger.specs.Steps.{allocated_in, allocated_by, is_in_need, task_step, at_fork, at_join, join_heaps, moved_to, settled};
-ghost use Rattle.hh_model.specs.Step.{step, is_joined, is_waiting};
+ghost use Rattle.hh_model.specs.Step.{asked, step, is_joined, is_waiting};
 ghost use Rattle.run_journal.specs.Book.{Steady, Forks, Joins, AreOwned, ArePaired, left_of, next_large, used_after, went_on};
 
 use crate::accounts::Accounts;
@@ -28,12 +28,13 @@ fn objects_of(machine: &Machine, t: u32) -> usize
 }
 
 impl<'p> Accounts<'p> {
-    // The large object that the task's next step allocates, if it does.
-    fn next_large(&self, t: u32) -> Option<Name>
-        requires { self.now.ledger.steps < 2 ^ 30 }
+    // The large object that the task's next step, which asks for so many words, allocates, if it does.
+    fn next_large(&self, t: u32, words: Option<usize>) -> Option<Name>
+        requires few { self.now.ledger.steps < 2 ^ 30 }
+        requires words { words ≡ asked self.now.program self.now.ledger.machine t }
         ensures { result ≡ next_large self.now.program self.now.ledger t }
     {
-        match self.asked(t) {
+        match words {
             Some(words) if 1024 < words => Some(Name {
                 task: t,
                 count: objects_of(&self.machine, t) as u32,
@@ -42,13 +43,14 @@ impl<'p> Accounts<'p> {
         }
     }
 
-    // What the task's next step allocates is held from now on.
-    fn allocate(&mut self, t: u32) -> Result<(), AllocError>
+    // What the task's next step, which asks for so many words, allocates is held from now on.
+    fn allocate(&mut self, t: u32, words: Option<usize>) -> Result<(), AllocError>
+        requires words { words ≡ asked self.old.program self.old.ledger.machine t }
         requires steady { Steady self.old.ledger }
         requires placed { is_in_need self.old.program self.old.ledger t ≡ false }
         ensures { OnOk result (self.new ≡ record self.old { ledger = allocated_in self.old.program self.old.ledger t }) }
     {
-        let Some(words) = self.asked(t) else {
+        let Some(words) = words else {
             return Ok(());
         };
         let name = Name {
@@ -132,8 +134,9 @@ impl<'p> Accounts<'p> {
         }
     }
 
-    /// One step of a task, with its accounts.
-    pub(crate) fn step(&mut self, t: u32) -> Result<(), AllocError>
+    /// One step of a task, which asks for so many words, with its accounts.
+    pub(crate) fn step(&mut self, t: u32, words: Option<usize>) -> Result<(), AllocError>
+        requires words { words ≡ asked self.old.program self.old.ledger.machine t }
         requires before { Steady self.old.ledger }
         requires after { Steady (task_step self.old.program self.old.ledger t) }
         requires placed { is_in_need self.old.program self.old.ledger t ≡ false }
@@ -145,9 +148,9 @@ impl<'p> Accounts<'p> {
             self.steps += 1;
             return Ok(());
         }
-        let large = self.next_large(t);
+        let large = self.next_large(t, words);
         let reserved = self.reserved(t);
-        self.allocate(t)?;
+        self.allocate(t, words)?;
         self.advance(t)?;
         self.count_large(large, reserved);
         self.settle(t)
