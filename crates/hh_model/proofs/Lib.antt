@@ -29,3 +29,4 @@ pub mod Stopped
 pub mod Sizes
 pub mod TurnLaws
 pub mod Leaves
+pub mod Example

@@ -97,3 +97,10 @@ module _ (p : ProgramText) (limit : ℕ) (ts : List ℕ) where
 -- to an object
 abbrev pub OneWinner : Type 0
 OneWinner = (p : ProgramText) (limit : ℕ) (ts : List ℕ) (field : Field) → OnlyFromNil p limit ts field → HasOneWinner p limit ts field
+
+-- SOME CAS WINS: so the law speaks of something. There is a run in which no putr is taken on a field, and each cas on it would set it
+-- from nil to an object, with two of them, by two tasks: the first yields 1 and the second 0
+abbrev pub SomeCasWins : Type 0
+SomeCasWins =
+    (p : ProgramText) × (limit : ℕ) × (ts : List ℕ) × (field : Field) × OnlyFromNil p limit ts field × (i : ℕ) × (j : ℕ) × (c : IsCas p limit ts field i) × (d : IsCas p limit ts field j)
+    × IsUntried p limit ts field i × (i < j) × (c.t ≡ d.t → ⊥) × Yields p limit ts field i c (pos 1) × Yields p limit ts field j d (pos 0)

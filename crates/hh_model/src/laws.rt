@@ -2,7 +2,7 @@
 
 ghost use Rattle.hh_model.specs.PathLaw.{PathIsPrecedence};
 ghost use Rattle.hh_model.specs.ReadLaws.{OwnReadsGo, FrozenReadsGo, StopsNameOwners, ReadsAreDecided, StopsAreReads};
-ghost use Rattle.hh_model.specs.Winner.{OneWinner};
+ghost use Rattle.hh_model.specs.Winner.{OneWinner, SomeCasWins};
 ghost use Rattle.hh_model.specs.NextLaw.{AlwaysNext, PacksAreFew};
 ghost use Rattle.hh_model.specs.Store.{NothingLeaves, ObjectsStay, NamesAreStored, OutputsGrow, TasksAreNumbered};
 ghost use Rattle.hh_model.specs.Tree.{RunsAreKept, StepsKeep, RunsHaveOneRoot};
@@ -62,6 +62,11 @@ pub fn tasks_are_numbered()
 /// Of the compare and swaps that would set a field from nil, the first yields 1 and all others 0; the field keeps its value.
 pub fn one_winner()
     ensures { OneWinner }
+{}
+
+/// There are such: a run in which two tasks try to set one field, and the first one does.
+pub fn some_cas_wins()
+    ensures { SomeCasWins }
 {}
 
 /// Each frame of each task has a next instruction, so that no step is without one.
