@@ -36,3 +36,4 @@ pub mod History
 pub mod Forked
 pub mod RunOn
 pub mod Accepted
+pub mod PaceLaw

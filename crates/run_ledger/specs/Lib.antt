@@ -13,3 +13,4 @@ pub mod Text
 pub mod Laws
 pub mod Cuts
 pub mod Space
+pub mod PaceLaw

@@ -4,6 +4,7 @@ ghost use Rattle.run_ledger.specs.Laws.{ReachedIsWalks, MachineIsRun, NothingRea
 ghost use Rattle.run_ledger.specs.Accepted.{AcceptedIsAllowed};
 ghost use Rattle.run_ledger.specs.Frozen.{SurvivorsAreWithin, SnapshotsAreWithin, SnapshotsAreHeld, ForksSetDown};
 ghost use Rattle.run_ledger.specs.Cuts.{LegalIsUnrefused, JournalsCanBeCut, FirstRefusedIsFirst, PacedIsMeant, OwedCanBeGiven, PaceGoesOn, FewerStepsAreLegal};
+ghost use Rattle.run_ledger.specs.PaceLaw.{PaceIsOfEntries, PacedKeepsThePace};
 ghost use Rattle.run_ledger.specs.Space.{StepsAreBounded, AllocationsAreInBounds, UseIsBounded, LeafCollectionsAreBounded, SweepsAreBounded, HeapsFit, WordsAreAccounted, SinceIsBounded, ProgramsAskFew, JournalsAreCounted};
 ghost use Rattle.run_ledger.specs.Sound.{JournalsAreSound, ChangesKeepSound, EntriesKeepSound, StepsKeepSound};
 ghost use Rattle.run_ledger.specs.Use.{EntriesUse, StepsUseNone, ChunksAreUsed};
@@ -71,6 +72,18 @@ pub fn first_refused_is_first()
 /// The test of paced journals is what is meant by them.
 pub fn paced_is_meant()
     ensures { PacedIsMeant }
+{}
+
+/// After a legal journal what the pace keeps of a worker is told by the entries: its previous entry is its last in the journal, and its
+/// marks are the forks of all `mark` entries by it, the newest first.
+pub fn pace_is_of_entries()
+    ensures { PaceIsOfEntries }
+{}
+
+/// A legal journal is paced exactly where each entry that isn't `fuel`, and whose worker's previous entry are steps, keeps the three
+/// rules of the pace.
+pub fn paced_keeps_the_pace()
+    ensures { PacedKeepsThePace }
 {}
 
 /// After a legal journal an entry that gives what a worker owes to the pace isn't refused for what it says.
