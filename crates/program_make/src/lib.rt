@@ -2,7 +2,9 @@
 #![tactic(auto)]
 
 mod draws;
+mod laws;
 mod text;
 mod whole;
 
+pub use laws::made_are_short;
 pub use whole::make;
