@@ -17,3 +17,4 @@ pub mod SeenLabels
 pub mod Reported
 pub mod StepCounts
 pub mod Watched
+pub mod Raceless

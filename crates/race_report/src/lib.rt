@@ -13,6 +13,9 @@ mod text;
 mod watch;
 
 pub use data::{Access, Field, Race};
-pub use laws::{labels_tell_precedence, stopped_reads_race};
+pub use laws::{
+    labels_tell_precedence, raceless_is_disentangled, raceless_journals_are_disentangled,
+    stopped_reads_race,
+};
 pub use report::{races, races_of_run};
 pub use text::races_text;

@@ -1,0 +1,120 @@
+-- A run without races is never entangled.
+use Rattle.std.proofs.Common.{◌≡◌, ℕ, zero, suc, ◌+◌, ◌-◌, ◌++◌, Bool, true, false, cond, Option, Some, None, List, [], ◌∷◌, slice_get, nat_lt, inl, inr, refl, ap, sym, ◌∙◌}
+use Rattle.std.proofs.lemmas.Bool.{false≢true}
+use Rattle.listed.proofs.Members.{in_from_contains}
+use Rattle.hh_lang.specs.Form.{ProgramText}
+use Rattle.run_trace.specs.declared.entry.Kind.{Kind}
+use Rattle.run_trace.specs.declared.entry.Kind.TheVariants.{Took, Ran, Chunk, Begin, End as EndOf, PutOff, Mark, More, Sweep, Fuel}
+use Rattle.run_trace.specs.Entry.{Event}
+use Rattle.run_trace.specs.Settings.{Limits, field_limit}
+use Rattle.hh_model.specs.declared.data.Edge.{Edge}
+use Rattle.hh_model.specs.declared.data.End.{End}
+use Rattle.hh_model.specs.declared.data.End.TheVariants.{Entangled}
+use Rattle.hh_model.specs.declared.data.State.{State}
+use Rattle.hh_model.specs.declared.data.Status.{Status}
+use Rattle.hh_model.specs.declared.data.Status.TheVariants.{Running, Waiting, Ended, Joined}
+use Rattle.hh_model.specs.declared.data.Task.{Task}
+use Rattle.hh_model.specs.Step.{asked, can_step, goes_on, is_left, is_running, run, step}
+use Rattle.run_ledger.specs.declared.data.Heap.{Heap}
+use Rattle.run_ledger.specs.declared.data.Ledger.{Ledger}
+use Rattle.run_ledger.specs.declared.data.RunEnd.TheVariants.{Machine, Pool}
+use Rattle.run_ledger.specs.Heaps.{emptied, forked_heap, fresh, heap_at, in_use, let_go, with_heap, with_heap_at, within}
+use Rattle.run_ledger.specs.Steps.{allocated_by, allocated_in, join_heaps, moved_on, moved_to, settled, stepped_to, task_step, task_steps}
+use Rattle.run_ledger.specs.Entries.{after, after_kind, chunk_units, with_chunk}
+use Rattle.run_ledger.specs.Journals.{after_all, ledger_of, opening, tasks_of}
+use Rattle.run_ledger.proofs.Machine.{heap_machine, machine_is_run}
+use Rattle.race_report.specs.declared.data.Access.{Access}
+use Rattle.race_report.specs.Accesses.{accesses}
+use Rattle.race_report.specs.Report.{IsReport}
+use Rattle.race_report.specs.StopLaw.{HasNoRace, RacelessIsDisentangled, RacelessJournalsAreDisentangled}
+use Rattle.race_report.proofs.Stopped.{stopped_reads_race}
+
+no_race : (edges : List Edge) (all : List Access) → IsReport edges all [] → HasNoRace edges all
+no_race edges all R field i j u v r = let pair = R.every field i j u v r in in_from_contains [] _ pair.3
+
+pub raceless_is_disentangled : RacelessIsDisentangled
+raceless_is_disentangled p limit ts t owner (inl none) e = let r = stopped_reads_race p limit ts t owner e in none r.v.field r.i r.j r.u r.v r.race
+raceless_is_disentangled p limit ts t owner (inr report) e =
+    let r = stopped_reads_race p limit ts t owner e in no_race (run p limit ts).edges (accesses p limit ts) report r.v.field r.i r.j r.u r.v r.race
+
+-- WHERE THE MACHINE HAS ENDED THE RUN, it has ended so
+
+abbrev EndsAlike : Ledger → Type 0
+EndsAlike l = (e : End) → l.end ≡ Some (Machine e) → l.machine.end ≡ Some e
+
+-- the heaps' accounts change alone
+heap_end : (l : Ledger) (t : ℕ) (f : Heap → Heap) → (with_heap l t f).end ≡ l.end
+heap_end l t f = by (heap_at l t)
+  where
+    by : (o : Option Heap) → (with_heap_at l t f o).end ≡ l.end
+    by None = refl
+    by (Some h) = refl
+
+heap_alike : (l : Ledger) (t : ℕ) (f : Heap → Heap) → EndsAlike l → EndsAlike (with_heap l t f)
+heap_alike l t f E e h = ap (λ (m : State). m.end) (heap_machine l t f) ∙ E e (sym (heap_end l t f) ∙ h)
+
+join_end : (l : Ledger) (p c : ℕ) → (join_heaps l p c).end ≡ l.end
+join_end l p c = heap_end _ (c + 1) emptied ∙ (heap_end _ c emptied ∙ heap_end l p _)
+
+moved_end : (l : Ledger) (t : ℕ) (parent : Option ℕ) (s : Status) → (moved_on l t parent s).end ≡ l.end
+moved_end l t parent Running = refl
+moved_end l t parent Waiting = heap_end (record l { heaps = l.heaps ++ fresh ∷ fresh ∷ [] }) t (forked_heap (within l t))
+moved_end l t parent (Ended k n) = heap_end l t let_go
+moved_end l t None Joined = refl
+moved_end l t (Some p) Joined = join_end l p (cond (is_left t) t (t - 1))
+
+settled_alike : (l : Ledger) (t : ℕ) (o : Option End) → l.machine.end ≡ o → ((e : End) → l.end ≡ Some (Machine e) → ⊥) → EndsAlike (settled l t o)
+settled_alike l t (Some z) is on e h = is ∙ (let same : Some z ≡ Some e = same_end h in same)
+  where
+    same_end : Some (Machine z) ≡ Some (Machine e) → Some z ≡ Some e
+    same_end q = cc
+settled_alike l t None is on e h = absurd (on e (by (slice_get l.machine.tasks t) h))
+  where
+    by : (o : Option Task) → (moved_to l t o).end ≡ Some (Machine e) → l.end ≡ Some (Machine e)
+    by None q = q
+    by (Some x) q = sym (moved_end l t x.parent x.status) ∙ q
+
+allocated_end : (l : Ledger) (t : ℕ) (next : Option ℕ) → (allocated_by l t next).end ≡ l.end
+allocated_end l t None = refl
+allocated_end l t (Some w) = heap_end l t _
+
+step_alike : (p : ProgramText) (l : Ledger) (t : ℕ) → EndsAlike l → EndsAlike (task_step p l t)
+step_alike p l t E = by (can_step l.machine t) refl
+  where
+    stopped : (o : Option End) (runs : Bool) (e : End) → goes_on o runs ≡ true → o ≡ Some e → ⊥
+    stopped None runs e g h = cc
+    stopped (Some z) runs e g h = false≢true g
+
+    by : (c : Bool) → can_step l.machine t ≡ c → EndsAlike (cond c (stepped_to (allocated_in p l t) t (step p l.machine t)) (record l { steps = l.steps + 1 }))
+    by true can = settled_alike (record (allocated_in p l t) { machine = step p l.machine t; steps = (allocated_in p l t).steps + 1 }) t (step p l.machine t).end refl
+        (λ e h. stopped l.machine.end (is_running (slice_get l.machine.tasks t)) e can (E e (sym (allocated_end l t (asked p l.machine t)) ∙ h)))
+    by false can = E
+
+steps_alike : (p : ProgramText) (k : ℕ) (l : Ledger) (t : ℕ) → EndsAlike l → EndsAlike (task_steps p l t k)
+steps_alike p zero l t E = E
+steps_alike p (suc k) l t E = steps_alike p k (task_step p l t) t (step_alike p l t E)
+
+chunk_alike : (l : Ledger) (t n : ℕ) (next : Option ℕ) (full : Bool) → EndsAlike l → EndsAlike (cond full (record l { end = Some (Pool n) }) (with_heap l t (with_chunk next)))
+chunk_alike l t n next true E = λ e h. absurd cc
+chunk_alike l t n next false E = heap_alike l t (with_chunk next) E
+
+kind_alike : (p : ProgramText) (s : Limits) (l : Ledger) (w : ℕ) (kind : Kind) → EndsAlike l → EndsAlike (after_kind p s l w kind)
+kind_alike p s l w (Took t) E = heap_alike l t _ E
+kind_alike p s l w (Ran t k) E = steps_alike p k l t E
+kind_alike p s l w (Chunk t) E = chunk_alike l t (in_use l) (asked p l.machine t) (nat_lt s.chunks (in_use l + chunk_units (asked p l.machine t))) E
+kind_alike p s l w (Begin t) E = heap_alike l t _ E
+kind_alike p s l w (EndOf t x y z) E = heap_alike l t _ E
+kind_alike p s l w (PutOff t) E = heap_alike l t _ E
+kind_alike p s l w (Mark t) E = heap_alike l t _ E
+kind_alike p s l w (More t n) E = heap_alike l t _ E
+kind_alike p s l w (Sweep t g) E = heap_alike l t _ E
+kind_alike p s l w Fuel E = λ e h. absurd cc
+
+all_alike : (p : ProgramText) (s : Limits) (journal : List Event) (l : Ledger) → EndsAlike l → EndsAlike (after_all p s l journal)
+all_alike p s [] l E = E
+all_alike p s (e ∷ es) l E = all_alike p s es (after p s l e) (kind_alike p s l e.worker e.kind E)
+
+pub raceless_journals_are_disentangled : RacelessJournalsAreDisentangled
+raceless_journals_are_disentangled p s journal t owner report h =
+    let ended : (ledger_of p s journal).machine.end ≡ Some (Entangled t owner) = all_alike p s journal (opening p s) (λ e q. absurd cc) (Entangled t owner) h in
+    raceless_is_disentangled p (field_limit s.version) (tasks_of journal) t owner (inr report) (ap (λ (m : State). m.end) (sym (machine_is_run p s journal)) ∙ ended)
