@@ -1,7 +1,8 @@
 -- The objects of a picture are those that the heaps handed back hold.
-use Rattle.std.proofs.Common.{◌≡◌, ◌⊎◌, ℕ, Bool, true, false, Option, Some, None, List, [], ◌∷◌, map, slice_get, inl, inr, refl, ap, sym, subst, ◌∙◌}
+use Rattle.std.proofs.Common.{◌≡◌, ℕ, Option, Some, None, List, [], ◌∷◌, map, slice_get, inl, inr, refl, ap, sym, subst, ◌∙◌}
 use Rattle.std.proofs.lemmas.Bool.{cases_Bool}
 use Rattle.object_layout.specs.declared.word.Addr.{Addr}
+use Rattle.object_layout.specs.Cell.{IsRef}
 use Rattle.object_layout.specs.Layout.{word_of_ref}
 use Rattle.hh_model.specs.declared.data.Name.{Name}
 use Rattle.hh_model.specs.declared.data.State.{State as Machine}
@@ -15,19 +16,21 @@ use Rattle.core_relation.specs.Reads.{AllRead}
 use Rattle.core_relation.specs.Stands.{Place}
 use Rattle.core_relation.specs.Value.{In, Seen, Value, objects}
 use Rattle.core_relation.proofs.Members.{held_object, object_held}
-use Rattle.heap_image.specs.declared.picture.Picked.{Picked}
 use Rattle.heap_image.specs.declared.picture.Picture.{Picture}
+use Rattle.heap_image.specs.Picture.{IsOwned}
 use Rattle.heap_reading.specs.HeldNames.{is_state_running}
 use Rattle.heap_reading.specs.Image.{shown}
 use Rattle.shared_value.specs.Stands.{IsWorld}
 use Rattle.shared_value.specs.World.{World, accounts, value_of}
 use Rattle.heap_reading.proofs.KeptNames.{handed_held}
-use Rattle.shared_image.specs.Drawn.{IsHandedBack, IsPictureOf, drawn_object}
-use Rattle.shared_image.specs.Held.{AreReferences, HasJustKept, IsKept, IsReference, StandsFor}
-use Rattle.shared_image.proofs.Known.{k, rests, runs, same}
+use Rattle.shared_image.specs.Drawn.{AreHeldInWords, IsHandedBack, IsPictureOf, drawn_object}
+use Rattle.shared_image.specs.Held.{AreReferences, HasJustKept, IsReference, StandsFor}
+use Rattle.shared_image.proofs.Known.{k, owners, rests, runs, same}
+use Rattle.shared_image.proofs.Links.{owned_at}
+use Rattle.shared_image.proofs.Numbers.{all_in}
 use Rattle.shared_image.proofs.Resting.{H, content}
 
-module _ (w : World) (I : IsWorld w) (p : Picture) (P : IsPictureOf w p) where
+module _ (w : World) (I : IsWorld w) (F : AreHeldInWords w) (p : Picture) (P : IsPictureOf w p) where
   abbrev l : Ledger
   l = accounts w
 
@@ -40,25 +43,29 @@ module _ (w : World) (I : IsWorld w) (p : Picture) (P : IsPictureOf w p) where
   drawn : (t : ℕ) → IsHandedBack w t → (o : Seen) → In (objects v t) o → In p.objects (drawn_object (shown o))
   drawn t idle o i = (P.objects.each (drawn_object (shown o))).1 (t, o, idle, i, refl)
 
-  reference : (a : Addr) (n : Name) → Place v (k w I) n a → IsReference p l (word_of_ref (Some a)) (Some n)
-  reference a n place =
+  reference : (a : Addr) (n : Name) → IsRef (Some a) → Place v (k w I) n a → IsReference p l (word_of_ref (Some a)) (Some n)
+  reference a n near place =
       let u = own (k w I) n in
       let owner : owner_of l.machine.tasks n.task ≡ u = ap (λ (m : Machine). owner_of m.tasks n.task) (sym (same w I)) in
       elim (cases_Bool (is_state_running (state_of w.tree u))) [
-        | inl on ↦ inr (ap (λ z. is_running (slice_get l.machine.tasks z)) owner ∙ (sym (runs_now u) ∙ on))
+        | inl on ↦
+            inr (
+              ap (λ z. is_running (slice_get l.machine.tasks z)) owner ∙ (sym (runs_now u) ∙ on),
+              subst (IsOwned p (word_of_ref (Some a))) (sym owner) (owned_at w I p P a u near.0 place.chunk ((owners w I).live n.task)),
+            )
         | inr off ↦
             let d = place.here (rests w I u off) in
             inl (drawn_object (shown d.0), drawn u off d.0 d.1, ap (λ z. word_of_ref (Some z)) d.2.at, (ap (λ (z : Name). z.task) d.2.name, ap (λ (z : Name). z.count) d.2.name))
       ]
 
-  references : (rs : List (Option Addr)) (xs : List (Option Name)) → AllRead (Place v (k w I)) rs xs → AreReferences p l (map word_of_ref rs) xs
-  references [] [] h = tt
-  references [] (x ∷ xs) h = absurd h
-  references (r ∷ rs) [] h = absurd h
-  references (None ∷ rs) (None ∷ xs) h = (refl, references rs xs h.1)
-  references (None ∷ rs) (Some n ∷ xs) h = absurd h.0
-  references (Some a ∷ rs) (None ∷ xs) h = absurd h.0
-  references (Some a ∷ rs) (Some n ∷ xs) h = (reference a n h.0, references rs xs h.1)
+  references : (rs : List (Option Addr)) (xs : List (Option Name)) → ((r : Option Addr) → In rs r → IsRef r) → AllRead (Place v (k w I)) rs xs → AreReferences p l (map word_of_ref rs) xs
+  references [] [] near h = tt
+  references [] (x ∷ xs) near h = absurd h
+  references (r ∷ rs) [] near h = absurd h
+  references (None ∷ rs) (None ∷ xs) near h = (refl, references rs xs (λ r i. near r (inr i)) h.1)
+  references (None ∷ rs) (Some n ∷ xs) near h = absurd h.0
+  references (Some a ∷ rs) (None ∷ xs) near h = absurd h.0
+  references (Some a ∷ rs) (Some n ∷ xs) near h = (reference a n (near (Some a) (inl refl)) h.0, references rs xs (λ r i. near r (inr i)) h.1)
 
   stands : (t : ℕ) (idle : IsHandedBack w t) (o : Seen) (i : In (objects v t) o) → StandsFor p l (drawn_object (shown o)) o.name
   stands t idle o i =
@@ -68,7 +75,7 @@ module _ (w : World) (I : IsWorld w) (p : Picture) (P : IsPictureOf w p) where
         is = ap (λ (m : Machine). object_at m.store o.name) (sym (same w I)) ∙ x.1;
         bears = (refl, refl);
         mutable = x.2.mutable;
-        references = references o.refs x.0.refs x.2.refs;
+        references = references o.refs x.0.refs (λ r j. all_in IsRef o.refs r (F t o idle i).refs j) x.2.refs;
         numbers = x.2.ints;
       }
 

@@ -1,5 +1,5 @@
 -- The objects of a picture are those that the heaps handed back hold, as they stand in the machine's store.
-use Rattle.std.specs.Prelude.{◌≡◌, ◌⊎◌, ◌↔◌, ℕ, true, false, Option, Some, None, List, [], ◌∷◌, slice_get}
+use Rattle.std.specs.Prelude.{◌≡◌, ◌⊎◌, ℕ, true, false, Option, Some, None, List, [], ◌∷◌, slice_get}
 use Rattle.listed.specs.Members.{In}
 use Rattle.hh_model.specs.declared.data.Name.{Name}
 use Rattle.hh_model.specs.declared.data.Object.{Object}
@@ -9,18 +9,24 @@ use Rattle.run_ledger.specs.declared.data.Ledger.{Ledger}
 use Rattle.run_ledger.specs.Heaps.{heap_of, held_in}
 use Rattle.heap_image.specs.declared.picture.Picked.{Picked}
 use Rattle.heap_image.specs.declared.picture.Picture.{Picture}
+use Rattle.heap_image.specs.Picture.{IsOwned}
 use Rattle.shared_value.specs.Stands.{IsWorld}
 use Rattle.shared_value.specs.World.{World, accounts}
-use Rattle.shared_image.specs.Drawn.{IsPictureOf}
+use Rattle.shared_image.specs.Drawn.{AreHeldInWords, IsPictureOf}
 
 -- it bears the name
 abbrev pub Bears : Picked → Name → Type 0
 Bears q n = (q.birth.task ≡ n.task) × (q.birth.count ≡ n.count)
 
--- a reference is nil for nil, and for a name the address of the object that bears it, or the name's owner runs
+-- it lies in a chunk of this task, which runs
+abbrev pub LiesInRunning : Picture → Ledger → ℕ → ℕ → Type 0
+LiesInRunning p l v u = (is_running (slice_get l.machine.tasks u) ≡ true) × IsOwned p v u
+
+-- a reference is nil for nil, and for a name the address of the object that bears it, or, where the name's owner runs, it lies in a
+-- chunk of that owner (and so isn't nil)
 abbrev pub IsReference : Picture → Ledger → ℕ → Option Name → Type 0
 IsReference p l v None = v ≡ 0
-IsReference p l v (Some n) = ((q : Picked) × In p.objects q × (q.address ≡ v) × Bears q n) ⊎ (is_running (slice_get l.machine.tasks (owner_of l.machine.tasks n.task)) ≡ true)
+IsReference p l v (Some n) = ((q : Picked) × In p.objects q × (q.address ≡ v) × Bears q n) ⊎ LiesInRunning p l v (owner_of l.machine.tasks n.task)
 
 abbrev pub AreReferences : Picture → Ledger → List ℕ → List (Option Name) → Type 0
 AreReferences p l [] [] = Unit {0}
@@ -47,4 +53,4 @@ pub record HasJustKept (p : Picture) (l : Ledger) : Type 0 where
   pub all : (n : Name) → IsKept l n → (q : Picked) × In p.objects q × StandsFor p l q n
 
 abbrev pub PicturesHaveJustKept : Type 0
-PicturesHaveJustKept = (w : World) (p : Picture) → IsWorld w → IsPictureOf w p → HasJustKept p (accounts w)
+PicturesHaveJustKept = (w : World) (p : Picture) → IsWorld w → AreHeldInWords w → IsPictureOf w p → HasJustKept p (accounts w)
