@@ -8,3 +8,5 @@ pub mod Answered
 pub mod Deliveries
 pub mod Given
 pub mod Alike
+pub mod Headline
+pub mod Taken

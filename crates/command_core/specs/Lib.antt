@@ -4,3 +4,4 @@ pub mod Runs
 pub mod Answers
 pub mod Delivery
 pub mod Laws
+pub mod Headline

@@ -1,5 +1,6 @@
 // What the contract of the top call comes to.
 
+ghost use Rattle.command_core.specs.Headline.{RunsHoldTheHeadline};
 ghost use Rattle.command_core.specs.Laws.{ImagesAreVerified, MadeAreRun, ModelWritesTheSame, NoFaultGivesAll, ProgramsAreRun, TracesAreDrawn, TracesAreReplayed};
 ghost use Rattle.command_core.specs.Status.{StatusesOfEnds};
 
@@ -41,4 +42,10 @@ pub fn model_writes_the_same()
 /// The exit status of a run is that of its end.
 pub fn statuses_of_ends()
     ensures { StatusesOfEnds }
+{}
+
+/// The headline, of every whole run's answer: nothing reachable is freed, each read is stopped exactly where what it reads doesn't
+/// precede the reader, and the heaps handed back hold just the objects that are held.
+pub fn runs_hold_the_headline()
+    ensures { RunsHoldTheHeadline }
 {}
