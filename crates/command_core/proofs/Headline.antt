@@ -19,10 +19,10 @@ use Rattle.core_relation.specs.Stands.{HomeStands}
 use Rattle.core_relation.specs.Value.{In, Value}
 use Rattle.core_relation.specs.Whole.{handed}
 use Rattle.core_relation.proofs.Members.{held_object, object_held}
-use Rattle.shared_tree.specs.Stands.{IsWorld}
-use Rattle.shared_tree.specs.World.{World, accounts, value_of, without_journal}
-use Rattle.shared_tree.proofs.KeptNames.{handed_held}
-use Rattle.shared_tree.proofs.TreeNow.{same_machine}
+use Rattle.shared_value.specs.Stands.{IsWorld}
+use Rattle.shared_value.specs.World.{World, accounts, value_of, without_journal}
+use Rattle.heap_reading.proofs.KeptNames.{handed_held}
+use Rattle.heap_reading.proofs.TreeNow.{same_machine}
 use Rattle.command_core.specs.Runs.{HandsBack}
 use Rattle.command_core.specs.Headline.{FreesNoReachable, HeapIsHeld, HeapsAreHeld, RunsHoldTheHeadline, StopsUnordered}
 use Rattle.command_core.proofs.Taken.{step_taken, still_going}

@@ -21,7 +21,7 @@ use Rattle.core_relation.specs.Reads.{IsRead}
 use Rattle.core_relation.specs.Stands.{Place}
 use Rattle.core_relation.specs.Value.{In, Seen, Value, objects}
 use Rattle.core_relation.specs.Whole.{handed}
-use Rattle.shared_tree.specs.World.{World, value_of}
+use Rattle.shared_value.specs.World.{World, value_of}
 use Rattle.command_core.specs.declared.answer.Answer.{Answer}
 use Rattle.command_core.specs.Runs.{IsWholeRun}
 
