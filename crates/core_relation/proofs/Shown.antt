@@ -135,9 +135,9 @@ module _ (v v' : Value) (l l' : Ledger) (t a b g h : ℕ) (x : Task) (V : Stands
   was u o r i = elim (cases_eq u t) [
     | inl e ↦ (ap (λ k. (heap_of l k).worker) e ∙ rests, subst (λ (k : Home). In (objects_in k.chunks) o) (ap v'.homes e ∙ (C.home ∙ ap (λ (k : Home). record k { frames = advanced (v.homes t).frames }) (sym (ap v.homes e)))) i)
     | inr nt ↦
-      let na : u ≡ a → ⊥ = λ e. none_new u o (inl e) i in
-      let nb : u ≡ b → ⊥ = λ e. none_new u o (inr e) i in
-      (ap (λ (z : Heap). z.worker) (sym (F.heaps u nt na nb)) ∙ r, subst (λ (k : Home). In (objects_in k.chunks) o) (C.others u nt na nb) i)
+        let na : u ≡ a → ⊥ = λ e. none_new u o (inl e) i in
+        let nb : u ≡ b → ⊥ = λ e. none_new u o (inr e) i in
+        (ap (λ (z : Heap). z.worker) (sym (F.heaps u nt na nb)) ∙ r, subst (λ (k : Home). In (objects_in k.chunks) o) (C.others u nt na nb) i)
   ]
 
   -- a child
@@ -170,15 +170,15 @@ module _ (v v' : Value) (l l' : Ledger) (p c d : ℕ) (x : Task) (rl rr : ℤ ×
   pub join_shown : Rests l z → is_joined (slice_get l.machine.tasks z) ≡ false → is_joined (slice_get l'.machine.tasks z) ≡ false → IsShown v' l' z
   join_shown rz lz lz' u o up ne r i = elim (cases_eq u p) [
     | inl e ↦
-      let gone : (k : ℕ) → is_joined (slice_get l'.machine.tasks k) ≡ true → z ≡ k → ⊥ = λ k g f. both_ways (is_joined (slice_get l'.machine.tasks z)) lz' (ap (λ y. is_joined (slice_get l'.machine.tasks y)) f ∙ g) in
-      absurd (nobody z lz (ap (λ y. is_on_path l.machine.tasks y z) (sym e) ∙ (sym (J.paths u z) ∙ up)) ((λ f. ne (e ∙ sym f)), gone c J.left, gone d J.right))
+        let gone : (k : ℕ) → is_joined (slice_get l'.machine.tasks k) ≡ true → z ≡ k → ⊥ = λ k g f. both_ways (is_joined (slice_get l'.machine.tasks z)) lz' (ap (λ y. is_joined (slice_get l'.machine.tasks y)) f ∙ g) in
+        absurd (nobody z lz (ap (λ y. is_on_path l.machine.tasks y z) (sym e) ∙ (sym (J.paths u z) ∙ up)) ((λ f. ne (e ∙ sym f)), gone c J.left, gone d J.right))
     | inr np ↦ elim (cases_eq u c) [
       | inl e ↦ absurd (subst (λ (k : Home). In (objects_in k.chunks) o) (ap v'.homes e ∙ C.left) i)
       | inr nc ↦ elim (cases_eq u d) [
         | inl e ↦ absurd (subst (λ (k : Home). In (objects_in k.chunks) o) (ap v'.homes e ∙ C.right) i)
         | inr nd ↦
-          ap (λ s. shown_at s o.at) same
-          ∙ T z rz lz u o (sym (J.paths u z) ∙ up) ne (ap (λ (k : Heap). k.worker) (sym (J.heaps u np nc nd)) ∙ r) (subst (λ (k : Home). In (objects_in k.chunks) o) (C.others u np nc nd) i)
+            ap (λ s. shown_at s o.at) same
+            ∙ T z rz lz u o (sym (J.paths u z) ∙ up) ne (ap (λ (k : Heap). k.worker) (sym (J.heaps u np nc nd)) ∙ r) (subst (λ (k : Home). In (objects_in k.chunks) o) (C.others u np nc nd) i)
       ]
     ]
   ]
@@ -272,8 +272,8 @@ module _ (v v' : Value) (l l' : Ledger) (t : ℕ) (names : List Name) (f : Addr 
       elim (cases_eq u t) [
         | inl e ↦ absurd (ne (leaf_alone l S u z (ap (λ k. is_waiting (slice_get l.machine.tasks k)) e ∙ idle) lz up'))
         | inr nt ↦
-          let w = from_mapped (rewritten f ss) (λ q. refl) (λ q. refl) (v.homes u).chunks o (subst (λ (k : Home). In (objects_in k.chunks) o) (C.others u nt) i) in
-          let at : o.at ≡ w.0.at = ap (λ (q : Seen). q.at) (sym w.2) in
-          ap₂ (λ s b. shown_at s b) (same z) at ∙ subst (λ (q : Seen). shown_at (v.homes z).view w.0.at ≡ as_shown q) w.2
-          (one_led (shown_at (v.homes z).view w.0.at) u w.0 (rests u r) w.1 (T z rz lz u w.0 up' ne (rests u r) w.1))
+            let w = from_mapped (rewritten f ss) (λ q. refl) (λ q. refl) (v.homes u).chunks o (subst (λ (k : Home). In (objects_in k.chunks) o) (C.others u nt) i) in
+            let at : o.at ≡ w.0.at = ap (λ (q : Seen). q.at) (sym w.2) in
+            ap₂ (λ s b. shown_at s b) (same z) at ∙ subst (λ (q : Seen). shown_at (v.homes z).view w.0.at ≡ as_shown q) w.2
+            (one_led (shown_at (v.homes z).view w.0.at) u w.0 (rests u r) w.1 (T z rz lz u w.0 up' ne (rests u r) w.1))
       ]
