@@ -160,6 +160,7 @@ module _ (w : World) (k : ℕ) (p : Private) (I : IsWorld w) (F : Fits w k p) (a
       frames = ap (λ (i : Home). i.frames) here;
       result = ap (λ (i : Home). i.result) home_now;
       begun = ap (λ (i : Home). i.begun) home_now ∙ (sym (ap begun_of (last.none w k p I F shared free_last)) ∙ ap (λ (i : Home). i.begun) (sym here));
+      view = ap (λ (i : Home). i.view) home_now ∙ ap (λ (i : Home). i.view) (sym here);
       chunks = ap (λ (i : Home). i.chunks) home_now ∙ ap (λ (i : Home). i.chunks) (sym here);
       room = ap (λ (i : Home). i.room) home_now ∙ ap (λ (i : Home). i.room) (sym here);
       since = ap (λ (i : Home). i.since) home_now ∙ ap (λ (i : Home). i.since) (sym here);

@@ -8,7 +8,6 @@ use Rattle.run_trace.specs.declared.entry.Kind.TheVariants.{Ran}
 use Rattle.run_trace.specs.Entry.{Event}
 use Rattle.heap_tree.specs.Node.{depth_of, forked}
 use Rattle.fork_join.specs.declared.forks.Child.{Child}
-use Rattle.fork_join.specs.Forked.{new_child}
 use Rattle.remembered_set.specs.Sources.{Notes}
 use Rattle.write_barrier.specs.declared.sets.SetOf.{SetOf}
 use Rattle.write_barrier.specs.Stored.{content_of}
@@ -19,7 +18,7 @@ use Rattle.shared_value.specs.World.{World, accounts, flat, rest_at}
 use Rattle.shared_value.specs.Stands.{IsWorld}
 use Rattle.shared_value.specs.Fits.{Fits, OthersFit}
 use Rattle.own_steps.specs.Alone.{alone_event}
-use Rattle.child_tasks.specs.Forks.{ForksOn, ForksTo, HomesFork, IsAtFork, SetsFork, begun_rest, keeping, nothing_noted, waiting_rest}
+use Rattle.child_tasks.specs.Forks.{ForksOn, ForksTo, HomesFork, IsAtFork, SetsFork, begun_rest, keeping, nothing_noted, part_child, waiting_rest}
 use Rattle.shared_value.specs.Entered.{refused}
 use Rattle.child_tasks.proofs.Forked as forked_by
 use Rattle.child_tasks.proofs.Forked.{forked_goes, forked_others, forked_world}
@@ -72,10 +71,10 @@ module _ (homes : List (Option Rest)) (p : Private) (made : p.task < length home
       ]
 
 pub homes_fork : (homes : List (Option Rest)) (p : Private) (left right sl sp sl' sp' : ℕ) (made : p.task < length homes)
-    → HomesFork homes (put_all homes p made (Some (begun_rest (new_child (length homes) p.frames left sl sp))) (Some (begun_rest (new_child (length homes + 1) p.frames right sl' sp'))) (Some (waiting_rest p))) p left right
+    → HomesFork homes (put_all homes p made (Some (begun_rest (part_child p (length homes) left sl sp))) (Some (begun_rest (part_child p (length homes + 1) right sl' sp'))) (Some (waiting_rest p))) p left right
 homes_fork homes p left right sl sp sl' sp' made =
-    let x : Option Rest = Some (begun_rest (new_child (length homes) p.frames left sl sp)) in
-    let y : Option Rest = Some (begun_rest (new_child (length homes + 1) p.frames right sl' sp')) in
+    let x : Option Rest = Some (begun_rest (part_child p (length homes) left sl sp)) in
+    let y : Option Rest = Some (begun_rest (part_child p (length homes + 1) right sl' sp')) in
     let z : Option Rest = Some (waiting_rest p) in
     record {
       count = put_count homes p made x y z;
@@ -136,12 +135,12 @@ module _ (w : World) (k : ℕ) (p : Private) (I : IsWorld w) (F : Fits w k p) (a
 -- ---- WHAT THE CODE MAKES OF HOMES AND SETS
 
 pub homes_fork_by : (homes wider after : List (Option Rest)) (p : Private) (left right : ℕ) (first second : Child) → p.task < length homes → wider ≡ homes ++ None ∷ (None ∷ [])
-    → first ≡ new_child (length homes) p.frames left first.heap.slots first.heap.spare → second ≡ new_child (length homes + 1) p.frames right second.heap.slots second.heap.spare
+    → first ≡ part_child p (length homes) left first.heap.slots first.heap.spare → second ≡ part_child p (length homes + 1) right second.heap.slots second.heap.spare
     → after ≡ slice_set (slice_set (slice_set wider first.task (Some (begun_rest first))) second.task (Some (begun_rest second))) p.task (Some (waiting_rest p)) → HomesFork homes after p left right
 homes_fork_by homes wider after p left right first second made eg ef es ea =
     let z : Option Rest = Some (waiting_rest p) in
-    let a : Child = new_child (length homes) p.frames left first.heap.slots first.heap.spare in
-    let b : Child = new_child (length homes + 1) p.frames right second.heap.slots second.heap.spare in
+    let a : Child = part_child p (length homes) left first.heap.slots first.heap.spare in
+    let b : Child = part_child p (length homes + 1) right second.heap.slots second.heap.spare in
     let is : after ≡ slice_set (slice_set (slice_set (homes ++ None ∷ (None ∷ [])) a.task (Some (begun_rest a))) b.task (Some (begun_rest b))) p.task z =
     ea
     ∙ (ap (λ hs. slice_set (slice_set (slice_set hs first.task (Some (begun_rest first))) second.task (Some (begun_rest second))) p.task z) eg

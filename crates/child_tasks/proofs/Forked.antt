@@ -5,6 +5,7 @@ use Rattle.std.proofs.lemmas.Option.{same_Some}
 use Rattle.listed.proofs.Members.{got_back, got_front, got_other, got_past, got_within}
 use Rattle.listed.specs.Space.{Space}
 use Rattle.object_layout.specs.declared.word.Addr.{Addr}
+use Rattle.alloc_path.specs.View.{view_below}
 use Rattle.hh_lang.specs.declared.instr.Instr.{Instr}
 use Rattle.hh_lang.specs.declared.instr.Instr.TheVariants.{Par}
 use Rattle.run_trace.specs.Entry.{Event}
@@ -35,6 +36,7 @@ use Rattle.core_relation.proofs.With.{at_home, off_home}
 use Rattle.core_relation.proofs.Workers.{ran_leaves}
 use Rattle.shared_value.specs.declared.rest.Rest.{Rest}
 use Rattle.inner_mark_gc.specs.Marks.{Marks}
+use Rattle.shared_value.specs.Objects.{levels_of}
 use Rattle.shared_value.specs.World.{World, marks_at, accounts, begun_of, flat, home_in, home_of, node_of, noted_in, rest_at, totals_of, value_of}
 use Rattle.shared_value.specs.Measured.{AreMeasured, RestsAreMeasured}
 use Rattle.shared_value.specs.Stands.{HeapForm, IsWorld}
@@ -48,6 +50,7 @@ use Rattle.child_tasks.proofs.ForkSteps as steps
 use Rattle.own_steps.proofs.LastEntry as last
 use Rattle.own_steps.proofs.LastEntry.{last_event}
 use Rattle.child_tasks.proofs.LastForks.{forks}
+use Rattle.shared_value.proofs.Levels.{level_is}
 use Rattle.shared_value.proofs.Linked as link
 use Rattle.shared_value.proofs.Now.{end_now}
 use Rattle.child_tasks.proofs.RootsAre.{roots_are}
@@ -199,11 +202,15 @@ module _ (w : World) (k : ℕ) (p : Private) (I : IsWorld w) (F : Fits w k p) (a
       | inr nt ↦ ap (λ (z : Noted). z.sources) (same_noted u nt na nb)
     ]
 
+    -- a child sees what is immutable in its parent's home
+    begun_home : (g : ℕ) → record (child_home g h) { view = levels_of (view_below p.heap.chunks (Some p.view)) } ≡ child_home g h
+    begun_home g = ap (λ ls. let z : Home = record (child_home g h) { view = ls ∷ levels_of p.view } in z) (level_is p.heap.chunks)
+
     forks_home : ForksHome vt v' t a (a + 1) Q.left Q.right
     forks_home = record {
       home = ap home_in H.parent ∙ (ap (λ o. let z : Home = record (home_of (waiting_rest p)) { begun = o } in z) (sym (ap begun_of (last.none w k p I F shared free_last))) ∙ ap (λ (z : Home). record z { frames = advanced z.frames }) (sym here));
-      left = ap v'.homes home_is ∙ (ap home_in H.left_home.2 ∙ ap₂ (λ g (z : Home). child_home g z.frames) (sym left_is) (sym here));
-      right = ap (λ n. v'.homes (n + 1)) home_is ∙ (ap home_in H.right_home.2 ∙ ap₂ (λ g (z : Home). child_home g z.frames) (sym right_is) (sym here));
+      left = ap v'.homes home_is ∙ (ap home_in H.left_home.2 ∙ (begun_home left ∙ ap₂ (λ g (z : Home). child_home g z) (sym left_is) (sym here)));
+      right = ap (λ n. v'.homes (n + 1)) home_is ∙ (ap home_in H.right_home.2 ∙ (begun_home right ∙ ap₂ (λ g (z : Home). child_home g z) (sym right_is) (sym here)));
       others = λ u nt na nb. ap home_in (H.others u nt (λ e. na (e ∙ sym home_is)) (λ e. nb (e ∙ ap (λ n. n + 1) (sym home_is)))) ∙ sym (off_home v t h u nt);
       owner = λ c. refl;
       left_noted = ap (λ (z : Noted). z.sources) (noted_then a ∙ ap noted_of left_set);

@@ -46,10 +46,10 @@ pub record Taken (w : World) (p : Private) (parent other : ℕ) (own_notes other
   pub o3 : (u : ℕ) → (u ≡ parent → ⊥) → slice_get x3 u ≡ slice_get x2 u
   pub own_is : own ≡ own_child p own_notes
   pub m1 : length h1 ≡ length w.homes
-  pub own_home : (slots : ℕ) × (spare : ℕ) × (rest_at h1 p.task ≡ Some (record { work = Calls p.frames; heap = no_heap slots spare; allocations = p.allocations }))
+  pub own_home : (slots : ℕ) × (spare : ℕ) × (rest_at h1 p.task ≡ Some (record { work = Calls p.frames; heap = no_heap slots spare; view = []; allocations = p.allocations }))
   pub i1 : (u : ℕ) → (u ≡ p.task → ⊥) → rest_at h1 u ≡ rest_at w.homes u
   pub m2 : length h2 ≡ length h1
-  pub other_home : (r : Rest) × IsRestOf (rest_at h1 other) r × (oth ≡ other_child other r other_notes) × (slots : ℕ) × (spare : ℕ) × (rest_at h2 other ≡ Some (record r { heap = no_heap slots spare }))
+  pub other_home : (r : Rest) × IsRestOf (rest_at h1 other) r × (oth ≡ other_child other r other_notes) × (slots : ℕ) × (spare : ℕ) × (rest_at h2 other ≡ Some (record r { heap = no_heap slots spare; view = [] }))
   pub i2 : (u : ℕ) → (u ≡ other → ⊥) → rest_at h2 u ≡ rest_at h1 u
   pub above_is : IsRestOf (rest_at h2 parent) above
   pub left_is : left ≡ left_of (is_left own.side.task) own oth
@@ -59,7 +59,7 @@ pub record Taken (w : World) (p : Private) (parent other : ℕ) (own_notes other
 pub record Put (w : World) (p : Private) (parent : ℕ) (x3 : List SetOf) (h2 : List (Option Rest)) (notes : Notes) (above : Rest) (left right : EndedChild) (pool : Chunks) (rest : Rest) (noted : Notes) (sets : List SetOf) (homes : List (Option Rest)) : Type 0 where
   pub pool_is : AreRelabelled w.pool pool (left.side.heap.chunks ++ right.side.heap.chunks) parent
   pub side : Joins (parent_side parent above notes) (parent_side parent rest noted) left.side right.side
-  pub rest_is : (s : Stack) → above.work ≡ Calls s → rest ≡ record { work = Calls (with_results s left.result right.result); heap = rest.heap; allocations = above.allocations }
+  pub rest_is : (s : Stack) → above.work ≡ Calls s → rest ≡ record above { work = Calls (with_results s left.result right.result); heap = rest.heap }
   pub homes_are : homes ≡ slice_set (slice_set h2 parent None) parent (Some rest)
   pub many : length sets ≡ length x3
   pub at : content_at sets parent ≡ Some (record { sources = noted.sources; kept = []; keeps = false })
@@ -140,9 +140,9 @@ module _ (w : World) (k : ℕ) (p : Private) (I : IsWorld w) (F : Fits w k p) (a
       abbrev frames : Stack
       frames = entry.frames w k p I F at_end free ended above beside own_notes other_notes notes above_of beside_of
 
-      H : HomesJoin w.homes homes p q s (with_results frames L.result R.result) rest.heap above.allocations beside
+      H : HomesJoin w.homes homes p q s (with_results frames L.result R.result) rest.heap above beside
       H =
-          homes_join w.homes h1 h2 homes p q s (with_results frames L.result R.result) rest.heap above.allocations beside rest qt qs st
+          homes_join w.homes h1 h2 homes p q s (with_results frames L.result R.result) rest.heap above beside rest qt qs st
           (subst (λ n. q < n) (sym (K.m2 ∙ (K.m1 ∙ I.made))) (entry.parent_made w k p I F at_end free ended))
           K.m1 K.own_home K.i1 K.m2 (K.other_home.3, K.other_home.4, K.other_home.5) K.i2 P.homes_are (P.rest_is frames (entry.frames_are w k p I F at_end free ended above beside own_notes other_notes notes above_of beside_of))
 

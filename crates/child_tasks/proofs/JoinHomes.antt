@@ -10,6 +10,7 @@ use Rattle.object_layout.specs.Chunks.{has_chunk}
 use Rattle.object_layout.specs.Content.{Content}
 use Rattle.object_layout.proofs.Owning.{found_any}
 use Rattle.alloc_path.specs.Heap.{Heap, counted, merged, room_of, with_places}
+use Rattle.alloc_path.specs.View.{Level}
 use Rattle.chunk_pool.specs.declared.pool.Held.{Held}
 use Rattle.chunk_pool.specs.Chunks.{Chunks, held_at, owner_of}
 use Rattle.remembered_set.specs.declared.remembered.Source.{Source as Noticed}
@@ -49,22 +50,22 @@ owner_held pool n u e = held_by (held_at pool n) u e
 
 -- ---- HOMES
 
-pub by_chunks : (h : Heap) (n : ℕ) (x : Work) → (home_by h n x).chunks ≡ chunks_of h.chunks
-by_chunks h n (Calls s) = refl
-by_chunks h n (Result k r) = refl
+pub by_chunks : (h : Heap) (view : List Level) (n : ℕ) (x : Work) → (home_by h view n x).chunks ≡ chunks_of h.chunks
+by_chunks h view n (Calls s) = refl
+by_chunks h view n (Result k r) = refl
 
-pub by_since : (h : Heap) (n : ℕ) (x : Work) → (home_by h n x).since ≡ h.since
-by_since h n (Calls s) = refl
-by_since h n (Result k r) = refl
+pub by_since : (h : Heap) (view : List Level) (n : ℕ) (x : Work) → (home_by h view n x).since ≡ h.since
+by_since h view n (Calls s) = refl
+by_since h view n (Result k r) = refl
 
 -- the sources that a set holds, as they are seen
 pub by_content : (o : Option NotedOf) → (noted_of o).sources ≡ map source_of (sources_by o)
 by_content None = refl
 by_content (Some c) = refl
 
-emptied_by : (h : Heap) (n slots spare : ℕ) (x : Work) → home_by (record { chunks = []; current = None; reserved = None; since = 0; slots = slots; spare = spare }) n x ≡ record (home_by h n x) { chunks = []; room = 0; since = 0 }
-emptied_by h n slots spare (Calls s) = refl
-emptied_by h n slots spare (Result k r) = refl
+emptied_by : (h : Heap) (view : List Level) (n slots spare : ℕ) (x : Work) → home_by (record { chunks = []; current = None; reserved = None; since = 0; slots = slots; spare = spare }) [] n x ≡ record (home_by h view n x) { chunks = []; room = 0; since = 0; view = [] }
+emptied_by h view n slots spare (Calls s) = refl
+emptied_by h view n slots spare (Result k r) = refl
 
 abbrev back : Source → Noticed
 back s = record { object = s.object; field = s.field }
@@ -75,18 +76,21 @@ pub record Merges (v v' : Value) (pool pool' : Chunks) (q c d : ℕ) (al ar : �
   pub left_heap : Heap
   pub right_heap : Heap
   pub heap_then : Heap
+  pub own_view : List Level
+  pub left_view : List Level
+  pub right_view : List Level
   pub own_count : ℕ
   pub left_count : ℕ
   pub right_count : ℕ
   pub frames : Stack
   pub left_work : Work
   pub right_work : Work
-  pub own_home : v.homes q ≡ home_by own_heap own_count (Calls frames)
-  pub left_home : v.homes c ≡ home_by left_heap left_count left_work
-  pub right_home : v.homes d ≡ home_by right_heap right_count right_work
-  pub own_then : v'.homes q ≡ home_by heap_then own_count (Calls (with_both frames al ar))
-  pub left_then : (slots : ℕ) × (spare : ℕ) × (v'.homes c ≡ home_by (record { chunks = []; current = None; reserved = None; since = 0; slots = slots; spare = spare }) left_count left_work)
-  pub right_then : (slots : ℕ) × (spare : ℕ) × (v'.homes d ≡ home_by (record { chunks = []; current = None; reserved = None; since = 0; slots = slots; spare = spare }) right_count right_work)
+  pub own_home : v.homes q ≡ home_by own_heap own_view own_count (Calls frames)
+  pub left_home : v.homes c ≡ home_by left_heap left_view left_count left_work
+  pub right_home : v.homes d ≡ home_by right_heap right_view right_count right_work
+  pub own_then : v'.homes q ≡ home_by heap_then own_view own_count (Calls (with_both frames al ar))
+  pub left_then : (slots : ℕ) × (spare : ℕ) × (v'.homes c ≡ home_by (record { chunks = []; current = None; reserved = None; since = 0; slots = slots; spare = spare }) [] left_count left_work)
+  pub right_then : (slots : ℕ) × (spare : ℕ) × (v'.homes d ≡ home_by (record { chunks = []; current = None; reserved = None; since = 0; slots = slots; spare = spare }) [] right_count right_work)
   pub heap_is : heap_then ≡ with_places (merged own_heap left_heap right_heap) heap_then.slots heap_then.spare
   pub room_is : room_of heap_then ≡ room_of own_heap
   pub small : own_heap.since + (left_heap.since + right_heap.since) < 2 ^ 64
@@ -113,23 +117,23 @@ module _ (v v' : Value) (l : Ledger) (V : Stands v l) (pool pool' : Chunks) (q c
   both = J.left_heap.chunks ++ J.right_heap.chunks
 
   -- a content of a home is owned by its task
-  owned_at : (u n : ℕ) (h : Heap) (x : Work) → v.homes u ≡ home_by h n x → Rests l u → (k : Content) → In h.chunks k → v.owner k.number ≡ Some u
-  owned_at u n h x e r k i =
-      (V.homes u r).owned (chunk_of k) (subst (λ (ks : List Chunk). In ks (chunk_of k)) (sym (ap (λ (z : Home). z.chunks) e ∙ by_chunks h n x)) (in_map chunk_of h.chunks k i))
+  owned_at : (u n : ℕ) (h : Heap) (view : List Level) (x : Work) → v.homes u ≡ home_by h view n x → Rests l u → (k : Content) → In h.chunks k → v.owner k.number ≡ Some u
+  owned_at u n h view x e r k i =
+      (V.homes u r).owned (chunk_of k) (subst (λ (ks : List Chunk). In ks (chunk_of k)) (sym (ap (λ (z : Home). z.chunks) e ∙ by_chunks h view n x)) (in_map chunk_of h.chunks k i))
 
   own_owned : (k : Content) → In ks k → v.owner k.number ≡ Some q
-  own_owned k i = owned_at q J.own_count J.own_heap (Calls J.frames) J.own_home rq k i
+  own_owned k i = owned_at q J.own_count J.own_heap J.own_view (Calls J.frames) J.own_home rq k i
 
   left_owned : (k : Content) → In J.left_heap.chunks k → v.owner k.number ≡ Some c
-  left_owned k i = owned_at c J.left_count J.left_heap J.left_work J.left_home rc k i
+  left_owned k i = owned_at c J.left_count J.left_heap J.left_view J.left_work J.left_home rc k i
 
   right_owned : (k : Content) → In J.right_heap.chunks k → v.owner k.number ≡ Some d
-  right_owned k i = owned_at d J.right_count J.right_heap J.right_work J.right_home rd k i
+  right_owned k i = owned_at d J.right_count J.right_heap J.right_view J.right_work J.right_home rd k i
 
   -- the content of a chunk of a home
-  content_at : (u n : ℕ) (h : Heap) (x : Work) → v.homes u ≡ home_by h n x → (k : Chunk) → In (v.homes u).chunks k → (z : Content) × In h.chunks z × (z.number ≡ k.number)
-  content_at u n h x e k i =
-      let z = map_in chunk_of h.chunks k (subst (λ (ks : List Chunk). In ks k) (ap (λ (z : Home). z.chunks) e ∙ by_chunks h n x) i) in
+  content_at : (u n : ℕ) (h : Heap) (view : List Level) (x : Work) → v.homes u ≡ home_by h view n x → (k : Chunk) → In (v.homes u).chunks k → (z : Content) × In h.chunks z × (z.number ≡ k.number)
+  content_at u n h view x e k i =
+      let z = map_in chunk_of h.chunks k (subst (λ (ks : List Chunk). In ks k) (ap (λ (z : Home). z.chunks) e ∙ by_chunks h view n x) i) in
       (z.0, z.1, ap (λ (y : Chunk). y.number) z.2)
 
   given : (n u : ℕ) → has_chunk both n ≡ true → v.owner n ≡ Some u → v'.owner n ≡ Some q
@@ -140,12 +144,12 @@ module _ (v v' : Value) (l : Ledger) (V : Stands v l) (pool pool' : Chunks) (q c
 
   pub owner_left : (k : Chunk) → In (v.homes c).chunks k → v'.owner k.number ≡ Some q
   owner_left k i =
-      let z = content_at c J.left_count J.left_heap J.left_work J.left_home k i in
+      let z = content_at c J.left_count J.left_heap J.left_view J.left_work J.left_home k i in
       ap v'.owner (sym z.2) ∙ given z.0.number c (in_has both z.0 (in_append_left J.left_heap.chunks J.right_heap.chunks z.0 z.1)) (left_owned z.0 z.1)
 
   pub owner_right : (k : Chunk) → In (v.homes d).chunks k → v'.owner k.number ≡ Some q
   owner_right k i =
-      let z = content_at d J.right_count J.right_heap J.right_work J.right_home k i in
+      let z = content_at d J.right_count J.right_heap J.right_view J.right_work J.right_home k i in
       ap v'.owner (sym z.2) ∙ given z.0.number d (in_has both z.0 (in_append_right J.left_heap.chunks J.right_heap.chunks z.0 z.1)) (right_owned z.0 z.1)
 
   -- who owned a number that is given
@@ -190,7 +194,7 @@ module _ (v v' : Value) (l : Ledger) (V : Stands v l) (pool pool' : Chunks) (q c
       let mine : own l K.name ≡ q = same_Some (own l K.name) q (sym K.place.chunk ∙ e) in
       let y = K.place.here K.rests in
       let k = in_chunk (v.homes (own l K.name)).chunks y.0 y.1 in
-      let z = content_at q J.own_count J.own_heap (Calls J.frames) J.own_home k.0 (subst (λ u. In (v.homes u).chunks k.0) mine k.1) in
+      let z = content_at q J.own_count J.own_heap J.own_view (Calls J.frames) J.own_home k.0 (subst (λ u. In (v.homes u).chunks k.0) mine k.1) in
       let number : k.0.number ≡ s.object.chunk = sym ((V.homes (own l K.name) K.rests).inside k.0 y.0 k.1 k.2) ∙ ap (λ (b : Addr). b.chunk) y.2.at in
       ap (has_chunk ks) (sym (z.2 ∙ number)) ∙ in_has ks z.0 z.1
 
@@ -235,13 +239,13 @@ module _ (v v' : Value) (l : Ledger) (V : Stands v l) (pool pool' : Chunks) (q c
       ∙ (map-append chunk_of J.left_heap.chunks (J.right_heap.chunks ++ ks)
       ∙ (ap (λ zs. chunks_of J.left_heap.chunks ++ zs) (map-append chunk_of J.right_heap.chunks ks)
       ∙ (sym (append_assoc (chunks_of J.left_heap.chunks) (chunks_of J.right_heap.chunks) (chunks_of ks))
-      ∙ sym (ap₂ (λ x y. x ++ y) (ap₂ (λ x y. x ++ y) (ap (λ (z : Home). z.chunks) J.left_home ∙ by_chunks J.left_heap J.left_count J.left_work) (ap (λ (z : Home). z.chunks) J.right_home ∙ by_chunks J.right_heap J.right_count J.right_work)) (ap (λ (z : Home). z.chunks) J.own_home))))))
+      ∙ sym (ap₂ (λ x y. x ++ y) (ap₂ (λ x y. x ++ y) (ap (λ (z : Home). z.chunks) J.left_home ∙ by_chunks J.left_heap J.left_view J.left_count J.left_work) (ap (λ (z : Home). z.chunks) J.right_home ∙ by_chunks J.right_heap J.right_view J.right_count J.right_work)) (ap (λ (z : Home). z.chunks) J.own_home))))))
 
   since_then : (v'.homes q).since ≡ (v.homes q).since + (v.homes c).since + (v.homes d).since
   since_then =
       let a : (v.homes q).since ≡ J.own_heap.since = ap (λ (z : Home). z.since) J.own_home in
-      let b : (v.homes c).since ≡ J.left_heap.since = ap (λ (z : Home). z.since) J.left_home ∙ by_since J.left_heap J.left_count J.left_work in
-      let e : (v.homes d).since ≡ J.right_heap.since = ap (λ (z : Home). z.since) J.right_home ∙ by_since J.right_heap J.right_count J.right_work in
+      let b : (v.homes c).since ≡ J.left_heap.since = ap (λ (z : Home). z.since) J.left_home ∙ by_since J.left_heap J.left_view J.left_count J.left_work in
+      let e : (v.homes d).since ≡ J.right_heap.since = ap (λ (z : Home). z.since) J.right_home ∙ by_since J.right_heap J.right_view J.right_count J.right_work in
       let f : (v'.homes q).since ≡ counted (J.own_heap.since + (J.left_heap.since + J.right_heap.since)) = ap (λ (z : Home). z.since) J.own_then ∙ ap (λ (h : Heap). h.since) J.heap_is in
       let small = J.small in
       omega (arith, a, b, e, f, small)
@@ -253,9 +257,10 @@ module _ (v v' : Value) (l : Ledger) (V : Stands v l) (pool pool' : Chunks) (q c
     since = since_then;
     count = ap (λ (z : Home). z.count) J.own_then ∙ sym (ap (λ (z : Home). z.count) J.own_home);
     frames = ap (λ (z : Home). z.frames) J.own_then ∙ ap (λ (z : Home). top_with_results al ar z.frames) (sym J.own_home);
+    view = ap (λ (z : Home). z.view) J.own_then ∙ sym (ap (λ (z : Home). z.view) J.own_home);
     begun = ap (λ (z : Home). z.begun) J.own_then ∙ sym (ap (λ (z : Home). z.begun) J.own_home);
-    left = J.left_then.2 ∙ (emptied_by J.left_heap J.left_count J.left_then.0 J.left_then.1 J.left_work ∙ ap (λ (z : Home). record z { chunks = []; room = 0; since = 0 }) (sym J.left_home));
-    right = J.right_then.2 ∙ (emptied_by J.right_heap J.right_count J.right_then.0 J.right_then.1 J.right_work ∙ ap (λ (z : Home). record z { chunks = []; room = 0; since = 0 }) (sym J.right_home));
+    left = J.left_then.2 ∙ (emptied_by J.left_heap J.left_view J.left_count J.left_then.0 J.left_then.1 J.left_work ∙ ap (λ (z : Home). record z { chunks = []; room = 0; since = 0; view = [] }) (sym J.left_home));
+    right = J.right_then.2 ∙ (emptied_by J.right_heap J.right_view J.right_count J.right_then.0 J.right_then.1 J.right_work ∙ ap (λ (z : Home). record z { chunks = []; room = 0; since = 0; view = [] }) (sym J.right_home));
     others = J.others;
     owner_left = owner_left;
     owner_right = owner_right;

@@ -16,11 +16,11 @@ use Rattle.child_tasks.specs.Joins.{HomesJoin}
 use Rattle.shared_value.proofs.Taking.{put_there}
 
 -- the part's home is left, then its sibling's, and the parent's is put
-pub homes_join : (h h1 h2 h4 : List (Option Rest)) (p : Private) (q s : ℕ) (frames : Stack) (heap : Heap) (count : ℕ) (beside rest : Rest) → (q ≡ p.task → ⊥) → (q ≡ s → ⊥) → (s ≡ p.task → ⊥) → q < length h2
-    → length h1 ≡ length h → ((slots : ℕ) × (spare : ℕ) × (rest_at h1 p.task ≡ Some (record { work = Calls p.frames; heap = no_heap slots spare; allocations = p.allocations }))) → ((u : ℕ) → (u ≡ p.task → ⊥) → rest_at h1 u ≡ rest_at h u)
-    → length h2 ≡ length h1 → ((slots : ℕ) × (spare : ℕ) × (rest_at h2 s ≡ Some (record beside { heap = no_heap slots spare }))) → ((u : ℕ) → (u ≡ s → ⊥) → rest_at h2 u ≡ rest_at h1 u)
-    → h4 ≡ slice_set (slice_set h2 q None) q (Some rest) → rest ≡ record { work = Calls frames; heap = heap; allocations = count } → HomesJoin h h4 p q s frames heap count beside
-homes_join h h1 h2 h4 p q s frames heap count beside rest qt qs st lt n1 own o1 n2 other o2 e er =
+pub homes_join : (h h1 h2 h4 : List (Option Rest)) (p : Private) (q s : ℕ) (frames : Stack) (heap : Heap) (above beside rest : Rest) → (q ≡ p.task → ⊥) → (q ≡ s → ⊥) → (s ≡ p.task → ⊥) → q < length h2
+    → length h1 ≡ length h → ((slots : ℕ) × (spare : ℕ) × (rest_at h1 p.task ≡ Some (record { work = Calls p.frames; heap = no_heap slots spare; view = []; allocations = p.allocations }))) → ((u : ℕ) → (u ≡ p.task → ⊥) → rest_at h1 u ≡ rest_at h u)
+    → length h2 ≡ length h1 → ((slots : ℕ) × (spare : ℕ) × (rest_at h2 s ≡ Some (record beside { heap = no_heap slots spare; view = [] }))) → ((u : ℕ) → (u ≡ s → ⊥) → rest_at h2 u ≡ rest_at h1 u)
+    → h4 ≡ slice_set (slice_set h2 q None) q (Some rest) → rest ≡ record above { work = Calls frames; heap = heap } → HomesJoin h h4 p q s frames heap above beside
+homes_join h h1 h2 h4 p q s frames heap above beside rest qt qs st lt n1 own o1 n2 other o2 e er =
     let long : length h4 ≡ length h2 = ap (λ xs. length xs) e ∙ (length-set (slice_set h2 q None) q (Some rest) ∙ length-set h2 q None) in
     let away : (u : ℕ) → (u ≡ q → ⊥) → rest_at h4 u ≡ rest_at h2 u = λ u ne. ap (λ xs. rest_at xs u) e ∙ ap flat (got_other (slice_set h2 q None) q u (Some rest) ne ∙ got_other h2 q u None ne) in
     record {

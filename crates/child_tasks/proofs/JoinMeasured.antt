@@ -87,7 +87,7 @@ module _ (w : World) (k : ℕ) (p : Private) (I : IsWorld w) (F : Fits w k p) (a
         I.measured q above above_is
         (unheld q (steps.parent_apart w k p I F at_end free) (both.rests_q w k p I F at_end free ended above beside frames above_is calls beside_is c lh rh al ar side))
 
-    module _ (homes : List (Option Rest)) (pool : Chunks) (heap : Heap) (H : HomesJoin w.homes homes p q s (with_results frames al ar) heap above.allocations beside) (relabelled : AreRelabelled w.pool pool (lh.chunks ++ rh.chunks) q)
+    module _ (homes : List (Option Rest)) (pool : Chunks) (heap : Heap) (H : HomesJoin w.homes homes p q s (with_results frames al ar) heap above beside) (relabelled : AreRelabelled w.pool pool (lh.chunks ++ rh.chunks) q)
         (heap_is : heap ≡ with_places (merged above.heap lh rh) heap.slots heap.spare) where
       -- what is of neither child stays
       owner_of_one : (u n units v : ℕ) (cs : List Content) (x : Content) → In cs x → x.number ≡ n → AreMeasured w.pool v cs → held_at w.pool n ≡ Some (record { owner = u; units = units }) → u ≡ v

@@ -5,6 +5,7 @@ use Rattle.std.proofs.lemmas.Bool.{cases_eq}
 use Rattle.std.proofs.lemmas.Option.{same_Some}
 use Rattle.std.proofs.Math.Path.{fun_ext}
 use Rattle.alloc_path.specs.Heap.{Heap, with_places}
+use Rattle.alloc_path.specs.View.{Level}
 use Rattle.heap_tree.specs.Pairs.{sibling}
 use Rattle.write_barrier.specs.declared.sets.SetOf.{SetOf}
 use Rattle.write_barrier.specs.Stored.{content_at, content_of}
@@ -24,13 +25,13 @@ use Rattle.child_tasks.specs.ChildEnds.{EndsChild}
 use Rattle.child_tasks.specs.Joins.{HasPlaces, IsSameRest, SameButPlaces, chunk_count, sources_at, sources_by}
 use Rattle.child_tasks.proofs.Notings.{noted_by, noted_of}
 
-same_home : (h : Heap) (n slots spare : ℕ) (x : Work) → home_by (with_places h slots spare) n x ≡ home_by h n x
-same_home h n slots spare (Calls s) = refl
-same_home h n slots spare (Result k r) = refl
+same_home : (h : Heap) (view : List Level) (n slots spare : ℕ) (x : Work) → home_by (with_places h slots spare) view n x ≡ home_by h view n x
+same_home h view n slots spare (Calls s) = refl
+same_home h view n slots spare (Result k r) = refl
 
 home_same : (o o' : Option Rest) → IsSameRest o o' → home_in o' ≡ home_in o
 home_same None o' e = ap home_in e
-home_same (Some r) o' e = ap home_in e.2 ∙ same_home r.heap r.allocations e.0 e.1 r.work
+home_same (Some r) o' e = ap home_in e.2 ∙ same_home r.heap r.view r.allocations e.0 e.1 r.work
 
 form_places : (h : Heap) (slots spare : ℕ) → HeapForm h → HeapForm (with_places h slots spare)
 form_places h slots spare F = record { shaped = record { apart = F.shaped.apart; current = F.shaped.current; reserved = F.shaped.reserved }; near = F.near; tidy = F.tidy; within = F.within; last = F.last; last_large = F.last_large; since = F.since; whole = F.whole; spare = F.spare }

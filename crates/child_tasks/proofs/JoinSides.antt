@@ -7,6 +7,7 @@ use Rattle.object_layout.specs.declared.word.Addr.{Addr}
 use Rattle.object_layout.specs.Chunks.{AreApart, has_chunk}
 use Rattle.object_layout.proofs.Owning.{apart_together, has_append}
 use Rattle.alloc_path.specs.Heap.{Heap}
+use Rattle.alloc_path.specs.View.{Level}
 use Rattle.chunk_pool.specs.Chunks.{held_at}
 use Rattle.hh_model.specs.declared.data.Name.{Name}
 use Rattle.hh_model.specs.declared.data.State.{State as MachineState}
@@ -94,12 +95,12 @@ module _ (w : World) (k : ℕ) (p : Private) (I : IsWorld w) (F : Fits w k p) (a
   off u ne = before.off w k p I F at_end free ended u ne
 
   abbrev pub HasHome : ℕ → Heap → Type 0
-  HasHome u g = (n : ℕ) × (z : Work) × (vt.homes u ≡ home_by g n z)
+  HasHome u g = (n : ℕ) × (z : Work) × (view : List Level) × (vt.homes u ≡ home_by g view n z)
 
   owner_at : (u : ℕ) (g : Heap) → HasHome u g → Rests R u → (n : ℕ) → has_chunk g.chunks n ≡ true → v.owner n ≡ Some u
   owner_at u g e rests n has =
       let y = has_in g.chunks n has in
-      ap v.owner (sym y.2) ∙ (W.homes u rests).owned (chunk_of y.0) (subst (λ (ks : List Chunk). In ks (chunk_of y.0)) (sym (ap (λ (i : Home). i.chunks) e.2 ∙ by_chunks g e.0 e.1)) (in_map chunk_of g.chunks y.0 y.1))
+      ap v.owner (sym y.2) ∙ (W.homes u rests).owned (chunk_of y.0) (subst (λ (ks : List Chunk). In ks (chunk_of y.0)) (sym (ap (λ (i : Home). i.chunks) e.3 ∙ by_chunks g e.2 e.0 e.1)) (in_map chunk_of g.chunks y.0 y.1))
 
   -- no two heaps have a chunk of one number
   heaps_apart : (u z : ℕ) (a b : Heap) → HasHome u a → HasHome z b → Rests R u → Rests R z → (u ≡ z → ⊥) → (n : ℕ) → has_chunk a.chunks n ≡ true → has_chunk b.chunks n ≡ false
@@ -108,19 +109,19 @@ module _ (w : World) (k : ℕ) (p : Private) (I : IsWorld w) (F : Fits w k p) (a
     | inr out ↦ out
   ]
 
-  by_result : (g : Heap) (n : ℕ) (z : Work) → (home_by g n z).result ≡ work_result z
-  by_result g n (Calls f) = refl
-  by_result g n (Result i a) = refl
+  by_result : (g : Heap) (view : List Level) (n : ℕ) (z : Work) → (home_by g view n z).result ≡ work_result z
+  by_result g view n (Calls f) = refl
+  by_result g view n (Result i a) = refl
 
   module _ (above beside : Rest) (frames : Stack) (above_is : rest_at w.homes q ≡ Some above) (calls : above.work ≡ Calls frames) (beside_is : IsRestOf (rest_at w.homes s) beside) (c : ℕ) (lh rh : Heap) (al ar : ℤ × Option Addr) (side : AreSides p s beside c lh rh al ar) where
-    pub home_above : vt.homes q ≡ home_by above.heap above.allocations (Calls frames)
-    home_above = off q (steps.parent_apart w k p I F at_end free) ∙ (ap home_in above_is ∙ ap (home_by above.heap above.allocations) calls)
+    pub home_above : vt.homes q ≡ home_by above.heap above.view above.allocations (Calls frames)
+    home_above = off q (steps.parent_apart w k p I F at_end free) ∙ (ap home_in above_is ∙ ap (home_by above.heap above.view above.allocations) calls)
 
     beside_home : (o : Option Rest) → IsRestOf o beside → home_in o ≡ home_of beside
     beside_home None e = ap home_of (sym e.2)
     beside_home (Some z) e = ap home_of (sym e)
 
-    pub home_beside : vt.homes s ≡ home_by beside.heap beside.allocations beside.work
+    pub home_beside : vt.homes s ≡ home_by beside.heap beside.view beside.allocations beside.work
     home_beside = off s (steps.other_apart w k p I F at_end free) ∙ beside_home (rest_at w.homes s) beside_is
 
     beside_form : (o : Option Rest) → rest_at w.homes s ≡ o → IsRestOf o beside → HeapForm beside.heap
@@ -161,7 +162,7 @@ module _ (w : World) (k : ℕ) (p : Private) (I : IsWorld w) (F : Fits w k p) (a
           task = z.0;
           is = ap (λ (m : MachineState). slice_get m.tasks s) (before.machine_rests w k p I F at_end free ended) ∙ z.1;
           ended = z.2;
-          result = ap (λ (i : Home). i.result) home_beside ∙ by_result beside.heap beside.allocations beside.work;
+          result = ap (λ (i : Home). i.result) home_beside ∙ by_result beside.heap beside.view beside.allocations beside.work;
         })
 
     pub results : HasResult vt R Q.left Q.left_result al × HasResult vt R (Q.left + 1) Q.right_result ar
@@ -193,13 +194,13 @@ module _ (w : World) (k : ℕ) (p : Private) (I : IsWorld w) (F : Fits w k p) (a
     q_low = let a = (steps.kept_tree w k p I F at_end free).low Q.left Q.parent (before.left_par w k p I F at_end free ended) in omega (arith, a, (before.parent_same w k p I F at_end free ended), left_is)
 
     own_home : HasHome t p.heap
-    own_home = (p.allocations, Calls p.frames, before.own_here w k p I F at_end free ended)
+    own_home = (p.allocations, Calls p.frames, p.view, before.own_here w k p I F at_end free ended)
 
     other_home : HasHome s beside.heap
-    other_home = (beside.allocations, beside.work, home_beside)
+    other_home = (beside.allocations, beside.work, beside.view, home_beside)
 
     above_has : HasHome q above.heap
-    above_has = (above.allocations, Calls frames, home_above)
+    above_has = (above.allocations, Calls frames, above.view, home_above)
 
     -- what is so of both is so of the left one and of the right one
     pub sides_of : (P : ℕ → Heap → Type 0) → P t p.heap → P s beside.heap → P c lh × P (c + 1) rh
@@ -218,18 +219,18 @@ module _ (w : World) (k : ℕ) (p : Private) (I : IsWorld w) (F : Fits w k p) (a
     pub left_none : lh.reserved ≡ None
     left_none =
         none_reserved lh child_forms.0.shaped.reserved
-        (subst (AreReserved lh.chunks lh.reserved) (ap (λ u. (heap_of R u).reserved) (sym left_is) ∙ Q.can.left_spares) (before.counted_home w k p I F at_end free ended c child_homes.0.0 lh child_homes.0.1 child_homes.0.2 rests_c child_forms.0).reserved)
+        (subst (AreReserved lh.chunks lh.reserved) (ap (λ u. (heap_of R u).reserved) (sym left_is) ∙ Q.can.left_spares) (before.counted_home w k p I F at_end free ended c child_homes.0.0 lh child_homes.0.2 child_homes.0.1 child_homes.0.3 rests_c child_forms.0).reserved)
 
     pub right_none : rh.reserved ≡ None
     right_none =
         none_reserved rh child_forms.1.shaped.reserved
-        (subst (AreReserved rh.chunks rh.reserved) (ap (λ u. (heap_of R (u + 1)).reserved) (sym left_is) ∙ Q.can.right_spares) (before.counted_home w k p I F at_end free ended (c + 1) child_homes.1.0 rh child_homes.1.1 child_homes.1.2 rests_d child_forms.1).reserved)
+        (subst (AreReserved rh.chunks rh.reserved) (ap (λ u. (heap_of R (u + 1)).reserved) (sym left_is) ∙ Q.can.right_spares) (before.counted_home w k p I F at_end free ended (c + 1) child_homes.1.0 rh child_homes.1.2 child_homes.1.1 child_homes.1.3 rests_d child_forms.1).reserved)
 
     pub small : above.heap.since + (lh.since + rh.since) < 2 ^ 64
     small =
-        let a : above.heap.since ≡ (heap_of R q).since = before.since_home w k p I F at_end free ended q above.allocations above.heap (Calls frames) home_above rests_q in
-        let b : lh.since ≡ (heap_of R c).since = before.since_home w k p I F at_end free ended c child_homes.0.0 lh child_homes.0.1 child_homes.0.2 rests_c in
-        let e : rh.since ≡ (heap_of R (c + 1)).since = before.since_home w k p I F at_end free ended (c + 1) child_homes.1.0 rh child_homes.1.1 child_homes.1.2 rests_d in
+        let a : above.heap.since ≡ (heap_of R q).since = before.since_home w k p I F at_end free ended q above.allocations above.heap above.view (Calls frames) home_above rests_q in
+        let b : lh.since ≡ (heap_of R c).since = before.since_home w k p I F at_end free ended c child_homes.0.0 lh child_homes.0.2 child_homes.0.1 child_homes.0.3 rests_c in
+        let e : rh.since ≡ (heap_of R (c + 1)).since = before.since_home w k p I F at_end free ended (c + 1) child_homes.1.0 rh child_homes.1.2 child_homes.1.1 child_homes.1.3 rests_d in
         omega (arith, a, b, e, before.since_low w k p I F at_end free ended q, before.since_low w k p I F at_end free ended c, before.since_low w k p I F at_end free ended (c + 1))
 
     -- the merged chunks have numbers of their own

@@ -4,6 +4,7 @@ use Rattle.std.proofs.lemmas.Bool.{cases_eq}
 use Rattle.std.proofs.lemmas.Option.{same_Some}
 use Rattle.listed.proofs.Members.{got_other, got_same}
 use Rattle.alloc_path.specs.Heap.{Heap}
+use Rattle.alloc_path.specs.View.{Level}
 use Rattle.hh_model.specs.declared.data.Name.{Name}
 use Rattle.hh_model.specs.declared.data.State.{State as MachineState}
 use Rattle.hh_model.specs.declared.data.Status.TheVariants.{Waiting as WaitingOf, Ended as EndedOf}
@@ -235,24 +236,24 @@ module _ (w : World) (k : ℕ) (p : Private) (I : IsWorld w) (F : Fits w k p) (a
   here = at_home v t h
 
   -- it is amid no collection
-  pub own_here : vt.homes t ≡ home_by p.heap p.allocations (Calls p.frames)
-  own_here = here ∙ ap (λ o. let z : Home = record (home_by p.heap p.allocations (Calls p.frames)) { begun = o } in z) (ap begun_of (last.none w k p I F shared free_last))
+  pub own_here : vt.homes t ≡ home_by p.heap p.view p.allocations (Calls p.frames)
+  own_here = here ∙ ap (λ o. let z : Home = record (home_by p.heap p.view p.allocations (Calls p.frames)) { begun = o } in z) (ap begun_of (last.none w k p I F shared free_last))
 
   pub off : (u : ℕ) → (u ≡ t → ⊥) → vt.homes u ≡ v.homes u
   off u ne = off_home v t h u ne
 
   -- a heap is counted as its account says
-  pub counted_home : (u n : ℕ) (g : Heap) (z : Work) → vt.homes u ≡ home_by g n z → Rests R u → HeapForm g → IsCounted g (heap_of R u)
-  counted_home u n g z e rests form =
+  pub counted_home : (u n : ℕ) (g : Heap) (view : List Level) (z : Work) → vt.homes u ≡ home_by g view n z → Rests R u → HeapForm g → IsCounted g (heap_of R u)
+  counted_home u n g view z e rests form =
       let H : HomeStands vt R u = W.homes u rests in
       counted_from g (heap_of R u) form
-      (subst (λ ks. HasNames ks (heap_of R u)) (ap (λ (i : Home). i.chunks) e ∙ by_chunks g n z) H.names)
-      (sym (by_room g n z) ∙ (ap (λ (i : Home). i.room) (sym e) ∙ H.room))
-      (sym (by_since g n z) ∙ (ap (λ (i : Home). i.since) (sym e) ∙ H.since))
-      (subst (λ (ks : List Chunk). map (λ (c : Chunk). c.units) (reserved_chunks ks) ≡ reserved_units (heap_of R u).reserved) (ap (λ (i : Home). i.chunks) e ∙ by_chunks g n z) H.laid.reserved)
+      (subst (λ ks. HasNames ks (heap_of R u)) (ap (λ (i : Home). i.chunks) e ∙ by_chunks g view n z) H.names)
+      (sym (by_room g view n z) ∙ (ap (λ (i : Home). i.room) (sym e) ∙ H.room))
+      (sym (by_since g view n z) ∙ (ap (λ (i : Home). i.since) (sym e) ∙ H.since))
+      (subst (λ (ks : List Chunk). map (λ (c : Chunk). c.units) (reserved_chunks ks) ≡ reserved_units (heap_of R u).reserved) (ap (λ (i : Home). i.chunks) e ∙ by_chunks g view n z) H.laid.reserved)
 
-  pub since_home : (u n : ℕ) (g : Heap) (z : Work) → vt.homes u ≡ home_by g n z → Rests R u → g.since ≡ (heap_of R u).since
-  since_home u n g z e rests = sym (by_since g n z) ∙ (ap (λ (i : Home). i.since) (sym e) ∙ (W.homes u rests).since)
+  pub since_home : (u n : ℕ) (g : Heap) (view : List Level) (z : Work) → vt.homes u ≡ home_by g view n z → Rests R u → g.since ≡ (heap_of R u).since
+  since_home u n g view z e rests = sym (by_since g view n z) ∙ (ap (λ (i : Home). i.since) (sym e) ∙ (W.homes u rests).since)
 
   -- the parent's frames are in the value
   pub rests_parent : Rests R q

@@ -15,6 +15,7 @@ use Rattle.heap_tree.specs.declared.state.State.TheVariants.{Ended, Joined, Read
 use Rattle.heap_tree.specs.Node.{Node, with_state}
 use Rattle.fork_join.specs.Joined.{joined_nodes}
 use Rattle.alloc_path.specs.Heap.{Heap, room_of}
+use Rattle.alloc_path.specs.View.{Level}
 use Rattle.object_layout.specs.declared.word.Addr.{Addr}
 use Rattle.task_frames.specs.Stack.{Stack}
 use Rattle.core_relation.specs.Reads.{HoldsRead, TaskIsRead}
@@ -100,9 +101,9 @@ pub waits_is : (o : Option Task) → is_waiting o ≡ true → (y : Task) × (o 
 waits_is None e = absurd (false≢true e)
 waits_is (Some y) e = (y, refl)
 
-pub by_room : (h : Heap) (n : ℕ) (x : Work) → (home_by h n x).room ≡ room_of h
-by_room h n (Calls s) = refl
-by_room h n (Result k r) = refl
+pub by_room : (h : Heap) (view : List Level) (n : ℕ) (x : Work) → (home_by h view n x).room ≡ room_of h
+by_room h view n (Calls s) = refl
+by_room h view n (Result k r) = refl
 
 -- the step has joined the task
 pub record IsOver (m : MachineState) (t : ℕ) : Type 0 where
@@ -135,6 +136,6 @@ pub waiting_calls : (at : Name → Addr → Type 0) (o : Option Rest) (x : Task)
 waiting_calls at None x e h = absurd (subst (HoldsRead at (home_in None) x) e h)
 waiting_calls at (Some r) x e h = by r.work refl (subst (HoldsRead at (home_of r) x) e h)
   where
-    by : (k : Work) → r.work ≡ k → HoldsRead at (home_by r.heap r.allocations k) x WaitingOf → HasCalls (Some r)
+    by : (k : Work) → r.work ≡ k → HoldsRead at (home_by r.heap r.view r.allocations k) x WaitingOf → HasCalls (Some r)
     by (Calls s) q g = (s, q)
     by (Result n a) q g = absurd g

@@ -6,6 +6,7 @@ use Rattle.listed.proofs.Members.{got_other}
 use Rattle.listed.specs.Space.{Space}
 use Rattle.object_layout.specs.declared.word.Addr.{Addr}
 use Rattle.alloc_path.specs.Heap.{Heap, merged, room_of, with_places}
+use Rattle.alloc_path.specs.View.{Level}
 use Rattle.chunk_pool.specs.Chunks.{Chunks}
 use Rattle.run_trace.specs.declared.entry.Kind.TheVariants.{Ran}
 use Rattle.run_trace.specs.Entry.{Event}
@@ -112,7 +113,7 @@ module _ (w : World) (k : ℕ) (p : Private) (I : IsWorld w) (F : Fits w k p) (a
   own = F.fits
 
   module _ (above beside : Rest) (frames : Stack) (above_is : rest_at w.homes q ≡ Some above) (calls : above.work ≡ Calls frames) (beside_is : IsRestOf (rest_at w.homes s) beside) (c : ℕ) (lh rh : Heap) (al ar : ℤ × Option Addr) (side : AreSides p s beside c lh rh al ar) where
-    module _ (homes : List (Option Rest)) (sets : List SetOf) (pool : Chunks) (heap : Heap) (H : HomesJoin w.homes homes p q s (with_results frames al ar) heap above.allocations beside) (N : SetsJoin w.sets sets q c (c + 1) above.heap.chunks)
+    module _ (homes : List (Option Rest)) (sets : List SetOf) (pool : Chunks) (heap : Heap) (H : HomesJoin w.homes homes p q s (with_results frames al ar) heap above beside) (N : SetsJoin w.sets sets q c (c + 1) above.heap.chunks)
         (relabelled : AreRelabelled w.pool pool (lh.chunks ++ rh.chunks) q) (heap_is : heap ≡ with_places (merged above.heap lh rh) heap.slots heap.spare) (room_is : room_of heap ≡ room_of above.heap) (j : Space Event) where
       abbrev tree : List Node
       tree = joined_nodes (with_state w.tree t Ended) q c (c + 1)
@@ -149,12 +150,12 @@ module _ (w : World) (k : ℕ) (p : Private) (I : IsWorld w) (F : Fits w k p) (a
 
       -- ---- THE HOMES
       abbrev HasBoth : ℕ → Heap → Type 0
-      HasBoth u g = (n : ℕ) × (z : Work) × (vt.homes u ≡ home_by g n z) × (slots : ℕ) × (spare : ℕ) × (v'.homes u ≡ home_by (record { chunks = []; current = None; reserved = None; since = 0; slots = slots; spare = spare }) n z)
+      HasBoth u g = (n : ℕ) × (z : Work) × (view : List Level) × (vt.homes u ≡ home_by g view n z) × (slots : ℕ) × (spare : ℕ) × (v'.homes u ≡ home_by (record { chunks = []; current = None; reserved = None; since = 0; slots = slots; spare = spare }) [] n z)
 
       both_then : HasBoth c lh × HasBoth (c + 1) rh
       both_then =
-          both.sides_of w k p I F at_end free ended above beside frames above_is calls beside_is c lh rh al ar side HasBoth (p.allocations, Calls p.frames, before.own_here w k p I F at_end free ended, H.own_home.0, H.own_home.1, ap home_in H.own_home.2)
-          (beside.allocations, beside.work, (both.home_beside w k p I F at_end free ended above beside frames above_is calls beside_is c lh rh al ar side), H.other_home.0, H.other_home.1, ap home_in H.other_home.2)
+          both.sides_of w k p I F at_end free ended above beside frames above_is calls beside_is c lh rh al ar side HasBoth (p.allocations, Calls p.frames, p.view, before.own_here w k p I F at_end free ended, H.own_home.0, H.own_home.1, ap home_in H.own_home.2)
+          (beside.allocations, beside.work, beside.view, (both.home_beside w k p I F at_end free ended above beside frames above_is calls beside_is c lh rh al ar side), H.other_home.0, H.other_home.1, ap home_in H.other_home.2)
 
       merges : Merges vt v' w.pool pool q c (c + 1) al ar
       merges = record {
@@ -162,6 +163,9 @@ module _ (w : World) (k : ℕ) (p : Private) (I : IsWorld w) (F : Fits w k p) (a
         left_heap = lh;
         right_heap = rh;
         heap_then = heap;
+        own_view = above.view;
+        left_view = both_then.0.2;
+        right_view = both_then.1.2;
         own_count = above.allocations;
         left_count = both_then.0.0;
         right_count = both_then.1.0;
@@ -169,11 +173,11 @@ module _ (w : World) (k : ℕ) (p : Private) (I : IsWorld w) (F : Fits w k p) (a
         left_work = both_then.0.1;
         right_work = both_then.1.1;
         own_home = (both.home_above w k p I F at_end free ended above beside frames above_is calls beside_is c lh rh al ar side);
-        left_home = both_then.0.2;
-        right_home = both_then.1.2;
+        left_home = both_then.0.3;
+        right_home = both_then.1.3;
         own_then = ap home_in H.parent_home;
-        left_then = (both_then.0.3, both_then.0.4, both_then.0.5);
-        right_then = (both_then.1.3, both_then.1.4, both_then.1.5);
+        left_then = (both_then.0.4, both_then.0.5, both_then.0.6);
+        right_then = (both_then.1.4, both_then.1.5, both_then.1.6);
         heap_is = heap_is;
         room_is = room_is;
         small = (both.small w k p I F at_end free ended above beside frames above_is calls beside_is c lh rh al ar side);

@@ -1,5 +1,6 @@
 -- An entry of a part's fresh steps and a fork.
 use Rattle.std.specs.Prelude.{◌≡◌, ◌≢◌, ◌≤◌, ℕ, ◌+◌, Bool, true, false, Option, Some, None, List, [], length, option_map, slice_get}
+use Rattle.alloc_path.specs.View.{view_below}
 use Rattle.fork_join.specs.declared.forks.Child.{Child}
 use Rattle.fork_join.specs.Forked.{new_child}
 use Rattle.hh_lang.specs.declared.instr.Instr.{Instr}
@@ -68,17 +69,22 @@ ForkAnswered w after k p (Over q) = HaltsAlone w after k p q
 
 -- what goes with a task that has forked, and with a child before its first step
 abbrev pub waiting_rest : Private → Rest
-waiting_rest p = record { work = Calls (with_next p.frames (p.frames.top.next + 1)); heap = p.heap; allocations = p.allocations }
+waiting_rest p = record { work = Calls (with_next p.frames (p.frames.top.next + 1)); heap = p.heap; view = p.view; allocations = p.allocations }
 
 abbrev pub begun_rest : Child → Rest
-begun_rest c = record { work = Calls c.frames; heap = c.heap; allocations = 0 }
+begun_rest c = record { work = Calls c.frames; heap = c.heap; view = c.view; allocations = 0 }
+
+-- a child of the part's task, of this number: it begins a function with the registers of the part's top frame, and sees what is
+-- immutable in the part's heap, and what the part sees
+abbrev pub part_child : Private → ℕ → ℕ → ℕ → ℕ → Child
+part_child p task fun slots spare = new_child task p.frames fun (view_below p.heap.chunks (Some p.view)) slots spare
 
 -- the task of the part has a home again, and there are two homes more
 pub record HomesFork (homes after : List (Option Rest)) (p : Private) (left right : ℕ) : Type 0 where
   pub count : length after ≡ length homes + 2
   pub parent : rest_at after p.task ≡ Some (waiting_rest p)
-  pub left_home : (slots : ℕ) × (spare : ℕ) × (rest_at after (length homes) ≡ Some (begun_rest (new_child (length homes) p.frames left slots spare)))
-  pub right_home : (slots : ℕ) × (spare : ℕ) × (rest_at after (length homes + 1) ≡ Some (begun_rest (new_child (length homes + 1) p.frames right slots spare)))
+  pub left_home : (slots : ℕ) × (spare : ℕ) × (rest_at after (length homes) ≡ Some (begun_rest (part_child p (length homes) left slots spare)))
+  pub right_home : (slots : ℕ) × (spare : ℕ) × (rest_at after (length homes + 1) ≡ Some (begun_rest (part_child p (length homes + 1) right slots spare)))
   pub others : (u : ℕ) → u ≢ p.task → u ≢ length homes → u ≢ length homes + 1 → rest_at after u ≡ rest_at homes u
 
 abbrev pub nothing_noted : Content

@@ -35,19 +35,19 @@ abbrev pub part_result : Private → ℤ × Option Addr
 part_result p = (int_of p.frames.top 0, ref_of p.frames.top 0)
 
 abbrev pub no_rest : ℕ → ℕ → Rest
-no_rest slots spare = record { work = Result (pos 0) None; heap = no_heap slots spare; allocations = 0 }
+no_rest slots spare = record { work = Result (pos 0) None; heap = no_heap slots spare; view = []; allocations = 0 }
 
 -- what goes with a task, or what stands for none
 abbrev pub IsRestOf : Option Rest → Rest → Type 0
 IsRestOf None r = (slots : ℕ) × (spare : ℕ) × (r ≡ no_rest slots spare)
 IsRestOf (Some x) r = r ≡ x
 
--- the parent has this heap and goes on with these frames, and both children are left with empty heaps
-pub record HomesJoin (homes after : List (Option Rest)) (p : Private) (parent other : ℕ) (frames : Stack) (heap : Heap) (count : ℕ) (beside : Rest) : Type 0 where
+-- the parent has this heap and goes on with these frames, and both children are left with empty heaps and see nothing
+pub record HomesJoin (homes after : List (Option Rest)) (p : Private) (parent other : ℕ) (frames : Stack) (heap : Heap) (above beside : Rest) : Type 0 where
   pub many : length after ≡ length homes
-  pub parent_home : rest_at after parent ≡ Some (record { work = Calls frames; heap = heap; allocations = count })
-  pub own_home : (slots : ℕ) × (spare : ℕ) × (rest_at after p.task ≡ Some (record { work = Calls p.frames; heap = no_heap slots spare; allocations = p.allocations }))
-  pub other_home : (slots : ℕ) × (spare : ℕ) × (rest_at after other ≡ Some (record beside { heap = no_heap slots spare }))
+  pub parent_home : rest_at after parent ≡ Some (record above { work = Calls frames; heap = heap })
+  pub own_home : (slots : ℕ) × (spare : ℕ) × (rest_at after p.task ≡ Some (record { work = Calls p.frames; heap = no_heap slots spare; view = []; allocations = p.allocations }))
+  pub other_home : (slots : ℕ) × (spare : ℕ) × (rest_at after other ≡ Some (record beside { heap = no_heap slots spare; view = [] }))
   pub others : (u : ℕ) → u ≢ parent → u ≢ p.task → u ≢ other → rest_at after u ≡ rest_at homes u
 
 abbrev pub sources_by : Option Noted → List Source

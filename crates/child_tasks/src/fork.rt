@@ -1,9 +1,8 @@
 // What a fork makes of the tree, the homes and the sets.
 
 ghost use Rattle.std.specs.Prelude.{◌≡◌, ◌<◌, ◌≤◌, ◌+◌, ◌-◌, ◌^◌, ◌++◌, ◌∷◌, [], OnErr, OnOk, IfOk, None, Some, true, length, slice_set, vec_len, vec_capacity};
-ghost use Rattle.fork_join.specs.Forked.{new_child};
 ghost use Rattle.heap_tree.specs.Node.{depth_of, forked, state_of};
-ghost use Rattle.child_tasks.specs.Forks.{begun_rest, waiting_rest, SetsFork};
+ghost use Rattle.child_tasks.specs.Forks.{begun_rest, part_child, waiting_rest, SetsFork};
 
 use fork_join::{Child, fork};
 use heap_tree::{State, Tree};
@@ -31,6 +30,7 @@ fn waiting(part: Private) -> Rest
     let Private {
         mut frames,
         heap,
+        view,
         allocations,
         ..
     } = part;
@@ -39,6 +39,7 @@ fn waiting(part: Private) -> Rest
     Rest {
         work: Work::Calls(frames),
         heap,
+        view,
         allocations,
     }
 }
@@ -50,6 +51,7 @@ fn beginning(child: Child) -> Rest
     Rest {
         work: Work::Calls(child.frames),
         heap: child.heap,
+        view: child.view,
         allocations: 0,
     }
 }
@@ -70,8 +72,8 @@ pub fn grow(
     ensures homes { OnOk result (homes.new ≡ homes.old ++ None ∷ (None ∷ [])) }
     ensures sets { sets.new.items ≡ sets.old.items }
     ensures room { OnOk result (vec_len sets.new + 2 ≤ vec_capacity sets.new) }
-    ensures left_child { IfOk result (λ two. two.0 ≡ new_child (length tree.old) part.now.frames left two.0.heap.slots two.0.heap.spare) }
-    ensures right_child { IfOk result (λ two. two.1 ≡ new_child (length tree.old + 1) part.now.frames right two.1.heap.slots two.1.heap.spare) }
+    ensures left_child { IfOk result (λ two. two.0 ≡ part_child part.now (length tree.old) left two.0.heap.slots two.0.heap.spare) }
+    ensures right_child { IfOk result (λ two. two.1 ≡ part_child part.now (length tree.old + 1) right two.1.heap.slots two.1.heap.spare) }
     ensures same_tree { OnErr result (tree.new ≡ tree.old) }
     ensures same_homes { OnErr result (homes.new ≡ homes.old) }
 {
@@ -79,7 +81,17 @@ pub fn grow(
     let made = homes.len();
     sets.reserve(2)?;
     homes.push_pair(None, None)?;
-    match fork(alloc, tree, part.task, &part.frames, left, right) {
+    let forked = fork(
+        alloc,
+        tree,
+        part.task,
+        &part.heap,
+        Some(&part.view),
+        &part.frames,
+        left,
+        right,
+    );
+    match forked {
         Ok(two) => Ok(two),
         Err(error) => {
             homes.truncate(made);

@@ -12,7 +12,7 @@ ghost use Rattle.shared_value.specs.World.{rest_at};
 ghost use Rattle.shared_value.specs.declared.rest.Rest.{Rest as RestOf};
 ghost use Rattle.write_barrier.specs.Stored.{content_at};
 
-use alloc_path::LeafHeap;
+use alloc_path::{LeafHeap, View};
 use chunk_pool::Pool;
 use fork_join::{EndedChild, Side, join};
 use heap_tree::Tree;
@@ -55,6 +55,7 @@ pub fn take_rest(alloc: Global, homes: &mut Listed<Option<Rest>>, t: u32) -> Res
         None => Rest {
             work: Work::Result(0, None),
             heap: LeafHeap::new(alloc),
+            view: View::none(),
             allocations: 0,
         },
     }
@@ -161,11 +162,12 @@ pub fn join_children(
     ensures tree { tree.new ≡ joined_nodes tree.old parent children.0.side.task children.1.side.task }
     ensures pool { AreRelabelled pool.old pool.new (children.0.side.heap.chunks ++ children.1.side.heap.chunks) parent }
     ensures side { Joins (parent_side parent above noted) (parent_side parent result.0 result.1) children.0.side children.1.side }
-    ensures rest { (s : Stack) → above.work ≡ Work.Calls s → result.0 ≡ record { work = Work.Calls (with_results s children.0.result children.1.result); heap = result.0.heap; allocations = above.allocations } }
+    ensures rest { (s : Stack) → above.work ≡ Work.Calls s → result.0 ≡ record above { work = Work.Calls (with_results s children.0.result children.1.result); heap = result.0.heap } }
 {
     let Rest {
         work,
         heap,
+        view,
         allocations,
     } = above;
     let Work::Calls(mut frames) = work else {
@@ -181,12 +183,13 @@ pub fn join_children(
     let rest = Rest {
         work: Work::Calls(frames),
         heap: side.heap,
+        view,
         allocations,
     };
     (rest, side.remembered)
 }
 
-/// Leaves an own child's home with an empty heap: what a join takes of it.
+/// Leaves an own child's home with an empty heap, and nothing that it sees: what a join takes of it.
 pub fn leave_own(
     alloc: Global,
     homes: &mut Listed<Option<Rest>>,
@@ -196,7 +199,7 @@ pub fn leave_own(
     requires made { part.task < length homes.old }
     ensures child { result ≡ own_child part noted }
     ensures many { length homes.new ≡ length homes.old }
-    ensures own { (slots : ℕ) × (spare : ℕ) × (rest_at homes.new part.task ≡ Some (record { work = Work.Calls part.frames; heap = no_heap slots spare; allocations = part.allocations })) }
+    ensures own { (slots : ℕ) × (spare : ℕ) × (rest_at homes.new part.task ≡ Some (record { work = Work.Calls part.frames; heap = no_heap slots spare; view = []; allocations = part.allocations })) }
     ensures others { (u : ℕ) → u ≢ part.task → rest_at homes.new u ≡ rest_at homes.old u }
 {
     let task = part.task;
@@ -204,6 +207,7 @@ pub fn leave_own(
     let rest = Rest {
         work: Work::Calls(part.frames),
         heap: LeafHeap::new(alloc),
+        view: View::none(),
         allocations: part.allocations,
     };
     homes.set(task as usize, Some(rest));
@@ -226,7 +230,7 @@ pub fn leave_other(
 ) -> EndedChild
     requires made { t < length homes.old }
     ensures many { length homes.new ≡ length homes.old }
-    ensures child { (r : RestOf) × IsRestOf (rest_at homes.old t) r × (result ≡ other_child t r noted) × (slots : ℕ) × (spare : ℕ) × (rest_at homes.new t ≡ Some (record r { heap = no_heap slots spare })) }
+    ensures child { (r : RestOf) × IsRestOf (rest_at homes.old t) r × (result ≡ other_child t r noted) × (slots : ℕ) × (spare : ℕ) × (rest_at homes.new t ≡ Some (record r { heap = no_heap slots spare; view = [] })) }
     ensures others { (u : ℕ) → u ≢ t → rest_at homes.new u ≡ rest_at homes.old u }
 {
     let rest = take_rest(alloc, homes, t);
@@ -234,6 +238,7 @@ pub fn leave_other(
     let left = Rest {
         work: rest.work,
         heap: LeafHeap::new(alloc),
+        view: View::none(),
         allocations: rest.allocations,
     };
     homes.set(t as usize, Some(left));

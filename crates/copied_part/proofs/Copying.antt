@@ -5,6 +5,7 @@ use Rattle.listed.proofs.Members.{contains_from_in, in_append_cases, in_from_con
 use Rattle.object_layout.specs.declared.word.Addr.{Addr}
 use Rattle.object_layout.specs.Content.{Content}
 use Rattle.alloc_path.specs.Heap.{Heap, with_places}
+use Rattle.alloc_path.specs.View.{Level}
 use Rattle.hh_lang.specs.Form.{ProgramText}
 use Rattle.run_trace.specs.Settings.{Limits}
 use Rattle.hh_model.specs.declared.data.Name.{Name}
@@ -87,9 +88,9 @@ read_length at [] (x ∷ xs) h = absurd h
 read_length at (r ∷ rs) [] h = absurd h
 read_length at (r ∷ rs) (x ∷ xs) h = ap suc (read_length at rs xs h.1)
 
-module _ (p : ProgramText) (st : Limits) (t : ℕ) (h : Heap) (count : ℕ) (s : Stack) (b : Begun) (news : List Content) (v : Value) (l : Ledger) (B : IsBegun p st t h count s b news v l) where
+module _ (p : ProgramText) (st : Limits) (t : ℕ) (h : Heap) (view : List Level) (count : ℕ) (s : Stack) (b : Begun) (news : List Content) (v : Value) (l : Ledger) (B : IsBegun p st t h view count s b news v l) where
   abbrev pub H : Home
-  H = part_home h count s (Some b)
+  H = part_home h view count s (Some b)
 
   abbrev pub V : Value
   V = with_home v t H
@@ -230,11 +231,12 @@ module _ (p : ProgramText) (st : Limits) (t : ℕ) (h : Heap) (count : ℕ) (s :
         let k = held_by h.chunks q.0 q.1 in
         out' (chunk_of k.chunk) (in_map chunk_of h.chunks k.chunk k.there) (sym (span k.chunk.cells k.chunk.number 0 q.0 k.object).chunk ∙ ap (λ (z : Addr). z.chunk) q.2))
 
-    copy_now : IsCopy v l t H (part_home N count s' None) to
+    copy_now : IsCopy v l t H (part_home N view count s' None) to
     copy_now = record {
       names = naming.names h (outside s b.roots) C.survivors news C.are B.new l.machine a O;
       room = room_last L (K ++ R) ∙ naming.room_now h (outside s b.roots) C.survivors news C.are B.new l.machine a O;
       since = refl;
+      view = refl;
       count = refl;
       inside = λ c o i j. inside (L ++ (K ++ R)) c o i j;
       once = once (L ++ (K ++ R)) (moving.apart_now h (outside s b.roots) C.survivors news C.are B.new (naming.settled h (outside s b.roots) C.survivors news C.are B.new l.machine a O) (naming.reserved h (outside s b.roots) C.survivors news C.are B.new l.machine a O));
@@ -247,15 +249,15 @@ module _ (p : ProgramText) (st : Limits) (t : ℕ) (h : Heap) (count : ℕ) (s :
       same = same_out;
     }
 
-    pub fits : CopyFits p st t H (part_home h' count s' None) (new_address out.moved.items) v l
+    pub fits : CopyFits p st t H (part_home h' view count s' None) (new_address out.moved.items) v l
     fits = record {
       old = B.fits;
       collects = ap is_some (sym (rested_view (λ x. x.begun) (λ x. refl) l t) ∙ began.few);
-      copy = subst (λ w. IsCopy v l t H (part_home h' count s' None) w) (sym f_is) (subst (λ (z : Heap). IsCopy v l t H (part_home z count s' None) to) (sym C.heap) copy_now);
+      copy = subst (λ w. IsCopy v l t H (part_home h' view count s' None) w) (sym f_is) (subst (λ (z : Heap). IsCopy v l t H (part_home z view count s' None) to) (sym C.heap) copy_now);
     }
 
     pub form : HeapForm h'
     form = subst HeapForm (sym C.heap) (forming.form_now h (outside s b.roots) C.survivors news C.are B.new l.machine a O h'.slots h'.spare)
 
 pub copies_fit : CopiesFit
-copies_fit p st t h count s b news v l B h' s' out C = (fits p st t h count s b news v l B h' s' out C, form p st t h count s b news v l B h' s' out C)
+copies_fit p st t h view count s b news v l B h' s' out C = (fits p st t h view count s b news v l B h' s' out C, form p st t h view count s b news v l B h' s' out C)

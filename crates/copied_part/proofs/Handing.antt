@@ -68,17 +68,17 @@ module _ (w : World) (k : ℕ) (p : Private) (b : Begun) (news : List Content) (
   seen_begun = record { roots = b.roots; news = b.news }
 
   abbrev pub H : Home
-  H = part_home p.heap p.allocations p.frames (Some (record { roots = b.roots; news = b.news }))
+  H = part_home p.heap p.view p.allocations p.frames (Some (record { roots = b.roots; news = b.news }))
 
   home_is : home_of_part p ≡ H
-  home_is = ap (λ o. record (home_with p.heap p.allocations (frames_of p.frames) (pos 0, None)) { begun = begun_of o }) C.begun
+  home_is = ap (λ o. record (home_with p.heap p.view p.allocations (frames_of p.frames) (pos 0, None)) { begun = begun_of o }) C.begun
 
   fits : PartFits w.program w.settings (before w.settings p.task H) (value_of w) (aside (accounts w))
   fits =
       subst (λ n. PartFits w.program w.settings (part_for w.settings p.task H n) (value_of w) (aside (accounts w))) C.fresh
       (subst (λ (h : Home). PartFits w.program w.settings (part_for w.settings p.task h p.fresh) (value_of w) (aside (accounts w))) home_is C.fits.fits.part)
 
-  pub begun : IsBegun w.program w.settings p.task p.heap p.allocations p.frames seen_begun news (value_of w) (aside (accounts w))
+  pub begun : IsBegun w.program w.settings p.task p.heap p.view p.allocations p.frames seen_begun news (value_of w) (aside (accounts w))
   begun = record {
     form = C.fits.form;
     fits = fits;
@@ -107,13 +107,13 @@ module _ (w : World) (k : ℕ) (p : Private) (b : Begun) (news : List Content) (
   module _ (h' : Heap) (s' : Stack) (out : Moved) (D : IsCollected p.heap p.frames b.roots news h' s' out) where
     -- what is known of the heap before
     O : Old p.heap D.survivors (aside (accounts w)).machine (heap_of (aside (accounts w)) p.task)
-    O = copying.O w.program w.settings p.task p.heap p.allocations p.frames seen_begun news (value_of w) (aside (accounts w)) begun h' s' out D
+    O = copying.O w.program w.settings p.task p.heap p.view p.allocations p.frames seen_begun news (value_of w) (aside (accounts w)) begun h' s' out D
 
     abbrev Back : List Content
     Back = back_of p.heap D.survivors (reverse news)
 
     began : (heap_of (aside (accounts w)) p.task).begun ≡ Some (length news)
-    began = sym (rested_view (λ x. x.begun) (λ x. refl) (aside (accounts w)) p.task) ∙ ((copying.began w.program w.settings p.task p.heap p.allocations p.frames seen_begun news (value_of w) (aside (accounts w)) begun).few ∙ ap Some begun.all)
+    began = sym (rested_view (λ x. x.begun) (λ x. refl) (aside (accounts w)) p.task) ∙ ((copying.began w.program w.settings p.task p.heap p.view p.allocations p.frames seen_begun news (value_of w) (aside (accounts w)) begun).few ∙ ap Some begun.all)
 
     given_is : unit_count Back ≡ out.given
     given_is =
@@ -137,7 +137,7 @@ module _ (w : World) (k : ℕ) (p : Private) (b : Begun) (news : List Content) (
 
     pub copied : FitsCopied w k (record p { heap = h'; frames = s' }) out
     copied =
-        let made = copies_fit w.program w.settings p.task p.heap p.allocations p.frames seen_begun news (value_of w) (aside (accounts w)) begun h' s' out D in
+        let made = copies_fit w.program w.settings p.task p.heap p.view p.allocations p.frames seen_begun news (value_of w) (aside (accounts w)) begun h' s' out D in
         record {
           home = H;
           held = C.fits.held;
@@ -147,7 +147,7 @@ module _ (w : World) (k : ℕ) (p : Private) (b : Begun) (news : List Content) (
           fresh = C.fresh;
           leaf_limit = C.fits.leaf_limit;
           field_limit = C.fits.field_limit;
-          numbers = said_same (accounts w) p.task _ (numbers_are_said w.program w.settings p.task p.heap p.allocations p.frames seen_begun news (value_of w) (aside (accounts w)) begun few h' s' out D);
+          numbers = said_same (accounts w) p.task _ (numbers_are_said w.program w.settings p.task p.heap p.view p.allocations p.frames seen_begun news (value_of w) (aside (accounts w)) begun few h' s' out D);
           order = D.order;
           places = (moves_are_told p.heap (outside p.frames b.roots) D.survivors news out.moved.items D.are C.new D.moved).places;
           back = are_back;

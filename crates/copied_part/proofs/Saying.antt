@@ -8,6 +8,7 @@ use Rattle.object_layout.specs.Chunks.{held_words}
 use Rattle.object_layout.specs.Graph.{IsClosed, IsSound}
 use Rattle.alloc_path.specs.Heap.{Heap}
 use Rattle.alloc_path.specs.Units.{counted32, unit_count}
+use Rattle.alloc_path.specs.View.{Level}
 use Rattle.hh_lang.specs.Form.{ProgramText}
 use Rattle.run_trace.specs.Settings.{Limits}
 use Rattle.hh_model.specs.declared.data.Frame.{Frame as ModelFrame}
@@ -37,9 +38,9 @@ use Rattle.copied_part.proofs.Counting as counting
 -- ---- NUMBERS
 
 pub numbers_are_said : NumbersAreSaid
-numbers_are_said p s t h count frames b news v l B few h' frames' out C =
-    let O = copying.O p s t h count frames b news v l B h' frames' out C in
-    let began : (heap_of l t).begun ≡ Some (length news) = sym (rested_view (λ x. x.begun) (λ x. refl) l t) ∙ ((copying.began p s t h count frames b news v l B).few ∙ ap Some B.all) in
+numbers_are_said p s t h view count frames b news v l B few h' frames' out C =
+    let O = copying.O p s t h view count frames b news v l B h' frames' out C in
+    let began : (heap_of l t).begun ≡ Some (length news) = sym (rested_view (λ x. x.begun) (λ x. refl) l t) ∙ ((copying.began p s t h view count frames b news v l B).few ∙ ap Some B.all) in
     let taken = C.taken ∙ counting.taken_counted h (outside frames b.roots) C.survivors news C.are B.new l.machine (heap_of l t) O began few in
     let given = C.given ∙ (ap (λ ks. counted32 (unit_count ks)) C.back ∙ counting.given_counted h (outside frames b.roots) C.survivors news C.are B.new l.machine (heap_of l t) O began few) in
     let left = C.left ∙ (ap (λ (x : Heap). counted32 (held_words x.chunks)) C.heap ∙ counting.left_counted h (outside frames b.roots) C.survivors news C.are B.new l.machine (heap_of l t) O began few) in
@@ -61,31 +62,31 @@ frame_one at (x ∷ fs) [] f r h i j = absurd h
 frame_one at (x ∷ fs) (y ∷ xs) f r h (inl e) j = read_one at x.refs y.refs r h.0.refs (subst (λ (z : SeenFrame). In z.refs (Some r)) (sym e) j)
 frame_one at (x ∷ fs) (y ∷ xs) f r h (inr i) j = frame_one at fs xs f r h.1 i j
 
-module _ (p : ProgramText) (st : Limits) (t : ℕ) (h : Heap) (count : ℕ) (s : Stack) (b : Begun) (news : List Content) (v : Value) (l : Ledger) (B : IsBegun p st t h count s b news v l) where
+module _ (p : ProgramText) (st : Limits) (t : ℕ) (h : Heap) (view : List Level) (count : ℕ) (s : Stack) (b : Begun) (news : List Content) (v : Value) (l : Ledger) (B : IsBegun p st t h view count s b news v l) where
   abbrev V : Value
-  V = copying.V p st t h count s b news v l B
+  V = copying.V p st t h view count s b news v l B
 
   abbrev lt : Ledger
-  lt = copying.lt p st t h count s b news v l B
+  lt = copying.lt p st t h view count s b news v l B
 
   abbrev At : Name → Addr → Type 0
   At n r = Place V lt n r
 
   home : (V.homes t).chunks ≡ chunks_of h.chunks
-  home = ap (λ (z : Home). z.chunks) (copying.here p st t h count s b news v l B)
+  home = ap (λ (z : Home). z.chunks) (copying.here p st t h view count s b news v l B)
 
   -- where a name is read
   sound_at : (n : Name) (r : Addr) → At n r → IsSound h.chunks (Some r)
-  sound_at = reads.sound_at V lt (copying.stands p st t h count s b news v l B) t (rested_worker l t) h.chunks home B.form.shaped.apart B.form.near
+  sound_at = reads.sound_at V lt (copying.stands p st t h view count s b news v l B) t (rested_worker l t) h.chunks home B.form.shaped.apart B.form.near
 
   closed : IsClosed h.chunks
-  closed = reads.closed V lt (copying.stands p st t h count s b news v l B) t (rested_worker l t) h.chunks home B.form.shaped.apart B.form.near
+  closed = reads.closed V lt (copying.stands p st t h view count s b news v l B) t (rested_worker l t) h.chunks home B.form.shaped.apart B.form.near
 
   module _ (x : Task) (is : slice_get l.machine.tasks t ≡ Some x) (runs : x.status ≡ Running) (rooted : All (IsSound h.chunks) (map as_reference b.roots)) where
     read : FramesAreRead At (frames_of s) (x.top ∷ x.below)
     read =
-        let T : TaskIsRead At (V.homes t) x = (copying.stands p st t h count s b news v l B).tasks t x (rested_worker l t) (ap (λ (m : State). slice_get m.tasks t) (copying.machine p st t h count s b news v l B) ∙ is) in
-        subst (λ (z : Home). FramesAreRead At z.frames (x.top ∷ x.below)) (copying.here p st t h count s b news v l B) (subst (HoldsRead At (V.homes t) x) runs T)
+        let T : TaskIsRead At (V.homes t) x = (copying.stands p st t h view count s b news v l B).tasks t x (rested_worker l t) (ap (λ (m : State). slice_get m.tasks t) (copying.machine p st t h view count s b news v l B) ∙ is) in
+        subst (λ (z : Home). FramesAreRead At z.frames (x.top ∷ x.below)) (copying.here p st t h view count s b news v l B) (subst (HoldsRead At (V.homes t) x) runs T)
 
     from_stack : (f : Frame) → In (all_frames s) f → In (frames_of s) (frame_of f)
     from_stack f i = elim (in_append_cases s.below (s.top ∷ []) f i) [
@@ -111,4 +112,4 @@ module _ (p : ProgramText) (st : Limits) (t : ℕ) (h : Heap) (count : ℕ) (s :
     }
 
 pub begun_can_copy : BegunCanCopy
-begun_can_copy p s t h count frames b news v l x B is runs rooted = can_copy p s t h count frames b news v l B x is runs rooted
+begun_can_copy p s t h view count frames b news v l x B is runs rooted = can_copy p s t h view count frames b news v l B x is runs rooted

@@ -4,6 +4,7 @@ use Rattle.object_layout.specs.declared.word.Addr.{Addr}
 use Rattle.object_layout.specs.Content.{Content}
 use Rattle.object_layout.specs.Graph.{IsClosed, IsSound}
 use Rattle.alloc_path.specs.Heap.{Heap}
+use Rattle.alloc_path.specs.View.{Level}
 use Rattle.hh_lang.specs.Form.{ProgramText}
 use Rattle.run_trace.specs.Settings.{Limits}
 use Rattle.hh_model.specs.declared.data.Status.TheVariants.{Running}
@@ -22,14 +23,14 @@ use Rattle.shared_value.specs.Stands.{HeapForm}
 use Rattle.shared_value.specs.World.{frames_of, home_with}
 
 -- the home of a part, with the collection that it has begun, or none
-abbrev pub part_home : Heap → ℕ → Stack → Option Begun → Home
-part_home h count s begun = record (home_with h count (frames_of s) (pos 0, None)) { begun = begun }
+abbrev pub part_home : Heap → List Level → ℕ → Stack → Option Begun → Home
+part_home h view count s begun = record (home_with h view count (frames_of s) (pos 0, None)) { begun = begun }
 
 -- a part of t, with the collection b that it has begun, fits; its heap h is formed as every heap is, and the new chunks are those that the
 -- collection took
-pub record IsBegun (p : ProgramText) (s : Limits) (t : ℕ) (h : Heap) (count : ℕ) (frames : Stack) (b : Begun) (news : List Content) (v : Value) (l : Ledger) : Type 0 where
+pub record IsBegun (p : ProgramText) (s : Limits) (t : ℕ) (h : Heap) (view : List Level) (count : ℕ) (frames : Stack) (b : Begun) (news : List Content) (v : Value) (l : Ledger) : Type 0 where
   pub form : HeapForm h
-  pub fits : PartFits p s (before s t (part_home h count frames (Some b))) v l
+  pub fits : PartFits p s (before s t (part_home h view count frames (Some b))) v l
   pub new : CanTake h.chunks news
   pub took : (k : Content) → In news k → In b.news k.number
   pub all : length b.news ≡ length news
@@ -37,14 +38,14 @@ pub record IsBegun (p : ProgramText) (s : Limits) (t : ℕ) (h : Heap) (count : 
 -- WHAT COPYING MAKES OF IT fits for the end of the collection, and its heap is formed again as every heap is
 abbrev pub CopiesFit : Type 0
 CopiesFit =
-    (p : ProgramText) (s : Limits) (t : ℕ) (h : Heap) (count : ℕ) (frames : Stack) (b : Begun) (news : List Content) (v : Value) (l : Ledger) → IsBegun p s t h count frames b news v l
+    (p : ProgramText) (s : Limits) (t : ℕ) (h : Heap) (view : List Level) (count : ℕ) (frames : Stack) (b : Begun) (news : List Content) (v : Value) (l : Ledger) → IsBegun p s t h view count frames b news v l
     → (h' : Heap) (frames' : Stack) (out : Moved) → IsCollected h frames b.roots news h' frames' out
-    → CopyFits p s t (part_home h count frames (Some b)) (part_home h' count frames' None) (new_address out.moved.items) v l × HeapForm h'
+    → CopyFits p s t (part_home h view count frames (Some b)) (part_home h' view count frames' None) (new_address out.moved.items) v l × HeapForm h'
 
 -- the numbers that it comes to are those that its entry is to say, where the heap has no more units than a run may use
 abbrev pub NumbersAreSaid : Type 0
 NumbersAreSaid =
-    (p : ProgramText) (s : Limits) (t : ℕ) (h : Heap) (count : ℕ) (frames : Stack) (b : Begun) (news : List Content) (v : Value) (l : Ledger) → IsBegun p s t h count frames b news v l
+    (p : ProgramText) (s : Limits) (t : ℕ) (h : Heap) (view : List Level) (count : ℕ) (frames : Stack) (b : Begun) (news : List Content) (v : Value) (l : Ledger) → IsBegun p s t h view count frames b news v l
     → units_in l.machine (heap_of l t) ≤ 65536 → (h' : Heap) (frames' : Stack) (out : Moved) → IsCollected h frames b.roots news h' frames' out
     → ◌≡◌ {A = ℕ × ℕ × ℕ} (out.taken, out.given, out.left) (end_numbers l.machine (heap_of l t))
 
@@ -56,5 +57,5 @@ pub record CanCopy (h : Heap) (frames : Stack) (roots : List Addr) : Type 0 wher
 
 abbrev pub BegunCanCopy : Type 0
 BegunCanCopy =
-    (p : ProgramText) (s : Limits) (t : ℕ) (h : Heap) (count : ℕ) (frames : Stack) (b : Begun) (news : List Content) (v : Value) (l : Ledger) (x : Task) → IsBegun p s t h count frames b news v l
+    (p : ProgramText) (s : Limits) (t : ℕ) (h : Heap) (view : List Level) (count : ℕ) (frames : Stack) (b : Begun) (news : List Content) (v : Value) (l : Ledger) (x : Task) → IsBegun p s t h view count frames b news v l
     → slice_get l.machine.tasks t ≡ Some x → x.status ≡ Running → All (IsSound h.chunks) (map as_reference b.roots) → CanCopy h frames b.roots

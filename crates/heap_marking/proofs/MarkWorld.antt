@@ -102,6 +102,7 @@ module _ (w : World) (e : Event) (I : IsWorld w) (free : refused w e ≡ None) (
       chunks = λ u h. refl;
       frames = λ u. refl;
       result = λ u. refl;
+      view = λ u. refl;
       owner = λ k u o. o;
       taken = λ k u o. inl o;
       begun = λ u h. refl;

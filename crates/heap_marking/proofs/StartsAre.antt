@@ -50,7 +50,7 @@ seen_frames (Result k r) = []
 home_frames : (r : Rest) → (home_of r).frames ≡ seen_frames r.work
 home_frames r = by r.work
   where
-    by : (x : Work) → (home_by r.heap r.allocations x).frames ≡ seen_frames x
+    by : (x : Work) → (home_by r.heap r.view r.allocations x).frames ≡ seen_frames x
     by (Calls s) = refl
     by (Result k n) = refl
 

@@ -8,6 +8,7 @@ use Rattle.object_layout.specs.declared.word.Addr.{Addr}
 use Rattle.object_layout.specs.Content.{Content}
 use Rattle.alloc_path.specs.Heap.{Heap as HeapOfCode, IsFresh, room_of, with_places}
 use Rattle.alloc_path.specs.Units.{unit_count}
+use Rattle.alloc_path.specs.View.{Level}
 use Rattle.alloc_path.proofs.HeapLemmas.{fresh_cons}
 use Rattle.chunk_pool.specs.declared.pool.Held.{Held}
 use Rattle.chunk_pool.specs.Chunks.{Chunks, held_at, owner_of, units_held}
@@ -48,22 +49,26 @@ use Rattle.heap_marking.proofs.SweptStart.{room_there, since_there}
 use Rattle.heap_marking.proofs.SweptUnits.{know, names_left}
 
 -- what goes with a task beside its heap
-abbrev frames_by : (h g : HeapOfCode) (n : ℕ) (x : Work) → (home_by h n x).frames ≡ (home_by g n x).frames
-frames_by h g n (Calls s) = refl
-frames_by h g n (Result k r) = refl
+abbrev frames_by : (h g : HeapOfCode) (view : List Level) (n : ℕ) (x : Work) → (home_by h view n x).frames ≡ (home_by g view n x).frames
+frames_by h g view n (Calls s) = refl
+frames_by h g view n (Result k r) = refl
 
-abbrev result_by : (h g : HeapOfCode) (n : ℕ) (x : Work) → (home_by h n x).result ≡ (home_by g n x).result
-result_by h g n (Calls s) = refl
-result_by h g n (Result k r) = refl
+abbrev result_by : (h g : HeapOfCode) (view : List Level) (n : ℕ) (x : Work) → (home_by h view n x).result ≡ (home_by g view n x).result
+result_by h g view n (Calls s) = refl
+result_by h g view n (Result k r) = refl
 
-abbrev count_by : (h g : HeapOfCode) (n : ℕ) (x : Work) → (home_by h n x).count ≡ (home_by g n x).count
-count_by h g n (Calls s) = refl
-count_by h g n (Result k r) = refl
+abbrev count_by : (h g : HeapOfCode) (view : List Level) (n : ℕ) (x : Work) → (home_by h view n x).count ≡ (home_by g view n x).count
+count_by h g view n (Calls s) = refl
+count_by h g view n (Result k r) = refl
+
+abbrev view_by : (h g : HeapOfCode) (view : List Level) (n : ℕ) (x : Work) → (home_by h view n x).view ≡ (home_by g view n x).view
+view_by h g view n (Calls s) = refl
+view_by h g view n (Result k r) = refl
 
 pub idle_home : (r : Rest) → (home_of r).begun ≡ None
 idle_home r = by r.work
   where
-    by : (x : Work) → (home_by r.heap r.allocations x).begun ≡ None
+    by : (x : Work) → (home_by r.heap r.view r.allocations x).begun ≡ None
     by (Calls s) = refl
     by (Result k b) = refl
 
@@ -212,7 +217,7 @@ module _ (w : World) (I : IsWorld w) (on : (accounts w).end ≡ None) (t : ℕ) 
         room = ap (λ (h : Home). h.room) home ∙ (room_there rest' ∙ (ap room_of heap_is
             ∙ (form.plain_room kept r.heap F (start.none w I on t free) (start.large w I on t free) a (start.names w I on t free).small (start.room w I on t free) (start.agree w I on t free none_left) ∙ sym (ap (λ (z : Account). z.room) account))));
         since = ap (λ (h : Home). h.since) home ∙ (since_there rest' ∙ (start.since w I on t free ∙ sym (ap (λ (z : Account). z.since) account)));
-        count = ap (λ (h : Home). h.count) home ∙ (count_by heap' r.heap r.allocations r.work ∙ (ap (λ (h : Home). h.count) (sym (start.here w I on t free))
+        count = ap (λ (h : Home). h.count) home ∙ (count_by heap' r.heap r.view r.allocations r.work ∙ (ap (λ (h : Home). h.count) (sym (start.here w I on t free))
             ∙ ((start.H w I on t free).count ∙ ap (λ (m : State). length (row_of (slice_get m.store t))) (sym machine))));
         owned = λ c i.
             let x = chunk_was c i in
@@ -234,8 +239,9 @@ module _ (w : World) (I : IsWorld w) (on : (accounts w).end ≡ None) (t : ℕ) 
             let x = was o i in
             let j : In (objects_in (chunks_of ks)) o = subst (λ os. In os o) objects_before x.0 in
             (x.0, in_from_holds a.snapshot o.name (sym (start.agree w I on t free none_left o j) ∙ x.1));
-        frames = ap (λ (h : Home). h.frames) home ∙ (frames_by heap' r.heap r.allocations r.work ∙ ap (λ (h : Home). h.frames) (sym (start.here w I on t free)));
-        result = ap (λ (h : Home). h.result) home ∙ (result_by heap' r.heap r.allocations r.work ∙ ap (λ (h : Home). h.result) (sym (start.here w I on t free)));
+        frames = ap (λ (h : Home). h.frames) home ∙ (frames_by heap' r.heap r.view r.allocations r.work ∙ ap (λ (h : Home). h.frames) (sym (start.here w I on t free)));
+        result = ap (λ (h : Home). h.result) home ∙ (result_by heap' r.heap r.view r.allocations r.work ∙ ap (λ (h : Home). h.result) (sym (start.here w I on t free)));
+        view = ap (λ (h : Home). h.view) home ∙ (view_by heap' r.heap r.view r.allocations r.work ∙ ap (λ (h : Home). h.view) (sym (start.here w I on t free)));
         others = off;
         owners = λ n u ne o. ap (λ (f : ℕ → Option ℕ). f n) owner ∙ owners n u ne o;
         owned = λ n u o. owned n u (ap (λ (f : ℕ → Option ℕ). f n) (sym owner) ∙ o);

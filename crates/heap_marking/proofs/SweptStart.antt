@@ -57,14 +57,14 @@ apart (Some x) a b = by x.status a b
 pub room_there : (r : Rest) → (home_of r).room ≡ room_of r.heap
 room_there r = by r.work
   where
-    by : (x : Work) → (home_by r.heap r.allocations x).room ≡ room_of r.heap
+    by : (x : Work) → (home_by r.heap r.view r.allocations x).room ≡ room_of r.heap
     by (Calls s) = refl
     by (Result n b) = refl
 
 pub since_there : (r : Rest) → (home_of r).since ≡ r.heap.since
 since_there r = by r.work
   where
-    by : (x : Work) → (home_by r.heap r.allocations x).since ≡ r.heap.since
+    by : (x : Work) → (home_by r.heap r.view r.allocations x).since ≡ r.heap.since
     by (Calls s) = refl
     by (Result n b) = refl
 

@@ -183,6 +183,7 @@ module _ (w : World) (k : ℕ) (p : Private) (I : IsWorld w) (F : Fits w k (reco
       chunks = λ u e. seen (λ (z : Home). length z.chunks) refl u;
       frames = λ u. seen (λ (z : Home). z.frames) refl u;
       result = λ u. seen (λ (z : Home). z.result) refl u;
+      view = λ u. seen (λ (z : Home). z.view) refl u;
       owner = owner_kept;
       taken = λ c u q. elim (owner_taken c u q) [
         | inl a ↦ inl a

@@ -151,6 +151,7 @@ module _ (w : World) (k : ℕ) (p : Private) (I : IsWorld w) (F : Fits w k (reco
       chunks = λ u e. refl;
       frames = λ u. refl;
       result = λ u. refl;
+      view = λ u. refl;
       owner = owner_kept;
       taken = owner_taken;
       begun = λ u q. refl;

@@ -247,6 +247,7 @@ module _ (w : World) (k : ℕ) (p : Private) (I : IsWorld w) (F : Fits w k (reco
       chunks = λ u e. refl;
       frames = λ u. refl;
       result = λ u. refl;
+      view = λ u. refl;
       owner = owner_kept;
       taken = owner_taken;
       begun = λ u e. refl;
@@ -417,6 +418,7 @@ module _ (w : World) (k : ℕ) (p : Private) (I : IsWorld w) (F : Fits w k (reco
       ];
       frames = λ u. seen (λ (z : Home). z.frames) refl u;
       result = λ u. seen (λ (z : Home). z.result) refl u;
+      view = λ u. seen (λ (z : Home). z.view) refl u;
       owner = owner_kept;
       taken = λ c u e. elim (owner_taken c u e) [
         | inl q ↦ inl q

@@ -141,6 +141,7 @@ module _ (w : World) (k : ℕ) (p : Private) (I : IsWorld w) (F : Fits w k (reco
     chunks = λ u e. refl;
     frames = λ u. refl;
     result = λ u. refl;
+    view = λ u. refl;
     owner = λ c u e. e;
     taken = λ c u e. inl e;
     begun = λ u e. refl;
@@ -208,6 +209,7 @@ module _ (w : World) (k : ℕ) (p : Private) (I : IsWorld w) (F : Fits w k (reco
     chunks = λ u e. seen (λ (z : Home). length z.chunks) refl u;
     frames = λ u. seen (λ (z : Home). z.frames) refl u;
     result = λ u. seen (λ (z : Home). z.result) refl u;
+    view = λ u. seen (λ (z : Home). z.view) refl u;
     owner = λ c u e. e;
     taken = λ c u e. inl e;
     begun = λ u e. seen (λ (z : Home). z.begun) refl u;

@@ -8,6 +8,7 @@ use Rattle.object_layout.specs.declared.word.Birth.{Birth}
 use Rattle.object_layout.specs.Cell.{Cell, size_of}
 use Rattle.object_layout.specs.Chunks.{cell_of}
 use Rattle.alloc_path.specs.Heap.{Heap, room_of}
+use Rattle.alloc_path.specs.View.{Level}
 use Rattle.hh_model.specs.declared.data.Name.{Name}
 use Rattle.run_ledger.specs.declared.data.Ledger.{Ledger}
 use Rattle.run_ledger.specs.Heaps.{heap_of}
@@ -40,13 +41,13 @@ use Rattle.shared_value.proofs.Measuring.{measured_written}
 use Rattle.shared_value.proofs.Rewritten.{chunks_elsewhere, chunks_put, chunks_same, form_written, room_written}
 
 -- a home whose heap alone changes
-home_written : (h h' : Heap) (count : ℕ) (x : Work) → room_of h' ≡ room_of h → h'.since ≡ h.since → home_by h' count x ≡ record (home_by h count x) { chunks = chunks_of h'.chunks }
-home_written h h' count (Calls s) er es = ap₂ (λ n m. record (home_by h count (Calls s)) { chunks = chunks_of h'.chunks; room = n; since = m }) er es
-home_written h h' count (Result k b) er es = ap₂ (λ n m. record (home_by h count (Result k b)) { chunks = chunks_of h'.chunks; room = n; since = m }) er es
+home_written : (h h' : Heap) (view : List Level) (count : ℕ) (x : Work) → room_of h' ≡ room_of h → h'.since ≡ h.since → home_by h' view count x ≡ record (home_by h view count x) { chunks = chunks_of h'.chunks }
+home_written h h' view count (Calls s) er es = ap₂ (λ n m. record (home_by h view count (Calls s)) { chunks = chunks_of h'.chunks; room = n; since = m }) er es
+home_written h h' view count (Result k b) er es = ap₂ (λ n m. record (home_by h view count (Result k b)) { chunks = chunks_of h'.chunks; room = n; since = m }) er es
 
-chunks_are : (h : Heap) (count : ℕ) (x : Work) → (home_by h count x).chunks ≡ chunks_of h.chunks
-chunks_are h count (Calls s) = refl
-chunks_are h count (Result k b) = refl
+chunks_are : (h : Heap) (view : List Level) (count : ℕ) (x : Work) → (home_by h view count x).chunks ≡ chunks_of h.chunks
+chunks_are h view count (Calls s) = refl
+chunks_are h view count (Result k b) = refl
 
 -- the homes of the tasks that no worker holds
 abbrev pub resting : Ledger → (ℕ → Home) → ℕ → Home
@@ -164,8 +165,8 @@ module _ (w : World) (k : ℕ) (p : Private) (I : IsWorld w) (F : Fits w k p) (o
       home_owner : v'.homes u ≡ changed ((value_of w).homes u)
       home_owner =
           ap home_in (ap flat (got_same w.homes u (Some r) (Some r') was_there))
-          ∙ (home_written r.heap r'.heap r.allocations r.work (room_written r.heap a d form mark size) refl
-          ∙ (ap (λ (ks : List Chunk). record (home_of r) { chunks = ks }) (chunks_changed ∙ ap (map (mapped_chunk (put_at a f))) (sym (chunks_are r.heap r.allocations r.work)))
+          ∙ (home_written r.heap r'.heap r.view r.allocations r.work (room_written r.heap a d form mark size) refl
+          ∙ (ap (λ (ks : List Chunk). record (home_of r) { chunks = ks }) (chunks_changed ∙ ap (map (mapped_chunk (put_at a f))) (sym (chunks_are r.heap r.view r.allocations r.work)))
           ∙ ap (λ o. changed (home_in o)) (sym O.there)))
 
       home_other : (z : ℕ) → (z ≡ t → ⊥) → (z ≡ u → ⊥) → Rests l z → v'.homes z ≡ changed ((value_of w).homes z)
@@ -202,16 +203,18 @@ module _ (w : World) (k : ℕ) (p : Private) (I : IsWorld w) (F : Fits w k p) (o
         | inr ne ↦ ap look (home_off z ne)
       ]
 
-      pub writes : ((o : Seen) → (f o).name ≡ o.name) → ((o : Seen) → (f o).at ≡ o.at) → ((o : Seen) → words (f o) ≡ words o) → ((z : ℕ) (s : Source) → In (sources (value_of w) z) s → In (sources v' z) s) → WritesAt old new t a f
-      writes same_name same_at same_words noted = record {
+      pub writes : ((o : Seen) → (f o).name ≡ o.name) → ((o : Seen) → (f o).at ≡ o.at) → ((o : Seen) → words (f o) ≡ words o) → ((o : Seen) → (f o).mutable ≡ o.mutable) → ((z : ℕ) (s : Source) → In (sources (value_of w) z) s → In (sources v' z) s) → WritesAt old new t a f
+      writes same_name same_at same_words same_kind noted = record {
         same_name = same_name;
         same_at = same_at;
         same_words = same_words;
+        same_kind = same_kind;
         chunks = each (λ x. x.chunks) (sym (chunks_elsewhere a f h.chunks none_own));
         room = each (λ x. x.room) refl;
         since = each (λ x. x.since) refl;
         count = each (λ x. x.count) refl;
         begun = each (λ x. x.begun) refl;
+        view = each (λ x. x.view) refl;
         frames = λ z ne. ap (λ (x : Home). x.frames) (home_off z ne);
         result = λ z ne. ap (λ (x : Home). x.result) (home_off z ne);
         owner = λ y. refl;
@@ -234,7 +237,7 @@ module _ (w : World) (k : ℕ) (p : Private) (I : IsWorld w) (F : Fits w k p) (o
       read_old o i at =
           let j : In (objects_in (resting l (value_of w).homes u).chunks) o = subst (λ (x : Home). In (objects_in x.chunks) o) (off_home v0 t h u O.apart) i in
           let k' : In (objects_in (home_in (rest_at w.homes u)).chunks) o = subst (λ (x : Home). In (objects_in x.chunks) o) (resting_is l (value_of w).homes u O.rests) j in
-          let m : In (objects_in (chunks_of r.heap.chunks)) o = subst (λ ks. In (objects_in ks) o) (chunks_are r.heap r.allocations r.work) (subst (λ x. In (objects_in (home_in x).chunks) o) O.there k') in
+          let m : In (objects_in (chunks_of r.heap.chunks)) o = subst (λ ks. In (objects_in ks) o) (chunks_are r.heap r.view r.allocations r.work) (subst (λ x. In (objects_in (home_in x).chunks) o) O.there k') in
           let y = seen_object r.heap.chunks o form.shaped.apart m in
           (y.birth, y.is ∙ ap (λ (z : Addr). seen o.at.chunk o.at.offset y.birth (cell_of r.heap.chunks z)) at)
 

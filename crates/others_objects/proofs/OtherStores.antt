@@ -146,7 +146,7 @@ module _ (w : World) (k : ℕ) (p : Private) (I : IsWorld w) (F : Fits w k p) (o
       stores_at = record {
         frames = ap (λ (y : Home). y.frames) (other.home_old w k p I F on n a O d refl size f (λ number at birth. refl) sets top);
         goes = ap (λ (y : Home). y.frames) (other.home_new w k p I F on n a O d refl size f (λ number at birth. refl) sets top) ∙ ap (λ (y : SeenFrame). y ∷ map frame_of p.frames.below) goes;
-        writes = other.writes w k p I F on n a O d refl size f (λ number at birth. refl) sets top (λ s. refl) (λ s. refl) (λ s. ap (λ m. 2 + m + length s.ints) (fields_of s))
+        writes = other.writes w k p I F on n a O d refl size f (λ number at birth. refl) sets top (λ s. refl) (λ s. refl) (λ s. ap (λ m. 2 + m + length s.ints) (fields_of s)) (λ s. refl)
             (λ z s j. noting.sources_grow w.tree w.pool w.sets sets a i overwritten value u O.place.chunk C z s j);
         down = down;
         only = only;
@@ -201,7 +201,7 @@ module _ (w : World) (k : ℕ) (p : Private) (I : IsWorld w) (F : Fits w k p) (o
       stores_number = record {
         frames = ap (λ (y : Home). y.frames) (other.home_old w k p I F on n a O d_number refl size_number f_number (λ number at birth. refl) w.sets top);
         goes = ap (λ (y : Home). y.frames) (other.home_new w k p I F on n a O d_number refl size_number f_number (λ number at birth. refl) w.sets top) ∙ ap (λ (y : SeenFrame). y ∷ map frame_of p.frames.below) goes;
-        writes = other.writes w k p I F on n a O d_number refl size_number f_number (λ number at birth. refl) w.sets top (λ s. refl) (λ s. refl) (λ s. ap (λ m. 2 + length s.refs + m) (length-set s.ints i number)) (λ z s j. j);
+        writes = other.writes w k p I F on n a O d_number refl size_number f_number (λ number at birth. refl) w.sets top (λ s. refl) (λ s. refl) (λ s. ap (λ m. 2 + length s.refs + m) (length-set s.ints i number)) (λ s. refl) (λ z s j. j);
         only = λ z s j. j;
       }
 

@@ -166,6 +166,7 @@ module _ (w : World) (k : ℕ) (p : Private) (I : IsWorld w) (F : Fits w k p) (s
       frames = ap (λ (z : Home). z.frames) here;
       result = ap (λ (z : Home). z.result) home_now;
       begun = ap (λ (z : Home). z.begun) home_now ∙ (sym (ap begun_of (last.none w k p I F shared free)) ∙ ap (λ (z : Home). z.begun) (sym here));
+      view = ap (λ (z : Home). z.view) home_now ∙ ap (λ (z : Home). z.view) (sym here);
       chunks = ap (λ (z : Home). z.chunks) home_now ∙ ap (λ (z : Home). z.chunks) (sym here);
       room = ap (λ (z : Home). z.room) home_now ∙ ap (λ (z : Home). z.room) (sym here);
       since = ap (λ (z : Home). z.since) home_now ∙ ap (λ (z : Home). z.since) (sym here);

@@ -155,6 +155,7 @@ module _ (w : World) (k : ℕ) (p q : Private) (n : ℕ) (I : IsWorld w) (F : Fi
     others = λ u ne. off_home v t (home_of_part Q) u ne ∙ sym (off_home v t (home_of_part p) u ne);
     owner = λ c. refl;
     sources = λ u. refl;
+    view = ap (λ (z : Home). z.view) here ∙ ap (λ (z : Home). z.view) (sym was);
     stays = stays;
   }
 

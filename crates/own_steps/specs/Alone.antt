@@ -91,7 +91,7 @@ Answered w after k p (BeyondAlone q) = IsBeyond w after p q
 
 -- what goes with a task whose last frame returned
 abbrev pub ended_rest : Private → Rest
-ended_rest p = record { work = Result (int_of p.frames.top 0) (ref_of p.frames.top 0); heap = p.heap; allocations = p.allocations }
+ended_rest p = record { work = Result (int_of p.frames.top 0) (ref_of p.frames.top 0); heap = p.heap; view = p.view; allocations = p.allocations }
 
 -- ---- what the next step does in the machine m: x is the task, and line the line that it takes
 abbrev pub SaysOf : ProgramText → State → ℕ → Task → Line → Ending → Type 0

@@ -28,6 +28,7 @@ pub fn at_end(part: Private) -> Rest
     Rest {
         work: Work::Result(result.0, result.1),
         heap: part.heap,
+        view: part.view,
         allocations: part.allocations,
     }
 }

@@ -88,6 +88,7 @@ same_value v l L m heaps homes = record {
   chunks = λ u e. refl;
   frames = λ u. refl;
   result = λ u. refl;
+  view = λ u. refl;
   owner = λ k u e. e;
   taken = λ k u e. inl e;
   begun = λ u e. refl;

@@ -13,7 +13,7 @@ use Rattle.run_ledger.specs.Heaps.{heap_of}
 use Rattle.run_ledger.specs.Sound.{SoundLedger}
 use Rattle.ledger_steps.specs.Accounts.{Rests, own}
 use Rattle.ledger_steps.proofs.Rested.{rested_worker}
-use Rattle.core_relation.specs.Value.{Begun, Home, In, Lies, Seen, Value, objects, objects_in}
+use Rattle.core_relation.specs.Value.{Begun, Home, In, Lies, Seen, Value, objects, objects_in, shown_at}
 use Rattle.core_relation.specs.Reads.{TaskIsRead}
 use Rattle.core_relation.specs.Stands.{Place, Stands}
 use Rattle.core_relation.specs.Begins.{IsReachedAt}
@@ -54,6 +54,7 @@ module _ (v : Value) (hs : ℕ → Home) (l : Ledger) (same : (u : ℕ) → Rest
     tasks = λ u x r e. subst (λ (h : Home). TaskIsRead (Place v' l) h x) (sym (same u r)) (task_kept (Place v l) (Place v' l) (v.homes u) x (λ n j. place n) (V.tasks u x r e));
     remembered = λ u o x i n r j e at. V.remembered u o x i n r (was u o r j) e at;
     sources = λ u s i. (let k = V.sources u s i in source_same l l refl v v' u s k (place k.name s.object k.place) refl k.kept);
+    views = λ u r live z o up ne rz i. ap (λ (h : Home). shown_at h.view o.at) (same u r) ∙ V.views u r live z o up ne rz (was z o rz i);
   }
 
   begun_held : (t : ℕ) → Rests l t → (b : Option Begun) → BegunBy v l t b → BegunBy v' l t b

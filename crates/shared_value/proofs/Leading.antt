@@ -71,7 +71,7 @@ rest_off homes z u x ne = ap flat (got_other homes z u x ne)
 pub home_chunks : (r : Rest) → (home_of r).chunks ≡ chunks_of r.heap.chunks
 home_chunks r = by r.work
   where
-    by : (x : Work) → (home_by r.heap r.allocations x).chunks ≡ chunks_of r.heap.chunks
+    by : (x : Work) → (home_by r.heap r.view r.allocations x).chunks ≡ chunks_of r.heap.chunks
     by (Calls s) = refl
     by (Result n b) = refl
 
@@ -125,9 +125,9 @@ module _ (ms : List (Addr × Addr)) where
       room : room_of (with_ref_of r.heap a k x) ≡ room_of r.heap
       room = room_written r.heap a (with_ref (cell_of r.heap.chunks a) k x) refl size
 
-      by : (w : Work) → home_by (with_ref_of r.heap a k x) r.allocations w ≡ mapped_home (put_at a (with_fields (with_ref (cell_of r.heap.chunks a) k x))) (home_by r.heap r.allocations w)
-      by (Calls s) = ap₂ (λ cs n. record (home_by r.heap r.allocations (Calls s)) { chunks = cs; room = n }) chunks room
-      by (Result n q) = ap₂ (λ cs m. record (home_by r.heap r.allocations (Result n q)) { chunks = cs; room = m }) chunks room
+      by : (w : Work) → home_by (with_ref_of r.heap a k x) r.view r.allocations w ≡ mapped_home (put_at a (with_fields (with_ref (cell_of r.heap.chunks a) k x))) (home_by r.heap r.view r.allocations w)
+      by (Calls s) = ap₂ (λ cs n. record (home_by r.heap r.view r.allocations (Calls s)) { chunks = cs; room = n }) chunks room
+      by (Result n q) = ap₂ (λ cs m. record (home_by r.heap r.view r.allocations (Result n q)) { chunks = cs; room = m }) chunks room
 
   -- ONE SOURCE
   module _ (H : Heaps) (Good : ℕ → Type 0) (F : AreFormed H Good) (s : Source) (T : SourceThere H s Good) where

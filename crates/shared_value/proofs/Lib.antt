@@ -18,6 +18,7 @@ pub mod Stepping
 pub mod Running
 pub mod Starting
 pub mod Cells
+pub mod Levels
 pub mod Linked
 pub mod Outlined
 pub mod CellLaws

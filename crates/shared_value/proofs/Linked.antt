@@ -1,12 +1,14 @@
 -- A part that fits the shared value fits the machine, with the addresses of the value's homes.
-use Rattle.std.proofs.Common.{◌≡◌, ℕ, ◌+◌, ◌<◌, ◌==◌, arith, Bool, true, false, cond, Option, Some, None, List, [], ◌∷◌, ◌++◌, length, map, nat_lt, replicate, slice_get, is_none, ◌⊎◌, inl, inr, refl, ap, sym, subst, ◌∙◌, eq-eqb, ne_eqb}
+use Rattle.std.proofs.Common.{◌≡◌, ℕ, ◌+◌, ◌<◌, ◌≤◌, ◌==◌, arith, Bool, true, false, cond, Option, Some, None, List, [], ◌∷◌, ◌++◌, length, map, nat_lt, replicate, slice_get, is_none, ◌⊎◌, inl, inr, refl, ap, sym, subst, ◌∙◌, eq-eqb, ne_eqb}
+use Rattle.std.specs.Prelude.{option_map}
 use Rattle.std.proofs.lemmas.Bool.{cases_eq, cond-true, cond-false, eqb-true, ltb-true, false≢true, both_ways}
 use Rattle.std.proofs.lemmas.Option.{same_Some}
 use Rattle.object_layout.specs.declared.word.Addr.{Addr}
 use Rattle.object_layout.specs.declared.word.Birth.{Birth}
-use Rattle.object_layout.specs.Cell.{Born}
+use Rattle.object_layout.specs.Cell.{Born, Cell}
 use Rattle.object_layout.specs.Chunks.{cell_of, place_in, place_of}
 use Rattle.object_layout.specs.Content.{Content}
+use Rattle.alloc_path.specs.View.{seen_at}
 use Rattle.hh_lang.specs.Form.{ProgramText}
 use Rattle.run_trace.specs.Settings.{field_limit}
 use Rattle.run_trace.specs.declared.entry.Kind.TheVariants.{Ran}
@@ -18,9 +20,10 @@ use Rattle.hh_model.specs.declared.data.Status.TheVariants.{Running, Waiting, En
 use Rattle.hh_model.specs.declared.data.Task.{Task}
 use Rattle.hh_model.specs.declared.data.State.{State}
 use Rattle.hh_model.specs.Effect.{object_at}
-use Rattle.hh_model.specs.Step.{is_joined, is_over, is_on_path, is_running, is_waiting, owner_of, run, run_from, runs, start, step, waits}
+use Rattle.hh_model.specs.Step.{is_joined, is_over, is_on_path, is_running, is_waiting, owner_of, parents, run, run_from, runs, start, step, waits}
 use Rattle.hh_model.proofs.Counts.{step_limit}
 use Rattle.hh_model.proofs.Kept.{Kept, step_kept, start_kept}
+use Rattle.hh_model.proofs.Paths.{path_along, path_le}
 use Rattle.run_ledger.specs.declared.data.Heap.{Heap}
 use Rattle.run_ledger.specs.declared.data.Ledger.{Ledger}
 use Rattle.run_ledger.specs.Heaps.{heap_of, let_go}
@@ -34,8 +37,8 @@ use Rattle.run_ledger.proofs.Sound.{SoundLedger}
 use Rattle.task_frames.specs.declared.frames.Frame.{Frame}
 use Rattle.task_machine.specs.declared.part.Private.{Private}
 use Rattle.task_machine.specs.Place.{AreAt, FrameStands, FramesStand, IsAt, birth_of, name_of}
-use Rattle.task_machine.specs.Fits.{FitsNow as FitsMachine, HeapStands, IsOwn, IsRun, StackStands}
-use Rattle.core_relation.specs.Value.{Chunk, Home, In, Lies, Seen, Value, objects, objects_in}
+use Rattle.task_machine.specs.Fits.{FitsNow as FitsMachine, HeapStands, IsOwn, IsRun, IsShownBy, StackStands}
+use Rattle.core_relation.specs.Value.{Chunk, Home, In, Lies, Seen, Value, as_shown, objects, objects_in, shown_at}
 use Rattle.core_relation.specs.Reads.{AllRead, FrameIsRead, FramesAreRead, HoldsRead, IsRead, Reads, TaskIsRead}
 use Rattle.core_relation.specs.Stands.{HomeStands, Place, Stands}
 use Rattle.ledger_steps.specs.Accounts.{Rests, own}
@@ -50,6 +53,7 @@ use Rattle.ledger_steps.proofs.Known.{legal_knows}
 use Rattle.core_relation.proofs.Members.{in_chunk, in_map}
 use Rattle.core_relation.proofs.Parts.{ahead_alone, ahead_sound}
 use Rattle.core_relation.proofs.Roots.{index_of}
+use Rattle.core_relation.proofs.Shown.{noted_mutable}
 use Rattle.ledger_steps.proofs.Tree.{leaf_alone}
 use Rattle.core_relation.proofs.With.{at_home, off_home}
 use Rattle.run_ledger.proofs.Going.{machine_goes_on}
@@ -63,6 +67,7 @@ use Rattle.shared_value.specs.Stands.{HeapForm, IsWorld}
 use Rattle.shared_value.specs.Fits.{Fits, home_of_part, part_of}
 use Rattle.shared_value.specs.Links.{FitsFirst, above_of, find_at}
 use Rattle.shared_value.proofs.Cells.{object_seen, seen_object}
+use Rattle.shared_value.proofs.Levels.{shown_found, shown_there}
 use Rattle.shared_value.proofs.Running.{fits_now, status}
 use Rattle.shared_value.proofs.Stepping.{After, after_all, hold_same}
 
@@ -157,7 +162,7 @@ rest_near : (o : Option Rest) → ((r : Rest) → o ≡ Some r → HeapForm r.he
 rest_near None h q i = absurd i
 rest_near (Some r) h q i = by r.work i
   where
-    by : (x : Work) → In (objects_in (home_by r.heap r.allocations x).chunks) q → q.at.offset < 1024
+    by : (x : Work) → In (objects_in (home_by r.heap r.view r.allocations x).chunks) q → q.at.offset < 1024
     by (Calls s) j = (h r refl).near q j
     by (Result n b) j = (h r refl).near q j
 
@@ -422,6 +427,73 @@ module _ (w : World) (k : ℕ) (p : Private) (I : IsWorld w) (F : Fits w k p) (o
     within = within;
   }
 
+  -- WHAT THE VIEW SHOWS
+  module _ (n : Name) (a : Addr) (there : above n ≡ Some a) (path : is_on_path L.machine.tasks (own L n) t ≡ true) where
+    abbrev u : ℕ
+    u = own l n
+
+    tells : (u ≡ t → ⊥) × Rests l u × (find_at (objects v u) n ≡ Some a)
+    tells = above_tells n a there
+
+    found : IsFound (objects v u) n a
+    found = found_is (objects v u) n a tells.2
+
+    abbrev q : Seen
+    q = found.object
+
+    in_then : In (objects v' u) q
+    in_then = subst (λ (z : Home). In (objects_in z.chunks) q) (sym (off u tells.0)) found.there
+
+    rest_then : Rests L u
+    rest_then = rests_then u tells.0 tells.1
+
+    above_now : is_on_path L.machine.tasks u t ≡ true
+    above_now = ap (λ z. is_on_path L.machine.tasks z t) (sym (own_same n)) ∙ path
+
+    view_shows : option_map (shown_there a) (seen_at p.view a) ≡ as_shown q
+    view_shows =
+        sym (shown_found p.view a)
+        ∙ (ap (λ (z : Home). shown_at z.view a) (sym here) ∙ (ap (shown_at (v'.homes t).view) (sym found.at) ∙ W.views t at_rest live u q above_now tells.0 rest_then in_then))
+
+    read : (x : Object) × (object_at L.machine.store q.name ≡ Some x) × IsRead (Place v' L) q x
+    read = W.contents u q rest_then in_then
+
+    -- an immutable object refers only up, so to what others own
+    ref_up : q.mutable ≡ false → (k : Name) → In read.0.refs (Some k) → is_on_path L.machine.tasks (own L k) u ≡ true
+    ref_up frozen k j =
+        let at = index_of read.0.refs (Some k) j in
+        elim (W.remembered u q read.0 at.0 k rest_then in_then read.1 at.1) [
+          | inl up ↦ up
+          | inr s ↦ absurd (both_ways q.mutable frozen (noted_mutable v' L (own L k) u q _ W in_then rest_then s refl))
+        ]
+
+    ref_placed : q.mutable ≡ false → (k : Name) → In read.0.refs (Some k) → (b : Addr) → Place v' L k b → above k ≡ Some b
+    ref_placed frozen k j b P =
+        let up = ref_up frozen k j in
+        let on : is_on_path L.machine.tasks (own L k) t ≡ true = path_along (parents L.machine.tasks) sound.kept.tree.low (own L k) u t up above_now in
+        let over : own L k ≤ u = path_le (parents L.machine.tasks) sound.kept.tree.low u (own L k) u up in
+        let under : u ≤ t = path_le (parents L.machine.tasks) sound.kept.tree.low t u t above_now in
+        let ne : own l k ≡ t → ⊥ = λ e. (let e' : own L k ≡ t = own_same k ∙ e in tells.0 (omega (arith, e', over, under))) in
+        sym (place_off k ne) ∙ place_is k b on P
+
+    shown_by : (o : Object) → read.0 ≡ o → (c : Option Cell) (b : Bool) → q.mutable ≡ b → option_map (shown_there a) c ≡ cond b None (Some q) → IsShownBy above o c
+    shown_by o e None true m s = ap (λ (z : Object). z.mutable) (sym e) ∙ (sym read.2.mutable ∙ m)
+    shown_by o e None false m s = absurd cc
+    shown_by o e (Some c) true m s = absurd cc
+    shown_by o e (Some c) false m s =
+        let is : shown_there a c ≡ q = same_Some (shown_there a c) q s in
+        let refs : AreAt above read.0.refs q.refs = are_at above q.refs read.0.refs (object_kept (Place v' L) (At above) q read.0 (λ k j b P. ref_placed m k j b P) read.2).refs in (
+          ap (λ (z : Object). z.mutable) (sym e) ∙ (sym read.2.mutable ∙ m),
+          record {
+            mutable = ap (λ (z : Seen). z.mutable) is ∙ (read.2.mutable ∙ ap (λ (z : Object). z.mutable) e);
+            refs = subst (λ (z : Object). AreAt above z.refs c.refs) e (subst (λ (z : Seen). AreAt above read.0.refs z.refs) (sym is) refs);
+            ints = ap (λ (z : Seen). z.ints) is ∙ (read.2.ints ∙ ap (λ (z : Object). z.ints) e);
+          },
+        )
+
+    shows : (o : Object) → object_at L.machine.store n ≡ Some o → IsShownBy above o (seen_at p.view a)
+    shows o e = shown_by o (same_Some read.0 o (sym read.1 ∙ (ap (object_at L.machine.store) found.name ∙ e))) (seen_at p.view a) q.mutable refl view_shows
+
   -- THE MACHINE
   started : l.machine ≡ run w.program (field_limit w.settings.version) (tasks_of w.journal.items)
   started = machine_is_run w.program w.settings w.journal.items
@@ -452,6 +524,7 @@ module _ (w : World) (k : ℕ) (p : Private) (I : IsWorld w) (F : Fits w k p) (o
     stack = stack;
     heap = heap;
     shape = F.form.shaped;
+    shown = λ n a o there path ne e. shows n a there path o e;
   }
 
   -- THE SECOND FITS GIVES THE FIRST

@@ -68,7 +68,7 @@ has_calls : (at : Name → Addr → Type 0) (o : Option Rest) (x : Task) → x.s
 has_calls at None x e h = absurd (subst (HoldsRead at (home_in None) x) e h)
 has_calls at (Some r) x e h = by r.work refl (subst (HoldsRead at (home_of r) x) e h)
   where
-    by : (k : Work) → r.work ≡ k → HoldsRead at (home_by r.heap r.allocations k) x Running → HasCalls (Some r)
+    by : (k : Work) → r.work ≡ k → HoldsRead at (home_by r.heap r.view r.allocations k) x Running → HasCalls (Some r)
     by (Calls s) q g = (s, q)
     by (Result n a) q g = absurd g
 
@@ -223,7 +223,7 @@ module _ (w : World) (k t : ℕ) (I : IsWorld w) (free : refused w (record { wor
       p = taken_part t w.settings.leaf (field_limit w.settings.version) r s
 
       home_is : v.homes t ≡ home_of_part p
-      home_is = ap home_in rest_is ∙ ap (home_by r.heap r.allocations) calls_is
+      home_is = ap home_in rest_is ∙ ap (home_by r.heap r.view r.allocations) calls_is
 
       pub took_part : Fits w' k p
       took_part = record {

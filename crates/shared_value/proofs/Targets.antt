@@ -32,7 +32,7 @@ use Rattle.shared_value.proofs.Running.{fits_now}
 pub home_chunks : (r : Rest) → (home_of r).chunks ≡ chunks_of r.heap.chunks
 home_chunks r = by r.work
   where
-    by : (x : Work) → (home_by r.heap r.allocations x).chunks ≡ chunks_of r.heap.chunks
+    by : (x : Work) → (home_by r.heap r.view r.allocations x).chunks ≡ chunks_of r.heap.chunks
     by (Calls s) = refl
     by (Result n b) = refl
 

@@ -20,7 +20,7 @@ use Rattle.shared_value.specs.World.{World, accounts, begun_of, frames_of, home_
 
 -- the home that a part holds, with the collection that it has begun
 abbrev pub home_of_part : Private → Home
-home_of_part p = record (home_with p.heap p.allocations (frames_of p.frames) (pos 0, None)) { begun = begun_of p.begun }
+home_of_part p = record (home_with p.heap p.view p.allocations (frames_of p.frames) (pos 0, None)) { begun = begun_of p.begun }
 
 -- with the limits of the settings
 abbrev pub part_of : Limits → Private → Part
@@ -59,4 +59,4 @@ IsAtWork (Result k r) = ⊥
 
 -- the part of a task that no worker held, without fresh steps
 abbrev pub taken_part : ℕ → ℕ → ℕ → Rest → Stack → Private
-taken_part task leaf_limit field_limit r s = record { task = task; frames = s; heap = r.heap; allocations = r.allocations; leaf_limit = leaf_limit; field_limit = field_limit; fresh = 0; begun = None }
+taken_part task leaf_limit field_limit r s = record { task = task; frames = s; heap = r.heap; view = r.view; allocations = r.allocations; leaf_limit = leaf_limit; field_limit = field_limit; fresh = 0; begun = None }

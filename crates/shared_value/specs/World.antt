@@ -9,6 +9,7 @@ use Rattle.run_ledger.specs.declared.data.RunEnd.{RunEnd}
 use Rattle.run_ledger.specs.Journals.{ledger_of}
 use Rattle.listed.specs.Space.{Space}
 use Rattle.alloc_path.specs.Heap.{Heap, room_of}
+use Rattle.alloc_path.specs.View.{Level}
 use Rattle.heap_tree.specs.declared.state.State.{State}
 use Rattle.heap_tree.specs.declared.state.State.TheVariants.{Ready, Out, Waiting, Ended, Joined}
 use Rattle.heap_tree.specs.Node.{Node}
@@ -25,7 +26,7 @@ use Rattle.core_relation.specs.Whole.{Ready as IsReady, Out as IsOut, Waits, Has
 use Rattle.shared_value.specs.declared.rest.Rest.{Rest}
 use Rattle.shared_value.specs.declared.rest.Work.{Work}
 use Rattle.shared_value.specs.declared.rest.Work.TheVariants.{Calls, Result}
-use Rattle.shared_value.specs.Objects.{chunks_of}
+use Rattle.shared_value.specs.Objects.{chunks_of, levels_of}
 
 pub record World : Type 0 where
   pub program : ProgramText
@@ -60,6 +61,7 @@ abbrev pub first_rest : ProgramText → ℕ → ℕ → Rest
 first_rest p slots spare = record {
   work = Calls (record { below = []; top = record { function = p.main; next = 0; ints = replicate 16 (pos 0); refs = replicate 16 None } });
   heap = record { chunks = []; current = None; reserved = None; since = 0; slots = slots; spare = spare };
+  view = [];
   allocations = 0;
 }
 
@@ -73,23 +75,32 @@ abbrev pub frames_of : Stack → List SeenFrame
 frames_of s = frame_of s.top ∷ map frame_of s.below
 
 abbrev pub no_home : Home
-no_home = record { chunks = []; room = 0; since = 0; count = 0; frames = []; result = (pos 0, None); begun = None }
+no_home = record { chunks = []; room = 0; since = 0; count = 0; frames = []; result = (pos 0, None); begun = None; view = [] }
 
 -- a leaf collection that a part has begun, if it has
 abbrev pub begun_of : Option BegunPart → Option Begun
 begun_of None = None
 begun_of (Some b) = Some (record { roots = b.roots; news = b.news })
 
--- a heap and a count of allocations, and the frames of a task at work
-abbrev pub home_with : Heap → ℕ → List SeenFrame → ℤ × Option Addr → Home
-home_with h count frames result = record { chunks = chunks_of h.chunks; room = room_of h; since = h.since; count = count; frames = frames; result = result; begun = None }
+-- a heap, a view and a count of allocations, and the frames of a task at work
+abbrev pub home_with : Heap → List Level → ℕ → List SeenFrame → ℤ × Option Addr → Home
+home_with h view count frames result = record {
+  chunks = chunks_of h.chunks;
+  room = room_of h;
+  since = h.since;
+  count = count;
+  frames = frames;
+  result = result;
+  begun = None;
+  view = levels_of view;
+}
 
-abbrev pub home_by : Heap → ℕ → Work → Home
-home_by h count (Calls s) = home_with h count (frames_of s) (pos 0, None)
-home_by h count (Result k r) = home_with h count [] (k, r)
+abbrev pub home_by : Heap → List Level → ℕ → Work → Home
+home_by h view count (Calls s) = home_with h view count (frames_of s) (pos 0, None)
+home_by h view count (Result k r) = home_with h view count [] (k, r)
 
 abbrev pub home_of : Rest → Home
-home_of r = home_by r.heap r.allocations r.work
+home_of r = home_by r.heap r.view r.allocations r.work
 
 abbrev pub flat : {A : Type 0} → Option (Option A) → Option A
 flat None = None

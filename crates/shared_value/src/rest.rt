@@ -4,7 +4,7 @@ ghost use Rattle.std.specs.Prelude.{◌≡◌, ◌<◌, None};
 ghost use Rattle.shared_value.specs.Fits.{taken_part, IsAtWork};
 ghost use Rattle.task_frames.specs.Stack.{Stack};
 
-use alloc_path::LeafHeap;
+use alloc_path::{LeafHeap, View};
 use object_layout::Addr;
 use task_frames::Frames;
 use task_machine::Private;
@@ -23,6 +23,8 @@ pub enum Work {
 pub struct Rest {
     pub work: Work,
     pub heap: LeafHeap,
+    /// What it sees of the heaps of the tasks above.
+    pub view: View,
     /// How many objects it has allocated.
     pub allocations: u32,
 }
@@ -39,6 +41,7 @@ pub fn opened(rest: Rest, task: u32, leaf_limit: u64, field_limit: u32) -> Priva
     let Rest {
         work,
         heap,
+        view,
         allocations,
     } = rest;
     let Work::Calls(frames) = work else {
@@ -48,6 +51,7 @@ pub fn opened(rest: Rest, task: u32, leaf_limit: u64, field_limit: u32) -> Priva
         task,
         frames,
         heap,
+        view,
         allocations,
         leaf_limit,
         field_limit,

@@ -40,7 +40,7 @@ module _ (p : ProgramText) (w : World) (k : ℕ) (c : Collecting) (G : GoesOn p 
 
   pub can_copy : CanCopy c.part.heap c.part.frames c.roots.items
   can_copy =
-      begun_can_copy w.program w.settings c.part.task c.part.heap c.part.allocations c.part.frames (record { roots = c.roots.items; news = map number_of news }) news (value_of w) (aside (accounts w)) M.fits.fits.task
+      begun_can_copy w.program w.settings c.part.task c.part.heap c.part.view c.part.allocations c.part.frames (record { roots = c.roots.items; news = map number_of news }) news (value_of w) (aside (accounts w)) M.fits.fits.task
       (begun w k c.part b news copying) M.fits.fits.is (status w k c.part G.world M.fits G.goes)
       (subst (λ ks. All (IsSound ks) (map as_reference c.roots.items)) (sym (ap (λ (q : Private). q.heap.chunks) M.begun.part)) M.begun.sound)
 

@@ -30,6 +30,7 @@ module _ (v : Value) (l : Ledger) where
     name = S.name;
     object = S.object;
     is = S.is;
+    mutable = S.mutable;
     place = place S.name s.object S.place;
     field = S.field;
     waits = S.waits;
@@ -48,4 +49,5 @@ module _ (v : Value) (l : Ledger) where
     tasks = λ t x r e. task_kept (Place v l) (Place v (aside l)) (v.homes t) x (λ n m a h. place n a h) (S.tasks t x r e);
     remembered = S.remembered;
     sources = λ t s i. source t s (S.sources t s i);
+    views = S.views;
   }

@@ -45,7 +45,7 @@ module _ (w : World) (k : ℕ) (before p : Private) (roots : List Addr) (to : To
 
   pub can_copy : CanCopy p.heap p.frames roots
   can_copy =
-      begun_can_copy w.program w.settings p.task p.heap p.allocations p.frames (record { roots = roots; news = map number_of news }) news (value_of w) (aside (accounts w)) F.fits.task (begun w k p b news copying) F.fits.is (status w k p I F on)
+      begun_can_copy w.program w.settings p.task p.heap p.view p.allocations p.frames (record { roots = roots; news = map number_of news }) news (value_of w) (aside (accounts w)) F.fits.task (begun w k p b news copying) F.fits.is (status w k p I F on)
       (subst (λ ks. All (IsSound ks) (map as_reference roots)) (sym (ap (λ (q : Private). q.heap.chunks) H.part)) H.sound)
 
   pub holds_copy : (h : Heap) (frames : Stack) (moved : Moved) → IsCollected p.heap p.frames roots news h frames moved → HoldsCopy w k (record p { heap = h; frames = frames }) moved

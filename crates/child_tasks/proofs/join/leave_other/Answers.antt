@@ -1,7 +1,8 @@
-use Rattle.std.proofs.Common.{◌≡◌, ◌<◌, ℤ, Option, Some, None, List, length, length-set, ap, sym, subst, ◌∙◌}
+use Rattle.std.proofs.Common.{◌≡◌, ◌<◌, ℤ, Option, Some, None, List, length, length-set, ap, ap₂, sym, subst, ◌∙◌}
 use Rattle.listed.proofs.Members.{got_other}
 use Rattle.object_layout.specs.declared.word.Addr.{Addr}
 use Rattle.alloc_path.specs.Heap.{Heap}
+use Rattle.alloc_path.specs.View.{Level}
 use Rattle.fork_join.specs.declared.sides.EndedChild.{EndedChild}
 use Rattle.shared_value.specs.declared.rest.Rest.{Rest}
 use Rattle.shared_value.specs.World.{flat, rest_at}
@@ -18,7 +19,7 @@ returns-clause-child c =
       c.new.result.slots,
       c.new.result.spare,
       ap (λ (hs : List (Option Rest)). rest_at hs c.args.t) c.set.ensures
-          ∙ (ap flat (put_there c.take_rest-rest.new.homes c.args.t _ (subst (λ n. c.args.t < n) (sym long) c.requires.made)) ∙ ap (λ (h : Heap). Some (record r { heap = h })) c.new.ensures),
+          ∙ (ap flat (put_there c.take_rest-rest.new.homes c.args.t _ (subst (λ n. c.args.t < n) (sym long) c.requires.made)) ∙ ap₂ (λ (h : Heap) (v : List Level). Some (record r { heap = h; view = v })) c.new.ensures c.none.ensures),
     )
 
 pub returns-clause-others : goal.returns-clause-others

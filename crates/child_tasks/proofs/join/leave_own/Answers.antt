@@ -1,6 +1,7 @@
-use Rattle.std.proofs.Common.{Option, Some, List, ap, ◌∙◌}
+use Rattle.std.proofs.Common.{Option, Some, List, ap, ap₂, ◌∙◌}
 use Rattle.listed.proofs.Members.{got_other}
 use Rattle.alloc_path.specs.Heap.{Heap}
+use Rattle.alloc_path.specs.View.{Level}
 use Rattle.shared_value.specs.declared.rest.Rest.{Rest}
 use Rattle.shared_value.specs.declared.rest.Work.TheVariants.{Calls}
 use Rattle.shared_value.specs.World.{flat, rest_at}
@@ -12,7 +13,7 @@ returns-clause-own c = (
   c.new.result.slots,
   c.new.result.spare,
   ap (λ (hs : List (Option Rest)). rest_at hs c.args.part.task) c.set.ensures
-      ∙ (ap flat (put_there c.args.homes.now c.args.part.task _ c.requires.made) ∙ ap (λ (h : Heap). Some (record { work = Calls c.args.part.frames; heap = h; allocations = c.args.part.allocations })) c.new.ensures),
+      ∙ (ap flat (put_there c.args.homes.now c.args.part.task _ c.requires.made) ∙ ap₂ (λ (h : Heap) (v : List Level). Some (record { work = Calls c.args.part.frames; heap = h; view = v; allocations = c.args.part.allocations })) c.new.ensures c.none.ensures),
 )
 
 pub returns-clause-others : goal.returns-clause-others

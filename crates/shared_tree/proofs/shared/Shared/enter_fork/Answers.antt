@@ -3,7 +3,6 @@ use Rattle.listed.specs.Space.{Space}
 use Rattle.run_trace.specs.Entry.{Event}
 use Rattle.heap_tree.specs.Node.{Node, depth_of, forked}
 use Rattle.fork_join.specs.declared.forks.Child.{Child}
-use Rattle.fork_join.specs.Forked.{new_child}
 use Rattle.write_barrier.specs.declared.sets.SetOf.{SetOf}
 use Rattle.task_machine.specs.declared.part.Private.{Private}
 use Rattle.shared_value.specs.declared.rest.Rest.{Rest}
@@ -11,7 +10,7 @@ use Rattle.shared_value.specs.Stands.{IsWorld}
 use Rattle.shared_value.specs.World.{World}
 use Rattle.shared_value.specs.Fits.{Fits}
 use Rattle.own_steps.specs.Alone.{alone_event}
-use Rattle.child_tasks.specs.Forks.{ForksOn, ForksTo, HomesFork, IsAtFork, SetsFork}
+use Rattle.child_tasks.specs.Forks.{ForksOn, ForksTo, HomesFork, IsAtFork, SetsFork, part_child}
 use Rattle.shared_value.specs.Entered.{refused}
 use Rattle.shared_tree.specs.contracts.shared.Shared.{the_view}
 use Rattle.own_steps.proofs.AloneEntries.{alone_small, next_small}
@@ -100,8 +99,8 @@ invariant_of-self-2 c =
     let low : depth_of w.tree p.task < 1000 = subst (λ (z : World). depth_of z.tree p.task < 1000) (sym c.self.view_is) c.requires.shallow in
     let I : IsWorld w = c.self.invariant in
     let made : p.task < length w.homes = own_home w k p I F at free c.args.left c.args.right c.args.line B low in
-    let first : c.in-Ok.first ≡ new_child (length w.homes) p.frames c.args.left c.in-Ok.first.heap.slots c.in-Ok.first.heap.spare = c.in-Ok.ensures.left_child ∙ ap (λ n. new_child n p.frames c.args.left c.in-Ok.first.heap.slots c.in-Ok.first.heap.spare) (sym I.made) in
-    let second : c.in-Ok.second ≡ new_child (length w.homes + 1) p.frames c.args.right c.in-Ok.second.heap.slots c.in-Ok.second.heap.spare = c.in-Ok.ensures.right_child ∙ ap (λ n. new_child (n + 1) p.frames c.args.right c.in-Ok.second.heap.slots c.in-Ok.second.heap.spare) (sym I.made) in
+    let first : c.in-Ok.first ≡ part_child p (length w.homes) c.args.left c.in-Ok.first.heap.slots c.in-Ok.first.heap.spare = c.in-Ok.ensures.left_child ∙ ap (λ n. part_child p n c.args.left c.in-Ok.first.heap.slots c.in-Ok.first.heap.spare) (sym I.made) in
+    let second : c.in-Ok.second ≡ part_child p (length w.homes + 1) c.args.right c.in-Ok.second.heap.slots c.in-Ok.second.heap.spare = c.in-Ok.ensures.right_child ∙ ap (λ n. part_child p (n + 1) c.args.right c.in-Ok.second.heap.slots c.in-Ok.second.heap.spare) (sym I.made) in
     let H : HomesFork w.homes c.put_homes.new.homes p c.args.left c.args.right = homes_fork_by w.homes c.grow-grown.new.homes c.put_homes.new.homes p c.args.left c.args.right c.in-Ok.first c.in-Ok.second made c.in-Ok.ensures.homes first second c.put_homes.ensures in
     let N : SetsFork w.sets c.fork_sets.new.sets.items p.task = subst (λ (xs : List SetOf). SetsFork xs c.fork_sets.new.sets.items p.task) c.in-Ok.ensures.sets c.fork_sets.ensures in
     let j : Space Event = record { items = []; room = w.journal.room - 1 } in
@@ -122,8 +121,8 @@ returns-clause-answered c =
     let low : depth_of w.tree p.task < 1000 = subst (λ (z : World). depth_of z.tree p.task < 1000) (sym c.self.view_is) c.requires.shallow in
     let I : IsWorld w = c.self.invariant in
     let made : p.task < length w.homes = own_home w k p I F at free c.args.left c.args.right c.args.line B low in
-    let first : c.in-Ok.first ≡ new_child (length w.homes) p.frames c.args.left c.in-Ok.first.heap.slots c.in-Ok.first.heap.spare = c.in-Ok.ensures.left_child ∙ ap (λ n. new_child n p.frames c.args.left c.in-Ok.first.heap.slots c.in-Ok.first.heap.spare) (sym I.made) in
-    let second : c.in-Ok.second ≡ new_child (length w.homes + 1) p.frames c.args.right c.in-Ok.second.heap.slots c.in-Ok.second.heap.spare = c.in-Ok.ensures.right_child ∙ ap (λ n. new_child (n + 1) p.frames c.args.right c.in-Ok.second.heap.slots c.in-Ok.second.heap.spare) (sym I.made) in
+    let first : c.in-Ok.first ≡ part_child p (length w.homes) c.args.left c.in-Ok.first.heap.slots c.in-Ok.first.heap.spare = c.in-Ok.ensures.left_child ∙ ap (λ n. part_child p n c.args.left c.in-Ok.first.heap.slots c.in-Ok.first.heap.spare) (sym I.made) in
+    let second : c.in-Ok.second ≡ part_child p (length w.homes + 1) c.args.right c.in-Ok.second.heap.slots c.in-Ok.second.heap.spare = c.in-Ok.ensures.right_child ∙ ap (λ n. part_child p (n + 1) c.args.right c.in-Ok.second.heap.slots c.in-Ok.second.heap.spare) (sym I.made) in
     let H : HomesFork w.homes c.put_homes.new.homes p c.args.left c.args.right = homes_fork_by w.homes c.grow-grown.new.homes c.put_homes.new.homes p c.args.left c.args.right c.in-Ok.first c.in-Ok.second made c.in-Ok.ensures.homes first second c.put_homes.ensures in
     let N : SetsFork w.sets c.fork_sets.new.sets.items p.task = subst (λ (xs : List SetOf). SetsFork xs c.fork_sets.new.sets.items p.task) c.in-Ok.ensures.sets c.fork_sets.ensures in
     let j : Space Event = record { items = []; room = w.journal.room - 1 } in

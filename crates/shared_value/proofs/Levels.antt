@@ -1,0 +1,88 @@
+-- The levels of a view as the relation has them: what a heap's level shows, and what lies at an address.
+use Rattle.std.proofs.Common.{◌≡◌, ℕ, ◌+◌, ◌==◌, ◌&&◌, Bool, true, false, not, cond, Option, Some, None, List, [], ◌∷◌, map, filter, refl, ap, ap₂, sym, ◌∙◌, eq-eqb}
+use Rattle.std.specs.Prelude.{option_map}
+use Rattle.std.specs.List.{find}
+use Rattle.std.specs.Option.{option_or}
+use Rattle.std.proofs.lemmas.Bool.{cond-true, cond-false, eqb-true, false≢true}
+use Rattle.std.proofs.lemmas.Option.{same_Some}
+use Rattle.object_layout.specs.declared.word.Addr.{Addr}
+use Rattle.object_layout.specs.declared.word.Birth.{Birth}
+use Rattle.object_layout.specs.Cell.{Born, Cell, Hole, Mark, Moved, size_of}
+use Rattle.object_layout.specs.Content.{Content}
+use Rattle.object_layout.specs.Piece.{Frozen, frozen_at, frozen_from, frozen_of, lasts}
+use Rattle.alloc_path.specs.View.{Level, level_of, nearest, piece_in}
+use Rattle.alloc_path.specs.View.{seen_at as view_at, seen_in as view_in}
+use Rattle.core_relation.specs.Value.{Chunk, Seen, chunk_of as chunk_among, frozen_chunk, frozen_chunks, is_at, seen_at, seen_in, shown_at}
+use Rattle.shared_value.specs.Objects.{birth_in, chunk_of, chunks_of, levels_of, objects_from, seen, seen_by, shown, shown_chunk}
+
+-- ---- THE LEVEL OF A HEAP
+
+abbrev kept : List Seen → List Seen
+kept os = filter (λ o. not o.mutable) os
+
+module _ (n at : ℕ) (c : Cell) (fs : List (ℕ × Cell)) (os : List Seen) (more : map (shown n) fs ≡ kept os) where
+  born : (b : Birth) → c.mark ≡ Born b → (x : Bool) → c.mutable ≡ x → map (shown n) (cond (not x) ((at, c) ∷ fs) fs) ≡ kept (seen n at b c ∷ os)
+  born b e true m = more ∙ sym (cond-false (not c.mutable) (seen n at b c ∷ kept os) (kept os) (ap not m))
+  born b e false m =
+      ap₂ (λ (y : Seen) ys. y ∷ ys) (ap (λ k. seen n at (birth_in k) c) e) more ∙ sym (cond-true (not c.mutable) (seen n at b c ∷ kept os) (kept os) (ap not m))
+
+  one_more : (k : Mark) → c.mark ≡ k → map (shown n) (cond (lasts k c.mutable) ((at, c) ∷ fs) fs) ≡ kept (seen_by n at c k os)
+  one_more (Born b) e = born b e c.mutable refl
+  one_more (Moved to) e = more
+  one_more Hole e = more
+
+-- it has what is immutable of the heap's objects
+objects_same : (n at : ℕ) (cs : List Cell) → map (shown n) (frozen_from at cs) ≡ kept (objects_from n at cs)
+objects_same n at [] = refl
+objects_same n at (c ∷ cs) = one_more n at c (frozen_from (at + size_of c) cs) (objects_from n (at + size_of c) cs) (objects_same n (at + size_of c) cs) c.mark refl
+
+pub level_is : (ks : List Content) → map shown_chunk (level_of ks) ≡ frozen_chunks (chunks_of ks)
+level_is [] = refl
+level_is (k ∷ ks) = ap₂ (λ y ys. let c : Chunk = record { number = k.number; units = 0; large = false; objects = y } in c ∷ ys) (objects_same k.number 0 k.cells) (level_is ks)
+
+-- ---- WHAT LIES AT AN ADDRESS
+
+chunk_found : (n : ℕ) (l : Level) → chunk_among (map shown_chunk l) n ≡ option_map shown_chunk (piece_in l n)
+chunk_found n [] = refl
+chunk_found n (f ∷ fs) = by (f.number == n) (chunk_found n fs)
+  where
+    by : (b : Bool) → chunk_among (map shown_chunk fs) n ≡ option_map shown_chunk (piece_in fs n) → cond b (Some (shown_chunk f)) (chunk_among (map shown_chunk fs) n) ≡ option_map shown_chunk (cond b (Some f) (piece_in fs n))
+    by true more = refl
+    by false more = more
+
+number_found : (n : ℕ) (l : Level) (f : Frozen) → piece_in l n ≡ Some f → f.number ≡ n
+number_found n [] f e = absurd cc
+number_found n (g ∷ gs) f e = by (g.number == n) refl e (number_found n gs f)
+  where
+    by : (b : Bool) → (g.number == n) ≡ b → cond b (Some g) (piece_in gs n) ≡ Some f → (piece_in gs n ≡ Some f → f.number ≡ n) → f.number ≡ n
+    by true q h more = ap (λ (z : Frozen). z.number) (sym (same_Some g f h)) ∙ eqb-true g.number n q
+    by false q h more = more h
+
+-- an object of a view, at an address
+abbrev pub shown_there : Addr → Cell → Seen
+shown_there a c = shown a.chunk (a.offset, c)
+
+module _ (n : ℕ) (a : Addr) (e : n ≡ a.chunk) (o : ℕ × Cell) (seen_then : Option Seen) (then_ : Option Cell) (more : seen_then ≡ option_map (shown_there a) then_) where
+  same_chunk : (x b : Bool) → x ≡ true → cond (x && b) (Some (shown n o)) seen_then ≡ cond b (Some (shown n o)) seen_then
+  same_chunk true b q = refl
+  same_chunk false b q = absurd (false≢true q)
+
+  one_found : (b : Bool) → (o.0 == a.offset) ≡ b → cond b (Some (shown n o)) seen_then ≡ option_map (shown_there a) (cond b (Some o.1) then_)
+  one_found true q = ap₂ (λ m k. Some (seen m k (birth_in o.1.mark) o.1)) e (eqb-true o.0 a.offset q)
+  one_found false q = more
+
+object_found : (n : ℕ) (a : Addr) (os : List (ℕ × Cell)) → n ≡ a.chunk → seen_at (map (shown n) os) a ≡ option_map (shown_there a) (frozen_at os a.offset)
+object_found n a [] e = refl
+object_found n a (o ∷ os) e =
+    same_chunk n a e o (seen_at (map (shown n) os) a) (frozen_at os a.offset) (object_found n a os e) (n == a.chunk) (o.0 == a.offset) (eq-eqb n a.chunk e)
+    ∙ one_found n a e o (seen_at (map (shown n) os) a) (frozen_at os a.offset) (object_found n a os e) (o.0 == a.offset) refl
+
+-- where the nearest level that has the chunk shows an object, so does the view
+pub shown_found : (ls : List Level) (a : Addr) → shown_at (levels_of ls) a ≡ option_map (shown_there a) (view_at ls a)
+shown_found [] a = refl
+shown_found (l ∷ ls) a = ap (λ k. seen_in k a (shown_at (levels_of ls) a)) (chunk_found a.chunk l) ∙ by (piece_in l a.chunk) refl (shown_found ls a)
+  where
+    by : (o : Option Frozen) → piece_in l a.chunk ≡ o → shown_at (levels_of ls) a ≡ option_map (shown_there a) (view_at ls a)
+        → seen_in (option_map shown_chunk o) a (shown_at (levels_of ls) a) ≡ option_map (shown_there a) (view_in (option_or o (nearest ls a.chunk)) a.offset)
+    by None e more = more
+    by (Some f) e more = object_found f.number a f.objects (number_found a.chunk l f e)
