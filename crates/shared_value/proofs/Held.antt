@@ -24,6 +24,7 @@ use Rattle.core_relation.specs.Whole.{BegunBy, StandsFor, Totals}
 use Rattle.core_relation.specs.Worker.{Fits as FitsValue}
 use Rattle.core_relation.proofs.Alone.{home_kept}
 use Rattle.core_relation.proofs.Carry.{object_kept, task_kept}
+use Rattle.core_relation.proofs.Giving.{gives_kept}
 use Rattle.core_relation.proofs.Notes.{notes_stay, same_whole}
 use Rattle.core_relation.proofs.Parts.{ahead_alone}
 use Rattle.core_relation.proofs.Rooted.{root_same}
@@ -55,6 +56,7 @@ module _ (v : Value) (hs : ℕ → Home) (l : Ledger) (same : (u : ℕ) → Rest
     remembered = λ u o x i n r j e at. V.remembered u o x i n r (was u o r j) e at;
     sources = λ u s i. (let k = V.sources u s i in source_same l l refl v v' u s k (place k.name s.object k.place) refl k.kept);
     views = λ u r live z o up ne rz i. ap (λ (h : Home). shown_at h.view o.at) (same u r) ∙ V.views u r live z o up ne rz (was z o rz i);
+    gives = λ u z r live up ne w rz. gives_kept v v' z u (ap (λ (h : Home). h.view) (same u r)) (ap (λ (h : Home). h.view) (same z rz)) (λ n o. o) (V.gives u z r live up ne w rz);
   }
 
   begun_held : (t : ℕ) → Rests l t → (b : Option Begun) → BegunBy v l t b → BegunBy v' l t b

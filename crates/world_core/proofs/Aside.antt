@@ -50,4 +50,5 @@ module _ (v : Value) (l : Ledger) where
     remembered = S.remembered;
     sources = λ t s i. source t s (S.sources t s i);
     views = S.views;
+    gives = S.gives;
   }
