@@ -1,0 +1,85 @@
+-- The laws of what tasks see.
+use Rattle.std.proofs.Common.{◌≡◌, ℕ, zero, suc, ◌<◌, ◌++◌, true, false, Some, None, List, [], ◌∷◌, ◌⊎◌, inl, inr, slice_get, refl, ap, sym, subst, ◌∙◌}
+use Rattle.std.proofs.lemmas.Option.{same_Some}
+use Rattle.listed.specs.Members.{In as InList}
+use Rattle.hh_lang.specs.Form.{ProgramText}
+use Rattle.hh_model.specs.declared.data.Name.{Name}
+use Rattle.hh_model.specs.declared.data.State.{State}
+use Rattle.hh_model.specs.Effect.{object_at}
+use Rattle.hh_model.specs.Names.{refs_of}
+use Rattle.hh_model.specs.Step.{run_from, start, step}
+use Rattle.hh_model.proofs.Carried.{named_from_in}
+use Rattle.hh_model.proofs.Frozen.{run_upward}
+use Rattle.hh_model.proofs.Objects.{objects_stay}
+use Rattle.run_trace.specs.Entry.{Event}
+use Rattle.run_trace.specs.Settings.{Limits}
+use Rattle.run_ledger.specs.declared.data.Ledger.{Ledger}
+use Rattle.run_ledger.specs.Journals.{ledger_of}
+use Rattle.run_ledger.specs.Sound.{Keeps, SoundLedger, collecting}
+use Rattle.run_ledger.specs.Steps.{task_steps}
+use Rattle.run_ledger.proofs.Steps.{task_steps_sound}
+use Rattle.ledger_steps.specs.Accounts.{Rests}
+use Rattle.ledger_steps.proofs.Known.{legal_knows}
+use Rattle.core_relation.specs.Value.{Chunk, In, Seen, Value, objects}
+use Rattle.core_relation.specs.Stands.{HomeStands}
+use Rattle.core_relation.proofs.Members.{in_chunk}
+use Rattle.task_machine.specs.Run.{Runs}
+use Rattle.shared_value.proofs.Linked as link
+use Rattle.view_laws.specs.Laws.{FrozenReferUp, FrozenStay, LeadTo, LevelsAreApart, ReadsStay, SeenNamesAreHeld}
+
+-- ---- IMMUTABLE OBJECTS
+
+run_on : (p : ProgramText) (ts more : List ℕ) (m : State) → run_from p m (ts ++ more) ≡ run_from p (run_from p m ts) more
+run_on p [] more m = refl
+run_on p (t ∷ ts) more m = run_on p ts more (step p m t)
+
+pub frozen_stay : FrozenStay
+frozen_stay p limit ts more n o is frozen =
+    let r = objects_stay p limit ts more n o is in
+    ap (λ (m : State). object_at m.store n) (run_on p ts more (start p limit)) ∙ (r.1 ∙ ap Some (r.2.frozen frozen))
+
+pub frozen_refer_up : FrozenReferUp
+frozen_refer_up p limit ts n k o is frozen at = run_upward p limit ts n k o is frozen at
+
+-- ---- HELD NAMES
+
+led_held : (l : Ledger) → SoundLedger l → (by : List Name) (n m : Name) → Keeps l.heaps n → LeadTo l.machine.store n by m → Keeps l.heaps m
+led_held l S [] n m k e = subst (Keeps l.heaps) e k
+led_held l S (x ∷ by) n m k d = led_held l S by x m (S.all.of_object n x k (subst (λ w. InList (refs_of w) x) (sym d.1) (named_from_in d.0.refs x d.2))) d.3
+
+steps_sound : (p : ProgramText) (l : Ledger) (t k : ℕ) → SoundLedger l → (k ≡ 0) ⊎ (collecting (slice_get l.heaps t) ≡ false) → SoundLedger (task_steps p l t k)
+steps_sound p l t k S (inl e) = subst (λ j. SoundLedger (task_steps p l t j)) (sym e) S
+steps_sound p l t k S (inr c) = (task_steps_sound p k l t (S, c)).0
+
+pub seen_names_are_held : SeenNamesAreHeld
+seen_names_are_held p s journal t k legal c x n m by is i leads =
+    let S : SoundLedger (task_steps p (ledger_of p s journal) t k) = steps_sound p (ledger_of p s journal) t k (legal_knows p s journal legal).sound c in
+    led_held (task_steps p (ledger_of p s journal) t k) S by n m (S.all.of_task t x n is i) leads
+
+-- ---- LEVELS
+
+-- the chunk in which an object of a home lies is its task's
+lies_own : (v : Value) (l : Ledger) (u : ℕ) (o : Seen) → HomeStands v l u → In (objects v u) o → v.owner o.at.chunk ≡ Some u
+lies_own v l u o H i =
+    let c = in_chunk (v.homes u).chunks o i in
+    ap v.owner (H.inside c.0 o c.1 c.2) ∙ H.owned c.0 c.1
+
+pub levels_are_apart : LevelsAreApart
+levels_are_apart v l t u V r live up ne w ru =
+    let G = V.gives t u r live up ne w ru in
+    record {
+      place = G.place;
+      behind = G.behind;
+      levels = λ i level o lt at has there. G.apart i o.at.chunk level lt at has (lies_own v l u o (V.homes u ru) there);
+      own = λ o has there.
+          let mine : v.owner o.at.chunk ≡ Some t = ap v.owner (sym has.2) ∙ (V.homes t r).owned has.0 has.1 in
+          ne (same_Some u t (sym (lies_own v l u o (V.homes u ru) there) ∙ mine));
+    }
+
+-- ---- READS
+
+pub reads_stay : ReadsStay
+reads_stay w after k other p q n I J on goes same others ne F R = (
+  R _ _ (link.second_gives_first w k p I F on),
+  subst (λ (z : ProgramText). Runs z p n q) (sym same) R _ _ (link.second_gives_first after k p J (others k p ne F) goes),
+)

@@ -1,0 +1,82 @@
+-- What tasks see of the heaps above them: what they see is never written and refers only up; all of it is held; no level is hidden
+-- where it would be looked up; and reads of it come to the same whatever others do.
+use Rattle.std.specs.Prelude.{◌≡◌, ◌≢◌, ◌⊎◌, ℕ, suc, ◌<◌, ◌++◌, true, false, Some, None, List, [], ◌∷◌, drop, slice_get}
+use Rattle.listed.specs.Members.{In as InList}
+use Rattle.hh_lang.specs.Form.{ProgramText}
+use Rattle.hh_model.specs.declared.data.Name.{Name}
+use Rattle.hh_model.specs.declared.data.Object.{Object}
+use Rattle.hh_model.specs.declared.data.State.{State}
+use Rattle.hh_model.specs.declared.data.Task.{Task}
+use Rattle.hh_model.specs.Effect.{object_at}
+use Rattle.hh_model.specs.Names.{task_names}
+use Rattle.hh_model.specs.Step.{is_joined, is_on_path, is_waiting, owner_of, run}
+use Rattle.run_trace.specs.Entry.{Event}
+use Rattle.run_trace.specs.Settings.{Limits}
+use Rattle.run_ledger.specs.declared.data.Ledger.{Ledger}
+use Rattle.run_ledger.specs.Journals.{is_legal, ledger_of}
+use Rattle.run_ledger.specs.Sound.{Keeps, collecting}
+use Rattle.run_ledger.specs.Steps.{task_steps}
+use Rattle.ledger_steps.specs.Accounts.{Rests}
+use Rattle.core_relation.specs.Value.{Chunk, In, Seen, Value, objects}
+use Rattle.core_relation.specs.Stands.{HasNumber, Stands}
+use Rattle.task_machine.specs.declared.part.Private.{Private}
+use Rattle.task_machine.specs.Run.{Ran, Runs}
+use Rattle.shared_value.specs.World.{World, accounts, value_of}
+use Rattle.shared_value.specs.Stands.{IsWorld}
+use Rattle.shared_value.specs.Fits.{Fits, OthersFit, beyond}
+use Rattle.shared_value.specs.Links.{above_of}
+
+-- ---- IMMUTABLE OBJECTS
+
+-- whatever steps follow, such an object stays as it is
+abbrev pub FrozenStay : Type 0
+FrozenStay =
+    (p : ProgramText) (limit : ℕ) (ts more : List ℕ) (n : Name) (o : Object) → object_at (run p limit ts).store n ≡ Some o → o.mutable ≡ false → object_at (run p limit (ts ++ more)).store n ≡ Some o
+
+-- and the owner of each object that it refers to stands on its owner's path
+abbrev pub FrozenReferUp : Type 0
+FrozenReferUp =
+    (p : ProgramText) (limit : ℕ) (ts : List ℕ) (n k : Name) (o : Object) → let m : State = run p limit ts in
+    object_at m.store n ≡ Some o → o.mutable ≡ false → InList o.refs (Some k) → is_on_path m.tasks (owner_of m.tasks k.task) (owner_of m.tasks n.task) ≡ true
+
+-- ---- HELD NAMES
+
+-- references lead from the one name to the other by way of these, one after another
+abbrev pub LeadTo : List (List Object) → Name → List Name → Name → Type 0
+LeadTo store n [] k = n ≡ k
+LeadTo store n (m ∷ ms) k = (o : Object) × (object_at store n ≡ Some o) × InList o.refs (Some m) × LeadTo store m ms k
+
+-- after a legal journal and further steps of a task, none or any where it is amid no leaf collection, some heap's account has each
+-- name to which references lead from those that the task holds
+abbrev pub SeenNamesAreHeld : Type 0
+SeenNamesAreHeld =
+    (p : ProgramText) (s : Limits) (journal : List Event) (t k : ℕ) → is_legal p s journal ≡ true → (k ≡ 0) ⊎ (collecting (slice_get (ledger_of p s journal).heaps t) ≡ false)
+    → let l : Ledger = task_steps p (ledger_of p s journal) t k in
+    (x : Task) (n m : Name) (by : List Name) → slice_get l.machine.tasks t ≡ Some x → InList (task_names x) n → LeadTo l.machine.store n by m → Keeps l.heaps m
+
+-- ---- LEVELS
+
+-- u, which waits above t, has given a level of its view, behind which stand just those that u sees; an object of u's lies in no
+-- chunk that a nearer level has, and in none of t's own
+pub record IsApart (v : Value) (u t : ℕ) : Type 0 where
+  pub place : ℕ
+  pub behind : drop (suc place) (v.homes t).view ≡ (v.homes u).view
+  pub levels : (i : ℕ) (level : List Chunk) (o : Seen) → i < place → slice_get (v.homes t).view i ≡ Some level → HasNumber level o.at.chunk → In (objects v u) o → ⊥
+  pub own : (o : Seen) → HasNumber (v.homes t).chunks o.at.chunk → In (objects v u) o → ⊥
+
+abbrev pub LevelsAreApart : Type 0
+LevelsAreApart =
+    (v : Value) (l : Ledger) (t u : ℕ) → Stands v l → Rests l t → is_joined (slice_get l.machine.tasks t) ≡ false
+    → is_on_path l.machine.tasks u t ≡ true → u ≢ t → is_waiting (slice_get l.machine.tasks u) ≡ true → Rests l u → IsApart v u t
+
+-- ---- READS
+
+-- the steps that made q of p are those of the machine after this journal
+abbrev pub AreSteps : World → Private → ℕ → Private → Type 0
+AreSteps w p n q = Ran w.program p (beyond w.program (accounts w) p).machine (above_of (value_of w) (accounts w) p.task) n q
+
+-- so they are before and after an entry of another worker
+abbrev pub ReadsStay : Type 0
+ReadsStay =
+    (w after : World) (k other : ℕ) (p q : Private) (n : ℕ) → IsWorld w → IsWorld after → (accounts w).end ≡ None → (accounts after).end ≡ None → after.program ≡ w.program
+    → OthersFit w after other → k ≢ other → Fits w k p → Runs w.program p n q → AreSteps w p n q × AreSteps after p n q

@@ -1,0 +1,6 @@
+// What tasks see of the heaps above them stays as they see it.
+#![tactic(auto)]
+
+mod laws;
+
+pub use laws::{frozen_refer_up, frozen_stay, levels_are_apart, reads_stay, seen_names_are_held};
