@@ -22,8 +22,8 @@ use Rattle.copied_part.specs.Handed.{IsCopying}
 use Rattle.copied_part.proofs.Beginning.{begun_is_copying}
 use Rattle.copied_part.proofs.Handing.{begun, copied_fits}
 use Rattle.copied_part.proofs.Saying.{begun_can_copy}
-use Rattle.worker_run.specs.declared.held.Collecting.{Collecting}
-use Rattle.worker_run.specs.Parts.{GoesOn, MayCopy}
+use Rattle.turn_entries.specs.declared.held.Collecting.{Collecting}
+use Rattle.turn_entries.specs.Parts.{GoesOn, MayCopy}
 
 module _ (p : ProgramText) (w : World) (k : ℕ) (c : Collecting) (G : GoesOn p w) (M : MayCopy w k c) where
   abbrev news : List Content

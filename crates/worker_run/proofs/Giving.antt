@@ -13,21 +13,21 @@ use Rattle.task_machine.specs.declared.part.Private.{Private}
 use Rattle.turn_lock.specs.Journal.{entries_by}
 use Rattle.turn_lock.specs.Seats.{view, Extends, GaveOne, HasNoTurn, HasTurn, IsAlike, Knows, SameWorker, own_entries, with_given, with_taken}
 use Rattle.turn_lock.proofs.Laws.{own_of_taken}
-use Rattle.worker_run.specs.declared.act.Acted.TheVariants.{Entered, Same}
+use Rattle.turn_entries.specs.declared.act.Acted.TheVariants.{Entered, Same}
 use Rattle.worker_run.specs.declared.desk.Desk.{Desk}
-use Rattle.worker_run.specs.declared.held.Collecting.{Collecting}
-use Rattle.worker_run.specs.declared.held.Copied.{Copied}
-use Rattle.worker_run.specs.declared.held.Next.{Next}
-use Rattle.worker_run.specs.declared.held.Next.TheVariants.{Running, Collecting as Collects, Copied as HasCopied, Found as GoesFor, Forked, Resumed, Idle, Waits, Stop}
-use Rattle.worker_run.specs.declared.held.Ready.{Ready}
-use Rattle.worker_run.specs.declared.held.Ready.TheVariants.{Paused as HasPaused, Copied as IsCopied, Found, Wanting}
-use Rattle.worker_run.specs.declared.run.Run.{Run}
-use Rattle.worker_run.specs.declared.run.Setup.{Setup}
-use Rattle.worker_run.specs.Acts.{Acts, Follows, WhyNone}
+use Rattle.turn_entries.specs.declared.held.Collecting.{Collecting}
+use Rattle.turn_entries.specs.declared.held.Copied.{Copied}
+use Rattle.turn_entries.specs.declared.held.Next.{Next}
+use Rattle.turn_entries.specs.declared.held.Next.TheVariants.{Running, Collecting as Collects, Copied as HasCopied, Found as GoesFor, Forked, Resumed, Idle, Waits, Stop}
+use Rattle.turn_entries.specs.declared.held.Ready.{Ready}
+use Rattle.turn_entries.specs.declared.held.Ready.TheVariants.{Paused as HasPaused, Copied as IsCopied, Found, Wanting}
+use Rattle.turn_entries.specs.declared.run.Run.{Run}
+use Rattle.turn_entries.specs.declared.run.Setup.{Setup}
+use Rattle.turn_entries.specs.Acts.{Acts, Follows, WhyNone}
 use Rattle.worker_run.specs.Desks.{GivesOne, HasEntry, HasGiven, HasStopped, IsDesk, SameDesk, TakesTurn, entries_of}
-use Rattle.worker_run.specs.Parts.{BringsTo, ComesWith, GoesWith, Keeps, Sight, TakesFrom, WasCopied}
-use Rattle.worker_run.specs.Values.{EntersOne, FitsKept, IsSame, is_over, journal_of, setup_of, worker_of}
-use Rattle.worker_run.proofs.Turning.{ended_over}
+use Rattle.turn_entries.specs.Parts.{BringsTo, ComesWith, GoesWith, Keeps, Sight, TakesFrom, WasCopied}
+use Rattle.turn_entries.specs.Values.{EntersOne, FitsKept, IsSame, is_over, journal_of, setup_of, worker_of}
+use Rattle.turn_entries.proofs.Turning.{ended_over}
 
 some_one : {A : Type 0} (a b : A) → Some a ≡ Some b → a ≡ b
 some_one a b e = ap (λ o. unwrap_or o a) e

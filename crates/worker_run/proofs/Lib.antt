@@ -1,9 +1,3 @@
-mod Turning
-mod Coming
-mod Paying
-mod Going
-mod Stepping
 mod Copying
 mod Rows
 mod Giving
-mod Free

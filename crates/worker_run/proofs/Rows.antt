@@ -19,12 +19,12 @@ use Rattle.turn_lock.specs.Journal.{entries_by}
 use Rattle.turn_lock.specs.Seats.{view, HasNoTurn, HasOwnEntries, SameWorker, own_entries, AreNewSeats, AreAllSeats, IsLeftBy}
 use Rattle.turn_lock.proofs.Laws.{first_there, new_are_all, kept_are_all}
 use Rattle.worker_run.specs.declared.desk.Desk.{Desk}
-use Rattle.worker_run.specs.declared.run.Run.{Run}
-use Rattle.worker_run.specs.declared.run.Setup.{Setup}
+use Rattle.turn_entries.specs.declared.run.Run.{Run}
+use Rattle.turn_entries.specs.declared.run.Setup.{Setup}
 use Rattle.worker_run.specs.Desks.{AreAllDesks, AreHands, AreNewDesks, HasOfEach, HaveStopped, IsDesk, SameDesk, entries_of}
 use Rattle.worker_run.specs.Outcomes.{IsRun, WasGivenBack}
-use Rattle.worker_run.specs.Parts.{Sight}
-use Rattle.worker_run.specs.Values.{FitsKept, journal_of, setup_of, worker_of}
+use Rattle.turn_entries.specs.Parts.{Sight}
+use Rattle.turn_entries.specs.Values.{FitsKept, journal_of, setup_of, worker_of}
 
 abbrev pub Chair : Type 0
 Chair = Seat (Option Run) Sight

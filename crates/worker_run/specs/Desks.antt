@@ -9,14 +9,14 @@ use Rattle.steal_scheduler.specs.declared.hand.Hand.{Hand}
 use Rattle.steal_scheduler.specs.Hands.{thefts}
 use Rattle.turn_lock.specs.Journal.{entries_by}
 use Rattle.turn_lock.specs.Seats.{view, own_entries, AreAllSeats, HasNoTurn, HasTurn, Knows, SameWorker}
-use Rattle.worker_run.specs.declared.act.Acted.TheVariants.{Entered, Same}
+use Rattle.turn_entries.specs.declared.act.Acted.TheVariants.{Entered, Same}
 use Rattle.worker_run.specs.declared.desk.Desk.{Desk}
-use Rattle.worker_run.specs.declared.held.Next.{Next}
-use Rattle.worker_run.specs.declared.held.Ready.{Ready}
+use Rattle.turn_entries.specs.declared.held.Next.{Next}
+use Rattle.turn_entries.specs.declared.held.Ready.{Ready}
 use Rattle.shared_value.specs.Stands.{IsWorld}
-use Rattle.worker_run.specs.declared.run.Run.{Run}
-use Rattle.worker_run.specs.Acts.{Acts}
-use Rattle.worker_run.specs.Values.{journal_of, setup_of, worker_of, is_over, EntersOne, FitsKept}
+use Rattle.turn_entries.specs.declared.run.Run.{Run}
+use Rattle.turn_entries.specs.Acts.{Acts}
+use Rattle.turn_entries.specs.Values.{journal_of, setup_of, worker_of, is_over, EntersOne, FitsKept}
 
 -- the entries of its own that the desk's seat has seen
 abbrev pub entries_of : Desk → List Event

@@ -1,6 +1,2 @@
-pub mod Values
-pub mod Parts
-pub mod Next
-pub mod Acts
 pub mod Desks
 pub mod Outcomes

@@ -1,8 +1,8 @@
 //! The desks of the workers.
 
-use crate::run::Run;
 use run_trace::Settings;
 use steal_scheduler::Hand;
+use turn_entries::Run;
 use turn_lock::Seat;
 
 /// A worker's place at a run: its seat at the turn and its hand at the deques.

@@ -1,14 +1,14 @@
 //! What a worker does outside the turn, on values that it owns.
 ghost use Rattle.std.specs.Prelude.{◌≡◌};
 ghost use Rattle.hh_lang.specs.Form.{ProgramText};
-ghost use Rattle.worker_run.specs.Parts.{AtSome, GrowsTo, MayCopy, MayRun, WasCopied};
+ghost use Rattle.turn_entries.specs.Parts.{AtSome, GrowsTo, MayCopy, MayRun, WasCopied};
 
-use crate::held::{Collecting, Copied, Ready};
 use hh_lang::Program;
 use leaf_copy_gc::copy;
 use outside_io::Gate;
 use std::snapshot::Snapshot;
 use task_machine::{Private, run_local};
+use turn_entries::{Collecting, Copied, Ready};
 
 // The most private steps of one entry.
 const MOST_STEPS: u32 = 256;

@@ -4,16 +4,14 @@ ghost use Rattle.shared_value.specs.Fits.{Fits};
 ghost use Rattle.turn_lock.specs.Seats.{view};
 ghost use Rattle.turn_lock.specs.Turn.{identity};
 ghost use Rattle.worker_run.specs.Desks.{GivesOne, HasEntry, HasGiven, IsDesk, SameDesk, TakesTurn};
-ghost use Rattle.worker_run.specs.Parts.{ComesWith, GoesWith, TakesFrom};
+ghost use Rattle.turn_entries.specs.Parts.{ComesWith, GoesWith, TakesFrom};
 
-use crate::act::Acted;
 use crate::desk::Desk;
-use crate::held::{Next, Ready};
-use crate::run::Run;
 use hh_lang::Program;
 use std::snapshot::Snapshot;
 use std::sync::Wait;
 use task_machine::Private;
+use turn_entries::{Acted, Next, Ready, Run};
 use turn_lock::Turn;
 
 // Gives the value back with the entry that was made; the worker keeps the part.

@@ -8,7 +8,6 @@ ghost use Rattle.worker_run.specs.Outcomes.{finish_of, IsRun, WasGivenBack};
 use crate::bell::Bell;
 use crate::desk::Desk;
 use crate::end::{Finish, Outcome};
-use crate::run::Run;
 use crate::working::work;
 use hh_lang::Program;
 use outside_io::Gate;
@@ -20,6 +19,7 @@ use std::sync::Wait;
 use std::thread;
 use std::thread::Threads;
 use steal_scheduler::{Deques, Hand};
+use turn_entries::Run;
 use turn_lock::{Seat, Turn};
 
 /// Each worker works at its desk in a thread of its own, until the run is over.

@@ -3,18 +3,17 @@ ghost use Rattle.std.specs.Prelude.{◌≡◌, IfNone, IfSome};
 ghost use Rattle.turn_lock.specs.Seats.{view};
 ghost use Rattle.turn_lock.specs.Turn.{identity};
 ghost use Rattle.worker_run.specs.Desks.{ChangesHand, FewThefts, HasStopped, IsDesk, SameDesk};
-ghost use Rattle.worker_run.specs.Parts.{BringsNothing, ComesWith, GoesWith};
+ghost use Rattle.turn_entries.specs.Parts.{BringsNothing, ComesWith, GoesWith};
 
 use crate::bell::Bell;
 use crate::desk::Desk;
-use crate::held::{Next, Ready};
 use crate::local::{copy_part, run_part};
-use crate::run::Run;
 use crate::tasks::{find, put, put_both};
 use crate::turn::take_turn;
 use hh_lang::Program;
 use outside_io::{Gate, Point};
 use std::sync::Wait;
+use turn_entries::{Next, Ready, Run};
 use turn_lock::Turn;
 
 // The worker looks for a task.

@@ -5,11 +5,11 @@ use Rattle.hh_lang.specs.Form.{ProgramText}
 use Rattle.run_trace.specs.Settings.{Limits}
 use Rattle.turn_lock.specs.Seats.{view}
 use Rattle.worker_run.specs.declared.desk.Desk.{Desk}
-use Rattle.worker_run.specs.declared.held.Next.{Next}
-use Rattle.worker_run.specs.declared.held.Next.TheVariants.{Running, Collecting as Collects, Copied as HasCopied, Found as GoesFor, Forked, Resumed, Idle, Waits, Stop}
-use Rattle.worker_run.specs.declared.held.Ready.{Ready}
+use Rattle.turn_entries.specs.declared.held.Next.{Next}
+use Rattle.turn_entries.specs.declared.held.Next.TheVariants.{Running, Collecting as Collects, Copied as HasCopied, Found as GoesFor, Forked, Resumed, Idle, Waits, Stop}
+use Rattle.turn_entries.specs.declared.held.Ready.{Ready}
 use Rattle.worker_run.specs.Desks.{AreAllDesks, ChangesHand, IsDesk}
-use Rattle.worker_run.specs.Parts.{ComesWith, GoesWith, Sight}
+use Rattle.turn_entries.specs.Parts.{ComesWith, GoesWith, Sight}
 
 -- where the worker's seat keeps the same part, it may go on so as before
 pub goes_still : (p : ProgramText) (k : ℕ) (v w : Sight) (next : Next) → w.part ≡ v.part → GoesWith p k v next → GoesWith p k w next

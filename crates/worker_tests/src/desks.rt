@@ -3,7 +3,7 @@ ghost use Rattle.std.specs.Prelude.{IfSome};
 ghost use Rattle.turn_lock.specs.Seats.{view};
 ghost use Rattle.turn_lock.specs.Turn.{identity};
 ghost use Rattle.worker_run.specs.Desks.{AreAllDesks, ChangesHand, FewThefts, IsDesk};
-ghost use Rattle.worker_run.specs.Parts.{ComesWith, GoesWith};
+ghost use Rattle.turn_entries.specs.Parts.{ComesWith, GoesWith};
 
 use hh_lang::Program;
 use hh_model::End;

@@ -1,7 +1,7 @@
 use Rattle.std.proofs.Common.{◌≡◌, ◌-◌, ◌+◌, ◌≤◌, ◌∙◌, arith}
 use Rattle.task_machine.specs.declared.part.Paused.{Paused}
 use Rattle.task_machine.specs.declared.part.Paused.TheVariants.{Spent}
-use Rattle.worker_run.proofs.Stepping.{few_then, fits_some, grows}
+use Rattle.turn_entries.proofs.Stepping.{few_then, fits_some, grows}
 use Rattle.worker_run.proofs.local.run_part.Goals as goal
 
 pub run_local-requires-clause-fits : goal.run_local-requires-clause-fits

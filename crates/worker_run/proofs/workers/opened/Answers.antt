@@ -1,8 +1,8 @@
 use Rattle.std.proofs.Common.{rules, ◌≡◌, ◌<◌, ◌^◌, Some, refl, sym, ap, ◌∙◌, arith}
 use Rattle.turn_lock.specs.Seats.{opening_view}
 use Rattle.turn_lock.specs.Turn.{identity}
-use Rattle.worker_run.specs.declared.run.Run.{Run}
-use Rattle.worker_run.specs.Values.{journal_of, setup_of}
+use Rattle.turn_entries.specs.declared.run.Run.{Run}
+use Rattle.turn_entries.specs.Values.{journal_of, setup_of}
 use Rattle.worker_run.proofs.Giving.{same_text}
 use Rattle.worker_run.proofs.Rows.{new_desks}
 use Rattle.worker_run.proofs.workers.opened.Goals as goal

@@ -1,0 +1,165 @@
+-- Entries that aren't refused, where the worker may make one.
+use Rattle.std.proofs.Common.{◌≡◌, ℕ, ◌+◌, ◌<◌, ◌&&◌, not, true, false, Bool, Option, Some, None, is_none, is_some, nat_le, nat_lt, option_map, refl, ap, sym, subst, ◌∙◌, arith}
+use Rattle.std.proofs.lemmas.Bool.{false≢true}
+use Rattle.alloc_path.specs.Heap.{place_for, room_of}
+use Rattle.leaf_copy_gc.specs.declared.lists.Moved.{Moved}
+use Rattle.run_trace.specs.declared.entry.Kind.{Kind}
+use Rattle.run_trace.specs.declared.entry.Kind.TheVariants.{Ran, Chunk, Begin, PutOff, Fuel, Mark, More, Sweep}
+use Rattle.hh_model.specs.Step.{asked}
+use Rattle.run_ledger.specs.declared.data.Owed.TheVariants.{Mark as OwesMark, More as OwesMore, Sweep as OwesSweep}
+use Rattle.run_ledger.specs.declared.data.Refused.{Refused}
+use Rattle.run_ledger.specs.declared.data.Refused.TheVariants.{Collecting, Due as DueCause, NoWorker, NotDue, NotNeeded, NotSpent, Over, PoolEnough, PoolShort, Spent}
+use Rattle.run_ledger.specs.declared.data.RunEnd.{RunEnd}
+use Rattle.run_trace.specs.Settings.{Limits}
+use Rattle.run_ledger.specs.Cuts.{CanBeGiven}
+use Rattle.run_ledger.specs.Entries.{is_pool_enough, kind_refusal, refused_if, refused_unless}
+use Rattle.run_ledger.specs.Heaps.{heap_of, sweep_number}
+use Rattle.run_ledger.specs.Steps.{on_asked}
+use Rattle.run_ledger.proofs.OwedEntries.{owed_can_be_given}
+use Rattle.chunk_pool.specs.Chunks.{units_in_use}
+use Rattle.task_machine.specs.declared.part.Private.{Private}
+use Rattle.task_machine.specs.declared.part.Paused.TheVariants.{Due, NeedChunk}
+use Rattle.task_machine.specs.Steps.{lacks_place}
+use Rattle.shared_value.specs.declared.answer.NotEntered.{NotEntered}
+use Rattle.shared_value.specs.declared.answer.NotEntered.TheVariants.{NoMemory, Refuses}
+use Rattle.own_steps.specs.Alone.{IsShared, alone_event, machine_after}
+use Rattle.shared_value.specs.Causes.{first_cause, need_cause, or_else}
+use Rattle.shared_value.specs.Due.{due_cause, is_part_due}
+use Rattle.shared_value.specs.Entered.{IsCaused, refused}
+use Rattle.shared_value.specs.Fits.{Fits}
+use Rattle.leaf_collections.specs.LeafEnd.{FitsCopied, end_event}
+use Rattle.shared_value.specs.Links.{FitsFirst}
+use Rattle.shared_value.specs.Next.{part_asks}
+use Rattle.shared_value.specs.Stands.{IsWorld}
+use Rattle.shared_value.specs.World.{World, accounts}
+use Rattle.shared_value.proofs.Asking.{asked_same}
+use Rattle.leaf_collections.proofs.BeginCauses.{begin_answer}
+use Rattle.own_steps.proofs.LastSteps.{alone_answer}
+use Rattle.leaf_collections.proofs.LeafRefusals.{end_answer}
+use Rattle.leaf_collections.proofs.Needs.{chunk_answer}
+use Rattle.shared_value.proofs.Now.{end_now, steps_now}
+use Rattle.leaf_collections.proofs.PutOff.{put_off_answer, without_fresh}
+use Rattle.shared_value.proofs.Refusals.{refused_is}
+use Rattle.shared_value.proofs.Running.{ran_answer}
+use Rattle.paced_tree.specs.Owed.{owed_by}
+use Rattle.turn_entries.specs.Parts.{IsPaused}
+use Rattle.turn_entries.proofs.Stepping.{first}
+
+-- ---- CAUSES
+
+pub not_refused : {A : Type 0} (o : Option Refused) (cause : Refused) → o ≡ None → o ≡ Some cause → A
+not_refused o cause none some = absurd cc
+
+-- what isn't refused fails for want of memory alone
+pub only_memory : (e : NotEntered) (why : Option Refused) → why ≡ None → IsCaused e why → e ≡ NoMemory
+only_memory (Refuses cause) why none h = not_refused why cause none h
+only_memory NoMemory why none h = refl
+
+pub never_refused : {A : Type 0} (e : NotEntered) (why : Option Refused) → why ≡ None → option_map (λ (cause : Refused). Refuses cause) why ≡ Some e → A
+never_refused e why none h = by (sym (ap (option_map (λ (cause : Refused). Refuses cause)) none) ∙ h)
+  where
+    by : {A : Type 0} → ◌≡◌ {A = Option NotEntered} None (Some e) → A
+    by h = absurd cc
+
+-- ---- PARTS
+
+module _ (w : World) (k : ℕ) (part : Private) (I : IsWorld w) (free : first_cause w.end w.steps w.settings k false ≡ None) (F : Fits w k part) where
+  none_first : is_some (first_cause w.end w.steps w.settings k false) ≡ false
+  none_first = ap is_some free
+
+  pub private_free : 0 < part.fresh → refused w (record { worker = k; kind = Ran part.task part.fresh }) ≡ None
+  private_free some = ran_answer w k part I F some ∙ free
+
+  module _ (idle : part.begun ≡ None) where
+    pub alone_free : IsShared w part → refused w (alone_event k part) ≡ None
+    alone_free shared = alone_answer w k part I F shared ∙ (ap (λ o. or_else o (refused_if (is_some part.begun) Collecting None)) free ∙ ap (λ b. refused_if (is_some b) Collecting None) idle)
+
+    module _ (fresh : part.fresh ≡ 0) (on : (accounts w).end ≡ None) where
+      asks : asked w.program (machine_after w part) part.task ≡ part_asks w.program part
+      asks = asked_same w.program part (machine_after w part) _ (first w k part I on F)
+
+      need_none : (o : Option ℕ) → on_asked o (λ n. nat_le part.leaf_limit part.heap.since) ≡ false → on_asked o (lacks_place part.heap) ≡ true → need_cause part o ≡ None
+      need_none None due need = absurd (false≢true need)
+      need_none (Some words) due need = ap (λ b. refused_if b (DueCause part.heap.since) (refused_if (is_some (place_for part.heap words)) (NotNeeded (room_of part.heap)) None)) due ∙ by (place_for part.heap words) need
+        where
+          by : {A : Type 0} (o : Option A) → is_none o ≡ true → refused_if (is_some o) (NotNeeded (room_of part.heap)) None ≡ None
+          by None h = refl
+          by (Some x) h = absurd (false≢true h)
+
+      pub chunk_free : IsPaused w k part NeedChunk → refused w (record { worker = k; kind = Chunk part.task }) ≡ None
+      chunk_free P =
+          chunk_answer w k part I (without_fresh w k part F fresh) none_first
+          ∙ (ap (λ b. refused_if (is_some b) Collecting (need_cause part (part_asks w.program part))) idle
+          ∙ need_none (part_asks w.program part) (ap (λ o. on_asked o (λ n. nat_le part.leaf_limit part.heap.since)) (sym asks) ∙ P.next.1) (ap (λ o. on_asked o (lacks_place part.heap)) (sym asks) ∙ P.next.2))
+
+      due_none : IsPaused w k part Due → due_cause part (part_asks w.program part) ≡ None
+      due_none P =
+          ap (λ b. refused_if (is_some b) Collecting (refused_unless (is_part_due part (part_asks w.program part)) (NotDue part.heap.since) None)) idle
+          ∙ ap (λ b. refused_unless b (NotDue part.heap.since) None) (ap (λ o. on_asked o (λ n. nat_le part.leaf_limit part.heap.since)) (sym asks) ∙ P.next.1)
+
+      pub begin_free : IsPaused w k part Due → is_pool_enough w.settings (accounts w) part.task ≡ true → refused w (record { worker = k; kind = Begin part.task }) ≡ None
+      begin_free P enough =
+          begin_answer w k part I (without_fresh w k part F fresh) none_first
+          ∙ (ap (λ o. or_else o (refused_unless (is_pool_enough w.settings (accounts w) part.task) (PoolShort (units_in_use w.pool)) None)) (due_none P) ∙ ap (λ b. refused_unless b (PoolShort (units_in_use w.pool)) None) enough)
+
+      pub put_off_free : IsPaused w k part Due → is_pool_enough w.settings (accounts w) part.task ≡ false → refused w (record { worker = k; kind = PutOff part.task }) ≡ None
+      put_off_free P short =
+          put_off_answer w k part I (without_fresh w k part F fresh) none_first
+          ∙ (ap (λ o. or_else o (refused_if (is_pool_enough w.settings (accounts w) part.task) (PoolEnough (units_in_use w.pool)) None)) (due_none P) ∙ ap (λ b. refused_if b (PoolEnough (units_in_use w.pool)) None) short)
+
+pub end_free : (w : World) (k : ℕ) (part : Private) (moved : Moved) → IsWorld w → first_cause w.end w.steps w.settings k false ≡ None → FitsCopied w k part moved → refused w (end_event k part moved) ≡ None
+end_free w k part moved I free F = end_answer w k part moved I F ∙ free
+
+-- ---- WHAT IS OWED
+
+or_none : (o rest : Option Refused) → o ≡ None → rest ≡ None → or_else o rest ≡ None
+or_none None rest a b = b
+or_none (Some cause) rest a b = absurd cc
+
+module _ (w : World) (k t : ℕ) (I : IsWorld w) (free : first_cause w.end w.steps w.settings k false ≡ None) where
+  pub mark_free : owed_by w k ≡ OwesMark t → refused w (record { worker = k; kind = Mark t }) ≡ None
+  mark_free owes =
+      refused_is w I (record { worker = k; kind = Mark t })
+      ∙ or_none _ _ free (subst (CanBeGiven w.program w.settings (accounts w) k) owes (owed_can_be_given w.program w.settings w.journal.items k I.legal))
+
+  pub more_free : owed_by w k ≡ OwesMore t → refused w (record { worker = k; kind = More t 64 }) ≡ None
+  more_free owes =
+      refused_is w I (record { worker = k; kind = More t 64 })
+      ∙ or_none _ _ free (subst (CanBeGiven w.program w.settings (accounts w) k) owes (owed_can_be_given w.program w.settings w.journal.items k I.legal))
+
+  pub sweep_free : (given : ℕ) → owed_by w k ≡ OwesSweep t → given ≡ sweep_number (accounts w).machine (heap_of (accounts w) t) → refused w (record { worker = k; kind = Sweep t given }) ≡ None
+  sweep_free given owes is =
+      refused_is w I (record { worker = k; kind = Sweep t given })
+      ∙ or_none _ _ free (ap (λ (n : ℕ). kind_refusal w.program w.settings (accounts w) k (Sweep t n)) is ∙ subst (CanBeGiven w.program w.settings (accounts w) k) owes (owed_can_be_given w.program w.settings w.journal.items k I.legal))
+
+-- ---- THE END FOR SPENT FUEL
+
+fuel_by : (end : Option RunEnd) (steps settled : ℕ) (s : Limits) (k : ℕ) → end ≡ None → steps ≡ settled → k < s.workers → is_some (first_cause end steps s k false) ≡ true
+    → or_else (first_cause end steps s k true) (refused_unless (nat_le s.fuel settled) (NotSpent settled) None) ≡ None
+fuel_by end steps settled s k none same below spent = by end (nat_le s.fuel steps) (nat_le s.fuel settled) (nat_lt k s.workers) none (ap (nat_le s.fuel) same) (grind (arith, below)) spent
+  where
+    by : (e : Option RunEnd) (over over' hired : Bool) → e ≡ None → over ≡ over' → hired ≡ true → is_some (refused_if (is_some e) Over (refused_if (over && true) (Spent steps) (refused_unless hired NoWorker None))) ≡ true
+        → or_else (refused_if (is_some e) Over (refused_if (over && false) (Spent steps) (refused_unless hired NoWorker None))) (refused_unless over' (NotSpent settled) None) ≡ None
+    by (Some x) over over' hired a b d h = absurd cc
+    by None over over' false a b d h = absurd (false≢true d)
+    by None true true true a b d h = refl
+    by None true false true a b d h = absurd (false≢true (sym b))
+    by None false over' true a b d h = absurd (false≢true h)
+
+pub fuel_free : (w : World) (k : ℕ) → IsWorld w → (accounts w).end ≡ None → k < w.settings.workers → is_some (first_cause w.end w.steps w.settings k false) ≡ true → refused w (record { worker = k; kind = Fuel }) ≡ None
+fuel_free w k I goes below spent = refused_is w I (record { worker = k; kind = Fuel }) ∙ fuel_by w.end w.steps (accounts w).steps w.settings k (end_now w I ∙ goes) (steps_now w I) below spent
+
+spent_by : (end : Option RunEnd) (steps settled : ℕ) (s : Limits) (k : ℕ) → end ≡ None → steps ≡ settled → k < s.workers → nat_le s.fuel settled ≡ is_some (first_cause end steps s k false)
+spent_by end steps settled s k none same below = by end (nat_le s.fuel steps) (nat_le s.fuel settled) (nat_lt k s.workers) none (ap (nat_le s.fuel) same) (grind (arith, below))
+  where
+    by : (e : Option RunEnd) (over over' hired : Bool) → e ≡ None → over ≡ over' → hired ≡ true → over' ≡ is_some (refused_if (is_some e) Over (refused_if (over && true) (Spent steps) (refused_unless hired NoWorker None)))
+    by (Some x) over over' hired a b d = absurd cc
+    by None over over' false a b d = absurd (false≢true d)
+    by None true true true a b d = refl
+    by None true false true a b d = absurd (false≢true (sym b))
+    by None false true true a b d = absurd (false≢true b)
+    by None false false true a b d = refl
+
+-- the fuel is spent exactly where it is the first cause that refuses the worker's entries
+pub spent_is : (w : World) (k : ℕ) → IsWorld w → (accounts w).end ≡ None → k < w.settings.workers → nat_le w.settings.fuel (accounts w).steps ≡ is_some (first_cause w.end w.steps w.settings k false)
+spent_is w k I goes below = spent_by w.end w.steps (accounts w).steps w.settings k (end_now w I ∙ goes) (steps_now w I) below

@@ -1,0 +1,36 @@
+-- Parts that may take steps.
+use Rattle.std.proofs.Common.{◌≡◌, ℕ, ◌<◌, ◌≤◌, None, refl, ap, sym, subst, ◌∙◌, arith}
+use Rattle.task_machine.specs.declared.part.Private.{Private}
+use Rattle.task_machine.specs.declared.part.Paused.TheVariants.{Shared, Spent}
+use Rattle.alloc_path.specs.Heap.{Heap}
+use Rattle.leaf_copy_gc.specs.declared.lists.Moved.{Moved}
+use Rattle.own_steps.specs.Alone.{GoesAlone, IsShared}
+use Rattle.shared_value.specs.Fits.{Fits}
+use Rattle.leaf_collections.specs.LeafEnd.{FitsCopied, ended}
+use Rattle.shared_value.specs.World.{World, accounts}
+use Rattle.turn_entries.specs.Parts.{IsPaused, MayRun}
+
+module _ (w : World) (k : ℕ) (part : Private) where
+  -- without fresh steps
+  pub may : Fits w k part → part.fresh ≡ 0 → part.begun ≡ None → MayRun w k part
+  may fits fresh idle = record { fits = fits; few = omega (arith, fresh); idle = idle }
+
+  pub stands_shared : IsPaused w k part Shared → IsShared w part
+  stands_shared P = record { last = P.next; few = P.may.few }
+
+  pub some_fresh : IsPaused w k part Spent → 0 < part.fresh
+  some_fresh P = let e = P.spent refl in omega (arith, e)
+
+-- after an entry
+module _ (w : World) (k : ℕ) (old part : Private) where
+  pub may_cleared : Fits w k part → old.begun ≡ None → part ≡ record old { fresh = 0 } → MayRun w k part
+  may_cleared fits idle e = may w k part fits (ap (λ (p : Private). p.fresh) e) (ap (λ (p : Private). p.begun) e ∙ idle)
+
+  pub may_alone : Fits w k part → old.begun ≡ None → part ≡ record old { frames = part.frames; fresh = 0 } → MayRun w k part
+  may_alone fits idle e = may w k part fits (ap (λ (p : Private). p.fresh) e) (ap (λ (p : Private). p.begun) e ∙ idle)
+
+  pub may_heap : (h : Heap) → Fits w k part → old.begun ≡ None → old.fresh ≡ 0 → part ≡ record old { heap = h } → MayRun w k part
+  may_heap h fits idle fresh e = may w k part fits (ap (λ (p : Private). p.fresh) e ∙ fresh) (ap (λ (p : Private). p.begun) e ∙ idle)
+
+  pub may_ended : (before : World) (moved : Moved) → Fits w k part → FitsCopied before k old moved → part ≡ ended old → MayRun w k part
+  may_ended before moved fits C e = may w k part fits (ap (λ (p : Private). p.fresh) e ∙ C.fresh) (ap (λ (p : Private). p.begun) e)

@@ -1,0 +1,6 @@
+pub mod Turning
+mod Coming
+mod Paying
+mod Going
+pub mod Stepping
+mod Free

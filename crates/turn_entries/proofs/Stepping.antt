@@ -1,0 +1,130 @@
+-- A part after private steps, whatever value it fits.
+use Rattle.std.proofs.Common.{◌≡◌, ℕ, zero, suc, ◌+◌, ◌-◌, ◌<◌, ◌≤◌, ◌^◌, None, Result, Ok, Err, length, slice_get, refl, ap, sym, subst, ◌∙◌, arith}
+use Rattle.hh_lang.specs.Form.{ProgramText}
+use Rattle.hh_model.specs.declared.data.State.{State}
+use Rattle.hh_model.specs.Counts.{Counted}
+use Rattle.hh_model.specs.Effect.{row_of}
+use Rattle.hh_model.specs.Step.{step}
+use Rattle.hh_model.specs.Tree.{Kept}
+use Rattle.hh_model.proofs.Counts.{steps_count}
+use Rattle.hh_model.proofs.Kept.{run_kept, start_kept, step_kept}
+use Rattle.run_trace.specs.Settings.{field_limit}
+use Rattle.run_ledger.specs.declared.data.Ledger.{Ledger}
+use Rattle.run_ledger.specs.Heaps.{let_go}
+use Rattle.run_ledger.specs.Steps.{task_steps}
+use Rattle.run_ledger.specs.Journals.{tasks_of}
+use Rattle.run_ledger.proofs.Bounds.{steps_are_bounded}
+use Rattle.run_ledger.proofs.Counted.{journals_are_counted}
+use Rattle.run_ledger.proofs.Machine.{heap_machine, machine_is_run, task_step_machine}
+use Rattle.ledger_steps.specs.Accounts.{aside}
+use Rattle.ledger_steps.proofs.Split.{steps_last}
+use Rattle.task_machine.specs.declared.part.Private.{Private}
+use Rattle.task_machine.specs.declared.part.Paused.{Paused}
+use Rattle.task_machine.specs.declared.part.Paused.TheVariants.{Spent}
+use Rattle.task_machine.specs.Accounts.{KeepsAccounts}
+use Rattle.task_machine.specs.Fits.{unended}
+use Rattle.task_machine.specs.Outline.{steps}
+use Rattle.task_machine.specs.Ready.{FitsSome}
+use Rattle.task_machine.specs.Run.{KeepsRest, Pauses, PausesBy, Runs}
+use Rattle.task_machine.proofs.Behind.{steps_more}
+use Rattle.own_steps.specs.Alone.{machine_after}
+use Rattle.shared_value.specs.Fits.{Fits, beyond}
+use Rattle.shared_value.specs.Links.{FitsFirst, above_of}
+use Rattle.shared_value.specs.Stands.{IsWorld}
+use Rattle.shared_value.specs.World.{World, accounts, value_of}
+use Rattle.own_steps.proofs.Bounded.{limit_small}
+use Rattle.own_steps.proofs.FitsAgain.{parts_fit_again}
+use Rattle.shared_value.proofs.Linked.{second_gives_first}
+use Rattle.turn_entries.specs.Parts.{AtSome, GoesOn, HasGrown, IsPaused, MayRun}
+
+-- ---- THE MACHINE BEHIND THE FRESH STEPS
+
+machine_steps : (p : ProgramText) (l : Ledger) (t k : ℕ) → (task_steps p l t k).machine ≡ steps p l.machine t k
+machine_steps p l t zero = refl
+machine_steps p l t (suc k) = ap (λ (z : Ledger). z.machine) (steps_last p l t k) ∙ (task_step_machine p (task_steps p l t k) t ∙ ap (λ (m : State). step p m t) (machine_steps p l t k))
+
+beyond_machine : (p : ProgramText) (l : Ledger) (q : Private) → (beyond p l q).machine ≡ steps p (unended l.machine) q.task q.fresh
+beyond_machine p l q = heap_machine (task_steps p (aside l) q.task q.fresh) q.task let_go ∙ machine_steps p (aside l) q.task q.fresh
+
+-- ---- ITS OBJECTS are counted
+
+counted_then : (p : ProgramText) (m : State) (t j n k : ℕ) → k ≡ n + j → Kept m → Counted j m.tasks m.store → Kept (steps p m t n) × Counted k (steps p m t n).tasks (steps p m t n).store
+counted_then p m t j zero k e K C = (K, subst (λ i. Counted i m.tasks m.store) (let h : j ≡ k = omega (arith, e) in h) C)
+counted_then p m t j (suc n) k e K C =
+    let b = counted_then p m t j n (n + j) refl K C in
+    let h : suc (n + j) ≡ k = omega (arith, e) in
+    (step_kept p (steps p m t n) t b.0, subst (λ i. Counted i (steps p m t (suc n)).tasks (steps p m t (suc n)).store) h (steps_count p (steps p m t n) t (n + j) b.0 b.1))
+
+kept_now : (w : World) → Kept (accounts w).machine
+kept_now w = subst Kept (sym (machine_is_run w.program w.settings w.journal.items)) (run_kept w.program _ (tasks_of w.journal.items) (start_kept w.program (field_limit w.settings.version)))
+
+module _ (w : World) (k : ℕ) (part : Private) (I : IsWorld w) (on : (accounts w).end ≡ None) (F : Fits w k part) where
+  pub first : FitsFirst w part
+  first = second_gives_first w k part I F on
+
+  pub few_allocations : (n : ℕ) → part.fresh ≤ 256 → n ≤ 256 → part.allocations + n < 4294967296
+  few_allocations n few most =
+      let l : Ledger = accounts w in
+      let counts = (journals_are_counted w.program w.settings w.journal.items).counts in
+      let m : State = unended l.machine in
+      let then : Counted (part.fresh + l.steps) (steps w.program m part.task part.fresh).tasks (steps w.program m part.task part.fresh).store = (counted_then w.program m part.task l.steps part.fresh (part.fresh + l.steps) refl (kept_now w) counts).1 in
+      let count : part.allocations ≡ length (row_of (slice_get (steps w.program m part.task part.fresh).store part.task)) =
+      first.count ∙ ap (λ (z : State). length (row_of (slice_get z.store part.task))) (beyond_machine w.program l part) in
+      let rows : length (row_of (slice_get (steps w.program m part.task part.fresh).store part.task)) ≤ part.fresh + l.steps = then.objects part.task in
+      let bound : l.steps ≤ w.settings.fuel + 256 = steps_are_bounded w.program w.settings w.journal.items I.legal in
+      let fuel = I.limits.fuel.1 in
+      omega (arith, count, rows, bound, fuel, few, most)
+
+  pub few_fields : part.field_limit < 2 ^ 20
+  few_fields = let e = F.field_limit in let small = limit_small w.settings.version in omega (arith, e, small)
+
+-- ---- AFTER A RUN OF STEPS
+
+module _ (w : World) (text : ProgramText) (same : w.program ≡ text) (k : ℕ) (I : IsWorld w) (old new : Private) (fits : Fits w k old) (on : (accounts w).end ≡ None) (idle : old.begun ≡ None) (n : ℕ)
+    (runs : Runs text old n new) (accounts_kept : KeepsAccounts text old n new) (rest : KeepsRest old new) (few : old.fresh + n ≤ 256) where
+  F : FitsFirst w old
+  F = first w k old I on fits
+
+  R : Runs w.program old n new
+  R = subst (λ (p : ProgramText). Runs p old n new) (sym same) runs
+
+  C : KeepsAccounts w.program old n new
+  C = subst (λ (p : ProgramText). KeepsAccounts p old n new) (sym same) accounts_kept
+
+  ran_fresh : new.fresh ≡ old.fresh + n
+  ran_fresh = (R (machine_after w old) _ F).fresh
+
+  ran_task : new.task ≡ old.task
+  ran_task = (R (machine_after w old) _ F).task
+
+  behind : steps w.program (machine_after w old) old.task n ≡ machine_after w new
+  behind =
+      ap (λ (m : State). steps w.program m old.task n) (beyond_machine w.program (accounts w) old)
+      ∙ (steps_more w.program (unended (accounts w).machine) old.task old.fresh n new.fresh ran_fresh
+      ∙ (ap (λ (t : ℕ). steps w.program (unended (accounts w).machine) t new.fresh) (sym ran_task)
+      ∙ sym (beyond_machine w.program (accounts w) new)))
+
+  pub paused_then : (why : Paused) → PausesBy text old n new why → (why ≡ Spent → new.fresh ≡ 256) → IsPaused w k new why
+  paused_then why by spent = record {
+    may = record {
+      fits = parts_fit_again w k old new n I fits on idle R C rest (omega (arith, few));
+      few = (let e = ran_fresh in omega (arith, e, few));
+      idle = ap (λ (q : Private). q.begun) rest ∙ idle;
+    };
+    next = subst (λ (m : State). Pauses w.program new m why) behind (subst (λ (p : ProgramText). PausesBy p old n new why) (sym same) by (machine_after w old) _ F);
+    spent = spent;
+  }
+
+-- of a part that may run at some value
+module _ (p : ProgramText) (k : ℕ) (part : Private) (A : AtSome p (λ w. MayRun w k part)) where
+  pub fits_some : FitsSome p part
+  fits_some = subst (λ q. FitsSome q part) A.1.program (machine_after A.0 part, _, first A.0 k part A.1.world A.1.goes A.2.fits)
+
+  pub few_then : (n : ℕ) → n ≤ 256 → part.allocations + n < 4294967296
+  few_then n most = few_allocations A.0 k part A.1.world A.1.goes A.2.fits n A.2.few most
+
+  pub limit_then : part.field_limit < 2 ^ 20
+  limit_then = few_fields A.0 k part A.1.world A.1.goes A.2.fits
+
+  pub grows : (new : Private) (n : ℕ) → Runs p part n new → KeepsAccounts p part n new → KeepsRest part new → part.fresh + n ≤ 256 → (why : Paused) → PausesBy p part n new why → (why ≡ Spent → new.fresh ≡ 256) → HasGrown p k part new why
+  grows new n runs kept rest few why by spent = λ w G f. paused_then w p G.program k G.world part new f G.goes A.2.idle n runs kept rest few why by spent

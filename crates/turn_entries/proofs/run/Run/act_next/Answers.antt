@@ -1,0 +1,25 @@
+use Rattle.std.proofs.Common.{◌<◌, ap, sym, subst, ◌∙◌}
+use Rattle.run_trace.specs.Settings.{Limits}
+use Rattle.shared_value.specs.World.{World, accounts}
+use Rattle.turn_entries.specs.Next.{going_kind}
+use Rattle.turn_entries.proofs.Turning.{acts_then, brings_then, not_over, roomier}
+use Rattle.turn_entries.proofs.run.Run.act_next.Goals as goal
+
+pub act_on-requires : goal.act_on-requires
+act_on-requires c =
+    let S = roomier c.args.self.paced c.reserve.new.self c.reserve.ensures.same c.reserve.ensures.fit in
+    record {
+      room = c.in-Ok.ensures.room;
+      worker = subst (λ (s : Limits). c.args.worker < s.workers) (sym S.settings) c.requires.worker;
+      goes = ap (λ (z : World). (accounts z).end) c.reserve.ensures.same ∙ c.requires.goes;
+      on = ap (λ (z : World). z.halted) c.reserve.ensures.same ∙ c.requires.on;
+      met = c.requires.met;
+      brings = brings_then c.args.self.paced c.reserve.new.self S c.args.worker c.args.ready c.requires.brings;
+    }
+
+pub returns-in-Ok : goal.returns-in-Ok
+returns-in-Ok c = acts_then c.args.self c.reserve.new.self c.reserve.ensures.same c.reserve.ensures.fit (not_over c.args.self c.requires.on c.requires.goes) c.args.worker c.args.ready c.act_on.result c.act_on.ensures
+
+pub returns-in-Err : goal.returns-in-Err
+returns-in-Err c =
+    c.halted.ensures c.args.self c.args.worker c.args.ready (going_kind c.args.self.paced c.args.worker c.args.ready) (roomier c.args.self.paced c.reserve.new.self c.reserve.ensures.same c.reserve.ensures.fit) (not_over c.args.self c.requires.on c.requires.goes)

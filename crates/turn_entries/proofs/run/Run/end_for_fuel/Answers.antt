@@ -1,0 +1,17 @@
+use Rattle.std.proofs.Common.{refl, ap, sym, ◌∙◌, is_some}
+use Rattle.run_trace.specs.declared.entry.Kind.TheVariants.{Fuel}
+use Rattle.run_ledger.specs.declared.data.Ledger.{Ledger}
+use Rattle.shared_value.specs.Entered.{cause_of}
+use Rattle.heap_marking.proofs.PaceStands.{entered_accounts}
+use Rattle.turn_entries.proofs.Free.{fuel_free, not_refused}
+use Rattle.turn_entries.proofs.Turning.{one_of_all}
+use Rattle.turn_entries.proofs.run.Run.end_for_fuel.Goals as goal
+
+pub unreachable-requires : goal.unreachable-requires
+unreachable-requires c =
+    not_refused _ c.in-Err.field-0 (fuel_free c.args.self.paced c.args.worker c.stands.ensures c.requires.goes c.requires.worker c.requires.spent) (sym c.fuel.ensures.refused ∙ ap cause_of c.in-Err.is)
+
+pub returns : goal.returns
+returns c = λ ready.
+    c.entered.ensures c.args.self c.args.worker ready Fuel (one_of_all c.args.self.paced c.fuel.new.self c.args.worker Fuel c.in-Ok.ensures.enters c.in-Ok.ensures.all) c.requires.on
+    (λ on. ap (λ (l : Ledger). is_some l.end) (entered_accounts c.args.self.paced c.fuel.new.self (record { worker = c.args.worker; kind = Fuel }) c.in-Ok.ensures.enters))

@@ -1,0 +1,18 @@
+use Rattle.std.proofs.Common.{refl, ap, sym, ◌∙◌}
+use Rattle.run_trace.specs.declared.entry.Kind.{Kind}
+use Rattle.run_trace.specs.declared.entry.Kind.TheVariants.{End}
+use Rattle.shared_value.specs.Entered.{cause_of}
+use Rattle.turn_entries.proofs.Free.{end_free, not_refused}
+use Rattle.turn_entries.proofs.Going.{may_ended}
+use Rattle.turn_entries.proofs.Turning.{one}
+use Rattle.turn_entries.proofs.run.Run.end_leaf.Goals as goal
+
+pub unreachable-requires : goal.unreachable-requires
+unreachable-requires c =
+    not_refused _ c.in-Err.field-0 (end_free c.args.self.paced c.args.worker c.args.copied.part c.args.copied.moved c.stands.ensures c.requires.free c.requires.fits) (sym c.leaf_end.ensures.refused ∙ ap cause_of c.in-Err.is)
+
+pub returns : goal.returns
+returns c = λ ready.
+    let kind : Kind = End c.args.copied.part.task c.args.copied.moved.taken c.args.copied.moved.given c.args.copied.moved.left in
+    c.entered.ensures c.args.self c.args.worker ready kind (one c.args.self.paced c.leaf_end.new.self c.args.worker kind c.in-Ok.ensures.enters c.in-Ok.ensures.others) c.requires.on
+    (λ on. (on, may_ended c.leaf_end.new.self c.args.worker c.args.copied.part c.leaf_end.new.part c.args.self.paced c.args.copied.moved c.in-Ok.ensures.fits c.requires.fits c.in-Ok.ensures.part))

@@ -1,0 +1,12 @@
+use Rattle.turn_entries.specs.declared.held.Ready.TheVariants.{Paused as HasPaused, Copied as IsCopied, Found}
+use Rattle.turn_entries.proofs.Coming.{acts_brought}
+use Rattle.turn_entries.proofs.run.Run.enter.Goals as goal
+
+pub returns-in-Paused : goal.returns-in-Paused
+returns-in-Paused c = acts_brought c.args.self c.args.worker c.args.ready c.enter_part.result (HasPaused c.in-Paused.part c.in-Paused.why) c.in-Paused.is c.enter_part.ensures
+
+pub returns-in-Copied : goal.returns-in-Copied
+returns-in-Copied c = acts_brought c.args.self c.args.worker c.args.ready c.end_leaf.result (IsCopied c.in-Copied.copied) c.in-Copied.is (c.end_leaf.ensures (IsCopied c.in-Copied.copied))
+
+pub returns-in-Found : goal.returns-in-Found
+returns-in-Found c = acts_brought c.args.self c.args.worker c.args.ready c.enter_found.result (Found c.in-Found.found) c.in-Found.is c.enter_found.ensures

@@ -1,0 +1,8 @@
+use Rattle.std.proofs.Common.{Some, ap}
+use Rattle.turn_entries.specs.declared.held.Ready.TheVariants.{Found}
+use Rattle.turn_entries.proofs.Coming.{acts_brought}
+use Rattle.turn_entries.proofs.run.Run.enter_found.Goals as goal
+
+pub returns-in-Some : goal.returns-in-Some
+returns-in-Some c =
+    acts_brought c.args.self c.args.worker (Found c.args.found) c.take_task.result (Found (Some c.in-Some.task)) (ap Found c.in-Some.is) (c.take_task.ensures (Found (Some c.in-Some.task)))

@@ -1,0 +1,19 @@
+use Rattle.run_trace.specs.declared.entry.Kind.{Kind}
+use Rattle.run_trace.specs.declared.entry.Kind.TheVariants.{Mark}
+use Rattle.std.proofs.Common.{Some, refl}
+use Rattle.turn_entries.proofs.Free.{mark_free, only_memory}
+use Rattle.turn_entries.proofs.Turning.{not_over, one_of_all, unchanged}
+use Rattle.turn_entries.proofs.run.Run.pay_mark.Goals as goal
+
+pub wanting-requires : goal.wanting-requires
+wanting-requires c = only_memory c.in-Err.cause _ (mark_free c.args.self.paced c.args.worker c.args.task c.stands.ensures c.requires.free c.requires.owes) c.in-Err.ensures.refused
+
+pub returns-in-Ok : goal.returns-in-Ok
+returns-in-Ok c =
+    let kind : Kind = Mark c.args.task in
+    c.paid.ensures c.args.self c.args.worker kind c.stands.ensures c.requires.goes c.requires.met c.requires.brings
+    (one_of_all c.args.self.paced c.mark.new.self c.args.worker kind c.in-Ok.ensures.enters c.in-Ok.ensures.fits) c.in-Ok.ensures.fits c.requires.on
+
+pub returns-in-Err : goal.returns-in-Err
+returns-in-Err c =
+    c.wanting.ensures c.args.self c.args.worker c.args.ready (Some (Mark c.args.task)) (unchanged c.args.self.paced c.mark.new.self c.in-Err.ensures.same) (not_over c.args.self c.requires.on c.requires.goes)

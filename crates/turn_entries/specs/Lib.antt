@@ -1,0 +1,4 @@
+pub mod Values
+pub mod Parts
+pub mod Next
+pub mod Acts

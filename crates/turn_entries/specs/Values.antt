@@ -1,0 +1,42 @@
+-- The shared value in turns, as the turn is told of it.
+use Rattle.std.specs.Prelude.{◌≡◌, ℕ, ◌||◌, Bool, List, is_some}
+use Rattle.std.specs.declared.snapshot.Snapshot.{Snapshot}
+use Rattle.hh_lang.specs.Form.{ProgramText}
+use Rattle.run_trace.specs.Entry.{Event}
+use Rattle.run_trace.specs.Settings.{Limits}
+use Rattle.run_trace.specs.declared.entry.Kind.{Kind}
+use Rattle.task_machine.specs.declared.part.Private.{Private}
+use Rattle.shared_value.specs.Entered.{Enters}
+use Rattle.shared_value.specs.Fits.{AllFit, Fits, OthersFit}
+use Rattle.shared_value.specs.World.{World, accounts}
+use Rattle.turn_entries.specs.declared.run.Run.{Run}
+use Rattle.turn_entries.specs.declared.run.Setup.{Setup}
+
+abbrev pub worker_of : Event → ℕ
+worker_of e = e.worker
+
+abbrev pub journal_of : Run → List Event
+journal_of r = r.paced.journal.items
+
+abbrev pub setup_of : Run → Setup
+setup_of r = record { program = r.paced.program; settings = r.paced.settings }
+
+-- a worker keeps a part that fits
+abbrev pub FitsKept : Run → ℕ → Snapshot Private → Type 0
+FitsKept r k kept = Fits r.paced k kept.value
+
+-- no more entries are made: the run has ended, or some worker has met want of memory
+abbrev pub is_over : Run → Bool
+is_over r = r.paced.halted || is_some (accounts r.paced).end
+
+-- no entry was made, and all is the same that workers rest on
+pub record IsSame (w after : World) : Type 0 where
+  pub journal : after.journal.items ≡ w.journal.items
+  pub program : after.program ≡ w.program
+  pub settings : after.settings ≡ w.settings
+  pub all : AllFit w after
+
+-- worker k made this entry
+pub record EntersOne (w after : World) (k : ℕ) (kind : Kind) : Type 0 where
+  pub enters : Enters w after (record { worker = k; kind = kind })
+  pub others : OthersFit w after k

@@ -1,0 +1,127 @@
+//! What a worker does with the shared value in its turn: at most one entry.
+ghost use Rattle.std.specs.Prelude.{◌≡◌, ◌<◌, None, false};
+ghost use Rattle.shared_value.specs.Causes.{first_cause};
+ghost use Rattle.shared_value.specs.World.{accounts};
+ghost use Rattle.turn_entries.specs.Acts.{Acts, ActsFor, EndsEntered, EndsHalted};
+ghost use Rattle.turn_entries.specs.Next.{going_kind, is_wanting, owing_kind};
+ghost use Rattle.turn_entries.specs.Parts.{BringsTo};
+ghost use Rattle.paced_tree.specs.Owed.{owed_by};
+
+use crate::held::{Next, Ready};
+use crate::run::Run;
+use run_ledger::Owed;
+use shared_tree::NotEntered;
+
+/// What has come of a turn.
+#[derive(Drop)]
+pub enum Acted {
+    /// One entry was made.
+    Entered(Run, Next),
+    /// No entry was made: the run is over, the task that was found can't be taken, or none was found.
+    Same(Run, Next),
+}
+
+impl Run {
+    // An entry was made. Where the run has ended by it, the worker stops.
+    pub(crate) fn entered(self, next: Next) -> Acted
+        ensures { EndsEntered self next result }
+    {
+        self.paced.stands();
+        if self.paced.ended().is_some() {
+            Acted::Entered(self, Next::Stop)
+        } else {
+            Acted::Entered(self, next)
+        }
+    }
+
+    // Memory was wanting, and no entry was made.
+    pub(crate) fn halted(self) -> Acted
+        ensures { EndsHalted self result }
+    {
+        let mut run = self;
+        run.paced.halt();
+        Acted::Same(run, Next::Stop)
+    }
+
+    // No entry was made, which can be for want of memory alone.
+    pub(crate) fn wanting(self, cause: NotEntered) -> Acted
+        requires { cause ≡ NotEntered.NoMemory }
+        ensures { EndsHalted self result }
+    {
+        let _ = cause;
+        self.halted()
+    }
+
+    // Makes the entry that comes next.
+    fn act_on(self, worker: u32, ready: Ready) -> Acted
+        requires room { 0 < self.paced.journal.room }
+        requires worker { worker < self.paced.settings.workers }
+        requires goes { (accounts self.paced).end ≡ None }
+        requires on { self.paced.halted ≡ false }
+        requires met { is_wanting ready ≡ false }
+        requires brings { BringsTo self.paced worker ready }
+        ensures { ActsFor self worker ready (going_kind self.paced worker ready) result }
+    {
+        self.paced.stands();
+        match self.paced.refused_first(worker) {
+            Some(_) => self.end_for_fuel(worker),
+            None => self.act_free(worker, ready),
+        }
+    }
+
+    // Makes the entry that comes next, where fuel is left.
+    fn act_free(self, worker: u32, ready: Ready) -> Acted
+        requires room { 0 < self.paced.journal.room }
+        requires worker { worker < self.paced.settings.workers }
+        requires goes { (accounts self.paced).end ≡ None }
+        requires free { first_cause self.paced.end self.paced.steps self.paced.settings worker false ≡ None }
+        requires on { self.paced.halted ≡ false }
+        requires met { is_wanting ready ≡ false }
+        requires brings { BringsTo self.paced worker ready }
+        ensures { ActsFor self worker ready (owing_kind self.paced (owed_by self.paced worker) ready) result }
+    {
+        match self.paced.owed(worker) {
+            Owed::Nothing => self.enter(worker, ready),
+            Owed::Mark(task) => self.pay_mark(worker, ready, task),
+            Owed::More(task) => self.pay_more(worker, ready, task),
+            Owed::Sweep(task) => self.pay_sweep(worker, ready, task),
+        }
+    }
+
+    // Makes place for the entry, and makes it.
+    fn act_next(self, worker: u32, ready: Ready) -> Acted
+        requires worker { worker < self.paced.settings.workers }
+        requires goes { (accounts self.paced).end ≡ None }
+        requires on { self.paced.halted ≡ false }
+        requires met { is_wanting ready ≡ false }
+        requires brings { BringsTo self.paced worker ready }
+        ensures { ActsFor self worker ready (going_kind self.paced worker ready) result }
+    {
+        let mut run = self;
+        match run.paced.reserve() {
+            Ok(()) => run.act_on(worker, ready),
+            Err(_) => {
+                drop(ready);
+                run.halted()
+            }
+        }
+    }
+
+    /// What the worker does in its turn: where the run isn't over it ends it for spent fuel, or makes the entry that it owes, or
+    /// else the one that it comes with.
+    pub fn act(self, worker: u32, ready: Ready) -> Acted
+        requires worker { worker < self.paced.settings.workers }
+        requires brings { BringsTo self.paced worker ready }
+        ensures { Acts self worker ready result }
+    {
+        if !self.goes_on() {
+            drop(ready);
+            return Acted::Same(self, Next::Stop);
+        }
+        if ready.is_wanting() {
+            drop(ready);
+            return self.halted();
+        }
+        self.act_next(worker, ready)
+    }
+}

@@ -1,0 +1,73 @@
+//! What a worker holds between its turns.
+ghost use Rattle.std.specs.Prelude.{◌≡◌};
+ghost use Rattle.turn_entries.specs.Next.{is_wanting};
+
+use leaf_copy_gc::{Moved, ToChunks};
+use object_layout::Addr;
+use std::snapshot::Snapshot;
+use task_machine::{Paused, Private};
+
+/// A part whose leaf collection has begun, with its roots, and the new chunks with all that copying needs.
+#[derive(Drop)]
+pub struct Collecting {
+    pub part: Private,
+    pub roots: Vec<Addr>,
+    pub to_chunks: ToChunks,
+}
+
+/// A part whose heap was copied, with what the copying came to.
+#[derive(Drop)]
+pub struct Copied {
+    pub part: Private,
+    pub moved: Moved,
+    /// The part as it was when its collection had begun.
+    pub begun: Snapshot<Private>,
+}
+
+/// What a worker comes for the turn with.
+#[derive(Drop)]
+pub enum Ready {
+    /// A part, and why its steps paused.
+    Paused(Private, Paused),
+    /// A part whose collection may end.
+    Copied(Copied),
+    /// A task that it has found, or none.
+    Found(Option<u32>),
+    /// Nothing: memory was wanting.
+    Wanting,
+}
+
+impl Ready {
+    /// Whether it comes for want of memory.
+    pub(crate) fn is_wanting(&self) -> bool
+        ensures { result ≡ is_wanting self.now }
+    {
+        match self {
+            Ready::Wanting => true,
+            _ => false,
+        }
+    }
+}
+
+/// How a worker goes on after its turn.
+#[derive(Drop)]
+pub enum Next {
+    /// It takes steps of this part.
+    Running(Private),
+    /// It copies the heap of this part.
+    Collecting(Collecting),
+    /// It ends the collection of this part.
+    Copied(Copied),
+    /// It takes this task, which it has found.
+    Found(u32),
+    /// It puts these two tasks on its deque, the left one on top.
+    Forked { left: u32, right: u32 },
+    /// It puts this task on its deque.
+    Resumed(u32),
+    /// It looks for a task.
+    Idle,
+    /// It has found none, and waits until there may be one.
+    Waits,
+    /// It makes no more entries.
+    Stop,
+}

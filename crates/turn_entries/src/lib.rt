@@ -1,0 +1,14 @@
+//! What a worker does under the turn: with the shared value in hand it makes at most one entry, the one that the pace demands, that a
+//! pause asks for, or that takes a task.
+#![tactic(auto)]
+
+mod act;
+mod held;
+mod leaf;
+mod pay;
+mod run;
+mod steps;
+
+pub use act::Acted;
+pub use held::{Collecting, Copied, Next, Ready};
+pub use run::{Run, Setup};

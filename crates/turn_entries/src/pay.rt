@@ -1,0 +1,117 @@
+//! The entries that a worker owes to the collections of waiting tasks' heaps, and the end for spent fuel.
+ghost use Rattle.std.specs.Prelude.{◌≡◌, ◌<◌, Some, None, is_some, true, false};
+ghost use Rattle.run_ledger.specs.declared.data.Owed.{Owed as OwedOf};
+ghost use Rattle.shared_value.specs.Causes.{first_cause};
+ghost use Rattle.shared_value.specs.World.{accounts};
+ghost use Rattle.run_ledger.specs.Heaps.{heap_of, sweep_number};
+ghost use Rattle.run_ledger.specs.Pace.{marked_at_once};
+ghost use Rattle.run_trace.specs.declared.entry.Kind.{Kind as KindOf};
+ghost use Rattle.turn_entries.specs.Acts.{ActsAnyhow, ActsFor, EndsPaid};
+ghost use Rattle.turn_entries.specs.Next.{is_wanting};
+ghost use Rattle.paced_tree.specs.Owed.{owed_by};
+ghost use Rattle.turn_entries.specs.Parts.{next_after, BringsTo};
+
+use crate::act::Acted;
+use crate::held::{Next, Ready};
+use crate::run::Run;
+
+// How many objects are marked at once.
+const MARKED_AT_ONCE: u32 = 64;
+
+// How a worker goes on that came with this, once it has paid what it owed.
+fn next_after(ready: Ready) -> Next
+    ensures { result ≡ next_after ready }
+{
+    match ready {
+        Ready::Paused(part, _) => Next::Running(part),
+        Ready::Copied(copied) => Next::Copied(copied),
+        Ready::Found(Some(task)) => Next::Found(task),
+        Ready::Found(None) => Next::Idle,
+        Ready::Wanting => Next::Stop,
+    }
+}
+
+impl Run {
+    // What was owed is paid: the worker goes on with what it came with.
+    fn paid(self, ready: Ready) -> Acted
+        ensures { EndsPaid self ready result }
+    {
+        let next = next_after(ready);
+        self.entered(next)
+    }
+
+    /// A marking begins.
+    pub(crate) fn pay_mark(self, worker: u32, ready: Ready, task: u32) -> Acted
+        requires room { 0 < self.paced.journal.room }
+        requires goes { (accounts self.paced).end ≡ None }
+        requires free { first_cause self.paced.end self.paced.steps self.paced.settings worker false ≡ None }
+        requires owes { owed_by self.paced worker ≡ OwedOf.Mark task }
+        requires on { self.paced.halted ≡ false }
+        requires met { is_wanting ready ≡ false }
+        requires brings { BringsTo self.paced worker ready }
+        ensures { ActsFor self worker ready (Some (KindOf.Mark task)) result }
+    {
+        self.paced.stands();
+        let mut run = self;
+        match run.paced.mark(worker, task) {
+            Ok(()) => run.paid(ready),
+            Err(cause) => run.wanting(cause),
+        }
+    }
+
+    /// More objects are marked.
+    pub(crate) fn pay_more(self, worker: u32, ready: Ready, task: u32) -> Acted
+        requires room { 0 < self.paced.journal.room }
+        requires goes { (accounts self.paced).end ≡ None }
+        requires free { first_cause self.paced.end self.paced.steps self.paced.settings worker false ≡ None }
+        requires owes { owed_by self.paced worker ≡ OwedOf.More task }
+        requires on { self.paced.halted ≡ false }
+        requires met { is_wanting ready ≡ false }
+        requires brings { BringsTo self.paced worker ready }
+        ensures { ActsFor self worker ready (Some (KindOf.More task marked_at_once)) result }
+    {
+        self.paced.stands();
+        let mut run = self;
+        match run.paced.some(worker, task, MARKED_AT_ONCE) {
+            Ok(_) => run.paid(ready),
+            Err(_) => unreachable!(),
+        }
+    }
+
+    /// A heap is swept.
+    pub(crate) fn pay_sweep(self, worker: u32, ready: Ready, task: u32) -> Acted
+        requires room { 0 < self.paced.journal.room }
+        requires goes { (accounts self.paced).end ≡ None }
+        requires free { first_cause self.paced.end self.paced.steps self.paced.settings worker false ≡ None }
+        requires owes { owed_by self.paced worker ≡ OwedOf.Sweep task }
+        requires on { self.paced.halted ≡ false }
+        requires met { is_wanting ready ≡ false }
+        requires brings { BringsTo self.paced worker ready }
+        ensures { ActsFor self worker ready (Some (KindOf.Sweep task (sweep_number (accounts self.paced).machine (heap_of (accounts self.paced) task)))) result }
+    {
+        self.paced.stands();
+        let given = self.paced.would_give(task);
+        let mut run = self;
+        match run.paced.sweep(worker, task, given) {
+            Ok(()) => run.paid(ready),
+            Err(_) => unreachable!(),
+        }
+    }
+
+    /// The run ends for spent fuel.
+    pub(crate) fn end_for_fuel(self, worker: u32) -> Acted
+        requires room { 0 < self.paced.journal.room }
+        requires worker { worker < self.paced.settings.workers }
+        requires goes { (accounts self.paced).end ≡ None }
+        requires on { self.paced.halted ≡ false }
+        requires spent { is_some (first_cause self.paced.end self.paced.steps self.paced.settings worker false) ≡ true }
+        ensures { ActsAnyhow self worker KindOf.Fuel result }
+    {
+        self.paced.stands();
+        let mut run = self;
+        match run.paced.fuel(worker) {
+            Ok(()) => run.entered(Next::Stop),
+            Err(_) => unreachable!(),
+        }
+    }
+}

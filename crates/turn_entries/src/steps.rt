@@ -1,0 +1,165 @@
+//! The entries that a worker comes for.
+ghost use Rattle.std.specs.Prelude.{◌≡◌, ◌+◌, ◌<◌, Some, None, false};
+ghost use Rattle.run_ledger.specs.declared.data.Owed.{Owed as OwedOf};
+ghost use Rattle.shared_value.specs.Causes.{first_cause};
+ghost use Rattle.shared_value.specs.World.{accounts};
+ghost use Rattle.run_trace.specs.declared.entry.Kind.{Kind as KindOf};
+ghost use Rattle.turn_entries.specs.Acts.{after_end, ActsAnyhow, ActsFor};
+ghost use Rattle.turn_entries.specs.Next.{brought_kind, is_wanting, paused_kind};
+ghost use Rattle.paced_tree.specs.Owed.{owed_by};
+ghost use Rattle.turn_entries.specs.Parts.{BringsTo, IsPaused, MayRun};
+
+use crate::act::Acted;
+use crate::held::{Next, Ready};
+use crate::run::Run;
+use shared_tree::Ran;
+use task_machine::{Paused, Private};
+
+// How a worker goes on whose task has ended.
+fn after_end(resumed: Option<u32>) -> Next
+    ensures { result ≡ after_end resumed }
+{
+    match resumed {
+        Some(parent) => Next::Resumed(parent),
+        None => Next::Idle,
+    }
+}
+
+impl Run {
+    // The worker takes a task that it has found.
+    fn take_task(self, worker: u32, task: u32) -> Acted
+        requires room { 0 < self.paced.journal.room }
+        requires owes { owed_by self.paced worker ≡ OwedOf.Nothing }
+        requires goes { (accounts self.paced).end ≡ None }
+        requires on { self.paced.halted ≡ false }
+        ensures { ActsAnyhow self worker (KindOf.Took task) result }
+    {
+        let mut run = self;
+        match run.paced.took(worker, task) {
+            Ok(part) => run.entered(Next::Running(part)),
+            Err(_) => Acted::Same(run, Next::Idle),
+        }
+    }
+
+    // The worker takes the task that it has found, if it has.
+    fn enter_found(self, worker: u32, found: Option<u32>) -> Acted
+        requires room { 0 < self.paced.journal.room }
+        requires owes { owed_by self.paced worker ≡ OwedOf.Nothing }
+        requires goes { (accounts self.paced).end ≡ None }
+        requires on { self.paced.halted ≡ false }
+        ensures { ActsFor self worker (Ready.Found found) (brought_kind self.paced (Ready.Found found)) result }
+    {
+        match found {
+            Some(task) => self.take_task(worker, task),
+            None => Acted::Same(self, Next::Waits),
+        }
+    }
+
+    // The fresh steps of the part are entered.
+    fn enter_private(self, worker: u32, part: Private) -> Acted
+        requires room { 0 < self.paced.journal.room }
+        requires free { first_cause self.paced.end self.paced.steps self.paced.settings worker false ≡ None }
+        requires owes { owed_by self.paced worker ≡ OwedOf.Nothing }
+        requires on { self.paced.halted ≡ false }
+        requires may { MayRun self.paced worker part }
+        requires fresh { 0 < part.fresh }
+        ensures { ActsAnyhow self worker (KindOf.Ran part.task part.fresh) result }
+    {
+        self.paced.stands();
+        let mut run = self;
+        match run.paced.ran_private(worker, part) {
+            Ok(part) => run.entered(Next::Running(part)),
+            Err(_) => unreachable!(),
+        }
+    }
+
+    // The fresh steps of the part are entered with its next one, which isn't private.
+    fn enter_shared(self, worker: u32, part: Private) -> Acted
+        requires room { 0 < self.paced.journal.room }
+        requires free { first_cause self.paced.end self.paced.steps self.paced.settings worker false ≡ None }
+        requires owes { owed_by self.paced worker ≡ OwedOf.Nothing }
+        requires goes { (accounts self.paced).end ≡ None }
+        requires on { self.paced.halted ≡ false }
+        requires paused { IsPaused self.paced worker part Paused.Shared }
+        ensures { ActsFor self worker (Ready.Paused part Paused.Shared) (Some (KindOf.Ran part.task (part.fresh + 1))) result }
+    {
+        self.paced.stands();
+        let mut run = self;
+        match run.paced.ran(worker, part) {
+            Ok(Ran::Goes(part)) => run.entered(Next::Running(part)),
+            Ok(Ran::Forked { left, right }) => run.entered(Next::Forked { left, right }),
+            Ok(Ran::Ended { resumed }) => run.entered(after_end(resumed)),
+            Ok(Ran::Over(_)) => run.entered(Next::Stop),
+            Ok(Ran::Done) => run.entered(Next::Stop),
+            Err(failed) => run.wanting(failed.cause),
+        }
+    }
+
+    // The part gets a chunk.
+    fn enter_chunk(self, worker: u32, part: Private) -> Acted
+        requires room { 0 < self.paced.journal.room }
+        requires free { first_cause self.paced.end self.paced.steps self.paced.settings worker false ≡ None }
+        requires owes { owed_by self.paced worker ≡ OwedOf.Nothing }
+        requires goes { (accounts self.paced).end ≡ None }
+        requires on { self.paced.halted ≡ false }
+        requires paused { IsPaused self.paced worker part Paused.NeedChunk }
+        requires fresh { part.fresh ≡ 0 }
+        ensures { ActsAnyhow self worker (KindOf.Chunk part.task) result }
+    {
+        self.paced.stands();
+        let mut run = self;
+        let mut part = part;
+        match run.paced.chunk(worker, &mut part) {
+            Ok(()) => run.entered(Next::Running(part)),
+            Err(cause) => run.wanting(cause),
+        }
+    }
+
+    // The entry that the part's steps have paused for; its fresh steps come before a chunk or a collection.
+    fn enter_part(self, worker: u32, part: Private, why: Paused) -> Acted
+        requires room { 0 < self.paced.journal.room }
+        requires free { first_cause self.paced.end self.paced.steps self.paced.settings worker false ≡ None }
+        requires owes { owed_by self.paced worker ≡ OwedOf.Nothing }
+        requires goes { (accounts self.paced).end ≡ None }
+        requires on { self.paced.halted ≡ false }
+        requires paused { IsPaused self.paced worker part why }
+        ensures { ActsFor self worker (Ready.Paused part why) (Some (paused_kind self.paced part why)) result }
+    {
+        match why {
+            Paused::Shared => self.enter_shared(worker, part),
+            Paused::Spent => self.enter_private(worker, part),
+            Paused::Due => {
+                if part.fresh > 0 {
+                    return self.enter_private(worker, part);
+                }
+                self.collect(worker, part)
+            }
+            Paused::NeedChunk => {
+                if part.fresh > 0 {
+                    return self.enter_private(worker, part);
+                }
+                self.enter_chunk(worker, part)
+            }
+        }
+    }
+
+    /// The entry that the worker comes with, where it owes none.
+    pub(crate) fn enter(self, worker: u32, ready: Ready) -> Acted
+        requires room { 0 < self.paced.journal.room }
+        requires goes { (accounts self.paced).end ≡ None }
+        requires free { first_cause self.paced.end self.paced.steps self.paced.settings worker false ≡ None }
+        requires owes { owed_by self.paced worker ≡ OwedOf.Nothing }
+        requires on { self.paced.halted ≡ false }
+        requires met { is_wanting ready ≡ false }
+        requires brings { BringsTo self.paced worker ready }
+        ensures { ActsFor self worker ready (brought_kind self.paced ready) result }
+    {
+        self.paced.stands();
+        match ready {
+            Ready::Paused(part, why) => self.enter_part(worker, part, why),
+            Ready::Copied(copied) => self.end_leaf(worker, copied),
+            Ready::Found(found) => self.enter_found(worker, found),
+            Ready::Wanting => unreachable!(),
+        }
+    }
+}

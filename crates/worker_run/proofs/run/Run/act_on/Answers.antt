@@ -1,7 +1,0 @@
-use Rattle.std.proofs.Common.{ap, is_some}
-use Rattle.worker_run.proofs.Coming.{acts_spent}
-use Rattle.worker_run.proofs.run.Run.act_on.Goals as goal
-
-pub returns-in-Some : goal.returns-in-Some
-returns-in-Some c =
-    acts_spent c.args.self c.args.worker c.args.ready c.end_for_fuel.result c.stands.ensures c.requires.goes c.requires.worker c.refused_first.result c.refused_first.ensures (ap is_some c.in-Some.is) (c.end_for_fuel.ensures c.args.ready)

@@ -1,5 +1,0 @@
-use Rattle.worker_run.proofs.Turning.{halts_with}
-use Rattle.worker_run.proofs.run.Run.halted.Goals as goal
-
-pub returns : goal.returns
-returns c = halts_with c.args.self c.halt.new.self c.halt.ensures.same c.halt.ensures.fits

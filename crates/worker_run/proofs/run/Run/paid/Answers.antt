@@ -1,8 +1,0 @@
-use Rattle.std.proofs.Common.{sym, subst}
-use Rattle.worker_run.specs.Acts.{Follows}
-use Rattle.worker_run.proofs.Turning.{follows_paid}
-use Rattle.worker_run.proofs.run.Run.paid.Goals as goal
-
-pub returns : goal.returns
-returns c = λ r k kind I on met B E all halted.
-    c.entered.ensures r k c.args.ready kind E halted (λ goes. subst (Follows r.paced c.args.self.paced k c.args.ready) (sym c.next_after-next.ensures) (follows_paid r.paced c.args.self.paced k c.args.ready I on met B all E.enters.program goes))
