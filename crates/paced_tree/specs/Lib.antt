@@ -1,1 +1,2 @@
+pub use Rattle.shared_tree.specs.Ran
 pub mod Owed

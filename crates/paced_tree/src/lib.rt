@@ -8,3 +8,4 @@ mod paced;
 mod steps;
 
 pub use paced::Paced;
+pub use shared_tree::{NotEntered, Ran, Shared};

@@ -9,8 +9,8 @@ ghost use Rattle.paced_tree.specs.Owed.{owed_by};
 
 use crate::held::{Next, Ready};
 use crate::run::Run;
+use paced_tree::NotEntered;
 use run_ledger::Owed;
-use shared_tree::NotEntered;
 
 /// What has come of a turn.
 #[derive(Drop)]

@@ -1,5 +1,5 @@
-//! What a worker does under the turn: with the shared value in hand it makes at most one entry, the one that the pace demands, that a
-//! pause asks for, or that takes a task.
+//! What a worker does under the turn: with the shared value in hand it makes at most one entry: the one that the pace
+//! demands, one that a pause asks for, or one that takes a task.
 #![tactic(auto)]
 
 mod act;
@@ -11,4 +11,5 @@ mod steps;
 
 pub use act::Acted;
 pub use held::{Collecting, Copied, Next, Ready};
+pub use paced_tree::{Paced, Shared};
 pub use run::{Run, Setup};

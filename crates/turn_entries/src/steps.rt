@@ -12,7 +12,7 @@ ghost use Rattle.turn_entries.specs.Parts.{BringsTo, IsPaused, MayRun};
 use crate::act::Acted;
 use crate::held::{Next, Ready};
 use crate::run::Run;
-use shared_tree::Ran;
+use paced_tree::Ran;
 use task_machine::{Paused, Private};
 
 // How a worker goes on whose task has ended.

@@ -1,7 +1,7 @@
 //! What a run leaves.
 
 use run_ledger::RunEnd;
-use shared_tree::Shared;
+use turn_entries::Shared;
 
 /// How a run finished.
 #[derive(Clone, Copy)]

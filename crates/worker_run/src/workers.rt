@@ -11,15 +11,13 @@ use crate::end::{Finish, Outcome};
 use crate::working::work;
 use hh_lang::Program;
 use outside_io::Gate;
-use paced_tree::Paced;
 use run_trace::Settings;
-use shared_tree::Shared;
 use std::alloc::{AllocError, Global};
 use std::sync::Wait;
 use std::thread;
 use std::thread::Threads;
 use steal_scheduler::{Deques, Hand};
-use turn_entries::Run;
+use turn_entries::{Paced, Run, Shared};
 use turn_lock::{Seat, Turn};
 
 /// Each worker works at its desk in a thread of its own, until the run is over.
