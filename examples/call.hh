@@ -1,4 +1,5 @@
 # A call: the callee has a copy of all registers, and hands back its i0 and r0.
+# words: run
 fn square
   mul i0 i0 i0
   set i5 99        # the caller's i5 stays as it is

@@ -1,5 +1,6 @@
-# A down-pointer: a child puts an object of its own into its parent's object. Reading it there is no
-# entanglement for the child, nor for the parent after the join.
+# A down-pointer: a child puts an object of its own into its parent's object. Reading it there is no entanglement for
+# the child, nor for the parent after the join.
+# words: run --report
 fn left
   set i0 0
   set i1 1

@@ -1,5 +1,6 @@
-# An entangled read: the right task reads what the left task allocated beside it. Where the left task has
-# written before, the run is stopped.
+# An entangled read: the right task reads what the left task allocated beside it. Where the left task has written
+# before, as it has with one worker, the run is stopped.
+# words: run
 fn left
   set i0 0
   set i1 1

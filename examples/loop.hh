@@ -1,4 +1,5 @@
 # A loop: adds the numbers from 10 down to 1.
+# words: run
 fn main
   set i0 10        # what is still to be added
   set i1 0         # the sum

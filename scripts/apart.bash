@@ -1,4 +1,4 @@
-# What the scripts share: a folder that goes with the script, and calls that end with it.
+# What the scripts share: what they say, a folder that goes with the script, and calls that end with it.
 
 # The folder, if there is one, and the process group of the call under way.
 room=
@@ -8,12 +8,8 @@ say() {
   printf 'hheap: %s\n' "$*" >&2
 }
 
-# Makes the folder, for what needs the kit.
+# Makes the folder.
 make_room() {
-  if ! command -v rt >/dev/null; then
-    say "the kit's command rt isn't on the path, so nothing can be proved or built"
-    exit 1
-  fi
   if ! room=$(mktemp -d "${TMPDIR:-/tmp}/hheap-$1-XXXXXX"); then
     say "no folder can be made among the temporary files"
     exit 1
@@ -23,6 +19,13 @@ make_room() {
 leave_room() {
   [ -z "$room" ] || rm -rf "$room"
   room=
+}
+
+need_kit() {
+  if ! command -v rt >/dev/null; then
+    say "the kit's command rt isn't on the path, so nothing can be proved or built"
+    exit 1
+  fi
 }
 
 # Ends the call under way, and the script with this status.
@@ -46,6 +49,22 @@ run_apart() {
   status=$?
   job=
   return "$status"
+}
+
+# What was built is in out/ at the top. One call at a time builds there.
+lock_out() {
+  mkdir -p "$top/out" && exec 9>"$top/out/lock" || exit 1
+  if ! flock -n 9; then
+    say "another call is building the program: waiting for it"
+    flock 9
+  fi
+}
+
+# Puts a program there under its name, and drops those of its kind that are older than a day.
+put_program() {
+  local kind=${program##*/}
+  cp "$1" "$top/out/new" && mv -f "$top/out/new" "$program" || exit 1
+  find "$top/out" -maxdepth 1 -name "${kind%-*}-*" -mmin +1440 ! -path "$program" -delete
 }
 
 trap leave_room EXIT

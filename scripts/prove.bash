@@ -1,5 +1,5 @@
-# Proves and builds the program, in a copy of its crates, by the tests' own command. So what a run of the tests or of this
-# has proved before on this machine isn't proved again, whoever is interrupted, and in whatever copy of the repository.
+# Proves and builds the program, in a copy of its crates, by the gate's own command. So what a run of the gate or of this
+# has proved before on the machine isn't proved again, whoever is interrupted, and in whatever copy of the repository.
 
 # By crate: its line in crates.txt, and the libraries that it names.
 declare -A line_of libraries_of
@@ -28,7 +28,7 @@ need() {
   needed+=("$1")
 }
 
-# The sum of all that the proof reads in this folder.
+# The sum of all that is proved and built in this folder.
 sum_of() {
   (
     cd "$1" || exit 1
@@ -36,7 +36,8 @@ sum_of() {
       printf '%s\n' "${line_of[$name]}"
     done
     cat HANDLES
-    find "${needed[@]/#/crates/}" \( -name out -o -name must-fail \) -prune -o -type f -print0 | LC_ALL=C sort -z | xargs -0 sha256sum
+    find "${needed[@]/#/crates/}" \( -name out -o -name must-fail \) -prune -o -type f -print0 |
+      LC_ALL=C sort -z | xargs -0 sha256sum
   ) | sha256sum | cut -c 1-32
 }
 
@@ -84,28 +85,25 @@ prove_in() {
 
 # Proves the program, one call at a time in this copy of the repository.
 prove() {
-  mkdir -p "$top/out" && exec 9>"$top/out/lock" || exit 1
-  if ! flock -n 9; then
-    say "another call is proving the program: waiting for it"
-    flock 9
-  fi
-  program=$top/out/hheap-$(sum_of "$top")
+  local left
+  need_kit
+  lock_out
+  program=$top/out/$crate-$(sum_of "$top")
   [ ! -x "$program" ] || return 0
   # (a call that was killed left its folder)
-  local left
   left=$(cat "$top/out/proving" 2>/dev/null)
   [[ $left != */hheap-proof-* ]] || rm -rf "$left"
   make_room proof
   printf '%s\n' "$room" >"$top/out/proving"
   : >"$top/out/proof.log"
   copy_to "$room" || exit 1
-  program=$top/out/hheap-$(sum_of "$room")
+  program=$top/out/$crate-$(sum_of "$room")
   if ! run_apart prove_in "$room" </dev/null >&2 9>&-; then
     grep -E '^rt: .*(NOT PROVED|FAILED|refused)|error' "$top/out/proof.log" | tail -n 20 >&2
     say "the program could not be proved and built; all that was said is in $top/out/proof.log"
     exit 1
   fi
-  cp "$room/crates/hheap/out/hheap" "$room/hheap" && cp "$room/hheap" "$top/out/new" && mv -f "$top/out/new" "$program" || exit 1
+  put_program "$room/crates/$crate/out/$crate"
   leave_room
   rm -f "$top/out/proving"
 }
@@ -113,11 +111,10 @@ prove() {
 # Sets `program` to the proved program.
 find_program() {
   read_crates
-  need hheap
-  program=$top/out/hheap-$(sum_of "$top")
+  need "$crate"
+  program=$top/out/$crate-$(sum_of "$top")
   if [ ! -x "$program" ]; then
     prove
-    find "$top/out" -maxdepth 1 -name 'hheap-*' -mmin +1440 ! -path "$program" -delete
     exec 9>&-
   fi
 }

@@ -6,8 +6,6 @@ mod above;
 #[cfg(test)]
 mod calls;
 #[cfg(test)]
-mod examples;
-#[cfg(test)]
 mod gates;
 #[cfg(test)]
 mod images;

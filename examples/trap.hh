@@ -1,7 +1,0 @@
-# A trap: a division by zero ends the run, with the task and the line.
-fn main
-  set i0 7
-  set i1 0
-  div i2 i0 i1
-  out i2
-end
