@@ -1,5 +1,5 @@
-# The program of README.md: two tasks put an object each into an object of their parent, which reads one of them after the
-# join.
+# The program of README.md: two tasks put an object each into an object of their parent, which reads one of them after
+# the join.
 # words: run --report
 fn child           # called for the numbers 0 and 1, each time in a task of its own
   newm r1 i2 i13   # a new object: no reference (i2 is 0), one number (the loop has set i13 to 1)
