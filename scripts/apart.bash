@@ -5,7 +5,7 @@ room=
 job=
 
 say() {
-  printf 'hheap: %s\n' "$*" >&2
+  printf '%s: %s\n' "$crate" "$*" >&2
 }
 
 # Makes the folder.

@@ -1,5 +1,5 @@
-# Proves and builds the program, in a copy of its crates, by the gate's own command. So what a run of the gate or of this
-# has proved before on the machine isn't proved again, whoever is interrupted, and in whatever copy of the repository.
+# Proves and builds the program, in a copy of its crates, by the gate's own command. So what a run of the gate or of
+# this has proved before on the machine isn't proved again, whoever is interrupted, in whatever copy of the repository.
 
 # By crate: its line in crates.txt, and the libraries that it names.
 declare -A line_of libraries_of
