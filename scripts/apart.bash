@@ -51,9 +51,9 @@ run_apart() {
   return "$status"
 }
 
-# What was built is in out/ at the top. One call at a time builds there.
+# What was built is in out/ at the top. One call at a time proves, and one builds unproved.
 lock_out() {
-  mkdir -p "$top/out" && exec 9>"$top/out/lock" || exit 1
+  mkdir -p "$top/out" && exec 9>"$top/out/lock$1" || exit 1
   if ! flock -n 9; then
     say "another call is building the program: waiting for it"
     flock 9
@@ -63,7 +63,7 @@ lock_out() {
 # Puts a program there under its name, and drops those of its kind that are older than a day.
 put_program() {
   local kind=${program##*/}
-  cp "$1" "$top/out/new" && mv -f "$top/out/new" "$program" || exit 1
+  cp "$1" "$program.new" && mv -f "$program.new" "$program" || exit 1
   find "$top/out" -maxdepth 1 -name "${kind%-*}-*" -mmin +1440 ! -path "$program" -delete
 }
 

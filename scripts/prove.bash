@@ -87,7 +87,7 @@ prove_in() {
 prove() {
   local left
   need_kit
-  lock_out
+  lock_out ""
   program=$top/out/$crate-$(sum_of "$top")
   [ ! -x "$program" ] || return 0
   # (a call that was killed left its folder)
