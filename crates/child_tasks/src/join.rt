@@ -1,6 +1,6 @@
 // What a join takes out of the shared value, and the places that it needs.
 
-ghost use Rattle.std.specs.Prelude.{◌≡◌, ◌<◌, ◌+◌, ◌^◌, OnOk, IfOk, None, Some, slice_set, ◌≢◌, ◌≤◌, ◌++◌, ℕ, IfSome, [], false, length, slice_get};
+ghost use Rattle.std.specs.Prelude.{◌≡◌, ◌<◌, ◌+◌, ◌^◌, ◌↔◌, IsTrue, OnOk, IfOk, None, Some, slice_set, ◌≢◌, ◌≤◌, ◌++◌, ℕ, IfSome, [], false, length, slice_get};
 ghost use Rattle.heap_tree.specs.Pairs.{sibling, is_left};
 ghost use Rattle.fork_join.specs.Forked.{no_heap};
 ghost use Rattle.fork_join.specs.Joined.{joined_nodes, with_results, AreRelabelled, Joins};
@@ -15,7 +15,7 @@ ghost use Rattle.write_barrier.specs.Stored.{content_at};
 use alloc_path::{LeafHeap, View};
 use chunk_pool::Pool;
 use fork_join::{EndedChild, Side, join};
-use heap_tree::Tree;
+use heap_tree::{State, Tree};
 use listed::Listed;
 use object_layout::Addr;
 use remembered_set::Remembered;
@@ -32,6 +32,16 @@ pub fn sibling_of(t: u32) -> u32
     ensures { result ≡ sibling t }
 {
     if t % 2 == 1 { t + 1 } else { t - 1 }
+}
+
+/// Whether a task that is at this has ended, and hasn't joined.
+pub fn is_ended(state: Option<State>) -> bool
+    ensures { IsTrue result ↔ (state ≡ Some State.Ended) }
+{
+    match state {
+        Some(State::Ended) => true,
+        _ => false,
+    }
 }
 
 // The result of a task that has ended.

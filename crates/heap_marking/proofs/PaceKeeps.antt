@@ -15,7 +15,7 @@ use Rattle.heap_marking.specs.declared.pace.Fork.{Fork}
 use Rattle.heap_marking.specs.declared.pace.Pace.{Pace}
 use Rattle.heap_marking.specs.declared.pace.Previous.{Previous}
 use Rattle.heap_marking.specs.declared.pace.Previous.TheVariants.{Other, Ran, Forked}
-use Rattle.heap_marking.specs.Pace.{HasGoneOn, IsForkOf, IsOver, KeepsMarks, KeepsPace, KeepsPrevious, TellsFork, TellsMark, is_live_child, is_parent, previous_of}
+use Rattle.heap_marking.specs.Pace.{HasGoneOn, IsForkOf, IsOver, KeepsMarks, KeepsPace, KeepsPrevious, TellsFork, TellsMark, is_parent, previous_of}
 use Rattle.heap_marking.proofs.TreeMoves.{WaitsOn}
 use Rattle.heap_marking.proofs.LedgerMoves.{IsTouched, Moves}
 
@@ -129,10 +129,14 @@ not_tells : (b : Bool) → not b ≡ true → b ≡ false
 not_tells false h = refl
 not_tells true h = absurd (false≢true h)
 
-pub child_tells : (tasks : List Task) (t c : ℕ) → is_live_child tasks t c ≡ true → (parents tasks c ≡ Some t) × (joined tasks c ≡ false)
+-- a child of t that hasn't joined, as the tasks tell it
+abbrev pub lives_below : List Task → ℕ → ℕ → Bool
+lives_below tasks t c = is_parent (parents tasks c) t && not (joined tasks c)
+
+pub child_tells : (tasks : List Task) (t c : ℕ) → lives_below tasks t c ≡ true → (parents tasks c ≡ Some t) × (joined tasks c ≡ false)
 child_tells tasks t c h = let q = and_parts (is_parent (parents tasks c) t) (not (joined tasks c)) h in (parent_tells (parents tasks c) t q.0, not_tells (joined tasks c) q.1)
 
-pub child_from : (tasks : List Task) (t c : ℕ) → parents tasks c ≡ Some t → joined tasks c ≡ false → is_live_child tasks t c ≡ true
+pub child_from : (tasks : List Task) (t c : ℕ) → parents tasks c ≡ Some t → joined tasks c ≡ false → lives_below tasks t c ≡ true
 child_from tasks t c p j = and_from (is_parent (parents tasks c) t) (not (joined tasks c)) (ap (λ o. is_parent o t) p ∙ eq-eqb t t refl) (ap not j)
 
 waits_task : (o : Option Task) → is_waiting o ≡ true → (x : Task) × (o ≡ Some x) × (waits x.status ≡ true)

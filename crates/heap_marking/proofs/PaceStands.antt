@@ -1,9 +1,8 @@
 -- What the shared value tells of forks and markings, before the run's end.
-use Rattle.std.proofs.Common.{◌≡◌, ℕ, ◌<◌, ◌≤◌, ◌&&◌, not, Bool, true, false, Option, Some, None, length, option_map, slice_get, inl, inr, refl, ap, sym, subst, ◌∙◌, ◌-◌, ◌^◌, arith, is_some, is_none, nat_le}
+use Rattle.std.proofs.Common.{◌≡◌, ℕ, ◌<◌, ◌≤◌, ◌&&◌, not, Bool, true, false, Option, Some, None, length, option_map, slice_get, inl, inr, refl, ap, sym, subst, ◌∙◌, ◌-◌, ◌^◌, arith, is_some, is_none, nat_le, ap₂}
 use Rattle.std.proofs.lemmas.Bool.{false≢true, both_ways, and_parts, cases_lt, le-leb}
 use Rattle.alloc_path.specs.Heap.{counted}
 use Rattle.std.proofs.lemmas.Option.{same_Some}
-use Rattle.listed.proofs.Members.{got_past}
 use Rattle.hh_model.specs.declared.data.Status.{Status}
 use Rattle.hh_model.specs.declared.data.Status.TheVariants.{Running, Waiting, Ended, Joined}
 use Rattle.hh_model.specs.declared.data.State.{State as Machine}
@@ -30,14 +29,14 @@ use Rattle.heap_marking.specs.declared.pace.Fork.{Fork}
 use Rattle.shared_value.specs.Causes.{or_else}
 use Rattle.shared_value.specs.Entered.{Enters}
 use Rattle.heap_marking.specs.MarkCauses.{is_state_waiting, marking_cause, waiting_cause}
-use Rattle.heap_marking.specs.Pace.{IsForkOf, IsLiveChild, KeepsPace, PacesStay, is_going, is_live_child, is_parent, is_state_joined, is_to_begin}
+use Rattle.heap_marking.specs.Pace.{IsForkIn, IsForkOf, KeepsPace, PacesStay, is_going, is_live_child, is_parent, is_state_joined, is_to_begin}
 use Rattle.shared_value.specs.Stands.{IsWorld}
 use Rattle.shared_value.specs.World.{World, accounts, marks_at, node_of, noted_in, state_of, totals_of, value_of}
 use Rattle.shared_value.proofs.Entered.{accounts_then}
 use Rattle.heap_marking.proofs.LedgerMoves.{entry_moves}
 use Rattle.heap_marking.proofs.MarkCauses.{marked_by, waits_by}
 use Rattle.shared_value.proofs.Now.{stands_now}
-use Rattle.heap_marking.proofs.PaceKeeps.{child_from, child_tells, fork_from, keeps_moves}
+use Rattle.heap_marking.proofs.PaceKeeps.{child_from, child_tells, fork_from, keeps_moves, lives_below}
 use Rattle.heap_marking.proofs.TreeMoves.{runs_have_live}
 
 -- WHO HAS JOINED
@@ -184,19 +183,16 @@ module _ (w : World) (I : IsWorld w) (on : (accounts w).end ≡ None) where
   begin_counted f on m = begin_words f on m ∙ sym (counted_le w.settings.inner (words_in l.machine (heap_of l f.task)) (let h = I.limits.inner.1 in omega (arith, h)))
 
   -- THE FORK on which a task waits
-  pub child_is : (t c : ℕ) → is_live_child l.machine.tasks t c ≡ (is_parent (parent_of w.tree c) t && not (joined l.machine.tasks c))
-  child_is t c = ap (λ o. is_parent o t && not (joined l.machine.tasks c)) (sym (parent_is c))
-
-  pub unmade_child : (t c : ℕ) → length w.tree ≤ c → is_live_child l.machine.tasks t c ≡ false
-  unmade_child t c le = child_is t c ∙ ap (λ o. is_parent (parent_in o) t && not (joined l.machine.tasks c)) (got_past w.tree c le)
+  child_is : (t c : ℕ) → is_live_child w.tree t c ≡ lives_below l.machine.tasks t c
+  child_is t c = ap₂ (λ o j. is_parent o t && not j) (parent_is c) (joined_is c)
 
   known : SoundLedger l
   known = legal_sound w.program w.settings w.journal.items I.legal
 
-  pub live_waits : (t c : ℕ) → is_live_child l.machine.tasks t c ≡ true → IsForkOf l t (Some (record { task = t; left = c })) (slice_get l.machine.tasks t)
+  live_waits : (t c : ℕ) → lives_below l.machine.tasks t c ≡ true → IsForkOf l t (Some (record { task = t; left = c })) (slice_get l.machine.tasks t)
   live_waits t c h = let q = child_tells l.machine.tasks t c h in fork_from l t c q.0 q.1 (known.kept.tree.waits c t q.0 q.1)
 
-  has_live : (t : ℕ) → is_waiting (slice_get l.machine.tasks t) ≡ true → (c : ℕ) × (is_live_child l.machine.tasks t c ≡ true)
+  has_live : (t : ℕ) → is_waiting (slice_get l.machine.tasks t) ≡ true → (c : ℕ) × (lives_below l.machine.tasks t c ≡ true)
   has_live t q =
       let c = subst (λ (m : Machine). waiting m.tasks t ≡ true → (c : ℕ) × (parents m.tasks c ≡ Some t) × (joined m.tasks c ≡ false)) (sym (machine_is_run w.program w.settings w.journal.items))
       (runs_have_live w.program (field_limit w.settings.version) (tasks_of w.journal.items) t) q in
@@ -206,8 +202,11 @@ module _ (w : World) (I : IsWorld w) (on : (accounts w).end ≡ None) where
   false_or true h = absurd (h refl)
   false_or false h = refl
 
-  pub none_waits : (t : ℕ) → IsLiveChild l.machine.tasks t None → is_waiting (slice_get l.machine.tasks t) ≡ false
-  none_waits t none = false_or (is_waiting (slice_get l.machine.tasks t)) (λ q. let c = has_live t q in both_ways (is_live_child l.machine.tasks t c.0) (none c.0) c.1)
+  pub fork_is : (t : ℕ) (o : Option Fork) → IsForkIn w.tree t o → IsForkOf l t o (slice_get l.machine.tasks t)
+  fork_is t None none =
+      false_or (is_waiting (slice_get l.machine.tasks t))
+      (λ q. let c = has_live t q in both_ways (lives_below l.machine.tasks t c.0) (sym (child_is t c.0) ∙ none (waiting_is t ∙ q) c.0) c.1)
+  fork_is t (Some f) h = subst (λ u. IsForkOf l t (Some (record { task = u; left = f.left })) (slice_get l.machine.tasks t)) (sym h.0) (live_waits t f.left (sym (child_is t f.left) ∙ h.1))
 
 -- THE LAW
 pub entered_accounts : (w w' : World) (e : Event) → Enters w w' e → accounts w' ≡ after w.program w.settings (accounts w) e

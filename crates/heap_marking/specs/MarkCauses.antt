@@ -1,5 +1,5 @@
 -- Why the heap of a task is neither marked nor swept, as the shared value tells it.
-use Rattle.std.specs.Prelude.{◌≡◌, ◌==◌, ℕ, Bool, true, false, Option, Some, None, is_some, nat_le, slice_get}
+use Rattle.std.specs.Prelude.{◌≡◌, ◌==◌, ℕ, Bool, true, false, Option, Some, None, List, is_some, nat_le, slice_get}
 use Rattle.run_trace.specs.declared.entry.Kind.TheVariants.{Mark, More, Sweep}
 use Rattle.run_trace.specs.Settings.{Limits}
 use Rattle.run_ledger.specs.declared.data.Refused.{Refused}
@@ -8,7 +8,9 @@ use Rattle.run_ledger.specs.Entries.{counted, kind_refusal, refused_if, refused_
 use Rattle.run_ledger.specs.Heaps.{heap_of, left_in, marked_in, sweep_number, words_in}
 use Rattle.heap_tree.specs.declared.state.State.{State}
 use Rattle.heap_tree.specs.declared.state.State.TheVariants.{Ready, Out, Waiting, Ended, Joined}
-use Rattle.heap_tree.specs.Node.{state_of}
+use Rattle.heap_tree.specs.Node.{Node, state_of}
+use Rattle.write_barrier.specs.declared.sets.SetOf.{SetOf}
+use Rattle.inner_mark_gc.specs.Marks.{Marks}
 use Rattle.shared_value.specs.Causes.{or_else}
 use Rattle.shared_value.specs.World.{World, accounts, marks_at, noted_in}
 use Rattle.shared_value.specs.Stands.{IsWorld}
@@ -21,13 +23,19 @@ is_state_waiting (Some Waiting) = true
 is_state_waiting (Some Ended) = false
 is_state_waiting (Some Joined) = false
 
--- for what its task is at, or since it was swept
+-- for what its task is at, or since it was swept, as the tree and the sets tell it
+abbrev pub waiting_cause_in : List Node → List SetOf → ℕ → Option Refused
+waiting_cause_in tree sets t = refused_unless (is_state_waiting (state_of tree t)) NotWaiting (refused_unless (noted_in (slice_get sets t)).keeps Swept None)
+
 abbrev pub waiting_cause : World → ℕ → Option Refused
-waiting_cause w t = refused_unless (is_state_waiting (state_of w.tree t)) NotWaiting (refused_unless (noted_in (slice_get w.sets t)).keeps Swept None)
+waiting_cause w t = waiting_cause_in w.tree w.sets t
 
 -- or since it isn't being marked
+abbrev pub marking_cause_in : List Node → List SetOf → List (Option Marks) → ℕ → Option Refused
+marking_cause_in tree sets marks t = or_else (waiting_cause_in tree sets t) (refused_unless (is_some (marks_at marks t)) NotMarking None)
+
 abbrev pub marking_cause : World → ℕ → Option Refused
-marking_cause w t = or_else (waiting_cause w t) (refused_unless (is_some (marks_at w.marks t)) NotMarking None)
+marking_cause w t = marking_cause_in w.tree w.sets w.marks t
 
 -- or since it has too few words
 abbrev pub words_cause : Limits → ℕ → Option Refused

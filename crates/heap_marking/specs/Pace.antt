@@ -7,6 +7,7 @@ use Rattle.hh_model.specs.declared.data.Task.{Task}
 use Rattle.hh_model.specs.Step.{is_waiting, joined, parents, strand_of, waits}
 use Rattle.heap_tree.specs.declared.state.State.{State}
 use Rattle.heap_tree.specs.declared.state.State.TheVariants.{Ready, Out, Waiting, Ended, Joined}
+use Rattle.heap_tree.specs.Node.{Node, parent_of, state_of}
 use Rattle.run_ledger.specs.declared.data.Ledger.{Ledger}
 use Rattle.run_ledger.specs.declared.data.Previous.{Previous as PreviousEntry}
 use Rattle.run_ledger.specs.declared.data.Previous.TheVariants.{Other as OtherEntry, Ran as RanEntry, Forked as ForkedEntry}
@@ -17,6 +18,7 @@ use Rattle.heap_marking.specs.declared.pace.Fork.{Fork}
 use Rattle.heap_marking.specs.declared.pace.Pace.{Pace}
 use Rattle.heap_marking.specs.declared.pace.Previous.{Previous}
 use Rattle.heap_marking.specs.declared.pace.Previous.TheVariants.{Other, Ran, Forked}
+use Rattle.heap_marking.specs.MarkCauses.{is_state_waiting}
 use Rattle.shared_value.specs.Entered.{refused, Enters}
 use Rattle.shared_value.specs.Stands.{IsWorld}
 use Rattle.shared_value.specs.World.{World, accounts}
@@ -39,14 +41,6 @@ abbrev pub is_parent : Option ℕ → ℕ → Bool
 is_parent None t = false
 is_parent (Some p) t = p == t
 
--- a child of t that hasn't joined
-abbrev pub is_live_child : List Task → ℕ → ℕ → Bool
-is_live_child tasks t c = is_parent (parents tasks c) t && not (joined tasks c)
-
-abbrev pub IsLiveChild : List Task → ℕ → Option ℕ → Type 0
-IsLiveChild tasks t (Some c) = is_live_child tasks t c ≡ true
-IsLiveChild tasks t None = (c : ℕ) → is_live_child tasks t c ≡ false
-
 -- the fork on which the task t waits, or none where it doesn't wait
 abbrev pub IsForkOf : Ledger → ℕ → Option Fork → Option Task → Type 0
 IsForkOf l t None o = is_waiting o ≡ false
@@ -61,6 +55,19 @@ is_state_joined (Some Out) = false
 is_state_joined (Some Waiting) = false
 is_state_joined (Some Ended) = false
 is_state_joined (Some Joined) = true
+
+-- a child of t that hasn't joined, as the tree tells it
+abbrev pub is_live_child : List Node → ℕ → ℕ → Bool
+is_live_child tree t c = is_parent (parent_of tree c) t && not (is_state_joined (state_of tree c))
+
+abbrev pub IsLiveChild : List Node → ℕ → Option ℕ → Type 0
+IsLiveChild tree t (Some c) = is_live_child tree t c ≡ true
+IsLiveChild tree t None = (c : ℕ) → is_live_child tree t c ≡ false
+
+-- a fork of t, told by a child that hasn't joined; or none, where t doesn't wait or has no such child
+abbrev pub IsForkIn : List Node → ℕ → Option Fork → Type 0
+IsForkIn tree t (Some f) = (f.task ≡ t) × IsLiveChild tree t (Some f.left)
+IsForkIn tree t None = is_state_waiting (state_of tree t) ≡ true → IsLiveChild tree t None
 
 -- ---- MARKINGS
 

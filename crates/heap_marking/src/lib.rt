@@ -2,17 +2,19 @@
 #![tactic(auto)]
 
 mod causes;
+mod forks;
 mod laws;
 mod mark_places;
 mod pace;
 mod starts;
 mod sweep;
 
-pub use causes::{is_waiting, words_cause};
+pub use causes::{marking_cause, waiting_cause, words_cause};
+pub use forks::fork_in;
 pub use laws::{
     marks_begin, marks_count, marks_enter, marks_go_further, marks_refuse, marks_stand,
 };
-pub use mark_places::put_marking;
-pub use pace::{Fork, Pace, Previous, is_joined, is_parent, paces_stay};
+pub use mark_places::{is_marking, put_marking};
+pub use pace::{Fork, Pace, Previous, is_joined, paces_stay};
 pub use starts::starts_by;
 pub use sweep::{drop_unmarked, forget_kept};

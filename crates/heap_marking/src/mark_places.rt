@@ -1,12 +1,22 @@
 // The places of markings, one for each task: tasks behind the last have none.
 
-ghost use Rattle.std.specs.Prelude.{◌≡◌, ◌+◌, ◌-◌, ◌≤◌, ℕ, OnErr, OnOk, None, Some, length, vec_capacity, vec_len};
+ghost use Rattle.std.specs.Prelude.{◌≡◌, ◌+◌, ◌-◌, ◌≤◌, ℕ, OnErr, OnOk, None, Some, is_some, length, vec_capacity, vec_len};
 ghost use Rattle.shared_value.specs.World.{marks_at};
 
 use inner_mark_gc::Marking;
 use listed::Listed;
 use std::alloc::{AllocError, Global};
 use std::mem;
+
+/// Whether the heap of a task is being marked.
+pub fn is_marking(marks: &Listed<Option<Marking>>, t: u32) -> bool
+    ensures { result ≡ is_some (marks_at marks.now t) }
+{
+    match marks.get(t as usize) {
+        Some(marking) => marking.is_some(),
+        None => false,
+    }
+}
 
 // Puts in tasks without a marking, up to so many.
 fn fill(marks: &mut Vec<Option<Marking>>, count: usize)

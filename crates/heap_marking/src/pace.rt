@@ -96,8 +96,8 @@ pub fn is_joined(state: Option<State>) -> bool
     }
 }
 
-/// Whether this is the parent.
-pub fn is_parent(parent: Option<u32>, t: u32) -> bool
+// Whether this is the parent.
+pub(crate) fn is_parent(parent: Option<u32>, t: u32) -> bool
     ensures { result ≡ is_parent parent t }
 {
     match parent {

@@ -9,7 +9,7 @@ use Rattle.heap_tree.specs.declared.state.State.{State}
 use Rattle.hh_model.specs.Step.{owner_of}
 use Rattle.heap_reading.specs.declared.live.InUse.{InUse}
 use Rattle.heap_reading.specs.declared.live.Live.{Live}
-use Rattle.heap_reading.specs.Image.{AreAll, ChunkBefore, IsInUse, IsLive, LiveBefore}
+use Rattle.heap_reading.specs.Image.{AreAll, ChunkBefore, IsInUse, IsLiveIn, LiveBefore}
 use Rattle.shared_value.specs.World.{World, accounts}
 use Rattle.heap_reading.proofs.InOrder.{all_more, all_none, all_same}
 
@@ -44,9 +44,9 @@ module _ {A : Type 0} (number : A → ℕ) (Is : A → Type 0) (once : (x y : A)
   pub all_below : (k : ℕ) (xs : List A) → AreAll Before (Below k) xs → ((x : A) → Is x → number x < k) → AreAll Before Is xs
   all_below k xs all few = all_same Before (Below k) Is xs all (λ x h. h.0) (λ x h. (h, few x h))
 
-pub live_once : (w : World) (x y : Live) → IsLive w x → IsLive w y → x.number ≡ y.number → x ≡ y
-live_once w x y a b e =
-    let same : record { parent = x.parent; state = x.state } ≡ record { parent = y.parent; state = y.state } = same_Some (record { parent = x.parent; state = x.state }) (record { parent = y.parent; state = y.state }) (sym a.is ∙ (ap (slice_get w.tree) e ∙ b.is)) in
+pub live_once : (tree : List Node) (x y : Live) → IsLiveIn tree x → IsLiveIn tree y → x.number ≡ y.number → x ≡ y
+live_once tree x y a b e =
+    let same : record { parent = x.parent; state = x.state } ≡ record { parent = y.parent; state = y.state } = same_Some (record { parent = x.parent; state = x.state }) (record { parent = y.parent; state = y.state }) (sym a.is ∙ (ap (slice_get tree) e ∙ b.is)) in
     let p : x.parent ≡ y.parent = ap (λ (n : Node). n.parent) same in
     let s : x.state ≡ y.state = ap (λ (n : Node). n.state) same in
     λ i. record { number = e i; parent = p i; state = s i }

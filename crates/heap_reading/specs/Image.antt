@@ -8,7 +8,7 @@ use Rattle.task_machine.specs.Place.{birth_of}
 use Rattle.chunk_pool.specs.declared.pool.Held.{Held}
 use Rattle.chunk_pool.specs.Chunks.{held_at, owner_of as holder_of}
 use Rattle.heap_tree.specs.declared.state.State.TheVariants.{Joined}
-use Rattle.heap_tree.specs.Node.{state_of}
+use Rattle.heap_tree.specs.Node.{Node, state_of}
 use Rattle.hh_model.specs.Step.{owner_of}
 use Rattle.core_relation.specs.Value.{Chunk, Seen as SeenAt, Source, In as HasItem, sources}
 use Rattle.heap_reading.specs.declared.live.Live.{Live}
@@ -35,10 +35,13 @@ pub record AreAll {A : Type 0} (before : A → A → Type 0) (Is : A → Type 0)
 abbrev pub LiveBefore : Live → Live → Type 0
 LiveBefore x y = x.number < y.number
 
--- a task that was made and hasn't joined
-pub record IsLive (w : World) (x : Live) : Type 0 where
-  pub is : slice_get w.tree x.number ≡ Some (record { parent = x.parent; state = x.state })
+-- a task of a tree that was made and hasn't joined
+pub record IsLiveIn (tree : List Node) (x : Live) : Type 0 where
+  pub is : slice_get tree x.number ≡ Some (record { parent = x.parent; state = x.state })
   pub live : x.state ≡ Joined → ⊥
+
+abbrev pub IsLive : World → Live → Type 0
+IsLive w x = IsLiveIn w.tree x
 
 -- CHUNKS
 

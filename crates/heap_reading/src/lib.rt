@@ -5,6 +5,6 @@ mod live;
 mod noted;
 mod seen;
 
-pub use live::{InUse, Live};
+pub use live::{InUse, Live, is_running, live_in};
 pub use noted::{Field, fields_of};
 pub use seen::{Seen, number_of, seen_in};

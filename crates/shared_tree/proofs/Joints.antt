@@ -31,7 +31,9 @@ use Rattle.shared_value.specs.declared.answer.NotEntered.TheVariants.{NoMemory, 
 use Rattle.shared_value.specs.Links.{above_of}
 use Rattle.shared_value.specs.Next.{is_beyond, is_beyond_by, is_beyond_line, is_joint, next_line}
 use Rattle.others_objects.specs.Other.{IsOther, SameButRoom, is_other, is_other_by, is_other_line}
-use Rattle.shared_tree.specs.Ran.{IsJoint, RanTo, ran_by}
+use Rattle.shared_tree.specs.declared.ran_last.Ran.{Ran}
+use Rattle.shared_tree.specs.declared.ran_last.Ran.TheVariants.{Forked as RanForked, Over as RanOver}
+use Rattle.shared_tree.specs.Ran.{IsJoint, RanTo}
 use Rattle.child_tasks.specs.declared.fork.Forking.{Forking}
 use Rattle.child_tasks.specs.declared.fork.Forking.TheVariants.{Forked, Over}
 use Rattle.own_steps.proofs.AloneEntries.{runs_on}
@@ -139,6 +141,11 @@ results_unchanged w after (Ok a) why S = tt
 results_unchanged w after (Err e) why S = room_unchanged w after e.cause why S
 
 -- ---- WHAT IT COMES TO
+
+-- what a fork comes to
+abbrev pub ran_by : Forking → Ran
+ran_by (Forked left right) = RanForked left right
+ran_by (Over q) = RanOver q
 
 pub forks_to : (w after : World) (k : ℕ) (p : Private) → IsWorld w → IsWorld after → refused w (alone_event k p) ≡ None → (f : Forking) → ForkAnswered w after k p f → LeavesHand w.hands after.hands k f → RanTo w after k p (ran_by f)
 forks_to w after k p I I' free (Forked left right) on hand = (on, holds_none w after k p I I' free hand)

@@ -1,8 +1,6 @@
 -- The one entry of a part's fresh steps and its next one, which isn't private, whatever that is.
 use Rattle.std.specs.Prelude.{◌≡◌, ℕ, true}
 use Rattle.task_machine.specs.declared.part.Private.{Private}
-use Rattle.child_tasks.specs.declared.fork.Forking.{Forking}
-use Rattle.child_tasks.specs.declared.fork.Forking.TheVariants.{Forked as ForksInto, Over as TooDeep}
 use Rattle.shared_tree.specs.declared.ran_last.Joint.{Joint}
 use Rattle.shared_tree.specs.declared.ran_last.Joint.TheVariants.{Forks, Returns, Works}
 use Rattle.shared_tree.specs.declared.ran_last.Ran.{Ran}
@@ -24,11 +22,6 @@ abbrev pub ComesTo : World → Private → Joint → Type 0
 ComesTo w p Forks = IsAtFork w p
 ComesTo w p Returns = IsAtEnd w p
 ComesTo w p Works = IsOther w p
-
--- a fork
-abbrev pub ran_by : Forking → Ran
-ran_by (ForksInto left right) = Forked left right
-ran_by (TooDeep q) = Over q
 
 -- what the worker's task has come to: where it forks or ends, the worker holds nothing
 abbrev pub RanTo : World → World → ℕ → Private → Ran → Type 0

@@ -1,6 +1,6 @@
 // A part's steps are entered with the last return of a task that another one forked.
 
-ghost use Rattle.std.specs.Prelude.{◌≡◌, ◌<◌, ◌+◌, ◌↔◌, IsTrue, OnErr, OnOk, IfErr, IfOk, None, Some, slice_set};
+ghost use Rattle.std.specs.Prelude.{◌≡◌, ◌<◌, ◌+◌, OnErr, OnOk, IfErr, IfOk, None, Some, slice_set};
 ghost use Rattle.heap_tree.specs.Node.{parent_of, state_of};
 ghost use Rattle.heap_tree.specs.Pairs.{sibling};
 ghost use Rattle.own_steps.specs.Alone.{alone_event};
@@ -11,40 +11,17 @@ ghost use Rattle.child_tasks.specs.Joins.{HasPlaces, IsUnchanged, SameButPlaces}
 
 use crate::shared::Shared;
 use child_tasks::{
-    chunks_at, in_order, join_children, leave_other, leave_own, make_home_places, make_set_places,
-    places, put_remembered, sibling_of, sources_of, take_remembered, take_rest,
+    chunks_at, in_order, is_ended, join_children, leave_other, leave_own, make_home_places,
+    make_set_places, places, put_remembered, sibling_of, sources_of, take_remembered, take_rest,
 };
 use heap_tree::State;
 use own_steps::at_end;
-use run_ledger::Refused;
 use run_trace::{Entry, Kind};
 use shared_value::{NotEntered, NotRan};
 use std::alloc::AllocError;
 use task_machine::Private;
 
 impl Shared {
-    // Why the entry is refused.
-    fn end_refused(&self, worker: u32, part: &Private) -> Option<Refused>
-        requires fits { Fits self.now worker part.now }
-        requires ends { IsAtEnd self.now part.now }
-        ensures { result ≡ refused self.now (alone_event worker part.now) }
-    {
-        self.alone_refused(worker, part)
-    }
-
-    // Whether the other child of the same fork has ended.
-    fn has_sibling_ended(&self, worker: u32, part: &Private) -> bool
-        requires fits { Fits self.now worker part.now }
-        requires ends { IsAtEnd self.now part.now }
-        requires free { refused self.now (alone_event worker part.now) ≡ None }
-        ensures yes { IsTrue result ↔ (state_of self.now.tree (sibling part.now.task) ≡ Some State.Ended) }
-    {
-        match self.tree.state(sibling_of(part.task)) {
-            Some(State::Ended) => true,
-            _ => false,
-        }
-    }
-
     // Enters the end of a child whose sibling goes on.
     fn enter_end(&mut self, worker: u32, part: Private)
         requires room { 0 < self.old.journal.room }
@@ -138,14 +115,14 @@ impl Shared {
         ensures answered { IfOk result (EndsChild self.old self.new worker part) }
         ensures hand { OnOk result (self.new.hands ≡ slice_set self.old.hands worker None) }
     {
-        if let Some(cause) = self.end_refused(worker, &part) {
+        if let Some(cause) = self.alone_refused(worker, &part) {
             return Err(NotRan {
                 cause: NotEntered::Refuses(cause),
                 part,
             });
         }
         self.stands();
-        if !self.has_sibling_ended(worker, &part) {
+        if !is_ended(self.tree.state(sibling_of(part.task))) {
             self.enter_end(worker, part);
             return Ok(None);
         }

@@ -12,7 +12,6 @@ use crate::shared::Shared;
 use child_tasks::{Forking, clear_marks, fork_sets, grow, put_homes};
 use hh_lang::Instr;
 use hh_model::{End, Trap};
-use run_ledger::Refused;
 use run_trace::{Entry, Kind};
 use shared_value::{NotEntered, NotRan};
 use task_machine::Private;
@@ -21,15 +20,6 @@ use task_machine::Private;
 const DEPTH_LIMIT: u32 = 1000;
 
 impl Shared {
-    // Why the entry is refused.
-    fn fork_refused(&self, worker: u32, part: &Private) -> Option<Refused>
-        requires fits { Fits self.now worker part.now }
-        requires forks { IsAtFork self.now part.now }
-        ensures { result ≡ refused self.now (alone_event worker part.now) }
-    {
-        self.alone_refused(worker, part)
-    }
-
     // The functions that the children begin, and the line of the text where the fork stands.
     fn fork_line(&self, worker: u32, part: &Private) -> (u32, u32, u32)
         requires fits { Fits self.now worker part.now }
@@ -105,7 +95,7 @@ impl Shared {
         ensures answered { IfOk result (ForkAnswered self.old self.new worker part) }
         ensures hand { IfOk result (LeavesHand self.old.hands self.new.hands worker) }
     {
-        if let Some(cause) = self.fork_refused(worker, &part) {
+        if let Some(cause) = self.alone_refused(worker, &part) {
             return Err(NotRan {
                 cause: NotEntered::Refuses(cause),
                 part,

@@ -2,27 +2,15 @@
 
 ghost use Rattle.std.specs.Prelude.{◌≡◌, ◌<◌, length};
 ghost use Rattle.alloc_path.specs.Heap.{counted};
-ghost use Rattle.heap_tree.specs.Node.{state_of};
 ghost use Rattle.run_ledger.specs.Heaps.{words_sum};
 ghost use Rattle.run_ledger.specs.Report.{kept};
-ghost use Rattle.heap_reading.specs.HeldNames.{is_state_running, kept_of};
+ghost use Rattle.heap_reading.specs.HeldNames.{kept_of};
 ghost use Rattle.shared_value.specs.World.{accounts};
 
 use crate::shared::Shared;
-use heap_tree::State;
+use heap_reading::is_running;
 
 impl Shared {
-    // Whether a task runs.
-    fn runs(&self, t: u32) -> bool
-        ensures { result ≡ is_state_running (state_of self.now.tree t) }
-    {
-        match self.tree.state(t) {
-            Some(State::Ready) => true,
-            Some(State::Out) => true,
-            _ => false,
-        }
-    }
-
     // How many objects lie in the heap of a task, and their words, as far as 64 bits count; none of a task that runs.
     fn held_of(&self, t: u32) -> (u64, u64)
         requires made { t < length self.now.homes }
@@ -30,7 +18,7 @@ impl Shared {
         ensures words { result.1 ≡ counted (words_sum (accounts self.now).machine (kept_of (accounts self.now) t)) }
     {
         self.stands();
-        if self.runs(t) {
+        if is_running(self.tree.state(t)) {
             return (0, 0);
         }
         match self.homes.at(t as usize) {

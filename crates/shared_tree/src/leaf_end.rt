@@ -17,16 +17,6 @@ use std::mem;
 use task_machine::Private;
 
 impl Shared {
-    // Why the entry is refused.
-    fn leaf_end_refused(&self, worker: u32, part: &Private, moved: &Moved) -> Option<Refused>
-        requires fits { FitsCopied self.now worker part.now moved.now }
-        ensures { result ≡ refused self.now (end_event worker part.now moved.now) }
-    {
-        let _ = part.task;
-        let _ = moved.taken;
-        first_cause(self.end, self.steps, self.settings, worker, false)
-    }
-
     // Makes the entry.
     fn enter_leaf_end(&mut self, worker: u32, part: &mut Private, moved: Moved)
         requires room { 0 < self.old.journal.room }
@@ -73,7 +63,7 @@ impl Shared {
         ensures fits { OnOk result (Fits self.new worker part.new) }
         ensures others { OnOk result (OthersFit self.old self.new worker) }
     {
-        match self.leaf_end_refused(worker, part, &moved) {
+        match first_cause(self.end, self.steps, self.settings, worker, false) {
             Some(cause) => Err(cause),
             None => {
                 self.enter_leaf_end(worker, part, moved);

@@ -9,7 +9,7 @@ ghost use Rattle.heap_marking.specs.MarkCauses.{words_cause};
 ghost use Rattle.shared_value.specs.World.{accounts, value_of};
 
 use crate::shared::Shared;
-use heap_marking::{put_marking, words_cause};
+use heap_marking::{is_marking, put_marking, waiting_cause, words_cause};
 use inner_mark_gc::Marking;
 use run_ledger::Refused;
 use run_trace::{Entry, Kind};
@@ -25,11 +25,11 @@ impl Shared {
         if first.is_some() {
             return first;
         }
-        let waiting = self.waiting_cause(t);
+        let waiting = waiting_cause(&self.tree, &self.sets, t);
         if waiting.is_some() {
             return waiting;
         }
-        if self.is_marking(t) {
+        if is_marking(&self.marks, t) {
             return Some(Refused::Marking);
         }
         words_cause(self.settings, self.words_at(t))

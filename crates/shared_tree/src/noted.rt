@@ -1,6 +1,6 @@
 // The remembered fields of a heap.
 
-ghost use Rattle.std.specs.Prelude.{◌<◌, IfOk, length};
+ghost use Rattle.std.specs.Prelude.{IfOk};
 ghost use Rattle.heap_reading.specs.Image.{AreAll, FieldBefore, IsNoted};
 
 use crate::shared::Shared;
@@ -9,17 +9,6 @@ use listed::Listed;
 use std::alloc::{AllocError, Global};
 
 impl Shared {
-    // The fields that a task's set has, in order.
-    fn noted_fields(&self, alloc: Global, task: u32) -> Result<Listed<Field>, AllocError>
-        requires { task < length self.now.tree }
-        ensures { IfOk result (λ fields. AreAll FieldBefore (IsNoted self.now task) fields) }
-    {
-        self.stands();
-        let mut fields = fields_of(alloc, self.sets[task as usize].remembered.sources())?;
-        fields.sort_unstable();
-        Ok(Listed::from_vec(fields))
-    }
-
     /// The fields that were noted to point down into the heap of a task, by rising object and field; none where there is no
     /// such task.
     #[tactic(auto, using(heap_reading::proofs::FieldReads::none_noted))]
@@ -27,10 +16,11 @@ impl Shared {
         ensures { IfOk result (λ fields. AreAll FieldBefore (IsNoted self.now task) fields) }
     {
         self.stands();
-        if task < self.made() {
-            self.noted_fields(alloc, task)
-        } else {
-            Ok(Listed::new(alloc))
+        if task >= self.tree.made() {
+            return Ok(Listed::new(alloc));
         }
+        let mut fields = fields_of(alloc, self.sets[task as usize].remembered.sources())?;
+        fields.sort_unstable();
+        Ok(Listed::from_vec(fields))
     }
 }

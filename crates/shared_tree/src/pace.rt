@@ -9,7 +9,7 @@ ghost use Rattle.heap_marking.specs.Pace.{IsLastGoing, KeepsMarks, KeepsPace};
 ghost use Rattle.shared_value.specs.World.{accounts};
 
 use crate::shared::Shared;
-use heap_marking::{Fork, Pace, Previous};
+use heap_marking::{Fork, Pace, Previous, marking_cause};
 use run_ledger::Owed;
 
 impl Shared {
@@ -33,7 +33,7 @@ impl Shared {
         requires { (accounts self.now).end ≡ None }
         ensures { marking_cause self.now t ≡ None → result ≡ more_of (accounts self.now) t }
     {
-        if self.marking_cause(t).is_some() {
+        if marking_cause(&self.tree, &self.sets, &self.marks, t).is_some() {
             return Owed::Nothing;
         }
         if self.is_marked(t) {

@@ -8,7 +8,7 @@ ghost use Rattle.shared_value.specs.Fits.{AllFit, Fits};
 ghost use Rattle.child_tasks.specs.Forks.{IsAtFork};
 ghost use Rattle.child_tasks.specs.Joins.{IsUnchanged};
 ghost use Rattle.others_objects.specs.Other.{IsOther};
-ghost use Rattle.shared_tree.specs.Ran.{ran_by, ComesTo, IsJoint, RanTo};
+ghost use Rattle.shared_tree.specs.Ran.{ComesTo, IsJoint, RanTo};
 
 use crate::shared::Shared;
 use child_tasks::Forking;
@@ -41,16 +41,6 @@ pub(crate) enum Joint {
     Returns,
     /// It works on an object of another task.
     Works,
-}
-
-// What a part comes to by a fork.
-fn ran_by(forking: Forking) -> Ran
-    ensures { result ≡ ran_by forking }
-{
-    match forking {
-        Forking::Forked { left, right } => Ran::Forked { left, right },
-        Forking::Over(part) => Ran::Over(part),
-    }
 }
 
 impl Shared {
@@ -87,7 +77,8 @@ impl Shared {
         let forking = self.ran_forking(worker, part);
         self.stands();
         match forking {
-            Ok(forking) => Ok(ran_by(forking)),
+            Ok(Forking::Forked { left, right }) => Ok(Ran::Forked { left, right }),
+            Ok(Forking::Over(part)) => Ok(Ran::Over(part)),
             Err(failed) => Err(failed),
         }
     }

@@ -13,21 +13,11 @@ use hh_model::End;
 use object_layout::Addr;
 use others_objects::{OtherStep, named, step_on};
 use own_steps::Alone;
-use run_ledger::Refused;
 use run_trace::{Entry, Kind};
 use shared_value::{NotEntered, NotRan};
 use task_machine::Private;
 
 impl Shared {
-    // Why the entry is refused.
-    fn other_refused(&self, worker: u32, part: &Private) -> Option<Refused>
-        requires fits { Fits self.now worker part.now }
-        requires shared { IsShared self.now part.now }
-        ensures { result ≡ refused self.now (alone_event worker part.now) }
-    {
-        self.alone_refused(worker, part)
-    }
-
     // What the part's next step does, and the line of the text where it stands.
     fn next_other(&self, worker: u32, part: &Private) -> (OtherStep, u32)
         requires fits { Fits self.now worker part.now }
@@ -167,7 +157,7 @@ impl Shared {
         ensures back { IfErr result (λ e. e.part ≡ part) }
         ensures answered { IfOk result (OtherAnswered self.old self.new worker part) }
     {
-        if let Some(cause) = self.other_refused(worker, &part) {
+        if let Some(cause) = self.alone_refused(worker, &part) {
             return Err(NotRan {
                 cause: NotEntered::Refuses(cause),
                 part,

@@ -2,30 +2,16 @@
 
 ghost use Rattle.std.specs.Prelude.{◌≡◌, ◌<◌, All, IfOk, IfSome, None, [], map};
 ghost use Rattle.object_layout.specs.Cell.{moved_to};
-ghost use Rattle.heap_tree.specs.Node.{state_of};
-ghost use Rattle.heap_reading.specs.HeldNames.{is_state_running};
 ghost use Rattle.heap_reading.specs.Image.{objects_of, shown, AreInWords};
 ghost use Rattle.shared_value.specs.Objects.{chunk_of};
 
 use crate::shared::Shared;
-use heap_reading::{Seen, seen_in};
-use heap_tree::State;
+use heap_reading::{Seen, is_running, seen_in};
 use listed::Listed;
 use object_layout::Chunk;
 use std::alloc::{AllocError, Global};
 
 impl Shared {
-    // Whether a task runs.
-    fn is_running(&self, t: u32) -> bool
-        ensures { result ≡ is_state_running (state_of self.now.tree t) }
-    {
-        match self.tree.state(t) {
-            Some(State::Ready) => true,
-            Some(State::Out) => true,
-            _ => false,
-        }
-    }
-
     // The chunk of a number, where that is in the heap of a task that doesn't run.
     fn resting_chunk(&self, number: u32) -> Option<&Chunk>
         ensures none { result ≡ None → objects_of self.now number ≡ [] }
@@ -34,7 +20,7 @@ impl Shared {
     {
         self.stands();
         let owner = self.pool.held(number)?.owner;
-        if self.is_running(owner) {
+        if is_running(self.tree.state(owner)) {
             return None;
         }
         match self.homes.get(owner as usize) {

@@ -7,6 +7,7 @@ ghost use Rattle.shared_value.specs.Fits.{AllFit};
 ghost use Rattle.shared_value.specs.World.{accounts};
 
 use crate::shared::Shared;
+use heap_marking::marking_cause;
 use run_ledger::Refused;
 use run_trace::{Entry, Kind};
 use shared_value::first_cause;
@@ -22,7 +23,7 @@ impl Shared {
         if first.is_some() {
             return first;
         }
-        let marking = self.marking_cause(t);
+        let marking = marking_cause(&self.tree, &self.sets, &self.marks, t);
         if marking.is_some() {
             return marking;
         }

@@ -9,24 +9,12 @@ ghost use Rattle.heap_marking.specs.MarkCauses.{marking_cause};
 ghost use Rattle.shared_value.specs.World.{accounts};
 
 use crate::shared::Shared;
-use heap_marking::{drop_unmarked, forget_kept};
+use heap_marking::{drop_unmarked, forget_kept, marking_cause};
 use run_ledger::Refused;
 use run_trace::{Entry, Kind};
 use shared_value::first_cause;
 
 impl Shared {
-    // How many objects of a heap are marked, while it is being marked.
-    fn marked_count(&self, t: u32) -> u32
-        requires goes { (accounts self.now).end ≡ None }
-        requires marking { marking_cause self.now t ≡ None }
-        ensures { result ≡ marked_in (heap_of (accounts self.now) t) }
-    {
-        match self.marks.at(t as usize) {
-            Some(marking) => marking.marked() as u32,
-            None => unreachable!(),
-        }
-    }
-
     // Why a heap that is being marked isn't swept with so many units given back.
     fn given_cause(&self, t: u32, given: u32) -> Option<Refused>
         requires goes { (accounts self.now).end ≡ None }
@@ -34,7 +22,10 @@ impl Shared {
         ensures { result ≡ refused_unless (left_in (heap_of (accounts self.now) t) == 0) (Refused.Left (marked_in (heap_of (accounts self.now) t))) (counted given (sweep_number (accounts self.now).machine (heap_of (accounts self.now) t)) None) }
     {
         if !self.is_marked(t) {
-            return Some(Refused::Left(self.marked_count(t)));
+            return match self.marks.at(t as usize) {
+                Some(marking) => Some(Refused::Left(marking.marked() as u32)),
+                None => unreachable!(),
+            };
         }
         let units = self.would_give(t);
         if given == units {
@@ -52,7 +43,7 @@ impl Shared {
         if first.is_some() {
             return first;
         }
-        let marking = self.marking_cause(t);
+        let marking = marking_cause(&self.tree, &self.sets, &self.marks, t);
         if marking.is_some() {
             return marking;
         }

@@ -3,8 +3,8 @@ use Rattle.hh_model.specs.Step.{owner_of}
 use Rattle.shared_value.specs.World.{accounts}
 use Rattle.shared_tree.proofs.shared.Shared.owner_now.Given as goal
 
-abbrev pub invariant-loop-parent : goal.invariant-loop-parent
-invariant-loop-parent l = owner_of (accounts l.self).machine.tasks l.owner ≡ owner_of (accounts l.self).machine.tasks l.task
+abbrev pub invariant-loop-self : goal.invariant-loop-self
+invariant-loop-self l = owner_of (accounts l.self).machine.tasks l.owner ≡ owner_of (accounts l.self).machine.tasks l.task
 
-abbrev pub decreases-loop-parent : goal.decreases-loop-parent
-decreases-loop-parent l = l.owner
+abbrev pub decreases-loop-self : goal.decreases-loop-self
+decreases-loop-self l = l.owner

@@ -1,11 +1,12 @@
-use Rattle.std.proofs.Common.{false, true, ◌≡◌, ℕ, Option, Some, None, slice_set, ap, sym, ◌∙◌, ◌<◌, refl, subst}
+use Rattle.std.proofs.Common.{false, true, ◌≡◌, ℕ, Option, Some, None, slice_set, ap, sym, ◌∙◌, ◌<◌, arith, refl, subst}
 use Rattle.heap_tree.specs.Node.{parent_of, state_of}
+use Rattle.heap_tree.specs.declared.state.State.{State}
 use Rattle.task_machine.specs.declared.part.Private.{Private}
 use Rattle.shared_value.specs.World.{World}
 use Rattle.own_steps.specs.Alone.{alone_event}
 use Rattle.child_tasks.specs.ChildEnds.{IsAtEnd}
 use Rattle.shared_value.specs.Entered.{refused}
-use Rattle.child_tasks.proofs.ChildSteps.{tree_parent}
+use Rattle.child_tasks.proofs.ChildSteps.{end_shared, few_tasks, own_made, parent_low, tree_parent}
 use Rattle.child_tasks.proofs.JoinPlaces.{places_ends, places_fit, places_same}
 use Rattle.heap_tree.specs.Pairs.{sibling}
 use Rattle.shared_tree.proofs.shared.Shared.ran_ending.Goals as goal
@@ -18,7 +19,7 @@ unreachable-requires c =
     let w : World = c.args.self.now in
     let p : Private = c.args.part in
     let k : ℕ = c.args.worker in
-    let free : refused w (alone_event k p) ≡ None = sym c.end_refused.ensures ∙ c.in_default.is in
+    let free : refused w (alone_event k p) ≡ None = sym c.alone_refused.ensures ∙ c.in_default.is in
     none_some (sym c.in_default-parent.is ∙ (c.parent.ensures ∙ (ap (λ (z : World). parent_of z.tree p.task) c.self.view_is ∙ tree_parent w k p c.stands.ensures c.requires.fits c.requires.ends free)))
 
 pub enter_join-requires-clause-fits : goal.enter_join-requires-clause-fits
@@ -26,7 +27,7 @@ enter_join-requires-clause-fits c =
     let w : World = c.args.self.now in
     let p : Private = c.args.part in
     let k : ℕ = c.args.worker in
-    let free : refused w (alone_event k p) ≡ None = sym c.end_refused.ensures ∙ c.in_default.is in
+    let free : refused w (alone_event k p) ≡ None = sym c.alone_refused.ensures ∙ c.in_default.is in
     places_fit w c.make_join_places.new.self c.make_join_places.ensures.same k p c.requires.fits
 
 pub enter_join-requires-clause-ends : goal.enter_join-requires-clause-ends
@@ -34,7 +35,7 @@ enter_join-requires-clause-ends c =
     let w : World = c.args.self.now in
     let p : Private = c.args.part in
     let k : ℕ = c.args.worker in
-    let free : refused w (alone_event k p) ≡ None = sym c.end_refused.ensures ∙ c.in_default.is in
+    let free : refused w (alone_event k p) ≡ None = sym c.alone_refused.ensures ∙ c.in_default.is in
     places_same w c.make_join_places.new.self c.make_join_places.ensures.same (λ z. IsAtEnd z p) (λ hs ss g. record { ends = g.ends; few = g.few }) c.requires.ends
 
 pub enter_join-requires-clause-free : goal.enter_join-requires-clause-free
@@ -42,7 +43,7 @@ enter_join-requires-clause-free c =
     let w : World = c.args.self.now in
     let p : Private = c.args.part in
     let k : ℕ = c.args.worker in
-    let free : refused w (alone_event k p) ≡ None = sym c.end_refused.ensures ∙ c.in_default.is in
+    let free : refused w (alone_event k p) ≡ None = sym c.alone_refused.ensures ∙ c.in_default.is in
     places_same w c.make_join_places.new.self c.make_join_places.ensures.same (λ z. refused z (alone_event k p) ≡ None) (λ hs ss g. g) free
 
 pub returns-in-Ok-clause-answered : goal.returns-in-Ok-clause-answered
@@ -50,7 +51,7 @@ returns-in-Ok-clause-answered c =
     let w : World = c.args.self.now in
     let p : Private = c.args.part in
     let k : ℕ = c.args.worker in
-    let free : refused w (alone_event k p) ≡ None = sym c.end_refused.ensures ∙ c.in_default.is in
+    let free : refused w (alone_event k p) ≡ None = sym c.alone_refused.ensures ∙ c.in_default.is in
     places_ends w c.make_join_places.new.self c.make_join_places.ensures.same c.enter_join.new.self k p _ c.enter_join.ensures.joined
 
 pub returns-in-Err-clause-still : goal.returns-in-Err-clause-still
@@ -58,7 +59,7 @@ returns-in-Err-clause-still c =
     let w : World = c.args.self.now in
     let p : Private = c.args.part in
     let k : ℕ = c.args.worker in
-    let free : refused w (alone_event k p) ≡ None = sym c.end_refused.ensures ∙ c.in_default.is in
+    let free : refused w (alone_event k p) ≡ None = sym c.alone_refused.ensures ∙ c.in_default.is in
     λ u r G. places_fit w c.make_join_places.new.self c.make_join_places.ensures.same u r G
 
 pub returns-in-Ok-clause-hand : goal.returns-in-Ok-clause-hand
@@ -69,20 +70,24 @@ returns-in-Ok-clause-hand c =
 not_yes : false ≡ true → ⊥
 not_yes e = cc
 
+-- the state of the sibling, as it was read
+state_is : {f g : ℕ → Option State} {o : Option State} {t u : ℕ} → o ≡ f t → f ≡ g → t ≡ u → o ≡ g u
+state_is {f = f} {u = u} e same at = e ∙ (ap f at ∙ ap (λ (h : ℕ → Option State). h u) same)
+
 pub returns-in-Some-clause-refused : goal.returns-in-Some-clause-refused
-returns-in-Some-clause-refused c = sym c.end_refused.ensures ∙ c.in-Some.is
+returns-in-Some-clause-refused c = sym c.alone_refused.ensures ∙ c.in-Some.is
 
 pub enter_end-requires-clause-alone : goal.enter_end-requires-clause-alone
-enter_end-requires-clause-alone c = λ e. not_yes (c.if-not-has_sibling_ended.ensures.yes.1 e)
+enter_end-requires-clause-alone c = λ e. not_yes (c.if-not-is_ended.ensures.1 (state_is c.state.ensures (ap (λ (z : World). state_of z.tree) c.self.view_is) c.sibling_of.ensures ∙ e))
 
 pub make_join_places-requires-clause-ended : goal.make_join_places-requires-clause-ended
-make_join_places-requires-clause-ended c = c.if-not-has_sibling_ended.ensures.yes.0 refl
+make_join_places-requires-clause-ended c = sym (state_is c.state.ensures (ap (λ (z : World). state_of z.tree) c.self.view_is) c.sibling_of.ensures) ∙ c.if-not-is_ended.ensures.0 refl
 
 pub make_join_places-requires-clause-parent : goal.make_join_places-requires-clause-parent
 make_join_places-requires-clause-parent c = ap (λ (z : World). parent_of z.tree c.args.part.task) (sym c.self.view_is) ∙ (sym c.parent.ensures ∙ c.in-Some-parent.is)
 
 pub enter_join-requires-clause-ended : goal.enter_join-requires-clause-ended
-enter_join-requires-clause-ended c = ap (λ (z : World). state_of z.tree (sibling c.args.part.task)) c.make_join_places.ensures.same.rest ∙ c.if-not-has_sibling_ended.ensures.yes.0 refl
+enter_join-requires-clause-ended c = ap (λ (z : World). state_of z.tree (sibling c.args.part.task)) c.make_join_places.ensures.same.rest ∙ (sym (state_is c.state.ensures (ap (λ (z : World). state_of z.tree) c.self.view_is) c.sibling_of.ensures) ∙ c.if-not-is_ended.ensures.0 refl)
 
 pub enter_join-requires-clause-parent : goal.enter_join-requires-clause-parent
 enter_join-requires-clause-parent c = ap (λ (z : World). parent_of z.tree c.args.part.task) c.make_join_places.ensures.same.rest ∙ (ap (λ (z : World). parent_of z.tree c.args.part.task) (sym c.self.view_is) ∙ (sym c.parent.ensures ∙ c.in-Some-parent.is))
@@ -97,13 +102,35 @@ pub returns-in-Err-clause-same : goal.returns-in-Err-clause-same
 returns-in-Err-clause-same c = c.make_join_places.ensures.same
 
 pub returns-in-Err-clause-refused : goal.returns-in-Err-clause-refused
-returns-in-Err-clause-refused c = sym c.end_refused.ensures ∙ c.in_default.is
+returns-in-Err-clause-refused c = sym c.alone_refused.ensures ∙ c.in_default.is
 
 pub returns-in-Ok-clause-refused : goal.returns-in-Ok-clause-refused
-returns-in-Ok-clause-refused c = sym c.end_refused.ensures ∙ c.in_default.is
+returns-in-Ok-clause-refused c = sym c.alone_refused.ensures ∙ c.in_default.is
 
-pub returns-then-not-has_sibling_ended-clause-answered : goal.returns-then-not-has_sibling_ended-clause-answered
-returns-then-not-has_sibling_ended-clause-answered c = c.enter_end.ensures.ended
+pub returns-then-not-is_ended-clause-answered : goal.returns-then-not-is_ended-clause-answered
+returns-then-not-is_ended-clause-answered c = c.enter_end.ensures.ended
 
-pub returns-then-not-has_sibling_ended-clause-hand : goal.returns-then-not-has_sibling_ended-clause-hand
-returns-then-not-has_sibling_ended-clause-hand c = c.enter_end.ensures.hand
+pub returns-then-not-is_ended-clause-hand : goal.returns-then-not-is_ended-clause-hand
+returns-then-not-is_ended-clause-hand c = c.enter_end.ensures.hand
+
+pub alone_refused-requires-clause-shared : goal.alone_refused-requires-clause-shared
+alone_refused-requires-clause-shared c = end_shared c.args.self.now c.args.part c.requires.ends
+
+pub sibling_of-requires-clause-child : goal.sibling_of-requires-clause-child
+sibling_of-requires-clause-child c =
+    let w : World = c.args.self.now in
+    let p : Private = c.args.part in
+    let k : ℕ = c.args.worker in
+    let free : refused w (alone_event k p) ≡ None = sym c.alone_refused.ensures ∙ c.in_default.is in
+    let low = parent_low w k p c.stands.ensures c.requires.fits c.requires.ends free in
+    omega (arith, low)
+
+pub sibling_of-requires-clause-few : goal.sibling_of-requires-clause-few
+sibling_of-requires-clause-few c =
+    let w : World = c.args.self.now in
+    let p : Private = c.args.part in
+    let k : ℕ = c.args.worker in
+    let free : refused w (alone_event k p) ≡ None = sym c.alone_refused.ensures ∙ c.in_default.is in
+    let few = few_tasks w k p c.stands.ensures c.requires.fits c.requires.ends free in
+    let made = own_made w k p c.stands.ensures c.requires.fits c.requires.ends free in
+    omega (arith, few, made)

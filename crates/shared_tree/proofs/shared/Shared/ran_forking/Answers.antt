@@ -15,7 +15,7 @@ depth-requires c =
     let w : World = c.args.self.now in
     let p : Private = c.args.part in
     let k : ℕ = c.args.worker in
-    let free : refused w (alone_event k p) ≡ None = sym c.fork_refused.ensures ∙ c.in_default.is in
+    let free : refused w (alone_event k p) ≡ None = sym c.alone_refused.ensures ∙ c.in_default.is in
     let n = node_out w c.stands.ensures (on w k p c.stands.ensures c.requires.fits c.requires.forks free) k p c.requires.fits in
     subst (λ (z : World). p.task < length z.tree) (sym c.self.view_is) (got_within w.tree p.task n.0 n.1)
 
@@ -24,7 +24,7 @@ enter_halt-requires-clause-ends c =
     let w : World = c.args.self.now in
     let p : Private = c.args.part in
     let k : ℕ = c.args.worker in
-    let free : refused w (alone_event k p) ≡ None = sym c.fork_refused.ensures ∙ c.in_default.is in
+    let free : refused w (alone_event k p) ≡ None = sym c.alone_refused.ensures ∙ c.in_default.is in
     let deep : 1000 ≤ depth_of w.tree p.task = subst (λ (z : World). 1000 ≤ depth_of z.tree p.task) c.self.view_is (subst (λ n. 1000 ≤ n) c.depth.ensures c.if-depth-lt-DEPTH_LIMIT.false) in
     let line = c.fork_line-left.result in
     trap_is w p Depth line.2 (deep_traps w k p c.stands.ensures c.requires.fits c.requires.forks free line.0 line.1 line.2 c.fork_line-left.ensures deep)
@@ -33,10 +33,10 @@ pub enter_halt-requires-clause-shared : goal.enter_halt-requires-clause-shared
 enter_halt-requires-clause-shared c = fork_shared c.args.self.now c.args.part c.requires.forks
 
 pub returns-in-Some-clause-refused : goal.returns-in-Some-clause-refused
-returns-in-Some-clause-refused c = sym c.fork_refused.ensures ∙ c.in-Some.is
+returns-in-Some-clause-refused c = sym c.alone_refused.ensures ∙ c.in-Some.is
 
 pub enter_fork-requires-clause-free : goal.enter_fork-requires-clause-free
-enter_fork-requires-clause-free c = sym c.fork_refused.ensures ∙ c.in_default.is
+enter_fork-requires-clause-free c = sym c.alone_refused.ensures ∙ c.in_default.is
 
 pub enter_fork-requires-clause-by : goal.enter_fork-requires-clause-by
 enter_fork-requires-clause-by c = c.fork_line-left.ensures
@@ -47,13 +47,13 @@ enter_fork-requires-clause-shallow c =
     subst (λ (z : World). depth_of z.tree c.args.part.task < 1000) c.self.view_is shallow
 
 pub enter_halt-requires-clause-free : goal.enter_halt-requires-clause-free
-enter_halt-requires-clause-free c = sym c.fork_refused.ensures ∙ c.in_default.is
+enter_halt-requires-clause-free c = sym c.alone_refused.ensures ∙ c.in_default.is
 
 pub enter_halt-requires-clause-other : goal.enter_halt-requires-clause-other
 enter_halt-requires-clause-other c = λ e. cc
 
 pub returns-else-depth-lt-DEPTH_LIMIT-clause-refused : goal.returns-else-depth-lt-DEPTH_LIMIT-clause-refused
-returns-else-depth-lt-DEPTH_LIMIT-clause-refused c = sym c.fork_refused.ensures ∙ c.in_default.is
+returns-else-depth-lt-DEPTH_LIMIT-clause-refused c = sym c.alone_refused.ensures ∙ c.in_default.is
 
 pub returns-else-depth-lt-DEPTH_LIMIT-clause-answered : goal.returns-else-depth-lt-DEPTH_LIMIT-clause-answered
 returns-else-depth-lt-DEPTH_LIMIT-clause-answered c = c.enter_halt.ensures
@@ -66,3 +66,6 @@ returns-then-depth-lt-DEPTH_LIMIT-clause-hand c = c.enter_fork.ensures.hand
 
 pub returns-else-depth-lt-DEPTH_LIMIT-clause-hand : goal.returns-else-depth-lt-DEPTH_LIMIT-clause-hand
 returns-else-depth-lt-DEPTH_LIMIT-clause-hand c = tt
+
+pub alone_refused-requires-clause-shared : goal.alone_refused-requires-clause-shared
+alone_refused-requires-clause-shared c = fork_shared c.args.self.now c.args.part c.requires.forks

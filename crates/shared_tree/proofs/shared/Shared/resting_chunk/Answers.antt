@@ -15,7 +15,7 @@ objects_are c =
     let w : World = c.args.self.now in
     let t = c.in_ok-owner.field-0.owner in
     let held : owner_of w.pool c.args.number ≡ Some t = ap (λ (z : World). owner_of z.pool c.args.number) (sym c.self.view_is) ∙ ap (option_map (λ (h : Held). h.owner)) (sym c.held.ensures ∙ c.in_ok-owner.was) in
-    let idle : is_state_running (state_of w.tree t) ≡ false = sym c.is_running.ensures ∙ c.if-is_running.false in
+    let idle : is_state_running (state_of w.tree t) ≡ false = ap (λ (z : World). is_state_running (state_of z.tree t)) (sym c.self.view_is) ∙ (sym (ap is_state_running c.state.ensures) ∙ (sym c.is_running.ensures ∙ c.if-is_running.false)) in
     let there : rest_at w.homes t ≡ Some c.in-Some-Some.rest = ap (λ (z : World). rest_at z.homes t) (sym c.self.view_is) ∙ (ap flat (sym c.get.ensures) ∙ (ap (λ o. flat (option_copied o)) c.in-Some-Some.is ∙ c.in-Some-Some.field-0-is)) in
     resting_objects w c.args.number t c.in-Some-Some.rest held idle there
 
@@ -31,7 +31,7 @@ returns-then-is_running-clause-none c = λ none.
     let w : World = c.args.self.now in
     let t = c.in_ok-owner.field-0.owner in
     let held : owner_of w.pool c.args.number ≡ Some t = ap (λ (z : World). owner_of z.pool c.args.number) (sym c.self.view_is) ∙ ap (option_map (λ (h : Held). h.owner)) (sym c.held.ensures ∙ c.in_ok-owner.was) in
-    let runs : is_state_running (state_of w.tree t) ≡ true = sym c.is_running.ensures ∙ c.if-is_running.true in
+    let runs : is_state_running (state_of w.tree t) ≡ true = ap (λ (z : World). is_state_running (state_of z.tree t)) (sym c.self.view_is) ∙ (sym (ap is_state_running c.state.ensures) ∙ (sym c.is_running.ensures ∙ c.if-is_running.true)) in
     ap (objects_owned w c.args.number) held ∙ ap (λ b. if b then [] else objects_numbered c.args.number ((value_of w).homes t).chunks) runs
 
 pub returns-in_err-owner-clause-none : goal.returns-in_err-owner-clause-none

@@ -3,7 +3,7 @@ use Rattle.heap_marking.specs.MarkCauses.{marking_cause}
 use Rattle.shared_value.specs.World.{World, accounts, flat, marks_at}
 use Rattle.shared_tree.specs.contracts.shared.Shared.{the_view}
 use Rattle.heap_marking.proofs.SweptUnits.{few_at}
-use Rattle.shared_tree.proofs.shared.Shared.marked_count.Goals as goal
+use Rattle.shared_tree.proofs.shared.Shared.given_cause.Goals as goal
 
 pub overflow_cast-result : goal.overflow_cast-result
 overflow_cast-result c =

@@ -1,0 +1,61 @@
+// What goes with the root before the first entry.
+
+ghost use Rattle.std.specs.Prelude.{◌≡◌, ◌∷◌, [], IfOk, None, Some, replicate};
+ghost use Rattle.child_tasks.specs.Forks.{nothing_noted};
+ghost use Rattle.shared_value.specs.World.{first_rest};
+ghost use Rattle.shared_value.specs.declared.rest.Rest.{Rest as RestOf};
+ghost use Rattle.write_barrier.specs.Stored.{content_of};
+ghost use Rattle.write_barrier.specs.declared.sets.SetOf.{SetOf as Set};
+
+use alloc_path::{LeafHeap, View};
+use hh_lang::Program;
+use listed::Listed;
+use object_layout::Addr;
+use shared_value::{Rest, Work};
+use std::alloc::{AllocError, Global};
+use task_frames::Frames;
+use write_barrier::SetOf;
+
+const NIL: Option<Addr> = None;
+
+// The root before its first step.
+fn root(alloc: Global, program: &Program) -> Rest
+    ensures { result ≡ first_rest program.now result.heap.slots result.heap.spare }
+{
+    Rest {
+        work: Work::Calls(Frames::start(alloc, program.main(), &[0; 16], &[NIL; 16])),
+        heap: LeafHeap::new(alloc),
+        view: View::none(),
+        allocations: 0,
+    }
+}
+
+/// What goes with the root before the first entry.
+pub fn first_homes(alloc: Global, program: &Program) -> Result<Listed<Option<Rest>>, AllocError>
+    ensures { IfOk result (λ homes. (r : RestOf) × (r ≡ first_rest program.now r.heap.slots r.heap.spare) × (homes ≡ Some r ∷ [])) }
+{
+    let mut homes = Listed::new(alloc);
+    homes.push(Some(root(alloc, program)))?;
+    Ok(homes)
+}
+
+/// The root's set, which holds nothing.
+pub fn first_sets(alloc: Global) -> Result<Vec<SetOf>, AllocError>
+    ensures { IfOk result (λ sets. (s : Set) × (content_of s ≡ nothing_noted) × (sets.items ≡ s ∷ [])) }
+{
+    let mut sets = Vec::new(alloc);
+    sets.push(SetOf::new(alloc))?;
+    Ok(sets)
+}
+
+/// The hands of so many workers, all empty.
+pub fn empty_hands(alloc: Global, workers: u32) -> Result<Listed<Option<u32>>, AllocError>
+    ensures { IfOk result (λ hands. hands ≡ replicate workers None) }
+{
+    let mut hands = Listed::new(alloc);
+    for i in 0..workers {
+        let _ = i;
+        hands.push(None)?;
+    }
+    Ok(hands)
+}

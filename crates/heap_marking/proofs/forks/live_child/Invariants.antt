@@ -1,0 +1,6 @@
+use Rattle.std.proofs.Common.{◌≡◌, ◌<◌, ℕ, false}
+use Rattle.heap_marking.specs.Pace.{is_live_child}
+use Rattle.heap_marking.proofs.forks.live_child.Given as goal
+
+abbrev pub invariant-loop-child : goal.invariant-loop-child
+invariant-loop-child l = (k : ℕ) → k < l.child → is_live_child l.tree l.t k ≡ false

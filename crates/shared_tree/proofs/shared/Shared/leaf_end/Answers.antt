@@ -1,0 +1,28 @@
+use Rattle.std.proofs.Common.{◌≡◌, ℕ, false, sym, subst, ◌∙◌}
+use Rattle.leaf_copy_gc.specs.declared.lists.Moved.{Moved}
+use Rattle.task_machine.specs.declared.part.Private.{Private}
+use Rattle.shared_value.specs.World.{World}
+use Rattle.shared_value.specs.Causes.{first_cause}
+use Rattle.shared_value.specs.Entered.{refused}
+use Rattle.shared_value.specs.Stands.{IsWorld}
+use Rattle.leaf_collections.specs.LeafEnd.{FitsCopied, end_event}
+use Rattle.shared_tree.specs.contracts.shared.Shared.{the_view}
+use Rattle.leaf_collections.proofs.LeafRefusals.{end_answer}
+use Rattle.shared_tree.proofs.shared.Shared.leaf_end.Goals as goal
+
+-- the first cause is the only one
+first_is : (w z : World) (k : ℕ) (p : Private) (m : Moved) → IsWorld w → w ≡ z → FitsCopied z k p m → first_cause w.end w.steps w.settings k false ≡ refused z (end_event k p m)
+first_is w z k p m I e F =
+    subst (λ (y : World). first_cause w.end w.steps w.settings k false ≡ refused y (end_event k p m)) e (sym (end_answer w k p m I (subst (λ (y : World). FitsCopied y k p m) (sym e) F)))
+
+pub enter_leaf_end-requires-clause-free : goal.enter_leaf_end-requires-clause-free
+enter_leaf_end-requires-clause-free c =
+    sym (first_is (the_view c.self.inside) c.args.self.now c.args.worker c.args.part.now c.args.moved c.self.invariant c.self.view_is c.requires.fits) ∙ (sym c.first_cause.ensures ∙ c.in-None.is)
+
+pub returns-in-Some-clause-refused : goal.returns-in-Some-clause-refused
+returns-in-Some-clause-refused c =
+    sym (sym (first_is (the_view c.self.inside) c.args.self.now c.args.worker c.args.part.now c.args.moved c.self.invariant c.self.view_is c.requires.fits) ∙ (sym c.first_cause.ensures ∙ c.in-Some.is))
+
+pub returns-in-None-clause-refused : goal.returns-in-None-clause-refused
+returns-in-None-clause-refused c =
+    sym (sym (first_is (the_view c.self.inside) c.args.self.now c.args.worker c.args.part.now c.args.moved c.self.invariant c.self.view_is c.requires.fits) ∙ (sym c.first_cause.ensures ∙ c.in-None.is))
