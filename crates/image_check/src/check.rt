@@ -3,7 +3,7 @@
 ghost use Rattle.std.specs.Prelude.{◌≡◌, ◌≤◌, length, IfOk, IfErr, IfNone, IsErr, IsOkAnd, MatchResult, Some, None};
 ghost use Rattle.text_lines.specs.Lines.{lines_of};
 ghost use Rattle.image_check.specs.Line.{said_by};
-ghost use Rattle.image_check.specs.Read.{after_line, nothing_had, whole_of};
+ghost use Rattle.image_check.specs.Read.{after_line, nothing_had, nothing_read, whole_of};
 ghost use Rattle.image_check.specs.Fault.{cause_on, fault_from, after_lines, lines_fault, image_fault, image_limit, too_long, objects_in, Answers, Fails};
 
 use crate::cause::{Cause, Fault};
@@ -83,6 +83,21 @@ fn check_lines(
     }
 }
 
+// Reads an image of which the whole text is read, onto nothing.
+fn read_within(alloc: Global, whole: &Whole, text: &[u8]) -> Result<Read, VerifyError>
+    requires sized { length text.now ≤ image_limit }
+    requires whole { whole.now ≡ whole_of text.now }
+    ensures read { IfOk result (λ read. (lines_fault text.now ≡ None) × (read ≡ after_lines nothing_read (lines_of text.now))) }
+    ensures fault { IfErr result (Fails (lines_fault text.now)) }
+{
+    let mut read = Read::new(alloc);
+    match check_lines(alloc, whole, &mut read, text) {
+        Ok(None) => Ok(read),
+        Ok(Some(fault)) => Err(VerifyError::Refused(fault)),
+        Err(AllocError) => Err(VerifyError::NoMemory),
+    }
+}
+
 // What is answered to the first fault of a text that has so many objects.
 fn answer_to(
     fault: Result<Option<Fault>, AllocError>,
@@ -143,4 +158,28 @@ pub fn verify(alloc: Global, text: &[u8]) -> Result<u64, VerifyError>
         Ok(Err(fault)) => Err(VerifyError::Refused(fault)),
         Err(AllocError) => Err(VerifyError::NoMemory),
     }
+}
+
+// Reads an image that isn't too long.
+fn read_text(alloc: Global, text: &[u8]) -> Result<Read, VerifyError>
+    requires { length text.now ≤ image_limit }
+    ensures read { IfOk result (λ read. (lines_fault text.now ≡ None) × (read ≡ after_lines nothing_read (lines_of text.now))) }
+    ensures fault { IfErr result (Fails (lines_fault text.now)) }
+{
+    let mut whole = Whole::new(alloc);
+    match whole.add_lines(alloc, text) {
+        Ok(()) => read_within(alloc, &whole, text),
+        Err(AllocError) => Err(VerifyError::NoMemory),
+    }
+}
+
+/// Checks the text of an image, and answers all that its lines say, or the first fault.
+pub fn read_image(alloc: Global, text: &[u8]) -> Result<Read, VerifyError>
+    ensures read { IfOk result (λ read. (image_fault text.now ≡ None) × (read ≡ after_lines nothing_read (lines_of text.now))) }
+    ensures fault { IfErr result (Fails (image_fault text.now)) }
+{
+    if text.len() > IMAGE_LIMIT {
+        return Err(VerifyError::Refused(TOO_LONG));
+    }
+    read_text(alloc, text)
 }

@@ -8,7 +8,7 @@ use crate::read::chunk_of;
 use crate::table::Table;
 
 /// The chunk that an address lies in.
-pub(crate) fn chunk_of_address(chunks: &Table<Chunk>, address: u64) -> Option<Chunk>
+pub fn chunk_of_address(chunks: &Table<Chunk>, address: u64) -> Option<Chunk>
     ensures { result ≡ chunk_at chunks.now address }
 {
     if address == 0 {
@@ -21,7 +21,7 @@ pub(crate) fn chunk_of_address(chunks: &Table<Chunk>, address: u64) -> Option<Ch
 }
 
 /// The task that owns what lies at an address.
-pub(crate) fn owner_of(chunks: &Table<Chunk>, address: u64) -> Option<u64>
+pub fn owner_of(chunks: &Table<Chunk>, address: u64) -> Option<u64>
     ensures { result ≡ owner_at chunks.now address }
 {
     match chunk_of_address(chunks, address) {

@@ -43,9 +43,9 @@ impl Model for Tasks {
 }
 
 impl Tasks {
-    ghost use Rattle.std.specs.Prelude.{◌≡◌, [], None, OnOk, MatchOption};
+    ghost use Rattle.std.specs.Prelude.{◌≡◌, [], None, OnOk, MatchOption, length};
     ghost use Rattle.image_check.specs.Table.{has, found, with_new};
-    ghost use Rattle.image_check.specs.Tasks.{is_running, is_above, relation_of, HasParent};
+    ghost use Rattle.image_check.specs.Tasks.{is_running, is_above, parent_of, relation_of, HasParent};
     ghost use Rattle.image_check.specs.Links.{StandsAt, IsParentAt};
 
     pub(crate) fn new(alloc: Global) -> Tasks
@@ -65,12 +65,29 @@ impl Tasks {
     }
 
     /// Whether a task is there and runs.
-    pub(crate) fn runs(&self, number: u64) -> bool
+    pub fn runs(&self, number: u64) -> bool
         ensures { result ≡ is_running self.now number }
     {
         match self.table.get(&number) {
             None => false,
             Some(task) => matches!(task.state, State::Running),
+        }
+    }
+
+    /// How many tasks there are.
+    pub fn len(&self) -> usize
+        ensures { result ≡ length self.now }
+    {
+        self.table.len()
+    }
+
+    /// The parent of a task, where it has one.
+    pub fn parent(&self, number: u64) -> Option<u64>
+        ensures { result ≡ parent_of self.now number }
+    {
+        match self.table.get(&number) {
+            None => None,
+            Some(task) => task.parent,
         }
     }
 
@@ -127,7 +144,7 @@ impl Tasks {
     }
 
     /// How another task stands to a task.
-    pub(crate) fn relation(&self, task: u64, other: u64) -> Relation
+    pub fn relation(&self, task: u64, other: u64) -> Relation
         ensures { result ≡ relation_of self.now task other }
     {
         if other == task {

@@ -12,6 +12,7 @@ ghost use Rattle.run_journal.specs.Opened.{Opened, IsOpened, IsLegalLedger, caus
 use crate::accounts::Accounts;
 use crate::enter::ApplyError;
 use hh_lang::Program;
+use hh_model::State;
 use run_ledger::{Owed, Refused, RunEnd, WorkerPace};
 use run_trace::{Entry, Kind, Settings};
 use std::alloc::{AllocError, Global};
@@ -91,6 +92,13 @@ impl<'p> Book<'p> {
         ensures { result.now ≡ self.now.ledger.machine.outputs }
     {
         self.accounts.machine.outputs()
+    }
+
+    /// The machine that never collects, after the steps so far.
+    pub fn state(&self) -> &State
+        ensures { result.now ≡ self.now.ledger.machine }
+    {
+        self.accounts.machine.state()
     }
 
     /// Whether an entry was refused, or found no memory.

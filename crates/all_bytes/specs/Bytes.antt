@@ -1,0 +1,24 @@
+-- Whose bytes an input is, and how many of them are read; and what was written.
+use Rattle.std.specs.Prelude.{◌≡◌, ℕ, ◌+◌, List, ◌++◌, Option, Some, None, length, take}
+use Rattle.outside_io.specs.Told.{Gives, with_more}
+
+-- the most bytes that are ever read
+abbrev pub most_bytes : ℕ
+most_bytes = 16777216
+
+-- the bytes that a source tells: those of the file, or, where none is named, those that are left
+abbrev pub told : Option (List ℕ) → (List ℕ → Option (List ℕ)) → Option (List ℕ) → Option (List ℕ)
+told left named None = left
+told left named (Some file) = named file
+
+-- the input: all of the bytes, or the first ones as far as one past the limit
+abbrev pub input_of : ℕ → List ℕ → List ℕ
+input_of limit whole = take (limit + 1) whole
+
+-- a call of a source gave so many bytes more
+abbrev pub Grows : Option (List ℕ) → Option (List ℕ) → List ℕ → List ℕ → ℕ → Type 0
+Grows left after old new count = (given : List ℕ) × (new ≡ old ++ given) × (length given ≡ count) × Gives left after given
+
+-- a first part of these bytes was written
+abbrev pub WroteSome : Option (List ℕ) → Option (List ℕ) → List ℕ → Type 0
+WroteSome before after bytes = (count : ℕ) × (after ≡ with_more before (take count bytes))

@@ -1,0 +1,8 @@
+// All bytes of a source, up to a limit; and all bytes to a sink.
+#![tactic(auto)]
+
+mod read;
+mod write;
+
+pub use read::{ReadError, read_file};
+pub use write::write_all;

@@ -1,0 +1,96 @@
+// All bytes of a source, up to a limit.
+
+ghost use Rattle.std.specs.Prelude.{◌≡◌, ◌<◌, ◌≤◌, ◌+◌, ◌++◌, length, take, drop, IfOk, OnOk, OnErr, IfErr, Some, Option, List, ℕ, option_map};
+ghost use Rattle.outside_io.specs.Fault.{HasRisen};
+ghost use Rattle.outside_io.specs.Told.{Gives};
+ghost use Rattle.all_bytes.specs.Bytes.{most_bytes, told, input_of, Grows};
+
+use outside_io::{Failed, Source};
+use std::alloc::{AllocError, Global};
+
+// How many bytes are asked for at once.
+const PIECE: usize = 4096;
+
+/// Why an input couldn't be read.
+#[derive(Clone, Copy)]
+pub enum ReadError {
+    /// The source failed.
+    Fault,
+    /// Want of memory.
+    NoMemory,
+}
+
+// Takes some bytes more of a source, as far as one byte past the limit, and says how many.
+fn take_more<S: Source>(
+    source: &mut S,
+    input: &mut Vec<u8>,
+    limit: usize,
+) -> Result<usize, ReadError>
+    requires within { length input.old.items ≤ limit }
+    requires limit { limit ≤ most_bytes }
+    ensures within { OnOk result (length input.new.items ≤ limit + 1) }
+    ensures grows { IfOk result (Grows (S.left source.old) (S.left source.new) input.old.items input.new.items) }
+    ensures failed { IfErr result (λ e. e ≡ ReadError.Fault → HasRisen (S.faults source.old) (S.faults source.new)) }
+    ensures never_falls { S.faults source.old ≤ S.faults source.new }
+{
+    let mut piece = [0u8; PIECE];
+    let room = PIECE.min(limit + 1 - input.len());
+    match source.take(&mut piece[..room]) {
+        Err(Failed) => Err(ReadError::Fault),
+        Ok(count) => match input.extend_from_slice(&piece[..count]) {
+            Ok(()) => Ok(count),
+            Err(AllocError) => Err(ReadError::NoMemory),
+        },
+    }
+}
+
+// Reads all that a source has left, or one byte more than the limit.
+fn read_left<S: Source>(alloc: Global, source: &mut S, limit: usize) -> Result<Vec<u8>, ReadError>
+    requires { limit ≤ most_bytes }
+    ensures within { IfOk result (λ input. length input.items ≤ limit + 1) }
+    ensures input { IfOk result (λ input. (whole : List ℕ) → S.left source.old ≡ Some whole → input.items ≡ input_of limit whole) }
+    ensures taken { OnOk result ((whole : List ℕ) → S.left source.old ≡ Some whole → S.left source.new ≡ Some (drop (limit + 1) whole)) }
+    ensures failed { IfErr result (λ e. e ≡ ReadError.Fault → HasRisen (S.faults source.old) (S.faults source.new)) }
+    ensures never_falls { S.faults source.old ≤ S.faults source.new }
+{
+    let mut input = Vec::new(alloc);
+    while input.len() <= limit {
+        if take_more(source, &mut input, limit)? == 0 {
+            return Ok(input);
+        }
+    }
+    Ok(input)
+}
+
+// Goes to the beginning of a file; standard input stays where it is.
+fn open<S: Source>(source: &mut S, file: Option<&str>) -> Result<(), ReadError>
+    ensures told { OnOk result (S.left source.new ≡ told (S.left source.old) (S.named source.old) (option_map (λ s. s.now) file.entry)) }
+    ensures failed { IfErr result (λ e. HasRisen (S.faults source.old) (S.faults source.new)) }
+    ensures never_falls { S.faults source.old ≤ S.faults source.new }
+{
+    match file {
+        None => Ok(()),
+        Some(name) => match source.find(name) {
+            Ok(()) => Ok(()),
+            Err(Failed) => Err(ReadError::Fault),
+        },
+    }
+}
+
+/// Reads a file, or, where none is named, what is left of the source; as far as one byte past the limit.
+pub fn read_file<S: Source>(
+    alloc: Global,
+    source: &mut S,
+    file: Option<&str>,
+    limit: usize,
+) -> Result<Vec<u8>, ReadError>
+    requires { limit ≤ most_bytes }
+    ensures within { IfOk result (λ input. length input.items ≤ limit + 1) }
+    ensures input { IfOk result (λ input. (whole : List ℕ) → told (S.left source.old) (S.named source.old) (option_map (λ s. s.now) file.entry) ≡ Some whole → input.items ≡ input_of limit whole) }
+    ensures taken { OnOk result ((whole : List ℕ) → told (S.left source.old) (S.named source.old) (option_map (λ s. s.now) file.entry) ≡ Some whole → S.left source.new ≡ Some (drop (limit + 1) whole)) }
+    ensures failed { IfErr result (λ e. e ≡ ReadError.Fault → HasRisen (S.faults source.old) (S.faults source.new)) }
+    ensures never_falls { S.faults source.old ≤ S.faults source.new }
+{
+    open(source, file)?;
+    read_left(alloc, source, limit)
+}

@@ -1,0 +1,7 @@
+-- What is left of a text.
+use Rattle.std.proofs.Common.{ℕ, ◌+◌, List, length}
+use Rattle.std.specs.Prelude.{Option, Some, None}
+
+abbrev pub bytes_left : Option (List ℕ) → ℕ
+bytes_left None = 0
+bytes_left (Some text) = length text + 1

@@ -1,0 +1,5 @@
+pub mod Drawn
+pub mod EveryEdge
+pub mod Left
+pub mod Loops
+pub mod Titles

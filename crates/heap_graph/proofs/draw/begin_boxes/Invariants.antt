@@ -1,0 +1,7 @@
+use Rattle.std.proofs.Common.{◌≡◌, ◌++◌, take}
+use Rattle.std.specs.List.{flat_map}
+use Rattle.heap_graph.specs.Pieces.{opened}
+use Rattle.heap_graph.proofs.draw.begin_boxes.Given as goal
+
+abbrev pub invariant-loop-task : goal.invariant-loop-task
+invariant-loop-task l = l.text.items ≡ l.fn.text.items ++ flat_map opened (take l.task-index l.way)

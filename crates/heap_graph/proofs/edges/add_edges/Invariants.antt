@@ -1,0 +1,10 @@
+use Rattle.std.proofs.Common.{◌≡◌, ◌++◌, drop}
+use Rattle.std.specs.List.{flat_map}
+use Rattle.dot_text.specs.Dot.{dot}
+use Rattle.heap_graph.specs.Kinds.{is_long, edges_from, edges_of}
+use Rattle.heap_graph.proofs.edges.add_edges.Given as goal
+
+abbrev pub invariant-loop-place : goal.invariant-loop-place
+invariant-loop-place l =
+    l.text.items ++ flat_map dot (edges_from l.read l.task l.object.address (is_long l.object) l.place (drop l.place l.object.references))
+    ≡ l.fn.text.items ++ flat_map dot (edges_of l.read l.task l.object)

@@ -1,0 +1,7 @@
+use Rattle.std.proofs.Common.{◌∙◌}
+use Rattle.std.proofs.lemmas.Result.{IfOk-weaker}
+use Rattle.heap_graph.proofs.Titles.{task_titled}
+use Rattle.heap_graph.proofs.names.task_title.Goals as goal
+
+pub returns : goal.returns
+returns c = IfOk-weaker c.format.result _ _ (λ s e. e ∙ task_titled c.args.task.now.number c.args.held.words _ _ c.state_name-state.ensures) c.format.ensures.ok

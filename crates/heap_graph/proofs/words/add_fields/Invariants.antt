@@ -1,0 +1,11 @@
+use Rattle.std.proofs.Common.{◌≡◌, ◌++◌, length}
+use Rattle.std.specs.List.{flat_map}
+use Rattle.text_lines.specs.Lines.{words_of}
+use Rattle.heap_graph.specs.Drawn.{word_field}
+use Rattle.heap_graph.proofs.words.add_fields.Given as goal
+
+abbrev pub invariant-loop-word : goal.invariant-loop-word
+invariant-loop-word l = l.title.items ++ flat_map word_field (words_of l.rest) ≡ l.fn.title.items ++ flat_map word_field (words_of l.line)
+
+abbrev pub decreases-loop-word : goal.decreases-loop-word
+decreases-loop-word l = length l.rest

@@ -1,0 +1,11 @@
+use Rattle.std.proofs.Common.{sym, ◌∙◌, arith, ◌≤◌}
+use Rattle.heap_graph.proofs.Loops.{nothing_behind, behind_more}
+use Rattle.heap_graph.proofs.words.words_behind.Goals as goal
+
+pub returns-in-None : goal.returns-in-None
+returns-in-None c =
+    let le : c.loop-passed.passed ≤ c.args.count = omega arith in
+    c.in-None.ensures.words ∙ sym (nothing_behind _ c.loop-passed.passed c.args.count le (sym c.loop-passed.invariant ∙ c.in-None.ensures.words))
+
+pub loop-passed-preserved : goal.loop-passed-preserved
+loop-passed-preserved c = behind_more _ c.loop-passed.passed _ _ (sym c.loop-passed.invariant ∙ c.in-Some.ensures.words)

@@ -1,0 +1,6 @@
+use Rattle.std.proofs.Common.{◌≡◌, drop}
+use Rattle.text_lines.specs.Lines.{words_of}
+use Rattle.heap_graph.proofs.words.words_behind.Given as goal
+
+abbrev pub invariant-loop-passed : goal.invariant-loop-passed
+invariant-loop-passed l = words_of l.rest ≡ drop l.passed (words_of l.line)

@@ -1,0 +1,164 @@
+-- An image object by object.
+use Rattle.std.specs.Prelude.{ℕ, zero, suc, ◌+◌, ◌==◌, not, Bool, false, Option, Some, None, List, [], ◌∷◌, ◌++◌, codes, drop, length, nat_lt, if◌then◌else◌}
+use Rattle.std.specs.List.{flat_map}
+use Rattle.std.specs.Fmt.{decimal}
+use Rattle.text_lines.specs.Lines.{words_of}
+use Rattle.image_check.specs.declared.line.Birth.{Birth}
+use Rattle.image_check.specs.declared.line.Task.{Task}
+use Rattle.image_check.specs.declared.line.Chunk.{Chunk}
+use Rattle.image_check.specs.declared.line.Object.{Object}
+use Rattle.image_check.specs.declared.line.Said.{Said}
+use Rattle.image_check.specs.declared.line.Said.TheVariants.{OfTask, OfChunk, OfObject}
+use Rattle.image_check.specs.declared.read.Read.{Read}
+use Rattle.image_check.specs.Line.{said_by}
+use Rattle.image_check.specs.Place.{chunk_number}
+use Rattle.image_check.specs.Tasks.{Tasks, parent_of, owner_at}
+use Rattle.dot_text.specs.Dot.{Statement, Statements, Setting, Node, Cluster, NoStatement, Statement_, alone}
+use Rattle.heap_graph.specs.declared.held.Held.{Held}
+use Rattle.heap_graph.specs.Names.{task_name, task_cluster, chunk_name, chunk_cluster, object_name, task_title, chunk_title}
+use Rattle.heap_graph.specs.Kinds.{field_limit, is_long, edges_of}
+use Rattle.heap_graph.specs.Held.{Heaps, held_of, is_drawn}
+
+-- PATHS
+
+abbrev pub path_above : (ℕ → List ℕ) → Option ℕ → List ℕ
+path_above walk None = []
+path_above walk (Some p) = walk p
+
+-- the tasks from the root to t, of which the last so many at most
+abbrev pub path : ℕ → Tasks → ℕ → List ℕ
+path zero tasks t = []
+path (suc n) tasks t = path_above (path n tasks) (parent_of tasks t) ++ t ∷ []
+
+abbrev pub path_to : Tasks → ℕ → List ℕ
+path_to tasks t = path (length tasks) tasks t
+
+-- a statement in the boxes of these tasks, each in the one before
+abbrev pub boxed : List ℕ → Statement → Statement
+boxed [] s = s
+boxed (t ∷ ts) s = Cluster (task_cluster t) (alone (boxed ts s))
+
+-- in the box of a task, which stands in its parent's
+abbrev pub inside : Tasks → ℕ → Statement → Statement
+inside tasks t s = boxed (path_to tasks t) s
+
+abbrev pub statements : List Statement → Statements
+statements [] = NoStatement
+statements (s ∷ ss) = Statement_ s (statements ss)
+
+-- OBJECTS
+
+abbrev pub reference_title : ℕ → List ℕ
+reference_title v = if v == 0 then codes "nil" else decimal v
+
+-- a field of a record, with a port
+abbrev pub port_title : ℕ → ℕ → List ℕ
+port_title k v = codes "|<f" ++ decimal k ++ codes "> " ++ reference_title v
+
+abbrev pub port_titles : ℕ → List ℕ → List ℕ
+port_titles k [] = []
+port_titles k (v ∷ vs) = port_title k v ++ port_titles (k + 1) vs
+
+abbrev pub birth_title : Birth → List ℕ
+birth_title b = codes "(" ++ decimal b.task ++ codes "," ++ decimal b.count ++ codes ")"
+
+-- one field for all references
+abbrev pub count_title : ℕ → List ℕ
+count_title n = codes "|<f0> references: " ++ decimal n
+
+abbrev pub references_title : Object → List ℕ
+references_title o = if is_long o then count_title (length o.references) else port_titles 0 o.references
+
+-- a field that says a word
+abbrev pub word_field : List ℕ → List ℕ
+word_field w = 124 ∷ w
+
+abbrev pub first_of : List (List ℕ) → List ℕ
+first_of [] = []
+first_of (w ∷ ws) = w
+
+-- in the line of an object four words stand in front of the one for its kind, and two more in front of its references
+abbrev pub kind_title : List ℕ → List ℕ
+kind_title line = word_field (first_of (drop 4 (words_of line)))
+
+-- as they stand in the line, or how many there are
+abbrev pub numbers_title : List ℕ → Object → List ℕ
+numbers_title line o =
+    if nat_lt field_limit o.numbers then codes "|numbers: " ++ decimal o.numbers
+    else flat_map word_field (drop (7 + length o.references) (words_of line))
+
+-- its name, its kind, its references and its numbers
+abbrev pub object_title : List ℕ → Object → List ℕ
+object_title line o = birth_title o.birth ++ kind_title line ++ references_title o ++ numbers_title line o
+
+abbrev pub node_of : List ℕ → Object → Statement
+node_of line o = Node (object_name o.address) ((codes "shape", codes "record") ∷ (codes "label", object_title line o) ∷ [])
+
+abbrev pub node_by : List ℕ → Said → List Statement
+node_by line (OfObject o) = node_of line o ∷ []
+node_by line _ = []
+
+-- THE OBJECTS OF A CHUNK
+
+abbrev pub lies_elsewhere : ℕ → Said → Bool
+lies_elsewhere c (OfObject o) = not (chunk_number o.address == c)
+lies_elsewhere c _ = false
+
+-- the objects up to the first one in another chunk: the lines of an image rise, so that those of a chunk follow on those of the chunk before
+abbrev pub nodes_in : ℕ → List (List ℕ) → List Statement
+nodes_in c [] = []
+nodes_in c (l ∷ ls) = if lies_elsewhere c (said_by l) then [] else node_by l (said_by l) ++ nodes_in c ls
+
+-- the lines from that one on
+abbrev pub lines_behind : ℕ → List (List ℕ) → List (List ℕ)
+lines_behind c [] = []
+lines_behind c (l ∷ ls) = if lies_elsewhere c (said_by l) then l ∷ ls else lines_behind c ls
+
+-- LINES
+
+abbrev pub point : List ℕ → Statement
+point name = Node name ((codes "shape", codes "point") ∷ (codes "style", codes "invis") ∷ [])
+
+-- a box with a title, a point and what lies in it
+abbrev pub titled : List ℕ → List ℕ → List ℕ → List Statement → Statement
+titled cluster name title within = Cluster cluster (Statement_ (Setting (codes "label") title) (Statement_ (point name) (statements within)))
+
+abbrev pub task_box : Task → Held → Statement
+task_box t h = titled (task_cluster t.number) (task_name t.number) (task_title t h) []
+
+abbrev pub task_drawn : Read → Heaps → Task → Statement
+task_drawn r m t = boxed (path_above (path_to r.tasks) t.parent) (task_box t (held_of m t.number))
+
+abbrev pub chunk_box : Chunk → List Statement → Statement
+chunk_box c within = titled (chunk_cluster c.number) (chunk_name c.number) (chunk_title c) within
+
+abbrev pub chunk_drawn : Read → Chunk → List (List ℕ) → Statement
+chunk_drawn r c objects = inside r.tasks c.owner (chunk_box c (nodes_in c.number objects))
+
+-- the edges of an object whose heap is drawn
+abbrev pub edges_drawn : Read → Option ℕ → Object → Option ℕ → List Statement
+edges_drawn r p o None = []
+edges_drawn r p o (Some t) = if is_drawn r p t then edges_of r t o else []
+
+abbrev pub drawn_task : Read → Heaps → Option ℕ → Task → List Statement
+drawn_task r m p t = if is_drawn r p t.number then task_drawn r m t ∷ [] else []
+
+abbrev pub drawn_chunk : Read → Option ℕ → Chunk → List (List ℕ) → List Statement
+drawn_chunk r p c objects = if is_drawn r p c.owner then chunk_drawn r c objects ∷ [] else []
+
+-- what a line adds, where these lines are left of which no object is drawn yet
+abbrev pub drawn : Read → Heaps → Option ℕ → List (List ℕ) → Said → List Statement
+drawn r m p objects (OfTask t) = drawn_task r m p t
+drawn r m p objects (OfChunk c) = drawn_chunk r p c objects
+drawn r m p objects (OfObject o) = edges_drawn r p o (owner_at r.chunks o.address)
+drawn r m p objects _ = []
+
+-- the lines that are left then
+abbrev pub left_by : Said → List (List ℕ) → List (List ℕ)
+left_by (OfChunk c) objects = lines_behind c.number objects
+left_by _ objects = objects
+
+-- what lines add
+abbrev pub all_drawn : Read → Heaps → Option ℕ → List (List ℕ) → List (List ℕ) → List Statement
+all_drawn r m p objects [] = []
+all_drawn r m p objects (l ∷ ls) = drawn r m p objects (said_by l) ++ all_drawn r m p (left_by (said_by l) objects) ls

@@ -1,0 +1,66 @@
+-- What heaps hold, in counts of 64 bits, of which the last value stays; and which heaps are drawn.
+use Rattle.std.specs.Prelude.{ℕ, ◌+◌, ◌-◌, ◌^◌, Bool, true, false, Option, Some, None, List, [], ◌∷◌, length, min}
+use Rattle.image_check.specs.declared.line.Object.{Object}
+use Rattle.image_check.specs.declared.line.Said.{Said}
+use Rattle.image_check.specs.declared.line.Said.TheVariants.{OfChunk, OfObject}
+use Rattle.image_check.specs.declared.read.Read.{Read}
+use Rattle.image_check.specs.declared.tasks.Relation.{Relation}
+use Rattle.image_check.specs.declared.tasks.Relation.TheVariants.{Own, Above}
+use Rattle.image_check.specs.Line.{said_by}
+use Rattle.image_check.specs.Table.{found, with_entry}
+use Rattle.image_check.specs.Tasks.{relation_of, owner_at}
+use Rattle.heap_graph.specs.declared.held.Held.{Held}
+
+-- WHICH HEAPS ARE DRAWN
+
+-- a task, or one above it
+abbrev pub is_on_path : Relation → Bool
+is_on_path Own = true
+is_on_path Above = true
+is_on_path _ = false
+
+-- all heaps, or those on the path from the root to a task
+abbrev pub is_drawn : Read → Option ℕ → ℕ → Bool
+is_drawn r None t = true
+is_drawn r (Some p) t = is_on_path (relation_of r.tasks p t)
+
+-- COUNTS
+
+abbrev pub raised_by : ℕ → ℕ → ℕ
+raised_by n k = min (n + k) (2 ^ 64 - 1)
+
+abbrev pub Heaps : Type 0
+Heaps = List (ℕ × Held)
+
+abbrev pub nothing_held : Held
+nothing_held = record { chunks = 0; objects = 0; words = 0 }
+
+abbrev pub or_nothing : Option Held → Held
+or_nothing None = nothing_held
+or_nothing (Some h) = h
+
+-- what the heap of a task holds
+abbrev pub held_of : Heaps → ℕ → Held
+held_of m t = or_nothing (found m t)
+
+abbrev pub with_chunk : Held → Held
+with_chunk h = record h { chunks = raised_by h.chunks 1 }
+
+-- an object has two words, and one for each field
+abbrev pub with_object : Held → Object → Held
+with_object h o = record h { objects = raised_by h.objects 1; words = raised_by h.words (2 + length o.references + o.numbers) }
+
+abbrev pub with_object_of : Heaps → Object → Option ℕ → Heaps
+with_object_of m o None = m
+with_object_of m o (Some t) = with_entry m t (with_object (held_of m t) o)
+
+-- with what a line says
+abbrev pub held_with : Read → Heaps → Said → Heaps
+held_with r m (OfChunk c) = with_entry m c.owner (with_chunk (held_of m c.owner))
+held_with r m (OfObject o) = with_object_of m o (owner_at r.chunks o.address)
+held_with r m _ = m
+
+-- with what lines say
+abbrev pub held_by : Read → Heaps → List (List ℕ) → Heaps
+held_by r m [] = m
+held_by r m (l ∷ ls) = held_by r (held_with r m (said_by l)) ls

@@ -1,0 +1,46 @@
+-- What tasks, chunks, objects and fields are called in a graph.
+use Rattle.std.specs.Prelude.{ℕ, List, ◌++◌, codes}
+use Rattle.std.specs.Fmt.{decimal}
+use Rattle.image_check.specs.declared.line.State.{State}
+use Rattle.image_check.specs.declared.line.State.TheVariants.{Running, Waiting, Ended}
+use Rattle.image_check.specs.declared.line.Task.{Task}
+use Rattle.image_check.specs.declared.line.Chunk.{Chunk}
+use Rattle.heap_graph.specs.declared.held.Held.{Held}
+
+-- a task's cluster has a point in it, for edges that lead into its heap
+abbrev pub task_name : ℕ → List ℕ
+task_name t = codes "task " ++ decimal t
+
+-- Graphviz draws what is called cluster as a box
+abbrev pub task_cluster : ℕ → List ℕ
+task_cluster t = codes "cluster task " ++ decimal t
+
+abbrev pub chunk_name : ℕ → List ℕ
+chunk_name c = codes "chunk " ++ decimal c
+
+abbrev pub chunk_cluster : ℕ → List ℕ
+chunk_cluster c = codes "cluster chunk " ++ decimal c
+
+-- an object by its address
+abbrev pub object_name : ℕ → List ℕ
+object_name a = decimal a
+
+-- a field by its place
+abbrev pub port_name : ℕ → List ℕ
+port_name k = codes "f" ++ decimal k
+
+abbrev pub state_name : State → List ℕ
+state_name Running = codes "running"
+state_name Waiting = codes "waiting"
+state_name Ended = codes "ended"
+
+-- its number, its state, and the words that its heap holds
+abbrev pub task_title : Task → Held → List ℕ
+task_title t h = codes "task " ++ decimal t.number ++ codes " " ++ state_name t.state ++ codes ", " ++ decimal h.words ++ codes " words"
+
+abbrev pub chunk_title : Chunk → List ℕ
+chunk_title c = codes "chunk " ++ decimal c.number ++ codes " of " ++ decimal c.words ++ codes " words"
+
+-- fields of a record: the same, and how many objects and chunks its heap has
+abbrev pub heap_title : Task → Held → List ℕ
+heap_title t h = codes "<f0> " ++ task_title t h ++ codes "|objects: " ++ decimal h.objects ++ codes "|chunks: " ++ decimal h.chunks

@@ -1,0 +1,134 @@
+// What heaps hold, and which are drawn.
+
+ghost use Rattle.std.specs.Prelude.{◌≡◌, ◌≤◌, ◌+◌, OnOk, length};
+ghost use Rattle.image_check.specs.Read.{IsSized};
+ghost use Rattle.image_check.specs.Tasks.{owner_at};
+ghost use Rattle.text_lines.specs.Lines.{lines_of};
+ghost use Rattle.heap_graph.specs.Held.{raised_by, is_on_path, is_drawn, held_of, with_chunk, with_object, with_object_of, held_with, held_by};
+
+use image_check::{Object, Read, Relation, Said, Table, owner_of, read_line};
+use std::alloc::{AllocError, Global};
+use text_lines::next_line;
+
+/// What a heap holds; 64 bits each, and the last value stays.
+#[derive(Clone, Copy)]
+pub(crate) struct Held {
+    pub(crate) chunks: u64,
+    pub(crate) objects: u64,
+    pub(crate) words: u64,
+}
+
+fn is_on_path(relation: Relation) -> bool
+    ensures { result ≡ is_on_path relation }
+{
+    match relation {
+        Relation::Own => true,
+        Relation::Above => true,
+        _ => false,
+    }
+}
+
+/// Whether the heap of a task is drawn: each is, or those on the path from the root to a task.
+pub(crate) fn is_drawn(read: &Read, path: Option<u64>, task: u64) -> bool
+    ensures { result ≡ is_drawn read.now path task }
+{
+    match path {
+        None => true,
+        Some(end) => is_on_path(read.tasks.relation(end, task)),
+    }
+}
+
+/// A count that rises by a number.
+pub(crate) fn raised_by(count: u64, more: u64) -> u64
+    ensures { result ≡ raised_by count more }
+{
+    count.saturating_add(more)
+}
+
+/// What the heap of a task holds.
+pub(crate) fn held_of(heaps: &Table<Held>, task: u64) -> Held
+    ensures { result ≡ held_of heaps.now task }
+{
+    match heaps.find(task) {
+        Some(held) => *held,
+        None => Held {
+            chunks: 0,
+            objects: 0,
+            words: 0,
+        },
+    }
+}
+
+// With a chunk more.
+fn with_chunk(held: Held) -> Held
+    ensures { result ≡ with_chunk held }
+{
+    Held {
+        chunks: raised_by(held.chunks, 1),
+        objects: held.objects,
+        words: held.words,
+    }
+}
+
+// With an object more.
+fn with_object(held: Held, object: &Object) -> Held
+    requires { length object.now.references + object.now.numbers ≤ 1000000 }
+    ensures { result ≡ with_object held object.now }
+{
+    let words = 2 + object.references.len() as u64 + object.numbers;
+    Held {
+        chunks: held.chunks,
+        objects: raised_by(held.objects, 1),
+        words: raised_by(held.words, words),
+    }
+}
+
+// Counts an object.
+fn add_object(heaps: &mut Table<Held>, read: &Read, object: &Object) -> Result<(), AllocError>
+    requires { length object.now.references + object.now.numbers ≤ 1000000 }
+    ensures { OnOk result (heaps.new ≡ with_object_of heaps.old object.now (owner_at read.now.chunks object.now.address)) }
+{
+    match owner_of(&read.chunks, object.address) {
+        None => Ok(()),
+        Some(task) => {
+            let held = with_object(held_of(heaps, task), object);
+            heaps.put(task, held)
+        }
+    }
+}
+
+// Counts what a line says.
+fn add_said(heaps: &mut Table<Held>, read: &Read, said: &Said) -> Result<(), AllocError>
+    requires { IsSized said.now }
+    ensures { OnOk result (heaps.new ≡ held_with read.now heaps.old said.now) }
+{
+    match said {
+        Said::OfChunk(chunk) => {
+            let held = with_chunk(held_of(heaps, chunk.owner));
+            heaps.put(chunk.owner, held)
+        }
+        Said::OfObject(object) => add_object(heaps, read, object),
+        _ => Ok(()),
+    }
+}
+
+/// Counts what the lines of a text say.
+pub(crate) fn add_all(
+    alloc: Global,
+    heaps: &mut Table<Held>,
+    read: &Read,
+    text: &[u8],
+) -> Result<(), AllocError>
+    ensures { OnOk result (heaps.new ≡ held_by read.now heaps.old (lines_of text.now)) }
+{
+    let mut rest = text;
+    loop {
+        let (line, lines) = next_line(rest);
+        let said = read_line(alloc, line)?;
+        add_said(heaps, read, &said)?;
+        match lines {
+            None => return Ok(()),
+            Some(more) => rest = more,
+        }
+    }
+}

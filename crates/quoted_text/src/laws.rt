@@ -1,0 +1,18 @@
+// What balances.
+
+ghost use Rattle.quoted_text.specs.Balanced.{QuotedBalance, PlainBalance, JoinedBalance};
+
+/// Any word in quotes balances, whatever its bytes are.
+pub fn quoted_balance()
+    ensures { QuotedBalance }
+{}
+
+/// A text without quotes and brackets balances.
+pub fn plain_balance()
+    ensures { PlainBalance }
+{}
+
+/// Texts that balance do so one behind the other, and in brackets.
+pub fn joined_balance()
+    ensures { JoinedBalance }
+{}

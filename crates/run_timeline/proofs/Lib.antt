@@ -1,0 +1,4 @@
+pub mod Loops
+pub mod Made
+pub mod Steps
+pub mod Slices

@@ -1,0 +1,18 @@
+use Rattle.std.proofs.Common.{◌++◌, ap, ◌∙◌}
+use Rattle.std.specs.Prelude.{codes}
+use Rattle.std.specs.Fmt.{decimal}
+use Rattle.std.proofs.lemmas.Result.{on_ok_weaker}
+use Rattle.run_timeline.specs.Events.{arguments}
+use Rattle.json_text.specs.Json.{Word, Member, NoMember, first_member}
+use Rattle.run_timeline.proofs.Made.{word_made, event_made}
+use Rattle.run_timeline.proofs.events.add_lane.Goals as goal
+
+pub returns : goal.returns
+returns c =
+    on_ok_weaker c.end_arguments.result
+    (λ e. event_made (codes "thread_name") (codes "__metadata") (codes "M") 0 c.args.worker (arguments (Member (codes "name") (Word (codes "worker " ++ decimal c.args.worker)) NoMember))
+    c.args.text.now.items c.add_comma.new.text.items c.begin_event.new.text.items c.end_arguments.new.text.items c.in_ok-add_comma.ensures c.in_ok-begin_event.ensures
+    (word_made (codes "name") (codes "worker " ++ decimal c.args.worker) c.begin_event.new.text.items c.begin_arguments.new.text.items c.first_word.new.text.items c.end_arguments.new.text.items
+    c.in_ok-begin_arguments.ensures
+    (c.in_ok-first_word.ensures ∙ ap (λ w. c.begin_arguments.new.text.items ++ first_member (codes "name") (Word w)) (c.as_bytes.ensures.value ∙ c.in_ok-name.ensures.ok)) e))
+    c.end_arguments.ensures

@@ -1,0 +1,17 @@
+use Rattle.std.proofs.Common.{ap, ◌∙◌}
+use Rattle.std.specs.Prelude.{slice_get}
+use Rattle.std.proofs.lemmas.Result.{on_ok_weaker}
+use Rattle.run_timeline.specs.Entries.{fork_line}
+use Rattle.run_timeline.proofs.Loops.{first_told}
+use Rattle.run_timeline.proofs.tasks.add_first_taken.Goals as goal
+
+pub returns : goal.returns
+returns c =
+    rw c.in-Some.is
+    (on_ok_weaker c.end_arrow.result
+    (first_told c.args.task c.in-Some.parent c.fork_line-line.result (fork_line c.args.program.now (slice_get c.args.state.now.tasks c.in-Some.parent)) c.args.number c.args.worker
+    c.as_bytes-in-Some.result.now c.args.text.now.items c.begin_span.new.text.items c.add_fork.new.text.items c.end_arrow.new.text.items
+    (c.as_bytes-in-Some.ensures.value ∙ c.in_ok-name.ensures)
+    (c.fork_line-line.ensures ∙ ap (fork_line c.args.program.now) c.get.ensures)
+    c.in_ok-begin_span-in-Some.ensures c.in_ok-add_fork-in-Some.ensures)
+    c.end_arrow.ensures)

@@ -1,0 +1,10 @@
+use Rattle.std.proofs.Common.{◌++◌, ◌∙◌}
+use Rattle.std.specs.List.{flat_map}
+use Rattle.json_text.specs.Json.{further}
+use Rattle.run_timeline.specs.Entries.{entry_events}
+use Rattle.run_timeline.proofs.timeline.enter.Goals as goal
+
+pub returns-in-Ok-clause-events : goal.returns-in-Ok-clause-events
+returns-in-Ok-clause-events c =
+    c.in-Ok.ensures
+    ∙ (λ j. c.args.text.now.items ++ flat_map further (entry_events c.args.program.now (c.tasks-made.ensures j) (c.in_use-used.ensures j) (c.in_ok-apply.ensures.entered j).ledger c.args.before c.args.number c.args.entry))

@@ -1,0 +1,32 @@
+use Rattle.std.proofs.Common.{rules, refl, ◌∙◌}
+use Rattle.run_report.proofs.Sums.{accounts_on, refused_on}
+use Rattle.run_timeline.proofs.Steps.{text_on}
+use Rattle.run_timeline.proofs.timeline.enter_all.Goals as goal
+
+pub loop-entry-init : goal.loop-entry-init
+loop-entry-init c = record {
+  program = refl;
+  limits = refl;
+  stopped = c.requires.open;
+  index = refl;
+  accounts = search rules;
+  refused = search rules;
+  text = search rules;
+}
+
+pub loop-entry-preserved : goal.loop-entry-preserved
+loop-entry-preserved c =
+    let l = c.loop-entry in
+    let k = c.in-Ok in
+    let i = l.invariant in
+    record {
+      program = search rules;
+      limits = search rules;
+      stopped = search rules;
+      index = search rules;
+      accounts = accounts_on c.args.journal.now l.book c.enter.new.book l.entry-index c.entry-item.result c.loop-entry-test.true c.entry-item.is k.ensures.entered i.accounts;
+      refused = refused_on c.args.journal.now l.book c.enter.new.book l.entry-index c.entry-item.result c.loop-entry-test.true c.entry-item.is k.ensures.entered l.index k.ensures.legal i.refused;
+      text =
+          text_on c.args.journal.now l.book c.enter.new.book l.entry-index c.entry-item.result c.loop-entry-test.true c.entry-item.is k.ensures.entered l.seats l.index c.worker-worker.result
+          c.args.program.now l.text.items c.enter.new.text.items _ c.worker-worker.ensures.value (i.program ∙ c.requires.program) i.text k.ensures.events;
+    }

@@ -1,0 +1,168 @@
+-- The events of one entry.
+use Rattle.std.specs.Prelude.{ℕ, ◌+◌, ◌*◌, ◌-◌, ◌==◌, Option, Some, None, List, [], ◌∷◌, ◌++◌, codes, length, slice_get, if◌then◌else◌}
+use Rattle.std.specs.List.{join_with_byte}
+use Rattle.std.specs.Fmt.{decimal}
+use Rattle.hh_lang.specs.Form.{ProgramText, line_at}
+use Rattle.hh_lang.specs.declared.program.Line.{Line}
+use Rattle.hh_model.specs.declared.data.Status.{Status}
+use Rattle.hh_model.specs.declared.data.Status.TheVariants.{Ended, Joined}
+use Rattle.hh_model.specs.declared.data.End.TheVariants.{Entangled}
+use Rattle.hh_model.specs.declared.data.Task.{Task}
+use Rattle.hh_model.specs.declared.data.State.{State}
+use Rattle.run_trace.specs.declared.entry.Kind.{Kind}
+use Rattle.run_trace.specs.declared.entry.Kind.TheVariants.{Took, Ran, Chunk, Begin, End, PutOff, Mark, More, Sweep, Fuel}
+use Rattle.run_trace.specs.Entry.{Event}
+use Rattle.run_ledger.specs.declared.data.RunEnd.{RunEnd}
+use Rattle.run_ledger.specs.declared.data.RunEnd.TheVariants.{Machine}
+use Rattle.run_ledger.specs.declared.data.Ledger.{Ledger}
+use Rattle.run_ledger.specs.Heaps.{in_use}
+use Rattle.run_ledger.specs.Text.{end_words}
+use Rattle.json_text.specs.Json.{Json, Members, Number, Word, NoMember, Member}
+use Rattle.run_timeline.specs.Events.{event, arguments, one_number, two_numbers, end_time, span, arrow_begins, arrow_ends}
+
+-- THE ENTRY ITSELF
+
+abbrev pub kind_name : Kind → List ℕ
+kind_name (Took t) = codes "took"
+kind_name (Ran t k) = codes "ran"
+kind_name (Chunk t) = codes "chunk"
+kind_name (Begin t) = codes "begin"
+kind_name (End t taken given left) = codes "end"
+kind_name (PutOff t) = codes "putoff"
+kind_name (Mark t) = codes "mark"
+kind_name (More t n) = codes "some"
+kind_name (Sweep t given) = codes "sweep"
+kind_name Fuel = codes "fuel"
+
+abbrev pub of_task : ℕ → Members → Members
+of_task t more = Member (codes "task") (Number t) more
+
+-- what it says
+abbrev pub numbers_of : Kind → Members
+numbers_of (Took t) = of_task t NoMember
+numbers_of (Ran t k) = of_task t (one_number (codes "steps") k)
+numbers_of (Chunk t) = of_task t NoMember
+numbers_of (Begin t) = of_task t NoMember
+numbers_of (End t taken given left) = of_task t (Member (codes "kept") (Number taken) (two_numbers (codes "given") given (codes "words") left))
+numbers_of (PutOff t) = of_task t NoMember
+numbers_of (Mark t) = of_task t NoMember
+numbers_of (More t n) = of_task t (one_number (codes "objects") n)
+numbers_of (Sweep t given) = of_task t (one_number (codes "given") given)
+numbers_of Fuel = NoMember
+
+-- an entry is a slice, from where its worker's entry before ended to its own end
+abbrev pub slice : ℕ → ℕ → Event → Json
+slice before n e =
+    event (kind_name e.kind) (codes "entry") (codes "X") (end_time before) e.worker (
+    Member (codes "dur") (Number ((n - before) * 1000)) (
+    arguments (numbers_of e.kind)))
+
+-- TASKS
+
+abbrev pub task_name : ℕ → List ℕ
+task_name t = codes "task " ++ decimal t
+
+abbrev pub task_begins : ℕ → ℕ → ℕ → Members → Json
+task_begins t n w more = span (codes "b") (task_name t) (codes "task") t n w more
+
+abbrev pub task_ends : ℕ → ℕ → ℕ → Json
+task_ends t n w = span (codes "e") (task_name t) (codes "task") t n w NoMember
+
+abbrev pub number_of : Option Line → ℕ
+number_of None = 0
+number_of (Some l) = l.number
+
+-- the line of a waiting task's fork, which stands in front of the instruction that comes next
+abbrev pub fork_line : ProgramText → Option Task → ℕ
+fork_line p None = 0
+fork_line p (Some x) = number_of (line_at p x.top.function (x.top.next - 1))
+
+-- the line of the instruction that comes next
+abbrev pub next_line : ProgramText → Option Task → ℕ
+next_line p None = 0
+next_line p (Some x) = number_of (line_at p x.top.function x.top.next)
+
+-- a task is taken first: its span begins, and the arrow from its fork ends
+abbrev pub first_taken : ProgramText → State → ℕ → ℕ → ℕ → Option ℕ → List Json
+first_taken p m t n w None = task_begins t n w NoMember ∷ []
+first_taken p m t n w (Some q) =
+    task_begins t n w (arguments (two_numbers (codes "parent") q (codes "line") (fork_line p (slice_get m.tasks q))))
+    ∷ (arrow_ends (codes "fork") t n w ∷ [])
+
+-- or it is taken again, behind the join of its children
+abbrev pub taken : ProgramText → State → ℕ → ℕ → ℕ → Option Task → List Json
+taken p m t n w None = []
+taken p m t n w (Some x) = if x.joins == 0 then first_taken p m t n w x.parent else arrow_ends (codes "join") t n w ∷ []
+
+-- where there are more tasks than were made before, two are forked
+abbrev pub forked : ℕ → ℕ → ℕ → ℕ → List Json
+forked made now n w = if now == made then [] else arrow_begins (codes "fork") made n w ∷ (arrow_begins (codes "fork") (made + 1) n w ∷ [])
+
+abbrev pub joined : ℕ → ℕ → Option ℕ → List Json
+joined n w None = []
+joined n w (Some q) = arrow_begins (codes "join") q n w ∷ []
+
+-- a task ends, alone or as the later one of two that join
+abbrev pub ended_by : ℕ → ℕ → ℕ → Option ℕ → Status → List Json
+ended_by t n w parent (Ended k name) = task_ends t n w ∷ []
+ended_by t n w parent Joined = task_ends t n w ∷ joined n w parent
+ended_by t n w parent _ = []
+
+abbrev pub ended : ℕ → ℕ → ℕ → Option Task → List Json
+ended t n w None = []
+ended t n w (Some x) = ended_by t n w x.parent x.status
+
+-- COLLECTIONS
+
+abbrev pub collection : List ℕ → ℕ → ℕ → ℕ → Json
+collection phase t n w = span phase (codes "leaf collection") (codes "leaf") t n w NoMember
+
+abbrev pub marking : List ℕ → ℕ → ℕ → ℕ → Json
+marking phase t n w = span phase (codes "marking") (codes "inner") t n w NoMember
+
+-- what begins and ends with an entry, in front of which so many tasks were made, and behind which the machine is this
+abbrev pub told_by : ProgramText → ℕ → State → ℕ → ℕ → Kind → List Json
+told_by p made m n w (Took t) = taken p m t n w (slice_get m.tasks t)
+told_by p made m n w (Ran t k) = forked made (length m.tasks) n w ++ ended t n w (slice_get m.tasks t)
+told_by p made m n w (Begin t) = collection (codes "b") t n w ∷ []
+told_by p made m n w (End t taken given left) = collection (codes "e") t n w ∷ []
+told_by p made m n w (Mark t) = marking (codes "b") t n w ∷ []
+told_by p made m n w (Sweep t given) = marking (codes "e") t n w ∷ []
+told_by p made m n w _ = []
+
+-- COUNTERS
+
+-- the chunks in use
+abbrev pub counter : ℕ → ℕ → Json
+counter now n = event (codes "chunks in use") (codes "pool") (codes "C") (end_time n) 0 (arguments (one_number (codes "chunks") now))
+
+-- they are told where they became others
+abbrev pub counted : ℕ → ℕ → ℕ → List Json
+counted before now n = if now == before then [] else counter now n ∷ []
+
+-- THE END
+
+abbrev pub end_name : RunEnd → List ℕ
+end_name e = join_with_byte 32 (codes "end:" ∷ end_words e)
+
+-- of a stopped read the line
+abbrev pub end_members : ProgramText → State → RunEnd → Members
+end_members p m (Machine (Entangled reader owner)) = arguments (one_number (codes "line") (next_line p (slice_get m.tasks reader)))
+end_members p m _ = arguments NoMember
+
+abbrev pub run_end : ProgramText → State → ℕ → ℕ → RunEnd → Json
+run_end p m n w e = event (end_name e) (codes "end") (codes "i") (end_time n) w (Member (codes "s") (Word (codes "g")) (end_members p m e))
+
+abbrev pub run_ended : ProgramText → State → ℕ → ℕ → Option RunEnd → List Json
+run_ended p m n w None = []
+run_ended p m n w (Some e) = run_end p m n w e ∷ []
+
+-- ALL OF AN ENTRY
+
+-- of the entry of this number, whose worker's entry before had that one: in front of it so many tasks were made and so many chunks in
+-- use, and behind it the accounts are these
+abbrev pub entry_events : ProgramText → ℕ → ℕ → Ledger → ℕ → ℕ → Event → List Json
+entry_events p made used l before n e =
+    (slice before n e ∷ told_by p made l.machine n e.worker e.kind)
+    ++ counted used (in_use l) n
+    ++ run_ended p l.machine n e.worker l.end

@@ -1,0 +1,5 @@
+pub mod Events
+pub mod Entries
+pub mod Timeline
+pub mod Pieces
+pub mod Laws

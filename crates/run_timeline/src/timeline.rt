@@ -1,0 +1,199 @@
+// The timeline of a run.
+
+ghost use Rattle.std.specs.Prelude.{◌≡◌, ◌<◌, ◌≤◌, ◌^◌, ◌-◌, ◌+◌, ◌++◌, None, false, length, get_or, slice_set, OnOk, IfOk, IfErr};
+ghost use Rattle.std.specs.List.{flat_map};
+ghost use Rattle.json_text.specs.Json.{further};
+ghost use Rattle.run_trace.specs.Settings.{AreLimits};
+ghost use Rattle.run_ledger.specs.Heaps.{in_use};
+ghost use Rattle.run_ledger.specs.Entries.{refusal, after};
+ghost use Rattle.run_ledger.specs.Journals.{opening, ledger_of, first_refused, refused_as_run};
+ghost use Rattle.run_journal.specs.Book.{FailsFor};
+ghost use Rattle.run_journal.specs.Replay.{ReplayFails};
+ghost use Rattle.run_timeline.specs.Entries.{entry_events};
+ghost use Rattle.run_timeline.specs.Timeline.{events_of, lanes, timeline};
+ghost use Rattle.run_timeline.specs.Pieces.{beginning, ending};
+
+use crate::entry::add_slice;
+use crate::events::{add_lane, add_process};
+use crate::tasks::{add_counted, add_run_ended, add_told};
+use hh_lang::Program;
+use run_journal::{ApplyError, Book, ReplayError};
+use run_ledger::{Refused, RefusedAt};
+use run_trace::{Entry, Settings};
+use std::alloc::{AllocError, Global};
+
+/// A text of so many entries has no place in memory.
+const ENTRY_LIMIT: usize = 4294967295;
+
+// Adds the events of an entry that was entered, in front of which so many tasks were made and so many chunks in use.
+fn add_entered(
+    alloc: Global,
+    text: &mut Vec<u8>,
+    program: &Program,
+    book: &Book,
+    made: u64,
+    used: u64,
+    before: u32,
+    number: u32,
+    entry: Entry,
+) -> Result<(), AllocError>
+    requires open { book.now.stopped ≡ false }
+    requires few { made + 1 < 2 ^ 64 }
+    requires first { 0 < number }
+    ensures { OnOk result (text.new.items ≡ text.old.items ++ flat_map further (entry_events program.now made used book.now.ledger before number entry)) }
+{
+    add_slice(alloc, text, before, number, entry.worker(), entry.kind())?;
+    add_told(
+        alloc,
+        text,
+        program,
+        book.state(),
+        made,
+        number,
+        entry.worker(),
+        entry.kind(),
+    )?;
+    add_counted(alloc, text, used, book.in_use(), number)?;
+    add_run_ended(
+        alloc,
+        text,
+        program,
+        book.state(),
+        number,
+        entry.worker(),
+        book.end(),
+    )
+}
+
+// Enters an entry, and adds its events.
+fn enter(
+    alloc: Global,
+    text: &mut Vec<u8>,
+    program: &Program,
+    book: &mut Book,
+    before: u32,
+    number: u32,
+    entry: Entry,
+) -> Result<(), ApplyError>
+    requires open { book.old.stopped ≡ false }
+    requires program { book.old.program ≡ program.now }
+    requires first { 0 < number }
+    ensures legal { OnOk result (refusal book.old.program book.old.limits book.old.ledger entry ≡ None) }
+    ensures entered { OnOk result (book.new ≡ record book.old { ledger = after book.old.program book.old.limits book.old.ledger entry }) }
+    ensures events { OnOk result (text.new.items ≡ text.old.items ++ flat_map further (entry_events program.now (length book.old.ledger.machine.tasks) (in_use book.old.ledger) (after book.old.program book.old.limits book.old.ledger entry) before number entry)) }
+    ensures fails { IfErr result (FailsFor (refusal book.old.program book.old.limits book.old.ledger entry)) }
+{
+    let made = book.tasks() as u64;
+    if made == u64::MAX {
+        return Err(ApplyError::NoMemory);
+    }
+    let used = book.in_use();
+    book.apply(entry)?;
+    match add_entered(
+        alloc, text, program, book, made, used, before, number, entry,
+    ) {
+        Ok(()) => Ok(()),
+        Err(AllocError) => Err(ApplyError::NoMemory),
+    }
+}
+
+// Enters the entries of a journal, and adds their events.
+fn enter_all(
+    alloc: Global,
+    text: &mut Vec<u8>,
+    program: &Program,
+    book: &mut Book,
+    journal: &[Entry],
+) -> Result<(), ReplayError>
+    requires few { length journal.now < 2 ^ 32 - 1 }
+    requires limits { AreLimits book.old.limits }
+    requires first { book.old.ledger ≡ opening book.old.program book.old.limits }
+    requires open { book.old.stopped ≡ false }
+    requires program { book.old.program ≡ program.now }
+    ensures book { OnOk result (book.new ≡ record book.old { ledger = ledger_of book.old.program book.old.limits journal.now }) }
+    ensures events { OnOk result (text.new.items ≡ text.old.items ++ flat_map further (events_of book.old.program book.old.limits journal.now)) }
+    ensures legal { OnOk result (first_refused book.old.program book.old.limits journal.now ≡ None) }
+    ensures fails { IfErr result (ReplayFails (first_refused book.old.program book.old.limits journal.now)) }
+{
+    let mut seats = [0u32; 64];
+    let mut index: u32 = 1;
+    for entry in journal {
+        let worker = entry.worker() as usize;
+        match enter(alloc, text, program, book, seats[worker], index, *entry) {
+            Ok(()) => {
+                seats[worker] = index;
+                index += 1;
+            }
+            Err(ApplyError::Refused(cause)) => {
+                let index = index as u64;
+                return Err(ReplayError::RefusedAt(RefusedAt { index, cause }));
+            }
+            Err(ApplyError::NoMemory) => return Err(ReplayError::NoMemory),
+        }
+    }
+    Ok(())
+}
+
+// Adds the lanes of so many workers.
+fn add_lanes(alloc: Global, text: &mut Vec<u8>, workers: u32) -> Result<(), AllocError>
+    ensures { OnOk result (text.new.items ≡ text.old.items ++ flat_map further (lanes workers)) }
+{
+    for worker in 0..workers {
+        add_lane(alloc, text, worker)?;
+    }
+    Ok(())
+}
+
+// Begins the text, up to the events of entries.
+fn begin(alloc: Global, workers: u32) -> Result<Vec<u8>, AllocError>
+    ensures { IfOk result (λ text. text.items ≡ beginning workers) }
+{
+    let mut text = Vec::new(alloc);
+    text.extend_from_slice(b"{\"traceEvents\":[")?;
+    add_process(alloc, &mut text)?;
+    add_lanes(alloc, &mut text, workers)?;
+    Ok(text)
+}
+
+// Ends the text.
+fn end(text: &mut Vec<u8>) -> Result<(), AllocError>
+    ensures { OnOk result (text.new.items ≡ text.old.items ++ ending) }
+{
+    text.extend_from_slice(b"],\"displayTimeUnit\":\"ms\"}\n")
+}
+
+/// The timeline of the journal of a whole run.
+pub fn timeline_text(
+    alloc: Global,
+    program: &Program,
+    settings: Settings,
+    journal: &[Entry],
+) -> Result<Vec<u8>, ReplayError>
+    ensures whole { OnOk result (refused_as_run program.now settings journal.now ≡ None) }
+    ensures text { IfOk result (λ text. text.items ≡ timeline program.now settings journal.now) }
+    ensures fails { IfErr result (ReplayFails (refused_as_run program.now settings journal.now)) }
+{
+    if journal.len() >= ENTRY_LIMIT {
+        return Err(ReplayError::NoMemory);
+    }
+    let Ok(mut book) = Book::open(alloc, program, settings) else {
+        return Err(ReplayError::NoMemory);
+    };
+    let Ok(mut text) = begin(alloc, settings.workers()) else {
+        return Err(ReplayError::NoMemory);
+    };
+    match enter_all(alloc, &mut text, program, &mut book, journal) {
+        Ok(()) => {}
+        Err(error) => return Err(error),
+    }
+    if book.end().is_none() {
+        return Err(ReplayError::RefusedAt(RefusedAt {
+            index: journal.len() as u64 + 1,
+            cause: Refused::Short,
+        }));
+    }
+    match end(&mut text) {
+        Ok(()) => Ok(text),
+        Err(AllocError) => Err(ReplayError::NoMemory),
+    }
+}

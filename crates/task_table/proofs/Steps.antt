@@ -1,0 +1,47 @@
+-- One entry more, and one line more, of a table.
+use Rattle.std.proofs.Common.{◌≡◌, ◌<◌, ◌+◌, ℕ, suc, List, [], ◌∷◌, ◌++◌, length, drop, get_or, ap, subst, sym, ◌∙◌, append_assoc, arith}
+use Rattle.std.specs.Prelude.{slice_get}
+use Rattle.std.proofs.Math.Seq.{drop-cons}
+use Rattle.hh_lang.specs.Form.{ProgramText}
+use Rattle.hh_model.specs.declared.data.Object.{Object}
+use Rattle.run_trace.specs.Entry.{Event}
+use Rattle.run_trace.specs.Settings.{Limits}
+use Rattle.run_ledger.specs.declared.data.Ledger.{Ledger}
+use Rattle.run_ledger.specs.Entries.{after}
+use Rattle.run_journal.specs.Opened.{Opened}
+use Rattle.run_journal.proofs.Replays.{cut}
+use Rattle.task_table.specs.declared.row.Row.{Row}
+use Rattle.task_table.specs.Rows.{rows_with, rows_from, raised_by}
+use Rattle.task_table.specs.Lines.{words_onto}
+use Rattle.task_table.specs.Table.{line_at, lines_from}
+
+module _ (journal : List Event) (b b' : Opened) (i : ℕ) (e : Event) (lt : i < length journal) (is : e ≡ get_or journal i e) (eb : b' ≡ record b { ledger = after b.program b.limits b.ledger e }) where
+  -- the rows behind the rest of a journal, also behind the entry
+  pub rows_on : (p : ProgramText) (rows more all : List Row) → b.program ≡ p
+      → rows_from b.program b.limits b.ledger rows (drop i journal) ≡ all
+      → more ≡ rows_with p b.ledger (after b.program b.limits b.ledger e) e rows
+      → rows_from b'.program b'.limits b'.ledger more (drop (i + 1) journal) ≡ all
+  rows_on p rows more all ep inv em =
+      (λ j. rows_from (eb j).program (eb j).limits (eb j).ledger ((em ∙ (λ k. rows_with (sym ep k) b.ledger (after b.program b.limits b.ledger e) e rows)) j) (drop (i + 1) journal))
+      ∙ ap (rows_from b.program b.limits b.ledger rows) (sym (cut b.program b.limits b.ledger 0 journal i e lt is))
+      ∙ inv
+
+cut_at : {X : Type 0} (xs : List X) (i : ℕ) (d : X) → i < length xs → drop i xs ≡ get_or xs i d ∷ drop (i + 1) xs
+cut_at xs i d lt = let e : suc i ≡ i + 1 = omega arith in drop-cons xs i d lt ∙ ap (λ n. get_or xs i d ∷ drop n xs) e
+
+-- the line of a row, and the lines behind it
+pub lines_on : (p : ProgramText) (l : Ledger) (rows : List Row) (i t : ℕ) (r : Row) (now later all : List ℕ) → i < length rows → r ≡ get_or rows i r
+    → now ++ lines_from p l t (drop i rows) ≡ all → later ≡ now ++ line_at p l t (slice_get l.machine.tasks t) r → later ++ lines_from p l (t + 1) (drop (i + 1) rows) ≡ all
+lines_on p l rows i t r now later all lt is inv e =
+    ap (λ x. x ++ lines_from p l (t + 1) (drop (i + 1) rows)) (e ∙ ap (λ x. now ++ line_at p l t (slice_get l.machine.tasks t) x) is)
+    ∙ append_assoc now (line_at p l t (slice_get l.machine.tasks t) (get_or rows i r)) (lines_from p l (t + 1) (drop (i + 1) rows))
+    ∙ ap (λ x. now ++ lines_from p l t x) (sym (cut_at rows i r lt))
+    ∙ inv
+
+-- the words of an object more
+pub words_on : (os : List Object) (i n m : ℕ) (o : Object) → i < length os → o ≡ get_or os i o → m ≡ raised_by (raised_by (raised_by n 2) (length o.refs)) (length o.ints)
+    → words_onto m (drop (i + 1) os) ≡ words_onto n (drop i os)
+words_on os i n m o lt is e =
+    ap (λ k. words_onto k (drop (i + 1) os)) e
+    ∙ ap (λ (x : Object). words_onto (raised_by (raised_by (raised_by n 2) (length x.refs)) (length x.ints)) (drop (i + 1) os)) is
+    ∙ ap (words_onto n) (sym (cut_at os i o lt))

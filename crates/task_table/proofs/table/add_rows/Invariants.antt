@@ -1,0 +1,10 @@
+use Rattle.std.proofs.Common.{◌≡◌, ◌++◌, drop}
+use Rattle.task_table.specs.Table.{lines_from}
+use Rattle.task_table.proofs.table.add_rows.Given as goal
+
+abbrev pub invariant-loop-row : goal.invariant-loop-row
+invariant-loop-row l =
+    record {
+      place : l.number ≡ l.row-index;
+      text : l.text.items ++ lines_from l.program l.book.ledger l.number (drop l.row-index l.rows) ≡ l.fn.text.items ++ lines_from l.program l.book.ledger 0 l.rows;
+    }

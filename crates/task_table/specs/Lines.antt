@@ -1,0 +1,73 @@
+-- The line of a task.
+use Rattle.std.specs.Prelude.{ℕ, ℤ, ◌==◌, Option, Some, None, List, [], ◌∷◌, ◌++◌, codes, length, slice_get, if◌then◌else◌}
+use Rattle.std.specs.Fmt.{decimal, signed_decimal}
+use Rattle.hh_lang.specs.Form.{ProgramText}
+use Rattle.hh_model.specs.declared.data.Object.{Object}
+use Rattle.hh_model.specs.declared.data.Status.{Status}
+use Rattle.hh_model.specs.declared.data.Status.TheVariants.{Running, Waiting, Ended, Joined}
+use Rattle.hh_model.specs.declared.data.End.TheVariants.{Trapped, Entangled}
+use Rattle.hh_model.specs.declared.data.Task.{Task}
+use Rattle.hh_model.specs.declared.data.State.{State}
+use Rattle.run_ledger.specs.declared.data.RunEnd.{RunEnd}
+use Rattle.run_ledger.specs.declared.data.RunEnd.TheVariants.{Machine}
+use Rattle.task_table.specs.declared.row.Fork.{Fork}
+use Rattle.task_table.specs.declared.row.Row.{Row}
+use Rattle.task_table.specs.Rows.{raised_by, function_name}
+
+-- a value behind a comma; one that isn't there is empty
+abbrev pub field : List ℕ → List ℕ
+field value = 44 ∷ value
+
+abbrev pub number_field : ℕ → List ℕ
+number_field n = field (decimal n)
+
+abbrev pub maybe_field : Option ℕ → List ℕ
+maybe_field None = field []
+maybe_field (Some n) = number_field n
+
+abbrev pub signed_field : Option ℤ → List ℕ
+signed_field None = field []
+signed_field (Some k) = field (signed_decimal k)
+
+-- the line and the function of the fork, and the number of a parallel loop
+abbrev pub fork_fields : ProgramText → Option Fork → List ℕ
+fork_fields p None = codes ",,,"
+fork_fields p (Some f) = number_field f.line ++ field (function_name p f.function) ++ signed_field f.number
+
+-- what its objects came to
+abbrev pub words_onto : ℕ → List Object → ℕ
+words_onto n [] = n
+words_onto n (o ∷ os) = words_onto (raised_by (raised_by (raised_by n 2) (length o.refs)) (length o.ints)) os
+
+abbrev pub objects_in : Option (List Object) → List Object
+objects_in None = []
+objects_in (Some os) = os
+
+-- HOW IT ENDED
+
+abbrev pub status_word : Status → List ℕ
+status_word Running = codes "running"
+status_word Waiting = codes "waiting"
+status_word (Ended k n) = codes "ended"
+status_word Joined = codes "joined"
+
+-- a task that ended the run by a trap, or by a read that was stopped
+abbrev pub end_word : Option RunEnd → ℕ → Status → List ℕ
+end_word (Some (Machine (Trapped trap u line))) t s = if u == t then codes "trap" else status_word s
+end_word (Some (Machine (Entangled u owner))) t s = if u == t then codes "entangled" else status_word s
+end_word _ t s = status_word s
+
+-- THE LINE
+
+abbrev pub place_fields : ProgramText → ℕ → Task → Row → List ℕ
+place_fields p t x r = decimal t ++ maybe_field x.parent ++ fork_fields p r.fork ++ number_field x.depth
+
+abbrev pub work_fields : Row → List ℕ
+work_fields r = maybe_field r.worker ++ number_field r.entries ++ number_field r.steps
+
+abbrev pub memory_fields : List Object → Row → List ℕ
+memory_fields os r = number_field (length os) ++ number_field (words_onto 0 os) ++ number_field r.dropped
+
+abbrev pub task_line : ProgramText → State → Option RunEnd → ℕ → Task → Row → List ℕ
+task_line p m end t x r =
+    place_fields p t x r ++ work_fields r ++ memory_fields (objects_in (slice_get m.store t)) r ++ field (end_word end t x.status) ++ 10 ∷ []

@@ -1,0 +1,117 @@
+-- What the entries of a journal tell of each task. Sums have 64 bits, and the last value stays.
+use Rattle.std.specs.Prelude.{ℕ, ℤ, pos, ◌+◌, ◌-◌, ◌^◌, ◌==◌, Option, Some, None, List, [], ◌∷◌, ◌++◌, length, min, slice_get, slice_set, if◌then◌else◌}
+use Rattle.std.specs.Int.{int_wrapping_add, int_wrapping_sub, w64}
+use Rattle.std.specs.Prelude.{int_div}
+use Rattle.hh_lang.specs.declared.program.Fun.{Fun}
+use Rattle.hh_lang.specs.Form.{ProgramText}
+use Rattle.hh_model.specs.declared.data.Frame.{Frame}
+use Rattle.hh_model.specs.declared.data.Task.{Task}
+use Rattle.hh_model.specs.declared.data.State.{State}
+use Rattle.hh_model.specs.Effect.{int_in}
+use Rattle.run_trace.specs.declared.entry.Kind.{Kind}
+use Rattle.run_trace.specs.declared.entry.Kind.TheVariants.{Took, Ran, Chunk, Begin, End, PutOff, Mark, More, Sweep, Fuel}
+use Rattle.run_trace.specs.Entry.{Event}
+use Rattle.run_trace.specs.Settings.{Limits}
+use Rattle.run_ledger.specs.declared.data.Ledger.{Ledger}
+use Rattle.run_ledger.specs.Entries.{after}
+use Rattle.run_report.specs.Totals.{cleared_words}
+use Rattle.run_timeline.specs.Entries.{fork_line}
+use Rattle.task_table.specs.declared.row.Fork.{Fork}
+use Rattle.task_table.specs.declared.row.Row.{Row}
+
+abbrev pub raised_by : ℕ → ℕ → ℕ
+raised_by n k = min (n + k) (2 ^ 64 - 1)
+
+-- FORKS
+
+abbrev pub name_in : Option Fun → List ℕ
+name_in None = []
+name_in (Some f) = f.name
+
+abbrev pub function_name : ProgramText → ℕ → List ℕ
+function_name p f = name_in (slice_get p.functions f)
+
+-- a parallel loop over f goes over its numbers by `f<` for the first half and `f>` for the second: the number where a half begins, by the
+-- last byte of the function's name and the numbers at the fork
+abbrev pub half_begin : Option ℕ → ℤ → ℤ → Option ℤ
+half_begin None first past = None
+half_begin (Some c) first past =
+    if c == 60 then Some first
+    else if c == 62 then Some (int_wrapping_add w64 first (int_div (int_wrapping_sub w64 past first) (pos 2)))
+    else None
+
+abbrev pub last_byte : List ℕ → Option ℕ
+last_byte name = slice_get name (length name - 1)
+
+abbrev pub loop_number : ProgramText → Frame → Option ℤ
+loop_number p f = half_begin (last_byte (function_name p f.function)) (int_in f 0) (int_in f 1)
+
+abbrev pub made_by : ProgramText → ℕ → Option Task → Option Fork
+made_by p line None = None
+made_by p line (Some y) = Some (record { line = line; function = y.top.function; number = loop_number p y.top })
+
+-- the fork by which the task u has just been made, whose parent is t
+abbrev pub fork_of : ProgramText → State → ℕ → ℕ → Option Fork
+fork_of p m t u = made_by p (fork_line p (slice_get m.tasks t)) (slice_get m.tasks u)
+
+-- ROWS
+
+-- a task that no entry has told of
+abbrev pub fresh_row : Option Fork → Row
+fresh_row f = record { fork = f; worker = None; entries = 0; steps = 0; dropped = 0 }
+
+abbrev pub first_of : Option ℕ → ℕ → Option ℕ
+first_of None w = Some w
+first_of (Some v) w = Some v
+
+-- an entry more
+abbrev pub entered : Row → Row
+entered r = record r { entries = raised_by r.entries 1 }
+
+-- what an entry of a worker, with which the heap lost so many words, tells of its task
+abbrev pub told : ℕ → ℕ → Kind → Row → Row
+told w lost (Took t) r = record (entered r) { worker = first_of r.worker w }
+told w lost (Ran t k) r = record (entered r) { steps = raised_by r.steps k }
+told w lost (End t taken given left) r = record (entered r) { dropped = raised_by r.dropped lost }
+told w lost (Sweep t given) r = record (entered r) { dropped = raised_by r.dropped lost }
+told w lost _ r = entered r
+
+-- the task that an entry tells of
+abbrev pub task_in : Kind → Option ℕ
+task_in (Took t) = Some t
+task_in (Ran t k) = Some t
+task_in (Chunk t) = Some t
+task_in (Begin t) = Some t
+task_in (End t taken given left) = Some t
+task_in (PutOff t) = Some t
+task_in (Mark t) = Some t
+task_in (More t n) = Some t
+task_in (Sweep t given) = Some t
+task_in Fuel = None
+
+abbrev pub with_row : List Row → ℕ → (Row → Row) → Option Row → List Row
+with_row rows t f None = rows
+with_row rows t f (Some r) = slice_set rows t (f r)
+
+abbrev pub told_of : List Row → ℕ → ℕ → Kind → Option ℕ → List Row
+told_of rows w lost kind None = rows
+told_of rows w lost kind (Some t) = with_row rows t (told w lost kind) (slice_get rows t)
+
+-- the rows of the children that a task has just forked
+abbrev pub children : ProgramText → State → ℕ → ℕ → Option ℕ → List Row
+children p m made now None = []
+children p m made now (Some t) = if now == made then [] else fresh_row (fork_of p m t made) ∷ (fresh_row (fork_of p m t (made + 1)) ∷ [])
+
+-- the rows behind an entry, in front of which so many tasks were made, and with which the heap lost so many words
+abbrev pub rows_by : ProgramText → State → ℕ → ℕ → Event → List Row → List Row
+rows_by p m made lost e rows = told_of rows e.worker lost e.kind (task_in e.kind) ++ children p m made (length m.tasks) (task_in e.kind)
+
+-- by the accounts in front of it and behind it
+abbrev pub rows_with : ProgramText → Ledger → Ledger → Event → List Row → List Row
+rows_with p before behind e rows =
+    rows_by p behind.machine (length before.machine.tasks) (cleared_words before e.kind - cleared_words behind e.kind) e rows
+
+-- the rows behind a journal
+abbrev pub rows_from : ProgramText → Limits → Ledger → List Row → List Event → List Row
+rows_from p s l rows [] = rows
+rows_from p s l rows (e ∷ es) = rows_from p s (after p s l e) (rows_with p l (after p s l e) e rows) es

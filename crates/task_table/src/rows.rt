@@ -1,0 +1,196 @@
+// What an entry tells of tasks.
+
+ghost use Rattle.std.specs.Prelude.{◌≡◌, ◌<◌, ◌+◌, ◌^◌, ◌++◌, OnOk, Some, length, option_copied, slice_get};
+ghost use Rattle.task_table.specs.Rows.{raised_by, name_in, function_name, half_begin, last_byte, loop_number, made_by, fork_of, fresh_row, first_of, entered, told, task_in, with_row, told_of, children, rows_by};
+
+use crate::row::{Fork, Row};
+use hh_lang::{IntReg, Program};
+use hh_model::{Frame, State, Task};
+use listed::Listed;
+use run_timeline::fork_line;
+use run_trace::{Entry, Kind};
+use std::alloc::AllocError;
+
+fn raised_by(sum: u64, more: u64) -> u64
+    ensures { result ≡ raised_by sum more }
+{
+    sum.saturating_add(more)
+}
+
+/// The name of a function.
+pub(crate) fn function_name(program: &Program, function: u32) -> &[u8]
+    ensures { result.now ≡ function_name program.now function }
+{
+    match program.functions().get(function as usize) {
+        None => &[],
+        Some(fun) => fun.name.as_slice(),
+    }
+}
+
+// The last byte of a name.
+fn last_byte(name: &[u8]) -> Option<u8>
+    ensures { result ≡ last_byte name.now }
+{
+    name.get(name.len().saturating_sub(1)).copied()
+}
+
+// The number where half a parallel loop begins.
+fn half_begin(mark: Option<u8>, first: i64, past: i64) -> Option<i64>
+    ensures { result ≡ half_begin mark first past }
+{
+    match mark {
+        Some(b'<') => Some(first),
+        Some(b'>') => Some(first.wrapping_add(past.wrapping_sub(first) / 2)),
+        _ => None,
+    }
+}
+
+fn loop_number(program: &Program, frame: &Frame) -> Option<i64>
+    ensures { result ≡ loop_number program.now frame.now }
+{
+    let mark = last_byte(function_name(program, frame.function));
+    half_begin(mark, frame.int(IntReg::new(0)), frame.int(IntReg::new(1)))
+}
+
+// The fork at a line by which a task has just been made.
+fn made_by(program: &Program, line: u32, task: Option<&Task>) -> Option<Fork>
+    ensures { result ≡ made_by program.now line (option_copied task.entry) }
+{
+    match task {
+        None => None,
+        Some(task) => Some(Fork {
+            line,
+            function: task.top.function,
+            number: loop_number(program, &task.top),
+        }),
+    }
+}
+
+// The fork by which a task has just been made.
+fn fork_of(program: &Program, state: &State, parent: u32, task: usize) -> Option<Fork>
+    ensures { result ≡ fork_of program.now state.now parent task }
+{
+    let line = fork_line(program, state.tasks.get(parent as usize));
+    made_by(program, line, state.tasks.get(task))
+}
+
+/// What is told of a task that no entry has told of.
+pub(crate) fn fresh_row(fork: Option<Fork>) -> Row
+    ensures { result ≡ fresh_row fork }
+{
+    Row {
+        fork,
+        worker: None,
+        entries: 0,
+        steps: 0,
+        dropped: 0,
+    }
+}
+
+fn first_of(first: Option<u32>, worker: u32) -> Option<u32>
+    ensures { result ≡ first_of first worker }
+{
+    match first {
+        None => Some(worker),
+        Some(first) => Some(first),
+    }
+}
+
+// With an entry more.
+fn entered(row: Row) -> Row
+    ensures { result ≡ entered row }
+{
+    let mut row = row;
+    row.entries = raised_by(row.entries, 1);
+    row
+}
+
+// With what an entry tells.
+fn told(worker: u32, lost: u64, kind: Kind, row: Row) -> Row
+    ensures { result ≡ told worker lost kind row }
+{
+    let mut more = entered(row);
+    match kind {
+        Kind::Took(_) => more.worker = first_of(row.worker, worker),
+        Kind::Ran(_, steps) => more.steps = raised_by(row.steps, steps as u64),
+        Kind::End(_, _, _, _) => more.dropped = raised_by(row.dropped, lost),
+        Kind::Sweep(_, _) => more.dropped = raised_by(row.dropped, lost),
+        _ => {}
+    }
+    more
+}
+
+// The task that an entry tells of.
+fn task_in(kind: Kind) -> Option<u32>
+    ensures { result ≡ task_in kind }
+{
+    match kind {
+        Kind::Took(task) => Some(task),
+        Kind::Ran(task, _) => Some(task),
+        Kind::Chunk(task) => Some(task),
+        Kind::Begin(task) => Some(task),
+        Kind::End(task, _, _, _) => Some(task),
+        Kind::PutOff(task) => Some(task),
+        Kind::Mark(task) => Some(task),
+        Kind::More(task, _) => Some(task),
+        Kind::Sweep(task, _) => Some(task),
+        Kind::Fuel => None,
+    }
+}
+
+// The row of a task.
+fn row_at(rows: &Listed<Row>, task: usize) -> Option<Row>
+    ensures { result ≡ slice_get rows.now task }
+{
+    rows.get(task).copied()
+}
+
+// Tells of a task.
+fn tell(rows: &mut Listed<Row>, worker: u32, lost: u64, kind: Kind, task: u32)
+    ensures { rows.new ≡ told_of rows.old worker lost kind (Some task) }
+{
+    match row_at(rows, task as usize) {
+        None => {}
+        Some(row) => rows.set(task as usize, told(worker, lost, kind, row)),
+    }
+}
+
+// Adds the rows of the children that a task has just forked.
+fn add_children(
+    program: &Program,
+    state: &State,
+    made: u64,
+    task: u32,
+    rows: &mut Listed<Row>,
+) -> Result<(), AllocError>
+    requires { made + 1 < 2 ^ 64 }
+    ensures { OnOk result (rows.new ≡ rows.old ++ children program.now state.now made (length state.now.tasks) (Some task)) }
+{
+    if state.tasks.len() as u64 == made {
+        return Ok(());
+    }
+    let first = fresh_row(fork_of(program, state, task, made as usize));
+    let second = fresh_row(fork_of(program, state, task, made as usize + 1));
+    rows.push_pair(first, second)
+}
+
+/// Tells what an entry tells, behind which the machine is so.
+pub(crate) fn tell_entry(
+    program: &Program,
+    state: &State,
+    made: u64,
+    lost: u64,
+    entry: Entry,
+    rows: &mut Listed<Row>,
+) -> Result<(), AllocError>
+    requires { made + 1 < 2 ^ 64 }
+    ensures { OnOk result (rows.new ≡ rows_by program.now state.now made lost entry rows.old) }
+{
+    match task_in(entry.kind()) {
+        None => Ok(()),
+        Some(task) => {
+            tell(rows, entry.worker(), lost, entry.kind(), task);
+            add_children(program, state, made, task, rows)
+        }
+    }
+}

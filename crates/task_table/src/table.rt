@@ -1,0 +1,196 @@
+// The table of the tasks of a run.
+
+ghost use Rattle.std.specs.Prelude.{◌≡◌, ◌<◌, ◌-◌, ◌+◌, ◌^◌, ◌++◌, ◌∷◌, [], None, false, length, slice_get, OnOk, IfOk, IfErr};
+ghost use Rattle.run_trace.specs.Settings.{AreLimits};
+ghost use Rattle.run_ledger.specs.Entries.{refusal, after};
+ghost use Rattle.run_ledger.specs.Journals.{opening, ledger_of, first_refused, refused_as_run};
+ghost use Rattle.run_journal.specs.Book.{FailsFor};
+ghost use Rattle.run_journal.specs.Replay.{ReplayFails};
+ghost use Rattle.run_report.specs.Totals.{cleared_words};
+ghost use Rattle.task_table.specs.Rows.{fresh_row, rows_by, rows_with, rows_from};
+ghost use Rattle.task_table.specs.Table.{first_line, line_at, lines_from, rows_of, table};
+
+use crate::lines::add_line;
+use crate::row::Row;
+use crate::rows::{fresh_row, tell_entry};
+use hh_lang::Program;
+use listed::Listed;
+use run_journal::{ApplyError, Book, ReplayError};
+use run_ledger::{Refused, RefusedAt};
+use run_trace::{Entry, Kind, Settings};
+use std::alloc::{AllocError, Global};
+
+// The words of the heap that an entry collects or sweeps, and 0 for another entry.
+fn cleared_words(book: &Book, kind: Kind) -> u64
+    requires { book.now.stopped ≡ false }
+    ensures { result ≡ cleared_words book.now.ledger kind }
+{
+    match kind {
+        Kind::End(task, _, _, _) => book.words(task),
+        Kind::Sweep(task, _) => book.words(task),
+        _ => 0,
+    }
+}
+
+// Enters an entry, and tells what it tells.
+fn enter(
+    program: &Program,
+    book: &mut Book,
+    rows: &mut Listed<Row>,
+    entry: Entry,
+) -> Result<(), ApplyError>
+    requires open { book.old.stopped ≡ false }
+    ensures legal { OnOk result (refusal book.old.program book.old.limits book.old.ledger entry ≡ None) }
+    ensures entered { OnOk result (book.new ≡ record book.old { ledger = after book.old.program book.old.limits book.old.ledger entry }) }
+    ensures rows { OnOk result (rows.new ≡ rows_with program.now book.old.ledger (after book.old.program book.old.limits book.old.ledger entry) entry rows.old) }
+    ensures fails { IfErr result (FailsFor (refusal book.old.program book.old.limits book.old.ledger entry)) }
+{
+    let made = book.tasks() as u64;
+    if made == u64::MAX {
+        return Err(ApplyError::NoMemory);
+    }
+    let kind = entry.kind();
+    let before = cleared_words(book, kind);
+    book.apply(entry)?;
+    let lost = before.saturating_sub(cleared_words(book, kind));
+    match tell_entry(program, book.state(), made, lost, entry, rows) {
+        Ok(()) => Ok(()),
+        Err(AllocError) => Err(ApplyError::NoMemory),
+    }
+}
+
+// Enters the entries of a journal, and tells what they tell.
+fn enter_all(
+    program: &Program,
+    book: &mut Book,
+    rows: &mut Listed<Row>,
+    journal: &[Entry],
+) -> Result<(), ReplayError>
+    requires limits { AreLimits book.old.limits }
+    requires first { book.old.ledger ≡ opening book.old.program book.old.limits }
+    requires open { book.old.stopped ≡ false }
+    requires program { book.old.program ≡ program.now }
+    ensures book { OnOk result (book.new ≡ record book.old { ledger = ledger_of book.old.program book.old.limits journal.now }) }
+    ensures rows { OnOk result (rows.new ≡ rows_from book.old.program book.old.limits (opening book.old.program book.old.limits) rows.old journal.now) }
+    ensures legal { OnOk result (first_refused book.old.program book.old.limits journal.now ≡ None) }
+    ensures fails { IfErr result (ReplayFails (first_refused book.old.program book.old.limits journal.now)) }
+{
+    let mut index: u64 = 1;
+    for entry in journal {
+        match enter(program, book, rows, *entry) {
+            Ok(()) => index += 1,
+            Err(ApplyError::Refused(cause)) => {
+                return Err(ReplayError::RefusedAt(RefusedAt { index, cause }));
+            }
+            Err(ApplyError::NoMemory) => return Err(ReplayError::NoMemory),
+        }
+    }
+    Ok(())
+}
+
+// Adds the line of a task.
+fn add_row(
+    alloc: Global,
+    text: &mut Vec<u8>,
+    program: &Program,
+    book: &Book,
+    number: u32,
+    row: Row,
+) -> Result<(), AllocError>
+    ensures { OnOk result (text.new.items ≡ text.old.items ++ line_at program.now book.now.ledger number (slice_get book.now.ledger.machine.tasks number) row) }
+{
+    match book.state().tasks.get(number as usize) {
+        None => Ok(()),
+        Some(task) => add_line(
+            alloc,
+            text,
+            program,
+            book.state(),
+            book.end(),
+            number,
+            task,
+            row,
+        ),
+    }
+}
+
+// Adds the lines of the tasks.
+fn add_rows(
+    alloc: Global,
+    text: &mut Vec<u8>,
+    program: &Program,
+    book: &Book,
+    rows: &[Row],
+) -> Result<(), AllocError>
+    ensures { OnOk result (text.new.items ≡ text.old.items ++ lines_from program.now book.now.ledger 0 rows.now) }
+{
+    let mut number: u32 = 0;
+    for row in rows {
+        add_row(alloc, text, program, book, number, *row)?;
+        if number == u32::MAX {
+            return Err(AllocError);
+        }
+        number += 1;
+    }
+    Ok(())
+}
+
+// The text of these rows.
+fn text_of(
+    alloc: Global,
+    program: &Program,
+    book: &Book,
+    rows: &[Row],
+) -> Result<Vec<u8>, AllocError>
+    ensures { IfOk result (λ text. text.items ≡ first_line ++ lines_from program.now book.now.ledger 0 rows.now) }
+{
+    let mut text = Vec::new(alloc);
+    text.extend_from_slice(
+        b"task,parent,line,function,number,depth,worker,entries,steps,objects,words,dropped,end\n",
+    )?;
+    add_rows(alloc, &mut text, program, book, rows)?;
+    Ok(text)
+}
+
+// The rows before the first entry.
+fn first_rows(alloc: Global) -> Result<Listed<Row>, AllocError>
+    ensures { IfOk result (λ rows. rows ≡ fresh_row None ∷ []) }
+{
+    let mut rows = Listed::new(alloc);
+    rows.push(fresh_row(None))?;
+    Ok(rows)
+}
+
+/// The table of the tasks of a whole run, by its journal.
+pub fn table_text(
+    alloc: Global,
+    program: &Program,
+    settings: Settings,
+    journal: &[Entry],
+) -> Result<Vec<u8>, ReplayError>
+    ensures whole { OnOk result (refused_as_run program.now settings journal.now ≡ None) }
+    ensures text { IfOk result (λ text. text.items ≡ table program.now settings journal.now) }
+    ensures fails { IfErr result (ReplayFails (refused_as_run program.now settings journal.now)) }
+{
+    let _workers = settings.workers();
+    let Ok(mut book) = Book::open(alloc, program, settings) else {
+        return Err(ReplayError::NoMemory);
+    };
+    let Ok(mut rows) = first_rows(alloc) else {
+        return Err(ReplayError::NoMemory);
+    };
+    match enter_all(program, &mut book, &mut rows, journal) {
+        Ok(()) => {}
+        Err(error) => return Err(error),
+    }
+    if book.end().is_none() {
+        return Err(ReplayError::RefusedAt(RefusedAt {
+            index: journal.len() as u64 + 1,
+            cause: Refused::Short,
+        }));
+    }
+    match text_of(alloc, program, &book, rows.as_slice()) {
+        Ok(text) => Ok(text),
+        Err(AllocError) => Err(ReplayError::NoMemory),
+    }
+}

@@ -1,0 +1,14 @@
+-- Statuses, whose numbers are those of hheap.
+use Rattle.std.specs.Prelude.{ℕ}
+use Rattle.view_core.specs.declared.shown.Status.{Status}
+use Rattle.view_core.specs.declared.shown.Status.TheVariants.{Done, Words, Source, ReadFault, WriteFault, NoMemory, Trace, Image}
+
+abbrev pub code_of_status : Status → ℕ
+code_of_status Done = 0
+code_of_status Words = 2
+code_of_status Source = 3
+code_of_status ReadFault = 8
+code_of_status WriteFault = 9
+code_of_status NoMemory = 10
+code_of_status Trace = 11
+code_of_status Image = 13

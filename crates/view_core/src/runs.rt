@@ -1,0 +1,82 @@
+// Views of runs.
+
+ghost use Rattle.std.specs.Prelude.{◌≡◌, None, OnOk, IfOk, IfErr};
+ghost use Rattle.run_ledger.specs.Journals.{refused_as_run};
+ghost use Rattle.run_journal.specs.Replay.{ReplayFails};
+ghost use Rattle.view_core.specs.Shown.{run_text, ShowsTrace, ShowsRun};
+
+use crate::refusals::{entry_refused, input_refused, too_long};
+use crate::shown::{Shown, picture};
+use hh_lang::Program;
+use run_journal::ReplayError;
+use run_timeline::timeline_text;
+use run_trace::{Entry, Settings};
+use std::alloc::{AllocError, Global};
+use task_table::table_text;
+use trace_input::{InputError, TraceInput, read_trace_input};
+
+/// The most bytes of a program with a trace.
+pub(crate) const TRACE_LIMIT: usize = 16777216;
+
+/// A view of a run.
+#[derive(Clone, Copy)]
+pub enum RunView {
+    Timeline,
+    Tasks,
+}
+
+// What a view draws of a journal.
+fn text_of_run(
+    alloc: Global,
+    view: RunView,
+    program: &Program,
+    settings: Settings,
+    journal: &[Entry],
+) -> Result<Vec<u8>, ReplayError>
+    ensures whole { OnOk result (refused_as_run program.now settings journal.now ≡ None) }
+    ensures text { IfOk result (λ text. text.items ≡ run_text view program.now settings journal.now) }
+    ensures fails { IfErr result (ReplayFails (refused_as_run program.now settings journal.now)) }
+{
+    match view {
+        RunView::Timeline => timeline_text(alloc, program, settings, journal),
+        RunView::Tasks => table_text(alloc, program, settings, journal),
+    }
+}
+
+// Shows the run of a trace.
+fn show_trace(
+    alloc: Global,
+    view: RunView,
+    settings: Settings,
+    read: &TraceInput,
+) -> Result<Shown, AllocError>
+    ensures { IfOk result (ShowsTrace view settings read.now) }
+{
+    let TraceInput { program, trace } = read;
+    let settings = settings.with_version(trace.version);
+    let journal = trace.entries.as_slice();
+    match text_of_run(alloc, view, program, settings, journal) {
+        Ok(text) => Ok(picture(text)),
+        Err(ReplayError::RefusedAt(refused)) => entry_refused(alloc, refused),
+        Err(ReplayError::NoMemory) => Err(AllocError),
+    }
+}
+
+/// Shows the run of a program with its trace.
+pub(crate) fn show_run(
+    alloc: Global,
+    view: RunView,
+    settings: Settings,
+    input: &[u8],
+) -> Result<Shown, AllocError>
+    ensures { IfOk result (ShowsRun view settings input.now) }
+{
+    if input.len() > TRACE_LIMIT {
+        return too_long(alloc);
+    }
+    match read_trace_input(alloc, input) {
+        Ok(read) => show_trace(alloc, view, settings, &read),
+        Err(InputError::Fault(fault)) => input_refused(alloc, fault),
+        Err(InputError::NoMemory) => Err(AllocError),
+    }
+}

@@ -1,0 +1,24 @@
+-- The words behind `heaps`, as the parser's definition of a simple command speaks of them.
+use Rattle.std.specs.Prelude.{[], ◌∷◌, Some, codes, true}
+use Rattle.clap.specs.Words.{App, Rule, Text, new_rule}
+use Rattle.clap.specs.Simple.{new_shape}
+use Rattle.command_line.specs.App.{file}
+
+-- `--name VALUE`, any text, which may be left out
+abbrev pub option : Text → Rule
+option name = record (new_rule name) { long = Some name }
+
+-- before its first argument: no words of help or of the version
+abbrev pub bare : App
+bare = record {
+  top = record (new_shape (codes "heaps")) {
+    no_binary_name = true;
+    disable_help_flag = true;
+    disable_help_subcommand = true;
+    disable_version_flag = true;
+  };
+  subs = [];
+}
+
+abbrev pub heaps_app : App
+heaps_app = record bare { top = record bare.top { rules = file ∷ option (codes "path") ∷ option (codes "limit") ∷ [] } }

@@ -1,0 +1,56 @@
+// The words behind `heaps`, as the parser of command lines wants them.
+
+ghost use Rattle.std.specs.Prelude.{◌≡◌, IfOk, false};
+ghost use Rattle.clap.specs.Words.{App, Rule, app_of, rule_of, with_rule};
+ghost use Rattle.command_line.specs.App.{file};
+ghost use Rattle.view_line.specs.App.{option, bare, heaps_app};
+
+use clap::{Arg, Command};
+use std::alloc::{AllocError, Global};
+
+// A file's name, which may be left out.
+fn file<'w>(alloc: Global) -> Arg<'w>
+    ensures rule { rule_of result ≡ file }
+    ensures own { result.global ≡ false }
+{
+    Arg::new(alloc, "FILE")
+}
+
+// A text, which may be left out.
+fn option<'w>(alloc: Global, name: &'w str) -> Arg<'w>
+    ensures rule { rule_of result ≡ option name.entry.now }
+    ensures own { result.global ≡ false }
+{
+    Arg::new(alloc, name).long(name)
+}
+
+// The command without its arguments.
+fn bare<'w>(alloc: Global) -> Command<'w>
+    ensures { app_of result ≡ bare }
+{
+    Command::new(alloc, "heaps")
+        .no_binary_name(true)
+        .disable_help_flag(true)
+        .disable_help_subcommand(true)
+        .disable_version_flag(true)
+}
+
+// A command with an argument more, where it was made.
+fn with_argument<'w>(
+    whole: Result<Command<'w>, AllocError>,
+    argument: Arg<'w>,
+) -> Result<Command<'w>, AllocError>
+    requires { argument.global ≡ false }
+    ensures { (a : App) (r : Rule) → IfOk whole.entry (λ c. app_of c ≡ a) → rule_of argument.entry ≡ r → IfOk result (λ c. app_of c ≡ with_rule a r) }
+{
+    whole?.arg(argument)
+}
+
+/// The command with its arguments.
+pub(crate) fn heaps_command<'w>(alloc: Global) -> Result<Command<'w>, AllocError>
+    ensures { IfOk result (λ c. app_of c ≡ heaps_app) }
+{
+    let whole = with_argument(Ok(bare(alloc)), file(alloc));
+    let whole = with_argument(whole, option(alloc, "path"));
+    with_argument(whole, option(alloc, "limit"))
+}

@@ -1,0 +1,9 @@
+// What the words of a call of `hhview` ask for.
+#![tactic(auto)]
+
+mod command;
+mod line;
+mod read;
+
+pub use line::{Traced, View};
+pub use read::read_view;

@@ -1,0 +1,154 @@
+// What each view shows, and what is refused.
+
+use crate::calls::{Call, check_calls, shows};
+
+// Two objects of an ended root, of which the first one refers to the second one.
+const TWO_OBJECTS: &str =
+    "image 1\ntask 0 - ended\nchunk 0 0 1024\nobject 1 0 0 mut 1 0 4\nobject 4 0 1 imm 0 1 -5\nend: image 2\n";
+
+// A reference down that is remembered, one up, and one into the heap of a running task.
+const DOWN: &str =
+    "image 1\ntask 0 - waiting\ntask 1 0 ended\ntask 2 0 running\nchunk 0 0 1024\nchunk 1 1 1024\nchunk 2 2 1024\nobject 1 0 0 mut 2 0 1025 2049\nobject 1025 1 0 mut 1 0 1\nremembered 1 1 0\nremembered 2 1 1\nend: image 2\n";
+
+const HEAPS: &[Call] = &[
+    (
+        "heaps",
+        TWO_OBJECTS,
+        0,
+        "digraph \"heaps\" {\n\"compound\"=\"true\";\n\"rankdir\"=\"LR\";\nsubgraph \"cluster task 0\" {\n\"label\"=\"task 0 ended, 6 words\";\n\"task 0\" [\"shape\"=\"point\" \"style\"=\"invis\" ];\n}\nsubgraph \"cluster task 0\" {\nsubgraph \"cluster chunk 0\" {\n\"label\"=\"chunk 0 of 1024 words\";\n\"chunk 0\" [\"shape\"=\"point\" \"style\"=\"invis\" ];\n\"1\" [\"shape\"=\"record\" \"label\"=\"(0,0)|mut|<f0> 4\" ];\n\"4\" [\"shape\"=\"record\" \"label\"=\"(0,1)|imm|-5\" ];\n}\n}\n\"1\":\"f0\" -> \"4\" [\"color\"=\"gray50\" \"penwidth\"=\"1\" ];\n}\n",
+        "",
+    ),
+    (
+        "heaps --limit 1 FILE",
+        TWO_OBJECTS,
+        0,
+        "digraph \"heaps\" {\n\"compound\"=\"true\";\n\"rankdir\"=\"LR\";\n\"task 0\" [\"shape\"=\"record\" \"label\"=\"<f0> task 0 ended, 6 words|objects: 2|chunks: 1\" ];\n\"task 0\":\"f0\" -> \"task 0\" [\"style\"=\"solid\" \"label\"=\"1\" \"color\"=\"gray50\" \"penwidth\"=\"1\" ];\n}\n",
+        "",
+    ),
+    (
+        "heaps --limit=0",
+        DOWN,
+        0,
+        "digraph \"heaps\" {\n\"compound\"=\"true\";\n\"rankdir\"=\"LR\";\n\"task 0\" [\"shape\"=\"record\" \"label\"=\"<f0> task 0 waiting, 4 words|objects: 1|chunks: 1\" ];\n\"task 1\" [\"shape\"=\"record\" \"label\"=\"<f0> task 1 ended, 3 words|objects: 1|chunks: 1\" ];\n\"task 0\":\"f0\" -> \"task 1\" [\"style\"=\"dotted\" \"arrowhead\"=\"none\" ];\n\"task 2\" [\"shape\"=\"record\" \"label\"=\"<f0> task 2 running, 0 words|objects: 0|chunks: 1\" ];\n\"task 0\":\"f0\" -> \"task 2\" [\"style\"=\"dotted\" \"arrowhead\"=\"none\" ];\n\"task 0\":\"f0\" -> \"task 1\" [\"style\"=\"solid\" \"label\"=\"1\" \"color\"=\"red\" \"penwidth\"=\"2\" ];\n\"task 0\":\"f0\" -> \"task 2\" [\"style\"=\"dashed\" \"label\"=\"1\" \"color\"=\"red\" \"penwidth\"=\"2\" ];\n\"task 1\":\"f0\" -> \"task 0\" [\"style\"=\"solid\" \"label\"=\"1\" \"color\"=\"blue\" \"penwidth\"=\"1\" ];\n}\n",
+        "",
+    ),
+    (
+        "heaps --path 1 --limit 9",
+        DOWN,
+        0,
+        "digraph \"heaps\" {\n\"compound\"=\"true\";\n\"rankdir\"=\"LR\";\nsubgraph \"cluster task 0\" {\n\"label\"=\"task 0 waiting, 4 words\";\n\"task 0\" [\"shape\"=\"point\" \"style\"=\"invis\" ];\n}\nsubgraph \"cluster task 0\" {\nsubgraph \"cluster task 1\" {\n\"label\"=\"task 1 ended, 3 words\";\n\"task 1\" [\"shape\"=\"point\" \"style\"=\"invis\" ];\n}\n}\nsubgraph \"cluster task 0\" {\nsubgraph \"cluster chunk 0\" {\n\"label\"=\"chunk 0 of 1024 words\";\n\"chunk 0\" [\"shape\"=\"point\" \"style\"=\"invis\" ];\n\"1\" [\"shape\"=\"record\" \"label\"=\"(0,0)|mut|<f0> 1025|<f1> 2049\" ];\n}\n}\nsubgraph \"cluster task 0\" {\nsubgraph \"cluster task 1\" {\nsubgraph \"cluster chunk 1\" {\n\"label\"=\"chunk 1 of 1024 words\";\n\"chunk 1\" [\"shape\"=\"point\" \"style\"=\"invis\" ];\n\"1025\" [\"shape\"=\"record\" \"label\"=\"(1,0)|mut|<f0> 1\" ];\n}\n}\n}\n\"1\":\"f0\" -> \"1025\" [\"color\"=\"red\" \"penwidth\"=\"2\" ];\n\"1\":\"f1\" -> \"task 2\" [\"style\"=\"dashed\" \"lhead\"=\"cluster task 2\" \"color\"=\"red\" \"penwidth\"=\"2\" ];\n\"1025\":\"f0\" -> \"1\" [\"color\"=\"blue\" \"penwidth\"=\"1\" ];\n}\n",
+        "",
+    ),
+];
+
+#[test]
+fn heaps_are_drawn(rt: HostRuntime) {
+    check_calls(&rt, HEAPS);
+}
+
+// A task reads a field that a task beside it has written: the read is stopped.
+const ENTANGLES: &str =
+    "fn left\nset i0 0\nset i1 1\nnewm r1 i0 i1\nputr r0 i0 r1\nret\nend\nfn right\nset i0 0\ngetr r1 r0 i0\nret\nend\nfn main\nset i0 1\nset i1 0\nnewm r0 i0 i1\npar left right\nret\nend\ntrace 2\n0 took 0\n0 ran 0 2\n0 chunk 0\n0 ran 0 2\n0 took 1\n0 ran 1 2\n0 chunk 1\n0 ran 1 2\n0 ran 1 1\n0 took 2\n0 ran 2 2\n";
+
+const RUNS: &[Call] = &[
+    (
+        "tasks --workers 2",
+        ENTANGLES,
+        0,
+        "task,parent,line,function,number,depth,worker,entries,steps,objects,words,dropped,end\n0,,,,,0,0,4,4,1,3,0,waiting\n1,0,17,left,,1,0,5,5,1,3,0,ended\n2,0,17,right,,1,0,2,2,0,0,0,entangled\n",
+        "",
+    ),
+    (
+        "timeline",
+        "fn main\nret\nend\ntrace 2\n0 took 0\n0 ran 0 1\n",
+        0,
+        "",
+        "",
+    ),
+];
+
+#[test]
+fn runs_are_shown(rt: HostRuntime) {
+    check_calls(&rt, RUNS);
+}
+
+const REFUSED: &[Call] = &[
+    ("", "", 2, "", "end: words refused\n"),
+    ("draw", "", 2, "", "end: words refused\n"),
+    (
+        "heaps --limit x",
+        TWO_OBJECTS,
+        2,
+        "",
+        "end: words refused\n",
+    ),
+    ("heaps --path", TWO_OBJECTS, 2, "", "end: words refused\n"),
+    (
+        "heaps --workers 2",
+        TWO_OBJECTS,
+        2,
+        "",
+        "end: words refused\n",
+    ),
+    (
+        "timeline --path 2",
+        ENTANGLES,
+        2,
+        "",
+        "end: words refused\n",
+    ),
+    (
+        "tasks --workers 65",
+        ENTANGLES,
+        2,
+        "",
+        "end: words refused\n",
+    ),
+    ("--help heaps", "", 2, "", "end: words refused\n"),
+    (
+        "heaps",
+        "image 2\n",
+        13,
+        "",
+        "end: image refused line 1 line\n",
+    ),
+    (
+        "tasks",
+        "fn main\nret\n",
+        3,
+        "",
+        "end: source refused line 3 noend\n",
+    ),
+    (
+        "timeline",
+        "fn main\nret\nend\ntrace 2\n0 took x\n",
+        11,
+        "",
+        "end: trace refused line 5\n",
+    ),
+];
+
+#[test]
+fn others_are_refused(rt: HostRuntime) {
+    check_calls(&rt, REFUSED);
+}
+
+#[test]
+fn faults_are_told(rt: HostRuntime) {
+    let read = shows(
+        rt.alloc(),
+        "heaps FILE",
+        TWO_OBJECTS.as_bytes(),
+        (&[1], &[]),
+        (8, b"", b""),
+    );
+    assert!(rt; read);
+    let written = shows(
+        rt.alloc(),
+        "heaps",
+        TWO_OBJECTS.as_bytes(),
+        (&[], &[1]),
+        (9, b"", b""),
+    );
+    assert!(rt; written);
+}
