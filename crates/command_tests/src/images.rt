@@ -232,6 +232,21 @@ const CAUSES: &[Told] = &[
         "end: image refused line 7 field\n",
     ),
     (
+        "chunk 0 0 1024\nchunk 1 2 1024\nremembered 2 1 0\nobject 1 0 0 mut 1 0 1030\nend: image 1",
+        13,
+        "end: image refused line 8 line\n",
+    ),
+    (
+        "chunk 0 0 1024\nchunk 1 2 1024\nremembered 2 1 1\nobject 1 0 0 mut 1 0 1030\nend: image 1",
+        13,
+        "end: image refused line 7 field\n",
+    ),
+    (
+        "chunk 0 0 1024\nremembered 2 1 0\nend: image 0",
+        13,
+        "end: image refused line 6 field\n",
+    ),
+    (
         "chunk 0 0 1024\nobject 1 0 0 mut 1 0 0\nend: image 2",
         13,
         "end: image refused line 7 count\n",

@@ -1,6 +1,6 @@
 -- What the whole text of a picture has.
-use Rattle.std.proofs.Common.{◌≡◌, ℕ, true, List, [], ◌∷◌, ◌++◌, length, map, refl, ap, ◌∙◌, inl, inr, arith}
-use Rattle.std.specs.Prelude.{◌==◌}
+use Rattle.std.proofs.Common.{◌≡◌, ◌≤◌, ℕ, Bool, true, false, List, [], ◌∷◌, ◌++◌, length, map, refl, ap, sym, ◌∙◌, inl, inr, arith, subst}
+use Rattle.std.specs.Prelude.{Option, Some, None, ◌==◌, nat_eq}
 use Rattle.listed.specs.Members.{In}
 use Rattle.listed.proofs.Members.{in_append_left, in_append_right}
 use Rattle.image_check.specs.declared.line.Object.{Object}
@@ -8,13 +8,15 @@ use Rattle.image_check.specs.declared.line.Remembered.{Remembered}
 use Rattle.image_check.specs.declared.line.Said.{Said}
 use Rattle.image_check.specs.declared.line.Said.TheVariants.{Nothing, Wrong, Title, OfTask, OfChunk, OfObject, OfRemembered, OfEnd}
 use Rattle.image_check.specs.declared.whole.Whole.{Whole}
-use Rattle.image_check.specs.Sets.{is_among, same_number, same_field}
-use Rattle.image_check.specs.Read.{nothing_had, with_line}
-use Rattle.image_check.proofs.Members.{item_kept, item_added}
+use Rattle.image_check.specs.Sets.{is_among, same_field}
+use Rattle.image_check.specs.Table.{found, with_entry}
+use Rattle.image_check.specs.Read.{most, nothing_had, with_line}
+use Rattle.image_check.proofs.Entries.{found_put, found_beside}
+use Rattle.image_check.proofs.Members.{equal, item_kept, item_added}
 use Rattle.heap_image.specs.declared.picture.Picture.{Picture}
 use Rattle.heap_image.specs.Told.{object_told}
 use Rattle.heap_image.proofs.Passes.{with_said}
-use Rattle.heap_image.proofs.Leads.{HasAll}
+use Rattle.heap_image.proofs.Leads.{HasAll, HasObject}
 
 -- all that a picture has, behind the title
 abbrev pub behind_title : Picture → List Said
@@ -31,28 +33,57 @@ same n = grind arith
 same_fields : (f : Remembered) → same_field (f.task, f.address, f.place) (f.task, f.address, f.place) ≡ true
 same_fields f = rw (same f.task, same f.address, same f.place) refl
 
--- ADDRESSES
+-- OBJECTS
 
-address_kept : (w : Whole) (s : Said) (v : ℕ) → is_among same_number w.addresses v ≡ true → is_among same_number (with_line w s).addresses v ≡ true
-address_kept w Nothing v e = e
-address_kept w Wrong v e = e
-address_kept w Title v e = e
-address_kept w (OfTask t) v e = e
-address_kept w (OfChunk c) v e = e
-address_kept w (OfObject o) v e = item_kept same_number w.addresses o.address v e
-address_kept w (OfRemembered f) v e = e
-address_kept w (OfEnd n) v e = e
+most_least : (o : Option ℕ) (m n : ℕ) → o ≡ Some m → m ≤ most o n
+most_least None m n e = absurd cc
+most_least (Some k) m n e = let s : k ≡ m = cc in grind (arith, s)
 
-address_stays : (w : Whole) (ss : List Said) (v : ℕ) → is_among same_number w.addresses v ≡ true → is_among same_number (with_said w ss).addresses v ≡ true
-address_stays w [] v e = e
-address_stays w (s ∷ ss) v e = address_stays (with_line w s) ss v (address_kept w s v e)
+most_new : (o : Option ℕ) (n : ℕ) → n ≤ most o n
+most_new None n = omega arith
+most_new (Some k) n = grind arith
 
-address_had : (w : Whole) (ss : List Said) (o : Object) → In ss (OfObject o) → is_among same_number (with_said w ss).addresses o.address ≡ true
-address_had w [] o h = absurd h
-address_had w (s ∷ ss) o (inl e) =
-    address_stays (with_line w s) ss o.address
-    (ap (λ x. is_among same_number (with_line w x).addresses o.address) e ∙ item_added same_number w.addresses o.address (same o.address))
-address_had w (s ∷ ss) o (inr h) = address_had (with_line w s) ss o h
+-- with an object's line more
+module _ (es : List (ℕ × ℕ)) (b k : ℕ) where
+  abbrev put : List (ℕ × ℕ)
+  put = with_entry es b (most (found es b) k)
+
+  found_kept : (a n : ℕ) → ((m : ℕ) × (found es a ≡ Some m) × (n ≤ m)) → (m : ℕ) × (found put a ≡ Some m) × (n ≤ m)
+  found_kept a n h = by (nat_eq a b) refl
+    where
+      by : (c : Bool) → nat_eq a b ≡ c → (m : ℕ) × (found put a ≡ Some m) × (n ≤ m)
+      by true is =
+          let e = equal a b is in
+          let l : h.0 ≤ most (found es b) k = most_least (found es b) h.0 k (ap (found es) (sym e) ∙ h.1) in
+          let le : n ≤ h.0 = h.2 in
+          (most (found es b) k, ap (found put) e ∙ found_put es b (most (found es b) k), omega (arith, l, le))
+      by false is = (h.0, found_beside es b a (most (found es b) k) is ∙ h.1, h.2)
+
+object_kept : (w : Whole) (s : Said) (a n : ℕ) → HasObject w a n → HasObject (with_line w s) a n
+object_kept w Nothing a n h = h
+object_kept w Wrong a n h = h
+object_kept w Title a n h = h
+object_kept w (OfTask t) a n h = h
+object_kept w (OfChunk c) a n h = h
+object_kept w (OfObject o) a n h = found_kept w.objects o.address (length o.references) a n h
+object_kept w (OfRemembered f) a n h = h
+object_kept w (OfEnd m) a n h = h
+
+object_stays : (w : Whole) (ss : List Said) (a n : ℕ) → HasObject w a n → HasObject (with_said w ss) a n
+object_stays w [] a n h = h
+object_stays w (s ∷ ss) a n h = object_stays (with_line w s) ss a n (object_kept w s a n h)
+
+object_there : (w : Whole) (o : Object) → HasObject (with_line w (OfObject o)) o.address (length o.references)
+object_there w o =
+    let m = most (found w.objects o.address) (length o.references) in
+    (m, found_put w.objects o.address m, most_new (found w.objects o.address) (length o.references))
+
+object_had : (w : Whole) (ss : List Said) (o : Object) → In ss (OfObject o) → HasObject (with_said w ss) o.address (length o.references)
+object_had w [] o h = absurd h
+object_had w (s ∷ ss) o (inl e) =
+    object_stays (with_line w s) ss o.address (length o.references)
+    (subst (λ x. HasObject (with_line w x) o.address (length o.references)) (sym e) (object_there w o))
+object_had w (s ∷ ss) o (inr h) = object_had (with_line w s) ss o h
 
 -- REMEMBERED FIELDS
 
@@ -89,6 +120,6 @@ whole_picture p = with_said nothing_had (Title ∷ behind_title p)
 
 pub has_all : (p : Picture) → HasAll p (whole_picture p)
 has_all p = record {
-  objects = λ o h. address_had nothing_had (Title ∷ behind_title p) _ (inr (in_append_right (map OfTask p.tasks) _ _ (in_append_right (map OfChunk p.chunks) _ _ (in_append_left (map object_told p.objects) _ _ (in_map object_told p.objects o h)))));
+  objects = λ o h. object_had nothing_had (Title ∷ behind_title p) _ (inr (in_append_right (map OfTask p.tasks) _ _ (in_append_right (map OfChunk p.chunks) _ _ (in_append_left (map object_told p.objects) _ _ (in_map object_told p.objects o h)))));
   fields = λ f h. field_had nothing_had (Title ∷ behind_title p) f (inr (in_append_right (map OfTask p.tasks) _ _ (in_append_right (map OfChunk p.chunks) _ _ (in_append_right (map object_told p.objects) _ _ (in_append_left (map OfRemembered p.fields) _ _ (in_map OfRemembered p.fields f h))))));
 }

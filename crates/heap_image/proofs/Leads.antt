@@ -1,12 +1,13 @@
 -- The references of an object of a sound picture lead where they may.
-use Rattle.std.proofs.Common.{◌≡◌, ◌+◌, ℕ, suc, Bool, true, false, List, [], ◌∷◌, refl, ap, sym, ◌∙◌, inl, inr, arith}
-use Rattle.std.specs.Prelude.{Option, Some, None, ◌==◌, ◌&&◌, ◌||◌, not, slice_get}
+use Rattle.std.proofs.Common.{◌≡◌, ◌≤◌, ◌+◌, ℕ, suc, Bool, true, false, List, [], ◌∷◌, length, refl, ap, sym, ◌∙◌, inl, inr, arith}
+use Rattle.std.specs.Prelude.{Option, Some, None, ◌==◌, ◌&&◌, ◌||◌, not, slice_get, is_some}
 use Rattle.std.specs.List.{list_any}
 use Rattle.listed.specs.Members.{In}
 use Rattle.image_check.specs.declared.line.Remembered.{Remembered}
 use Rattle.image_check.specs.declared.read.Read.{Read}
 use Rattle.image_check.specs.declared.whole.Whole.{Whole}
-use Rattle.image_check.specs.Sets.{is_among, same_number, same_field}
+use Rattle.image_check.specs.Sets.{is_among, same_field}
+use Rattle.image_check.specs.Table.{found, has}
 use Rattle.image_check.specs.Tasks.{is_running, owner_at}
 use Rattle.image_check.specs.Fault.{is_astray, owner_runs, relation_to, is_apart, is_below, crosses, is_noted, is_forgotten, forgets}
 use Rattle.image_check.proofs.Members.{left_true, right_true}
@@ -19,9 +20,13 @@ use Rattle.heap_image.proofs.Family.Stands.{own, up, down}
 use Rattle.heap_image.proofs.Owners.{owner_found, owned_from}
 use Rattle.heap_image.proofs.States.{objects_read}
 
+-- an object at a, of which a line has n references
+abbrev pub HasObject : Whole → ℕ → ℕ → Type 0
+HasObject w a n = (m : ℕ) × (found w.objects a ≡ Some m) × (n ≤ m)
+
 -- what the whole text has: all objects and fields of a picture
 pub record HasAll (p : Picture) (w : Whole) : Type 0 where
-  pub objects : (o : Picked) → In p.objects o → is_among same_number w.addresses o.address ≡ true
+  pub objects : (o : Picked) → In p.objects o → HasObject w o.address (length o.references)
   pub fields : (f : Remembered) → In p.fields f → is_among same_field w.fields (f.task, f.address, f.place) ≡ true
 
 pub none_of : (test : ℕ → Bool) (vs : List ℕ) → ((v : ℕ) → In vs v → test v ≡ false) → list_any test vs ≡ false
@@ -44,14 +49,14 @@ module _ (p : Picture) (s : IsSoundPicture p) (w : Whole) (all : HasAll p w) (a 
   runs_there : (v u : ℕ) → IsOwned p v u → is_running r.tasks u ≡ true → owner_runs r (owner_at r.chunks v) ≡ true
   runs_there v u owned run = ap (owner_runs r) (owner_found p s v u owned) ∙ run
 
-  leads : (v : ℕ) → LeadsSomewhere p v → ((v == 0) || (is_among same_number w.addresses v || owner_runs r (owner_at r.chunks v))) ≡ true
-  leads v (inl e) = left_true (v == 0) (is_among same_number w.addresses v || owner_runs r (owner_at r.chunks v)) (let f : (0 == 0) ≡ true = grind arith in ap (λ x. x == 0) e ∙ f)
+  leads : (v : ℕ) → LeadsSomewhere p v → ((v == 0) || (has w.objects v || owner_runs r (owner_at r.chunks v))) ≡ true
+  leads v (inl e) = left_true (v == 0) (has w.objects v || owner_runs r (owner_at r.chunks v)) (let f : (0 == 0) ≡ true = grind arith in ap (λ x. x == 0) e ∙ f)
   leads v (inr (inl h)) =
-      right_true (v == 0) (is_among same_number w.addresses v || owner_runs r (owner_at r.chunks v))
-      (left_true (is_among same_number w.addresses v) (owner_runs r (owner_at r.chunks v)) (ap (is_among same_number w.addresses) (sym h.2) ∙ all.objects h.0 h.1))
+      right_true (v == 0) (has w.objects v || owner_runs r (owner_at r.chunks v))
+      (left_true (has w.objects v) (owner_runs r (owner_at r.chunks v)) (ap (has w.objects) (sym h.2) ∙ (let j = all.objects h.0 h.1 in ap is_some j.1)))
   leads v (inr (inr h)) =
-      right_true (v == 0) (is_among same_number w.addresses v || owner_runs r (owner_at r.chunks v))
-      (right_true (is_among same_number w.addresses v) (owner_runs r (owner_at r.chunks v)) (runs_there v h.0 h.1 (running p s h.0 h.2)))
+      right_true (v == 0) (has w.objects v || owner_runs r (owner_at r.chunks v))
+      (right_true (has w.objects v) (owner_runs r (owner_at r.chunks v)) (runs_there v h.0 h.1 (running p s h.0 h.2)))
 
   pub none_astray : (o : Picked) → In p.objects o → list_any (is_astray w r) o.references ≡ false
   none_astray o h = none_of (is_astray w r) o.references (λ v i. ap not (leads v (s.leads o v h i)))

@@ -1,5 +1,6 @@
 pub mod Numbers
 pub mod Rounds
+pub mod Entries
 pub mod Members
 pub mod Paths
 pub mod Ups

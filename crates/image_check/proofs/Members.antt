@@ -1,6 +1,6 @@
 -- What the whole text has comes from its lines.
-use Rattle.std.proofs.Common.{◌≡◌, ◌++◌, ℕ, suc, Bool, true, false, List, [], ◌∷◌, cond, refl, sym, arith, inl, inr, ◌⊎◌}
-use Rattle.std.specs.Prelude.{◌==◌, ◌&&◌, ◌||◌}
+use Rattle.std.proofs.Common.{◌≡◌, ◌++◌, ℕ, suc, Bool, true, false, List, [], ◌∷◌, cond, length, refl, ap, sym, ◌∙◌, arith, inl, inr, ◌⊎◌}
+use Rattle.std.specs.Prelude.{◌==◌, ◌&&◌, ◌||◌, nat_eq, is_some}
 use Rattle.std.specs.List.{list_any}
 use Rattle.image_check.specs.declared.line.Object.{Object}
 use Rattle.image_check.specs.declared.line.Remembered.{Remembered}
@@ -8,9 +8,11 @@ use Rattle.image_check.specs.declared.line.Said.{Said}
 use Rattle.image_check.specs.declared.line.Said.TheVariants.{Nothing, Wrong, Title, OfTask, OfChunk, OfObject, OfRemembered, OfEnd}
 use Rattle.image_check.specs.declared.whole.Whole.{Whole}
 use Rattle.image_check.specs.Line.{said_by}
-use Rattle.image_check.specs.Sets.{is_among, with_item, same_number, same_field}
-use Rattle.image_check.specs.Read.{with_line, with_lines}
+use Rattle.image_check.specs.Sets.{is_among, with_item, same_field}
+use Rattle.image_check.specs.Table.{found, has}
+use Rattle.image_check.specs.Read.{most, with_line, with_lines}
 use Rattle.image_check.specs.Sound.{IsObjectAt, IsRemembered}
+use Rattle.image_check.proofs.Entries.{found_beside}
 
 -- ITEMS
 
@@ -121,30 +123,30 @@ field_from w (l ∷ ls) u a k e = by (field_from (with_line w (said_by l)) ls u 
     by (inl h) = at (field_line w (said_by l) u a k h)
     by (inr h) = inr (suc h.0, h.1)
 
--- ADDRESSES
+-- OBJECTS
 
-address_line : (w : Whole) (s : Said) (v : ℕ) → is_among same_number (with_line w s).addresses v ≡ true → (is_among same_number w.addresses v ≡ true) ⊎ ((o : Object) × (s ≡ OfObject o) × (o.address ≡ v))
-address_line w Nothing v e = inl e
-address_line w Wrong v e = inl e
-address_line w Title v e = inl e
-address_line w (OfTask t) v e = inl e
-address_line w (OfChunk c) v e = inl e
-address_line w (OfRemembered f) v e = inl e
-address_line w (OfEnd n) v e = inl e
-address_line w (OfObject o) v e = by (item_from same_number w.addresses o.address v e)
+object_line : (w : Whole) (s : Said) (v : ℕ) → has (with_line w s).objects v ≡ true → (has w.objects v ≡ true) ⊎ ((o : Object) × (s ≡ OfObject o) × (o.address ≡ v))
+object_line w Nothing v e = inl e
+object_line w Wrong v e = inl e
+object_line w Title v e = inl e
+object_line w (OfTask t) v e = inl e
+object_line w (OfChunk c) v e = inl e
+object_line w (OfRemembered f) v e = inl e
+object_line w (OfEnd n) v e = inl e
+object_line w (OfObject o) v e = by (nat_eq v o.address) refl
   where
-    by : ((is_among same_number w.addresses v ≡ true) ⊎ ((v == o.address) ≡ true)) → (is_among same_number w.addresses v ≡ true) ⊎ ((p : Object) × (OfObject o ≡ OfObject p) × (p.address ≡ v))
-    by (inl h) = inl h
-    by (inr h) = inr (o, refl, sym (equal v o.address h))
+    by : (b : Bool) → nat_eq v o.address ≡ b → (has w.objects v ≡ true) ⊎ ((p : Object) × (OfObject o ≡ OfObject p) × (p.address ≡ v))
+    by true is = inr (o, refl, sym (equal v o.address is))
+    by false is = inl (sym (ap is_some (found_beside w.objects o.address v (most (found w.objects o.address) (length o.references)) is)) ∙ e)
 
-pub address_from : (w : Whole) (ls : List (List ℕ)) (v : ℕ) → is_among same_number (with_lines w ls).addresses v ≡ true → (is_among same_number w.addresses v ≡ true) ⊎ IsObjectAt ls v
-address_from w [] v e = inl e
-address_from w (l ∷ ls) v e = by (address_from (with_line w (said_by l)) ls v e)
+pub object_from : (w : Whole) (ls : List (List ℕ)) (v : ℕ) → has (with_lines w ls).objects v ≡ true → (has w.objects v ≡ true) ⊎ IsObjectAt ls v
+object_from w [] v e = inl e
+object_from w (l ∷ ls) v e = by (object_from (with_line w (said_by l)) ls v e)
   where
-    at : ((is_among same_number w.addresses v ≡ true) ⊎ ((o : Object) × (said_by l ≡ OfObject o) × (o.address ≡ v))) → (is_among same_number w.addresses v ≡ true) ⊎ IsObjectAt (l ∷ ls) v
+    at : ((has w.objects v ≡ true) ⊎ ((o : Object) × (said_by l ≡ OfObject o) × (o.address ≡ v))) → (has w.objects v ≡ true) ⊎ IsObjectAt (l ∷ ls) v
     at (inl h) = inl h
     at (inr h) = inr (0, h.0, h.1, h.2)
 
-    by : ((is_among same_number (with_line w (said_by l)).addresses v ≡ true) ⊎ IsObjectAt ls v) → (is_among same_number w.addresses v ≡ true) ⊎ IsObjectAt (l ∷ ls) v
-    by (inl h) = at (address_line w (said_by l) v h)
+    by : ((has (with_line w (said_by l)).objects v ≡ true) ⊎ IsObjectAt ls v) → (has w.objects v ≡ true) ⊎ IsObjectAt (l ∷ ls) v
+    by (inl h) = at (object_line w (said_by l) v h)
     by (inr h) = inr (suc h.0, h.1, h.2, h.3)

@@ -1,5 +1,5 @@
 -- A text without a fault is sound.
-use Rattle.std.proofs.Common.{◌≡◌, ◌+◌, ℕ, zero, suc, Bool, true, false, cond, List, [], ◌∷◌, length, refl, ap, sym, ◌∙◌, arith, inl, inr, ◌⊎◌, subst}
+use Rattle.std.proofs.Common.{◌≡◌, ◌+◌, ℕ, zero, suc, Bool, true, false, cond, List, [], ◌∷◌, refl, ap, sym, ◌∙◌, arith, inl, inr, ◌⊎◌, subst}
 use Rattle.std.specs.Prelude.{Option, Some, None, ◌==◌, ◌&&◌, ◌||◌, not}
 use Rattle.std.specs.List.{list_any}
 use Rattle.text_lines.specs.Lines.{lines_of}
@@ -10,7 +10,8 @@ use Rattle.image_check.specs.declared.line.Said.TheVariants.{Nothing, Wrong, Tit
 use Rattle.image_check.specs.declared.read.Read.{Read}
 use Rattle.image_check.specs.declared.whole.Whole.{Whole}
 use Rattle.image_check.specs.Line.{said_by}
-use Rattle.image_check.specs.Sets.{is_among, same_number, same_birth, same_field}
+use Rattle.image_check.specs.Sets.{is_among, same_birth, same_field}
+use Rattle.image_check.specs.Table.{has}
 use Rattle.image_check.specs.Read.{nothing_read, nothing_had, after_line, with_lines, whole_of}
 use Rattle.image_check.specs.declared.tasks.Relation.TheVariants.{Own, Above, Below, Apart}
 use Rattle.image_check.specs.Tasks.{Tasks, Chunks, is_above, owner_in, owner_at}
@@ -18,7 +19,7 @@ use Rattle.image_check.specs.Fault.{cause_on, is_last, fault_from, lines_fault, 
 use Rattle.image_check.specs.Sound.{LineSays, ReferenceIs, IsObjectAt, IsRemembered, IsInRunning, LeadsSomewhere, KeepsToPath, IsSoundObject, all_read, HasSoundObjects, HasDistinctBirths, FaultlessIsSound}
 use Rattle.image_check.proofs.Paths.{above}
 use Rattle.image_check.proofs.Steps.{or_false, clear, faultless, IsWell, well, met}
-use Rattle.image_check.proofs.Members.{either_true, equal, item_kept, item_added, field_from, address_from}
+use Rattle.image_check.proofs.Members.{either_true, equal, item_kept, item_added, field_from, object_from}
 
 -- BIRTHS
 
@@ -96,20 +97,20 @@ module _ (ls : List (List ℕ)) (r : Read) where
   abbrev w : Whole
   w = with_lines nothing_had ls
 
-  at_object : (v : ℕ) → ((is_among same_number [] v ≡ true) ⊎ IsObjectAt ls v) → IsObjectAt ls v
+  at_object : (v : ℕ) → ((has nothing_had.objects v ≡ true) ⊎ IsObjectAt ls v) → IsObjectAt ls v
   at_object v (inl e) = absurd (cc)
   at_object v (inr h) = h
 
-  leads_by : (v : ℕ) → (((v == 0) ≡ true) ⊎ ((is_among same_number w.addresses v || owner_runs r (owner_at r.chunks v)) ≡ true)) → LeadsSomewhere ls r v
+  leads_by : (v : ℕ) → (((v == 0) ≡ true) ⊎ ((has w.objects v || owner_runs r (owner_at r.chunks v)) ≡ true)) → LeadsSomewhere ls r v
   leads_by v (inl e) = inl (equal v 0 e)
-  leads_by v (inr e) = by (either_true (is_among same_number w.addresses v) (owner_runs r (owner_at r.chunks v)) e)
+  leads_by v (inr e) = by (either_true (has w.objects v) (owner_runs r (owner_at r.chunks v)) e)
     where
-      by : ((is_among same_number w.addresses v ≡ true) ⊎ (owner_runs r (owner_at r.chunks v) ≡ true)) → LeadsSomewhere ls r v
-      by (inl h) = inr (inl (at_object v (address_from nothing_had ls v h)))
+      by : ((has w.objects v ≡ true) ⊎ (owner_runs r (owner_at r.chunks v) ≡ true)) → LeadsSomewhere ls r v
+      by (inl h) = inr (inl (at_object v (object_from nothing_had ls v h)))
       by (inr h) = inr (inr (runs_at r v (owner_at r.chunks v) refl h))
 
   pub leads_on : (v : ℕ) → is_astray w r v ≡ false → LeadsSomewhere ls r v
-  leads_on v e = leads_by v (either_true (v == 0) (is_among same_number w.addresses v || owner_runs r (owner_at r.chunks v)) (back ((v == 0) || (is_among same_number w.addresses v || owner_runs r (owner_at r.chunks v))) e))
+  leads_on v e = leads_by v (either_true (v == 0) (has w.objects v || owner_runs r (owner_at r.chunks v)) (back ((v == 0) || (has w.objects v || owner_runs r (owner_at r.chunks v))) e))
 
   noted_line : (u a k : ℕ) → ((is_among same_field [] (u, a, k) ≡ true) ⊎ IsRemembered ls u a k) → IsRemembered ls u a k
   noted_line u a k (inl e) = absurd (cc)

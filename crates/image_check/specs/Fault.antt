@@ -18,11 +18,11 @@ use Rattle.image_check.specs.declared.check.VerifyError.{VerifyError}
 use Rattle.image_check.specs.declared.check.VerifyError.TheVariants.{Refused, NoMemory}
 use Rattle.image_check.specs.Line.{said_by}
 use Rattle.image_check.specs.Table.{found, has}
-use Rattle.image_check.specs.Sets.{is_among, same_number, same_birth, same_field}
+use Rattle.image_check.specs.Sets.{is_among, same_birth, same_field}
 use Rattle.image_check.specs.Place.{chunk_number, offset}
 use Rattle.image_check.specs.Read.{position_of, comes_next, end_of, last_after, nothing_read, after_line, whole_of}
 use Rattle.image_check.specs.declared.tasks.Relation.{Relation}
-use Rattle.image_check.specs.declared.tasks.Relation.TheVariants.{Above, Below, Apart}
+use Rattle.image_check.specs.declared.tasks.Relation.TheVariants.{Below, Apart}
 use Rattle.image_check.specs.Tasks.{Tasks, is_above, relation_of, HasParent, is_running, chunk_at, owner_at}
 
 -- LINE
@@ -67,7 +67,7 @@ owner_runs r (Some t) = is_running r.tasks t
 
 -- neither nil, nor the address of an object line, nor in a chunk of a running task
 abbrev pub is_astray : Whole → Read → ℕ → Bool
-is_astray w r v = not ((v == 0) || (is_among same_number w.addresses v || owner_runs r (owner_at r.chunks v)))
+is_astray w r v = not ((v == 0) || (has w.objects v || owner_runs r (owner_at r.chunks v)))
 
 -- how the owner of what a reference leads to stands to t, where it has one
 abbrev pub relation_to : Tasks → ℕ → Option ℕ → Option Relation
@@ -110,9 +110,9 @@ abbrev pub has_field : Option ℕ → ℕ → Bool
 has_field None k = false
 has_field (Some n) k = nat_lt k n
 
--- no reference of an object line before, or not of a proper ancestor
-abbrev pub is_no_field : Read → Remembered → Bool
-is_no_field r f = not (has_field (found r.objects f.address) f.place && owner_is_above r f.task (owner_at r.chunks f.address))
+-- no reference of an object line anywhere in the text, or not of a proper ancestor
+abbrev pub is_no_field : Whole → Read → Remembered → Bool
+is_no_field w r f = not (has_field (found w.objects f.address) f.place && owner_is_above r f.task (owner_at r.chunks f.address))
 
 -- THE FIRST CAUSE ON A LINE
 
@@ -135,10 +135,10 @@ object_cause w r o =
     if is_among same_birth r.births (o.birth.task, o.birth.count) then Some Twice
     else object_cause_in w r o (chunk_at r.chunks o.address)
 
-abbrev pub remembered_cause : Read → Remembered → Option Cause
-remembered_cause r f =
+abbrev pub remembered_cause : Whole → Read → Remembered → Option Cause
+remembered_cause w r f =
     if not (has r.tasks f.task) then Some NoTask
-    else if is_no_field r f then Some Field
+    else if is_no_field w r f then Some Field
     else None
 
 abbrev pub cause_by : Whole → Read → Said → Option Cause
@@ -148,7 +148,7 @@ cause_by w r Title = None
 cause_by w r (OfTask t) = if lacks_parent r t.parent then Some NoTask else None
 cause_by w r (OfChunk c) = if has r.tasks c.owner then None else Some NoTask
 cause_by w r (OfObject o) = object_cause w r o
-cause_by w r (OfRemembered f) = remembered_cause r f
+cause_by w r (OfRemembered f) = remembered_cause w r f
 cause_by w r (OfEnd n) = if n == length r.objects then None else Some Count
 
 -- the first cause on a line, of which these were read before

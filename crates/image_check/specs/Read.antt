@@ -1,5 +1,5 @@
 -- What the lines of an image have said so far, and what the whole text has.
-use Rattle.std.specs.Prelude.{ℕ, ◌+◌, ◌==◌, ◌&&◌, ◌||◌, ◌≤◌, ◌<◌, Bool, Option, Some, None, List, [], ◌∷◌, length, nat_lt}
+use Rattle.std.specs.Prelude.{ℕ, ◌+◌, ◌==◌, ◌&&◌, ◌||◌, ◌≤◌, Bool, Option, Some, None, List, [], ◌∷◌, length, nat_lt, if◌then◌else◌}
 use Rattle.text_lines.specs.Lines.{lines_of}
 use Rattle.image_check.specs.declared.line.Object.{Object}
 use Rattle.image_check.specs.declared.line.Said.{Said}
@@ -10,8 +10,8 @@ use Rattle.image_check.specs.declared.read.Read.{Read}
 use Rattle.image_check.specs.declared.whole.Whole.{Whole}
 use Rattle.image_check.specs.Place.{chunk_number, offset}
 use Rattle.image_check.specs.Line.{said_by}
-use Rattle.image_check.specs.Table.{with_entry, with_new}
-use Rattle.image_check.specs.Sets.{with_item, same_number, same_birth, same_field}
+use Rattle.image_check.specs.Table.{found, with_entry, with_new}
+use Rattle.image_check.specs.Sets.{with_item, same_birth, same_field}
 
 -- ORDER
 
@@ -78,11 +78,17 @@ after_line r (OfEnd n) = record r { last = position_of (OfEnd n) }
 -- THE WHOLE TEXT
 
 abbrev pub nothing_had : Whole
-nothing_had = record { addresses = []; fields = [] }
+nothing_had = record { objects = []; fields = [] }
 
--- the addresses of object lines, and the remembered fields, wherever they stand
+-- the larger of a number, where there is one, and another one
+abbrev pub most : Option ℕ → ℕ → ℕ
+most None n = n
+most (Some m) n = if nat_lt m n then n else m
+
+-- under the address of each object line how many references it has (of several of one address the most), and the remembered
+-- fields, wherever they stand
 abbrev pub with_line : Whole → Said → Whole
-with_line w (OfObject o) = record w { addresses = with_item same_number w.addresses o.address }
+with_line w (OfObject o) = record w { objects = with_entry w.objects o.address (most (found w.objects o.address) (length o.references)) }
 with_line w (OfRemembered f) = record w { fields = with_item same_field w.fields (f.task, f.address, f.place) }
 with_line w _ = w
 

@@ -77,7 +77,7 @@ fn is_stray(whole: &Whole, read: &Read, reference: u64, owner: Option<u64>) -> b
     requires { owner ≡ owner_at read.now.chunks reference }
     ensures { result ≡ is_astray whole.now read.now reference }
 {
-    if reference == 0 || whole.addresses.has(reference) {
+    if reference == 0 || whole.objects.has(reference) {
         return false;
     }
     match owner {
@@ -179,10 +179,10 @@ fn cause_of_object(whole: &Whole, read: &Read, object: &Object) -> Option<Cause>
 }
 
 // Whether an object has so many references and more, and a proper ancestor of a task owns it.
-fn is_field_above(read: &Read, field: Remembered) -> bool
-    ensures { result ≡ not (is_no_field read.now field) }
+fn is_field_above(whole: &Whole, read: &Read, field: Remembered) -> bool
+    ensures { result ≡ not (is_no_field whole.now read.now field) }
 {
-    let Some(count) = read.objects.find(field.address) else {
+    let Some(count) = whole.objects.find(field.address) else {
         return false;
     };
     if field.place >= *count {
@@ -194,12 +194,12 @@ fn is_field_above(read: &Read, field: Remembered) -> bool
     }
 }
 
-fn cause_of_field(read: &Read, field: Remembered) -> Option<Cause>
-    ensures { result ≡ remembered_cause read.now field }
+fn cause_of_field(whole: &Whole, read: &Read, field: Remembered) -> Option<Cause>
+    ensures { result ≡ remembered_cause whole.now read.now field }
 {
     if !read.tasks.has(field.task) {
         Some(Cause::NoTask)
-    } else if is_field_above(read, field) {
+    } else if is_field_above(whole, read, field) {
         None
     } else {
         Some(Cause::Field)
@@ -224,7 +224,7 @@ fn cause_of(whole: &Whole, read: &Read, said: &Said) -> Option<Cause>
             Some(Cause::NoTask)
         },
         Said::OfObject(object) => cause_of_object(whole, read, object),
-        Said::OfRemembered(field) => cause_of_field(read, *field),
+        Said::OfRemembered(field) => cause_of_field(whole, read, *field),
         Said::OfEnd(count) => if *count == read.objects.len() as u64 {
             None
         } else {
