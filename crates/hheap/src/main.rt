@@ -1,38 +1,59 @@
 // The program `hheap`: hands its words, standard input and standard output to the top call.
 #![tactic(auto)]
 
-use command_core::{Ran, Status, command};
+use command_core::{Status, command};
 use outside_io::{EmptyGate, FileSource, OutSink};
 use std::alloc::AllocError;
+use std::io::ErrorKind;
 use std::process::ExitCode;
-use std::rt::Env;
+use std::rt::{Env, Files};
+use std::sync::Wait;
+use std::thread::{Builder, Threads};
 use std::{env, io};
 
-// The words behind the program's name.
+/// The bytes of stack of the thread that a call is answered in, which are reserved before the call begins.
+const STACK_SIZE: usize = 1048576;
+
+// The words behind the program's name; no word where one of them isn't UTF-8, since no command line has such a word.
 fn words_of_call<R: Env + AllocGlobal>(rt: &R) -> io::Result<Vec<String>> {
     let mut words = Vec::new(rt.alloc());
-    for word in env::args(rt)?.skip(1) {
-        words.push(word)?;
+    match env::args(rt) {
+        Ok(all) => for word in all.skip(1) {
+            words.push(word)?;
+        },
+        Err(error) => if error.kind() != ErrorKind::InvalidData {
+            return Err(error);
+        },
     }
     Ok(words)
 }
 
-fn main(rt: HostRuntime) -> ExitCode {
-    let status = match words_of_call(&rt) {
+// Answers these words.
+fn answer<R: Threads + Wait + Sync + Files + Input + Print + AllocGlobal>(
+    rt: &R,
+    words: &[String],
+) -> Status {
+    let mut source = FileSource::new(rt, rt.reader());
+    let mut sink = OutSink::new(io::writer(rt));
+    command(rt, rt.alloc(), words, &mut source, &mut sink, &EmptyGate).status
+}
+
+// Answers the words of the call.
+fn answer_call<R: Threads + Wait + Sync + Env + Files + Input + Print + AllocGlobal>(
+    rt: &R,
+) -> Status {
+    match words_of_call(rt) {
         Err(_) => Status::NoMemory,
-        Ok(words) => {
-            let mut source = FileSource::new(&rt, rt.reader());
-            let mut sink = OutSink::new(io::writer(&rt));
-            let ran = command(
-                &rt,
-                rt.alloc(),
-                words.as_slice(),
-                &mut source,
-                &mut sink,
-                &EmptyGate,
-            );
-            ran.status
-        }
+        Ok(words) => answer(rt, words.as_slice()),
+    }
+}
+
+// Answers the call in a thread that has its stack already; the stack of the first thread grows as it is used.
+fn main(rt: HostRuntime) -> ExitCode {
+    let thread = Builder::new().stack_size(STACK_SIZE);
+    let status = match thread.spawn(&rt, move || answer_call(&rt)) {
+        Err(_) => Status::NoMemory,
+        Ok(handle) => handle.join(&rt),
     };
     ExitCode::from(status.code())
 }
