@@ -34,6 +34,7 @@ fn a_program_is_made(rt: HostRuntime) {
 const SUMS: &[(&str, &str)] = &[
     ("1 1 --run", "496\n"),
     ("7 60 --run", "31503\n"),
+    ("7 1000 --run", "496486\n"),
     ("4294967295 41 --run", "17857\n"),
 ];
 
@@ -58,10 +59,21 @@ fn made_programs_write_their_sums(rt: HostRuntime) {
     }
 }
 
+#[test]
+fn a_large_program_writes_its_sum(rt: HostRuntime) {
+    assert!(rt; is_made_alike(&rt, LARGE.0, LARGE.1));
+}
+
 const WORKERS: &str = "--workers 4 --leaf 512 --inner 1024";
 
-// What the made program writes.
-const SUM: Answer<'static> = (0, b"55024\nend: done\n");
+// The words of a made program, the command that replays its run, and what the program writes.
+const SHARED: &[(&str, &str, &[u8])] = &[
+    ("1 120", "replay", b"55024\nend: done\n"),
+    ("1 500", "replay", b"237983\nend: done\n"),
+];
+
+// A larger one.
+const LARGE_SHARED: (&str, &str, &[u8]) = ("7 1000", "model", b"496486\nend: done\n");
 
 // Puts the trace of a journal behind a program, and says whether there was memory for it.
 fn add_trace(alloc: Global, text: &mut Vec<u8>, journal: &[Entry]) -> bool {
@@ -71,16 +83,18 @@ fn add_trace(alloc: Global, text: &mut Vec<u8>, journal: &[Entry]) -> bool {
     }
 }
 
-// Whether the journal of a program's run is replayed.
+// Whether the journal of a program's run is replayed by a command, which answers so.
 fn is_replayed<R: AllocGlobal + Threads + Wait + Sync>(
     rt: &R,
+    command: &str,
     program: &[u8],
     journal: &[Entry],
+    answer: Answer<'_>,
 ) -> bool {
     match program.to_vec(rt.alloc()) {
         Ok(mut text) => {
             add_trace(rt.alloc(), &mut text, journal)
-                && answers_input(rt, ("replay", WORKERS), text.as_slice(), SUM)
+                && answers_input(rt, (command, WORKERS), text.as_slice(), answer)
         }
         Err(_) => false,
     }
@@ -99,22 +113,41 @@ fn ran_by_four<R: AllocGlobal + Threads + Wait + Sync>(
 }
 
 // Whether four workers write the sum, and the journal that they hand back is replayed.
-fn is_shared<R: AllocGlobal + Threads + Wait + Sync>(rt: &R, program: &[u8]) -> bool {
+fn is_shared<R: AllocGlobal + Threads + Wait + Sync>(
+    rt: &R,
+    command: &str,
+    program: &[u8],
+    sum: &[u8],
+) -> bool {
     let mut sink = sink_of(rt.alloc());
     match ran_by_four(rt, program, &mut sink) {
         Some(ran) => {
-            (ran.status.code(), sink.written()) == SUM
-                && is_replayed(rt, program, ran.journal.as_slice())
+            (ran.status.code(), sink.written()) == (0, sum)
+                && is_replayed(rt, command, program, ran.journal.as_slice(), (0, sum))
         }
         None => false,
     }
 }
 
-// Four workers write the same sum, and the journal that they hand back is replayed.
-#[test]
-fn workers_share_a_made_program(rt: HostRuntime) {
+// The same of a program that is made first.
+fn is_made_and_shared<R: AllocGlobal + Threads + Wait + Sync>(
+    rt: &R,
+    (options, command, sum): (&str, &str, &[u8]),
+) -> bool {
     let mut sink = sink_of(rt.alloc());
-    let made = status_with(&rt, ("make", "1 120"), &[], &mut sink);
-    let shared = is_shared(&rt, sink.written());
-    assert!(rt; (made, shared) == (Some(0), true));
+    let made = status_with(rt, ("make", options), &[], &mut sink);
+    made == Some(0) && is_shared(rt, command, sink.written(), sum)
+}
+
+// Four workers write the sum, and the journal that they hand back is replayed.
+#[test]
+fn workers_share_made_programs(rt: HostRuntime) {
+    for &row in SHARED {
+        assert!(rt; is_made_and_shared(&rt, row), "{}", row.0);
+    }
+}
+
+#[test]
+fn workers_share_a_large_program(rt: HostRuntime) {
+    assert!(rt; is_made_and_shared(&rt, LARGE_SHARED));
 }

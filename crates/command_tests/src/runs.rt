@@ -1,6 +1,8 @@
 // Runs by their texts: outputs, reports, traces and end lines.
 
-use crate::calls::{Row, check_calls};
+use crate::calls::{Row, check_calls, sink_of, status_with};
+use std::sync::Wait;
+use std::thread::Threads;
 
 // Runs with their reports: leaf collections, chunks that end the run, large objects, the deepest forks.
 const REPORTED: &[Row] = &[
@@ -286,4 +288,23 @@ const TRACED: &[Row] = &[
 #[test]
 fn traced_runs(rt: HostRuntime) {
     check_calls(&rt, "run", TRACED);
+}
+
+// Two tasks compare and swap one field from nil, each to its own object; the sum of what both got, and what the left one got.
+const SWAPS: &str =
+    "fn left\nset i0 0\nset i1 1\nnewm r1 i0 i1\nnil r2\ncas i0 r0 i0 r2 r1\nret\nend\nfn right\nset i0 0\nset i1 1\nnewm r1 i0 i1\nnil r2\ncas i0 r0 i0 r2 r1\nret\nend\nfn main\nset i0 1\nset i1 0\nnewm r0 i0 i1\npar left right\nadd i2 i0 i1\nout i2\nout i0\nret\nend";
+
+// Whether one of two tasks wins, whichever it is.
+fn one_wins<R: AllocGlobal + Threads + Wait + Sync>(rt: &R) -> bool {
+    let mut sink = sink_of(rt.alloc());
+    let code = status_with(rt, ("run", "--workers 2"), SWAPS.as_bytes(), &mut sink);
+    let written = sink.written();
+    code == Some(0)
+        && (written == b"1\n1\nend: done\n".as_slice()
+            || written == b"1\n0\nend: done\n".as_slice())
+}
+
+#[test]
+fn one_of_two_swaps_wins(rt: HostRuntime) {
+    assert!(rt; one_wins(&rt));
 }

@@ -145,6 +145,53 @@ fn is_left(
         && replayed(alloc, program, settings, shared.journal()) == DONE
 }
 
+// The number of entries, as a worker that has no turn sees it.
+fn looked(turn: &Turn<Run>, program: &Program, desk: &mut Desk) -> u64
+    requires { IsDesk (identity turn.now) program.now desk.old }
+    ensures desk { IsDesk (identity turn.now) program.now desk.new }
+{
+    let _ = program;
+    turn.look(&mut desk.seat)
+}
+
+// What both workers see before the first entry and after it.
+fn looks<R: Wait>(
+    rt: &R,
+    turn: &Turn<Run>,
+    program: &Program,
+    first: &mut Desk,
+    second: &mut Desk,
+) -> (u64, u64, u64, u64)
+    requires first { IsDesk (identity turn.now) program.now first.old }
+    requires second { IsDesk (identity turn.now) program.now second.old }
+    ensures first { IsDesk (identity turn.now) program.now first.new }
+    ensures second { IsDesk (identity turn.now) program.now second.new }
+{
+    let bell = Bell::new();
+    let before = (looked(turn, program, first), looked(turn, program, second));
+    let _ = goes_on(rt, turn, &bell, program, second, first, Next::Idle);
+    let after = (looked(turn, program, first), looked(turn, program, second));
+    (before.0, before.1, after.0, after.1)
+}
+
+// Whether two workers see each entry once it is made.
+fn see_entries<R: Wait>(
+    rt: &R,
+    turn: &Turn<Run>,
+    program: &Program,
+    settings: Settings,
+    desks: Vec<Desk>,
+) -> bool
+    requires { AreAllDesks (identity turn.now) program.now settings desks.items }
+{
+    match two_desks(turn, program, settings, desks) {
+        Some((mut first, mut second)) => {
+            looks(rt, turn, program, &mut first, &mut second) == (0, 0, 1, 1)
+        }
+        None => false,
+    }
+}
+
 // The desks take the turns that the trace asks for, and leave the value as it should be; a look then gives the number of entries.
 fn leave_all<R: Wait>(
     rt: &R,
@@ -219,4 +266,22 @@ fn two_desks_in_one_thread(rt: HostRuntime) {
         Err(_) => false,
     };
     assert!(rt; left);
+}
+
+// Whether two workers at new desks see each entry once it is made.
+fn see_at_desks<R: Wait>(rt: &R, alloc: Global, program: &Program, settings: Settings) -> bool {
+    match opened(alloc, program, settings) {
+        Ok((turn, desks)) => see_entries(rt, &turn, program, settings, desks),
+        Err(_) => false,
+    }
+}
+
+#[test]
+fn two_seats_look(rt: HostRuntime) {
+    let settings = Settings::new(Version::One, 2, 1_000_000, 4096, 16, 8192);
+    let seen = match read_trace_input(rt.alloc(), COLLECTS.as_bytes()) {
+        Ok(input) => see_at_desks(&rt, rt.alloc(), &input.program, settings),
+        Err(_) => false,
+    };
+    assert!(rt; seen);
 }

@@ -1,0 +1,131 @@
+// Four workers in threads take one turn again and again.
+ghost use Rattle.turn_lock.specs.Turn.{identity};
+ghost use Rattle.worker_run.specs.Desks.{AreAllDesks, IsDesk};
+
+use hh_lang::Program;
+use program_reader::read_program;
+use run_trace::{Settings, Version};
+use std::alloc::Global;
+use std::hint::spin_loop;
+use std::sync::Wait;
+use std::sync::atomic::{AtomicBool, AtomicU64, Ordering};
+use std::thread;
+use std::thread::Threads;
+use turn_lock::Turn;
+use worker_run::{Desk, Run, opened};
+
+// How often each worker takes the turn, and how long it keeps it.
+const ROUNDS: u32 = 1000;
+
+const LENGTH: u32 = 20;
+
+// Whether a worker has the turn, how often one has had it, and how often one got it that another had.
+#[derive(Drop)]
+struct Watch {
+    taken: AtomicBool,
+    rounds: AtomicU64,
+    doubled: AtomicU64,
+}
+
+impl Watch {
+    fn new() -> Watch {
+        Watch {
+            taken: AtomicBool::new(false),
+            rounds: AtomicU64::new(0),
+            doubled: AtomicU64::new(0),
+        }
+    }
+
+    // A worker has the turn for a while.
+    fn stay(&self) {
+        if self.taken.swap(true, Ordering::SeqCst) {
+            self.doubled.fetch_add(1, Ordering::SeqCst);
+        }
+        for _ in 0..LENGTH {
+            spin_loop();
+        }
+        self.rounds.fetch_add(1, Ordering::SeqCst);
+        self.taken.store(false, Ordering::SeqCst);
+    }
+
+    // How often a worker had the turn, and how often two had it.
+    fn told(&self) -> (u64, u64) {
+        (
+            self.rounds.load(Ordering::SeqCst),
+            self.doubled.load(Ordering::SeqCst),
+        )
+    }
+}
+
+// The worker has the turn once, and gives the value back as it was.
+fn pass<R: Wait>(rt: &R, turn: &Turn<Run>, watch: &Watch, program: &Program, desk: &mut Desk)
+    requires { IsDesk (identity turn.now) program.now desk.old }
+    ensures { IsDesk (identity turn.now) program.now desk.new }
+{
+    let _ = program;
+    let run = turn.take(rt, &mut desk.seat);
+    watch.stay();
+    turn.give_same(&mut desk.seat, run);
+}
+
+// The worker has the turn again and again.
+fn passes<R: Wait>(rt: &R, turn: &Turn<Run>, watch: &Watch, program: &Program, desk: &mut Desk)
+    requires { IsDesk (identity turn.now) program.now desk.old }
+{
+    for round in 0..ROUNDS {
+        let _ = round;
+        pass(rt, turn, watch, program, desk);
+    }
+}
+
+// Each worker in a thread of its own.
+fn all_pass<R: Threads + Wait + Sync>(
+    rt: &R,
+    turn: &Turn<Run>,
+    watch: &Watch,
+    program: &Program,
+    settings: Settings,
+    desks: &mut [Desk],
+)
+    requires { AreAllDesks (identity turn.now) program.now settings desks.old }
+{
+    let _ = settings;
+    if desks.len() == 0 {
+        return;
+    }
+    thread::for_each_mut(
+        rt,
+        desks,
+        4,
+        &|_: usize, desk: &mut Desk|
+            requires { IsDesk (identity turn.now) program.now desk.now }
+        { passes(rt, turn, watch, program, desk) },
+    );
+}
+
+// How often workers had the turn, and how often two had it.
+fn watched<R: Threads + Wait + Sync>(
+    rt: &R,
+    alloc: Global,
+    program: &Program,
+    settings: Settings,
+) -> Option<(u64, u64)> {
+    let watch = Watch::new();
+    match opened(alloc, program, settings) {
+        Ok((turn, mut desks)) => {
+            all_pass(rt, &turn, &watch, program, settings, desks.as_mut_slice());
+            Some(watch.told())
+        }
+        Err(_) => None,
+    }
+}
+
+#[test]
+fn four_threads_take_turns(rt: HostRuntime) {
+    let settings = Settings::new(Version::Two, 4, 1_000_000, 4096, 8192, 8192);
+    let told = match read_program(rt.alloc(), b"fn main\nend") {
+        Ok(Ok(program)) => watched(&rt, rt.alloc(), &program, settings),
+        _ => None,
+    };
+    assert!(rt; told == Some((4000, 0)));
+}
