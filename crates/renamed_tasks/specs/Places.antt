@@ -1,0 +1,13 @@
+-- Where a task stands in the tree of forks, told without its number.
+use Rattle.std.specs.Prelude.{◌≡◌, ℕ, Bool, List, [], ◌∷◌, Contains}
+use Rattle.hh_model.specs.declared.data.Edge.{Edge}
+use Rattle.hh_model.specs.Step.{is_left, strand, edge}
+
+-- for a task and each one above it but the root, the lowest first: how many forks of its parent had joined when it was forked, and
+-- whether it is the left child
+abbrev pub Place : Type 0
+Place = List (ℕ × Bool)
+
+abbrev pub IsPlace : List Edge → Place → ℕ → Type 0
+IsPlace edges [] t = t ≡ 0
+IsPlace edges (x ∷ above) t = (p : ℕ) × IsPlace edges above p × Contains edges (edge (strand p x.0) (strand t 0)) × (is_left t ≡ x.1)

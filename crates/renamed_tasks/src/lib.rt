@@ -1,0 +1,8 @@
+// The machine with other numbers for its tasks: what a renaming of tasks is, and that a run of renamed tasks is the renamed run.
+#![tactic(auto)]
+
+mod laws;
+
+pub use laws::{
+    places_are_carried, runs_are_carried, steps_are_carried, swaps_rename, walks_are_carried,
+};
