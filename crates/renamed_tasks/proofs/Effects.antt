@@ -1,11 +1,11 @@
 -- What an instruction does is carried by a renaming: where the frame, the object that it names, the field that it reads and its tests
 -- are alike, so is its effect.
-use Rattle.std.proofs.Common.{◌≡◌, ℕ, ℤ, zero, suc, pos, ◌==◌, ◌&&◌, Bool, true, false, cond, Option, Some, None, List, [], ◌∷◌, ◌++◌, length, map, take, replicate, slice_get, slice_set, unwrap_or, ◌⊎◌, inl, inr, refl, ap, ap₂, sym, subst, ◌∙◌, eq-eqb, ne_eqb}
-use Rattle.std.proofs.lemmas.Bool.{cases_eq}
+use Rattle.std.proofs.Common.{◌≡◌, ℕ, zero, suc, pos, ◌==◌, ◌&&◌, Bool, true, false, cond, Option, Some, None, List, [], ◌∷◌, ◌++◌, length, map, take, replicate, slice_get, slice_set, unwrap_or, inl, inr, refl, ap, ap₂, sym, subst, ◌∙◌, eq-eqb, ne_eqb}
+use Rattle.std.proofs.lemmas.Bool.{cases_eq, false≢true}
 use Rattle.std.proofs.Math.Seq.{map-set}
 use Rattle.listed.proofs.Members.{In}
 use Rattle.hh_lang.specs.declared.instr.Instr.{Instr}
-use Rattle.hh_lang.specs.declared.instr.Instr.TheVariants.{Set, Mov, Movr, Nil as NilOf, Calc, Same, Jmp, Jz, Newm, Pack, Getr, Geti, Putr, Puti, Cntr, Cnti, Freeze, Cas, Call, Par, Ret, Out}
+use Rattle.hh_lang.specs.declared.instr.Instr.TheVariants.{Set, Mov, Movr, Nil as NilOf, Calc, Same as Same_, Jmp, Jz, Newm, Pack, Getr, Geti, Putr, Puti, Cntr, Cnti, Freeze, Cas, Call, Par, Ret, Out}
 use Rattle.hh_model.specs.declared.data.Name.{Name}
 use Rattle.hh_model.specs.declared.data.Edge.{Edge}
 use Rattle.hh_model.specs.declared.data.Object.{Object}
@@ -16,6 +16,7 @@ use Rattle.hh_model.specs.Effect.{Effect, Goes, Prints, Calls, Forks, Returns, T
 use Rattle.hh_model.specs.Precedence.{precedes}
 use Rattle.hh_model.proofs.Carried.{at_in}
 use Rattle.renamed_tasks.specs.Renaming.{or_none, name_to, ref_to, strand_to, object_to, frame_to}
+use Rattle.renamed_tasks.proofs.Changed.{Change, Same, Grows, Edits, ChangesBy, Edit, SetRef, SetNumber, Freezes, EditsBy, Reach, Reaches, change_to, changed, edit_to, edited, put_in}
 use Rattle.renamed_tasks.proofs.Lists.{got_map}
 
 take_map : {A B : Type 0} (h : A → B) (k : ℕ) (xs : List A) → take k (map h xs) ≡ map h (take k xs)
@@ -88,174 +89,172 @@ module _ (f g : ℕ → ℕ) (back : (t : ℕ) → g (f t) ≡ t) where
       pub owners : (n : Name) → In x.refs (Some n) → (owner' (f n.task) == f s.task) ≡ (s.owner n.task == s.task)
       pub tests : (n q : Name) (o : Object) (k : ℕ) → In x.refs (Some n) → object_at store n ≡ Some o → May false n k → flat (slice_get o.refs k) ≡ Some q → TestTo (object_at store q) (object_at store' (name_to f q))
 
-    -- the fields that an instruction may see
-    abbrev pub Touches : Instr → Bool → Name → ℕ → Type 0
-    Touches (Getr d o k) b n at = (b ≡ false) × (ref_in x o ≡ Some n) × ((c : ℕ) × (place_in c (int_in x k) ≡ Some at))
-    Touches (Geti d o k) b n at = (b ≡ true) × (ref_in x o ≡ Some n) × ((c : ℕ) × (place_in c (int_in x k) ≡ Some at))
-    Touches (Cas d o k e v) b n at = (b ≡ false) × (ref_in x o ≡ Some n) × ((c : ℕ) × (place_in c (int_in x k) ≡ Some at))
-    Touches _ b n at = ⊥
-
     -- WHAT BECOMES OF BOTH
 
-    -- one object becomes another by the same write
-    abbrev pub SetsTo : Object → Object → Object → Object → Type 0
-    SetsTo o y o' y' =
-        ((at : ℕ) × (v : Option Name) × (y ≡ record o { refs = slice_set o.refs at v }) × (y' ≡ record o' { refs = slice_set o'.refs at (ref_to f v) }))
-        ⊎ (((at : ℕ) × (k : ℤ) × (y ≡ record o { ints = slice_set o.ints at k }) × (y' ≡ record o' { ints = slice_set o'.ints at k }))
-        ⊎ ((y ≡ record o { mutable = false }) × (y' ≡ record o' { mutable = false })))
+    abbrev pub EffectTo : Instr → Effect → Effect → Type 0
+    EffectTo instr (Goes a st) (Goes b st') = (op : Change) × (b ≡ frame_to f a) × (st ≡ changed op s.task store) × (st' ≡ changed (change_to f op) (f s.task) store') × ChangesBy s x store instr op
+    EffectTo instr (Prints k) (Prints l) = l ≡ k
+    EffectTo instr (Calls a) (Calls b) = b ≡ a
+    EffectTo instr (Forks a b) (Forks c d) = (c ≡ a) × (d ≡ b)
+    EffectTo instr Returns Returns = Unit {0}
+    EffectTo instr (Traps a) (Traps b) = b ≡ a
+    EffectTo instr (Stops n) (Stops q) = q ≡ name_to f n
+    EffectTo instr _ _ = ⊥
 
-    pub record Puts (st st' : List (List Object)) : Type 0 where
-      pub name : Name
-      pub old : Object
-      pub new : Object
-      pub old' : Object
-      pub new' : Object
-      pub was : object_at store name ≡ Some old
-      pub was' : object_at store' (name_to f name) ≡ Some old'
-      pub sets : SetsTo old new old' new'
-      pub is : st ≡ put_object store name new
-      pub is' : st' ≡ put_object store' (name_to f name) new'
+    module _ (S : Sees) (i : Instr) where
+      abbrev To : Effect → Effect → Type 0
+      To = EffectTo i
 
-    abbrev pub ChangeTo : List (List Object) → List (List Object) → Type 0
-    ChangeTo st st' =
-        ((st ≡ store) × (st' ≡ store'))
-        ⊎ (((o : Object) × (st ≡ slice_set store s.task (row_of (slice_get store s.task) ++ o ∷ [])) × (st' ≡ slice_set store' (f s.task) (row_of (slice_get store' (f s.task)) ++ object_to f o ∷ [])))
-        ⊎ Puts st st')
+      same : (a b : Frame) → b ≡ frame_to f a → To (Goes a store) (Goes b store')
+      same a b e = (Same, e, refl, refl, tt)
 
-    abbrev pub EffectTo : Effect → Effect → Type 0
-    EffectTo (Goes a st) (Goes b st') = (b ≡ frame_to f a) × ChangeTo st st'
-    EffectTo (Prints k) (Prints l) = l ≡ k
-    EffectTo (Calls a) (Calls b) = b ≡ a
-    EffectTo (Forks a b) (Forks c d) = (c ≡ a) × (d ≡ b)
-    EffectTo Returns Returns = Unit {0}
-    EffectTo (Traps a) (Traps b) = b ≡ a
-    EffectTo (Stops n) (Stops q) = q ≡ name_to f n
-    EffectTo _ _ = ⊥
-
-    module _ (S : Sees) where
-      same : (a b : Frame) → b ≡ frame_to f a → EffectTo (Goes a store) (Goes b store')
-      same a b e = (e, inl (refl, refl))
-
-      trap : {A : Type 0} (t : Trap) (o : Option A) (go go' : A → Effect) → ((y : A) → o ≡ Some y → EffectTo (go y) (go' y)) → EffectTo (or_trap t o go) (or_trap t o go')
+      trap : {A : Type 0} (t : Trap) (o : Option A) (go go' : A → Effect) → ((y : A) → o ≡ Some y → To (go y) (go' y)) → To (or_trap t o go) (or_trap t o go')
       trap t None go go' each = refl
       trap t (Some y) go go' each = each y refl
 
-      either : (b : Bool) (e h e' h' : Effect) → EffectTo e e' → EffectTo h h' → EffectTo (cond b e h) (cond b e' h')
+      either : (b : Bool) (e h e' h' : Effect) → To e e' → To h h' → To (cond b e h) (cond b e' h')
       either true e h e' h' p q = p
       either false e h e' h' p q = q
 
       object : (o : ℕ) (go go' : Name → Object → Effect)
-          → ((n : Name) (y y' : Object) → ref_in x o ≡ Some n → In x.refs (Some n) → object_at store n ≡ Some y → object_at store' (name_to f n) ≡ Some y' → IsSeen n y y' → EffectTo (go n y) (go' (name_to f n) y'))
-          → EffectTo (with_object store (ref_in x o) go) (with_object store' (ref_in x' o) go')
-      object o go go' each = subst (λ r. EffectTo (with_object store (ref_in x o) go) (with_object store' r go')) (sym (ref_carried x o)) (by (ref_in x o) refl)
+          → ((n : Name) (y y' : Object) → ref_in x o ≡ Some n → In x.refs (Some n) → object_at store n ≡ Some y → object_at store' (name_to f n) ≡ Some y' → IsSeen n y y' → To (go n y) (go' (name_to f n) y'))
+          → To (with_object store (ref_in x o) go) (with_object store' (ref_in x' o) go')
+      object o go go' each = subst (λ r. To (with_object store (ref_in x o) go) (with_object store' r go')) (sym (ref_carried x o)) (by (ref_in x o) refl)
         where
-          pair : (n : Name) → ref_in x o ≡ Some n → (a b : Option Object) → object_at store n ≡ a → object_at store' (name_to f n) ≡ b → SeenTo n a b → EffectTo (or_trap Nil a (go n)) (or_trap Nil b (go' (name_to f n)))
+          pair : (n : Name) → ref_in x o ≡ Some n → (a b : Option Object) → object_at store n ≡ a → object_at store' (name_to f n) ≡ b → SeenTo n a b → To (or_trap Nil a (go n)) (or_trap Nil b (go' (name_to f n)))
           pair n e None None ea eb h = refl
           pair n e (Some y) (Some y') ea eb h = each n y y' e (at_in x.refs o n e) ea eb h
           pair n e None (Some y') ea eb h = absurd h
           pair n e (Some y) None ea eb h = absurd h
 
-          by : (r : Option Name) → ref_in x o ≡ r → EffectTo (with_object store r go) (with_object store' (ref_to f r) go')
+          by : (r : Option Name) → ref_in x o ≡ r → To (with_object store r go) (with_object store' (ref_to f r) go')
           by None e = refl
           by (Some n) e = pair n e (object_at store n) (object_at store' (name_to f n)) refl refl (S.objects n (at_in x.refs o n e))
 
       -- the place of a field, among as many
-      place : (c c' : ℕ) (k : ℕ) (go go' : ℕ → Effect) → c' ≡ c → ((at : ℕ) → place_in c (int_in x k) ≡ Some at → EffectTo (go at) (go' at)) → EffectTo (or_trap Range (place_in c (int_in x k)) go) (or_trap Range (place_in c' (int_in x' k)) go')
-      place c c' k go go' e each = subst (λ d. EffectTo (or_trap Range (place_in c (int_in x k)) go) (or_trap Range (place_in d (int_in x k)) go')) (sym e) (trap Range (place_in c (int_in x k)) go go' each)
+      place : (c c' : ℕ) (k : ℕ) (go go' : ℕ → Effect) → c' ≡ c → ((at : ℕ) → place_in c (int_in x k) ≡ Some at → To (go at) (go' at)) → To (or_trap Range (place_in c (int_in x k)) go) (or_trap Range (place_in c' (int_in x' k)) go')
+      place c c' k go go' e each = subst (λ d. To (or_trap Range (place_in c (int_in x k)) go) (or_trap Range (place_in d (int_in x k)) go')) (sym e) (trap Range (place_in c (int_in x k)) go go' each)
 
       set_reg : (d : ℕ) (r r' : Option Name) → r' ≡ ref_to f r → onward (with_ref x' d r') ≡ frame_to f (onward (with_ref x d r))
       set_reg d r r' e = ap (λ w. onward (with_ref x' d w)) e ∙ ap onward (set_carried x d r)
 
-      new : (d : ℕ) (o o' : Object) → o' ≡ object_to f o → EffectTo (made s x store d o) (made s' x' store' d o')
+      new : (d : ℕ) (o o' : Object) → o' ≡ object_to f o → To (made s x store d o) (made s' x' store' d o')
       new d o o' e = (
+        Grows o,
         ap (λ c. onward (with_ref x' d (Some (record { task = f s.task; count = c })))) S.count ∙ set_reg d (Some (record { task = s.task; count = length (row_of (slice_get store s.task)) })) _ refl,
-        inr (inl (o, refl, ap (λ w. slice_set store' (f s.task) (row_of (slice_get store' (f s.task)) ++ w ∷ [])) e)),
+        refl,
+        ap (λ w. slice_set store' (f s.task) (row_of (slice_get store' (f s.task)) ++ w ∷ [])) e,
+        tt,
       )
 
-      unless : (y y' : Object) (e e' : Effect) → y'.mutable ≡ y.mutable → EffectTo e e' → EffectTo (unless_frozen y e) (unless_frozen y' e')
-      unless y y' e e' same_flag h = subst (λ b. EffectTo (cond y.mutable e (Traps Frozen)) (cond b e' (Traps Frozen))) (sym same_flag) (either y.mutable e (Traps Frozen) e' (Traps Frozen) h refl)
+      unless : (y y' : Object) (e e' : Effect) → y'.mutable ≡ y.mutable → (y.mutable ≡ true → To e e') → To (unless_frozen y e) (unless_frozen y' e')
+      unless y y' e e' same_flag h = subst (λ b. To (cond y.mutable e (Traps Frozen)) (cond b e' (Traps Frozen))) (sym same_flag) (by y.mutable h)
+        where
+          by : (b : Bool) → (b ≡ true → To e e') → To (cond b e (Traps Frozen)) (cond b e' (Traps Frozen))
+          by true h = h refl
+          by false h = refl
 
-      put_ref : (n : Name) (y y' : Object) (at v : ℕ) (a b : Frame) → b ≡ frame_to f a → object_at store n ≡ Some y → object_at store' (name_to f n) ≡ Some y'
-          → EffectTo (Goes a (put_object store n (record y { refs = slice_set y.refs at (ref_in x v) }))) (Goes b (put_object store' (name_to f n) (record y' { refs = slice_set y'.refs at (ref_in x' v) })))
-      put_ref n y y' at v a b e was was' = (
-        e,
-        inr (inr (record {
-          name = n;
-          old = y;
-          new = record y { refs = slice_set y.refs at (ref_in x v) };
-          old' = y';
-          new' = record y' { refs = slice_set y'.refs at (ref_in x' v) };
-          was = was;
-          was' = was';
-          sets = inl (at, ref_in x v, refl, ap (λ r. record y' { refs = slice_set y'.refs at r }) (ref_carried x v));
-          is = refl;
-          is' = refl;
-        })),
+      put : (n : Name) (y y' : Object) (e : Edit) (a b : Frame) (z : Object) → b ≡ frame_to f a → z ≡ edited (edit_to f e) y' → object_at store n ≡ Some y → object_at store' (name_to f n) ≡ Some y' → EditsBy s x store i n e
+          → To (Goes a (put_object store n (edited e y))) (Goes b (put_object store' (name_to f n) z))
+      put n y y' e a b z eb ez was was' by = (
+        Edits n e,
+        eb,
+        ap (slice_set store n.task) (ap (put_in (row_of (slice_get store n.task)) n.count e) (sym was)),
+        ap (λ w. slice_set store' (f n.task) (slice_set (row_of (slice_get store' (f n.task))) n.count w)) ez ∙ ap (slice_set store' (f n.task)) (ap (put_in (row_of (slice_get store' (f n.task))) n.count (edit_to f e)) (sym was')),
+        ((y, was), by),
       )
 
-      put_with : (n : Name) (y z y' z' : Object) (a b : Frame) → b ≡ frame_to f a → object_at store n ≡ Some y → object_at store' (name_to f n) ≡ Some y' → SetsTo y z y' z'
-          → EffectTo (Goes a (put_object store n z)) (Goes b (put_object store' (name_to f n) z'))
-      put_with n y z y' z' a b e was was' sets = (e, inr (inr (record { name = n; old = y; new = z; old' = y'; new' = z'; was = was; was' = was'; sets = sets; is = refl; is' = refl })))
-
-      read : (d : ℕ) (r : Option Name) → ((q : Name) → r ≡ Some q → TestTo (object_at store q) (object_at store' (name_to f q))) → EffectTo (read_effect s x store d r) (read_effect s' x' store' d (ref_to f r))
+      read : (d : ℕ) (r : Option Name) → ((q : Name) → r ≡ Some q → TestTo (object_at store q) (object_at store' (name_to f q))) → To (read_effect s x store d r) (read_effect s' x' store' d (ref_to f r))
       read d None test = same _ _ (set_reg d None None refl)
       read d (Some q) test = by (object_at store q) (object_at store' (name_to f q)) (test q refl)
         where
           by : (a b : Option Object) → TestTo a b
-              → EffectTo (or_trap Nil a (λ o. cond (precedes s.edges o.strand s.strand) (Goes (onward (with_ref x d (Some q))) store) (Stops q)))
+              → To (or_trap Nil a (λ o. cond (precedes s.edges o.strand s.strand) (Goes (onward (with_ref x d (Some q))) store) (Stops q)))
               (or_trap Nil b (λ o. cond (precedes edges' o.strand (strand_to f s.strand)) (Goes (onward (with_ref x' d (Some (name_to f q)))) store') (Stops (name_to f q))))
           by None None h = refl
           by (Some o) (Some o') h =
-              subst (λ b. EffectTo (cond (precedes s.edges o.strand s.strand) (Goes (onward (with_ref x d (Some q))) store) (Stops q)) (cond b (Goes (onward (with_ref x' d (Some (name_to f q)))) store') (Stops (name_to f q)))) (sym h)
+              subst (λ b. To (cond (precedes s.edges o.strand s.strand) (Goes (onward (with_ref x d (Some q))) store) (Stops q)) (cond b (Goes (onward (with_ref x' d (Some (name_to f q)))) store') (Stops (name_to f q)))) (sym h)
               (either (precedes s.edges o.strand s.strand) _ (Stops q) _ (Stops (name_to f q)) (same _ _ (set_reg d (Some q) _ refl)) refl)
           by None (Some o') h = absurd h
           by (Some o) None h = absurd h
 
-      jumps : (to : ℕ) (b : Bool) → EffectTo (Goes (cond b (record x { next = to }) (onward x)) store) (Goes (cond b (record x' { next = to }) (onward x')) store')
+      jumps : (to : ℕ) (b : Bool) → To (Goes (cond b (record x { next = to }) (onward x)) store) (Goes (cond b (record x' { next = to }) (onward x')) store')
       jumps to true = same _ _ refl
       jumps to false = same _ _ refl
 
-      pub effect_carried : (instr : Instr) → ((b : Bool) (n : Name) (at : ℕ) → Touches instr b n at → May b n at) → EffectTo (effect s x store instr) (effect s' x' store' instr)
-      effect_carried (Set d k) may = same _ _ refl
-      effect_carried (Mov d a) may = same _ _ refl
-      effect_carried (Movr d a) may = same _ _ (set_reg d (ref_in x a) (ref_in x' a) (ref_carried x a))
-      effect_carried (NilOf d) may = same _ _ (set_reg d None None refl)
-      effect_carried (Calc op d a b) may = trap Div (calculated op (int_in x a) (int_in x b)) _ _ (λ y e. same _ _ refl)
-      effect_carried (Same d a b) may =
-          same _ _ (ap (λ w. onward (with_int x' d (flag w))) (ap₂ same_name (ref_carried x a) (ref_carried x b) ∙ same_carried (ref_in x a) (ref_in x b)))
-      effect_carried (Jmp to) may = same _ _ refl
-      effect_carried (Jz a to) may = jumps to (int_eq (int_in x a) (pos 0))
+    module _ (S : Sees) where
+      pub effect_carried : (i : Instr) → ((b : Bool) (n : Name) (at : ℕ) → Reaches s x store i b n at → May b n at) → EffectTo i (effect s x store i) (effect s' x' store' i)
+      effect_carried (Set d k) may = same S (Set d k) _ _ refl
+      effect_carried (Mov d a) may = same S (Mov d a) _ _ refl
+      effect_carried (Movr d a) may = same S (Movr d a) _ _ (set_reg S (Movr d a) d (ref_in x a) (ref_in x' a) (ref_carried x a))
+      effect_carried (NilOf d) may = same S (NilOf d) _ _ (set_reg S (NilOf d) d None None refl)
+      effect_carried (Calc op d a b) may = let i = Calc op d a b in trap S i Div (calculated op (int_in x a) (int_in x b)) _ _ (λ y e. same S i _ _ refl)
+      effect_carried (Same_ d a b) may =
+          same S (Same_ d a b) _ _ (ap (λ w. onward (with_int x' d (flag w))) (ap₂ same_name (ref_carried x a) (ref_carried x b) ∙ same_carried (ref_in x a) (ref_in x b)))
+      effect_carried (Jmp to) may = same S (Jmp to) _ _ refl
+      effect_carried (Jz a to) may = jumps S (Jz a to) to (int_eq (int_in x a) (pos 0))
       effect_carried (Newm d a b) may =
-          trap Size (counts_in s.field_limit (int_in x a) (int_in x b)) _ _ (λ n e.
-          new d _ _ (ap (λ rs. record { strand = strand_to f s.strand; mutable = true; refs = rs; ints = replicate n.1 (pos 0) }) (sym (none_map n.0))))
-      effect_carried (Pack d r i) may = new d _ _ (ap (λ rs. record { strand = strand_to f s.strand; mutable = false; refs = rs; ints = take i x.ints }) (take_map (ref_to f) r x.refs))
-      effect_carried (Getr d o k) may = object o _ _ (λ n y y' e held was was' seen.
-          place (length y.refs) (length y'.refs) k _ _ seen.refs (λ at e'.
-          let m = may false n at (refl, e, (length y.refs, e')) in
-          subst (λ r. EffectTo (read_effect s x store d (flat (slice_get y.refs at))) (read_effect s' x' store' d r)) (sym (ap flat (seen.ref_at at m) ∙ flat_to (slice_get y.refs at)))
-          (read d (flat (slice_get y.refs at)) (λ q e''. S.tests n q y at held was m e''))))
-      effect_carried (Geti d o k) may = object o _ _ (λ n y y' e held was was' seen.
-          place (length y.ints) (length y'.ints) k _ _ seen.ints (λ at e'.
-          same _ _ (ap (λ w. onward (with_int x' d (unwrap_or w (pos 0)))) (seen.int_at at (may true n at (refl, e, (length y.ints, e')))))))
-      effect_carried (Putr o k v) may = object o _ _ (λ n y y' e held was was' seen.
-          place (length y.refs) (length y'.refs) k _ _ seen.refs (λ at e'. unless y y' _ _ seen.mutable (put_ref n y y' at v _ _ refl was was')))
-      effect_carried (Puti o k v) may = object o _ _ (λ n y y' e held was was' seen.
-          place (length y.ints) (length y'.ints) k _ _ seen.ints (λ at e'. unless y y' _ _ seen.mutable (put_with n y _ y' _ _ _ refl was was' (inr (inl (at, int_in x v, refl, refl))))))
-      effect_carried (Cntr d o) may = object o _ _ (λ n y y' e held was was' seen. same _ _ (ap (λ c. onward (with_int x' d (pos c))) seen.refs))
-      effect_carried (Cnti d o) may = object o _ _ (λ n y y' e held was was' seen. same _ _ (ap (λ c. onward (with_int x' d (pos c))) seen.ints))
-      effect_carried (Freeze o) may = object o _ _ (λ n y y' e held was was' seen.
-          subst (λ b. EffectTo (cond (s.owner n.task == s.task) (Goes (onward x) (put_object store n (record y { mutable = false }))) (Traps Frozen)) (cond b (Goes (onward x') (put_object store' (name_to f n) (record y' { mutable = false }))) (Traps Frozen)))
-          (sym (S.owners n held))
-          (either (s.owner n.task == s.task) _ (Traps Frozen) _ (Traps Frozen) (put_with n y _ y' _ _ _ refl was was' (inr (inr (refl, refl)))) refl))
-      effect_carried (Cas d o k e v) may = object o _ _ (λ n y y' en held was was' seen.
-          place (length y.refs) (length y'.refs) k _ _ seen.refs (λ at e'. unless y y' _ _ seen.mutable (
-          let m = may false n at (refl, en, (length y.refs, e')) in
-          let found : same_name (flat (slice_get y'.refs at)) (ref_in x' e) ≡ same_name (flat (slice_get y.refs at)) (ref_in x e) =
-          ap₂ same_name (ap flat (seen.ref_at at m) ∙ flat_to (slice_get y.refs at)) (ref_carried x e) ∙ same_carried (flat (slice_get y.refs at)) (ref_in x e) in
-          subst (λ b. EffectTo
-          (cond (same_name (flat (slice_get y.refs at)) (ref_in x e)) (Goes (onward (with_int x d (pos 1))) (put_object store n (record y { refs = slice_set y.refs at (ref_in x v) }))) (Goes (onward (with_int x d (pos 0))) store))
+          let i = Newm d a b in
+          trap S i Size (counts_in s.field_limit (int_in x a) (int_in x b)) _ _ (λ n e.
+          new S i d _ _ (ap (λ rs. record { strand = strand_to f s.strand; mutable = true; refs = rs; ints = replicate n.1 (pos 0) }) (sym (none_map n.0))))
+      effect_carried (Pack d r k) may = new S (Pack d r k) d _ _ (ap (λ rs. record { strand = strand_to f s.strand; mutable = false; refs = rs; ints = take k x.ints }) (take_map (ref_to f) r x.refs))
+      effect_carried (Getr d o k) may =
+          let i = Getr d o k in
+          object S i o _ _ (λ n y y' e held was was' seen.
+          place S i (length y.refs) (length y'.refs) k _ _ seen.refs (λ at e'.
+          let m = may false n at (record { kind = refl; name = e; object = y; is = was; place = e'; mutable = λ z. absurd (false≢true z) }) in
+          subst (λ r. EffectTo i (read_effect s x store d (flat (slice_get y.refs at))) (read_effect s' x' store' d r)) (sym (ap flat (seen.ref_at at m) ∙ flat_to (slice_get y.refs at)))
+          (read S i d (flat (slice_get y.refs at)) (λ q e''. S.tests n q y at held was m e''))))
+      effect_carried (Geti d o k) may =
+          let i = Geti d o k in
+          object S i o _ _ (λ n y y' e held was was' seen.
+          place S i (length y.ints) (length y'.ints) k _ _ seen.ints (λ at e'.
+          let m = may true n at (record { kind = refl; name = e; object = y; is = was; place = e'; mutable = λ z. absurd (false≢true z) }) in
+          same S i _ _ (ap (λ w. onward (with_int x' d (unwrap_or w (pos 0)))) (seen.int_at at m))))
+      effect_carried (Putr o k v) may =
+          let i = Putr o k v in
+          object S i o _ _ (λ n y y' e held was was' seen.
+          place S i (length y.refs) (length y'.refs) k _ _ seen.refs (λ at e'. unless S i y y' _ _ seen.mutable (λ mutable.
+          put S i n y y' (SetRef at (ref_in x v)) _ _ _ refl (ap (λ r. record y' { refs = slice_set y'.refs at r }) (ref_carried x v)) was was'
+          (record { kind = refl; name = e; object = y; is = was; place = e'; mutable = λ z. mutable }))))
+      effect_carried (Puti o k v) may =
+          let i = Puti o k v in
+          object S i o _ _ (λ n y y' e held was was' seen.
+          place S i (length y.ints) (length y'.ints) k _ _ seen.ints (λ at e'. unless S i y y' _ _ seen.mutable (λ mutable.
+          put S i n y y' (SetNumber at (int_in x v)) _ _ _ refl refl was was'
+          (record { kind = refl; name = e; object = y; is = was; place = e'; mutable = λ z. mutable }))))
+      effect_carried (Cntr d o) may = let i = Cntr d o in object S i o _ _ (λ n y y' e held was was' seen. same S i _ _ (ap (λ c. onward (with_int x' d (pos c))) seen.refs))
+      effect_carried (Cnti d o) may = let i = Cnti d o in object S i o _ _ (λ n y y' e held was was' seen. same S i _ _ (ap (λ c. onward (with_int x' d (pos c))) seen.ints))
+      effect_carried (Freeze o) may =
+          let i = Freeze o in
+          object S i o _ _ (λ n y y' e held was was' seen.
+          subst (λ b. EffectTo i (cond (s.owner n.task == s.task) (Goes (onward x) (put_object store n (record y { mutable = false }))) (Traps Frozen)) (cond b (Goes (onward x') (put_object store' (name_to f n) (record y' { mutable = false }))) (Traps Frozen)))
+          (sym (S.owners n held)) (frozen o n y y' e was was' (s.owner n.task == s.task) refl))
+        where
+          frozen : (o : ℕ) (n : Name) (y y' : Object) → ref_in x o ≡ Some n → object_at store n ≡ Some y → object_at store' (name_to f n) ≡ Some y' → (b : Bool) → (s.owner n.task == s.task) ≡ b
+              → EffectTo (Freeze o) (cond b (Goes (onward x) (put_object store n (record y { mutable = false }))) (Traps Frozen)) (cond b (Goes (onward x') (put_object store' (name_to f n) (record y' { mutable = false }))) (Traps Frozen))
+          frozen o n y y' e was was' true own = put S (Freeze o) n y y' Freezes _ _ _ refl refl was was' (e, own)
+          frozen o n y y' e was was' false own = refl
+      effect_carried (Cas d o k w v) may =
+          let i = Cas d o k w v in
+          object S i o _ _ (λ n y y' en held was was' seen.
+          place S i (length y.refs) (length y'.refs) k _ _ seen.refs (λ at e'. unless S i y y' _ _ seen.mutable (λ mutable.
+          let r : Reach s x store false true o k false n at = record { kind = refl; name = en; object = y; is = was; place = e'; mutable = λ z. mutable } in
+          let found : same_name (flat (slice_get y'.refs at)) (ref_in x' w) ≡ same_name (flat (slice_get y.refs at)) (ref_in x w) =
+          ap₂ same_name (ap flat (seen.ref_at at (may false n at r)) ∙ flat_to (slice_get y.refs at)) (ref_carried x w) ∙ same_carried (flat (slice_get y.refs at)) (ref_in x w) in
+          subst (λ b. EffectTo i
+          (cond (same_name (flat (slice_get y.refs at)) (ref_in x w)) (Goes (onward (with_int x d (pos 1))) (put_object store n (record y { refs = slice_set y.refs at (ref_in x v) }))) (Goes (onward (with_int x d (pos 0))) store))
           (cond b (Goes (onward (with_int x' d (pos 1))) (put_object store' (name_to f n) (record y' { refs = slice_set y'.refs at (ref_in x' v) }))) (Goes (onward (with_int x' d (pos 0))) store'))) (sym found)
-          (either (same_name (flat (slice_get y.refs at)) (ref_in x e)) _ _ _ _ (put_ref n y y' at v _ _ refl was was') (same _ _ refl)))))
+          (swapped d o k w v n y y' at r was' (same_name (flat (slice_get y.refs at)) (ref_in x w)) refl))))
+        where
+          swapped : (d o k w v : ℕ) (n : Name) (y y' : Object) (at : ℕ) (r : Reach s x store false true o k false n at) → object_at store' (name_to f n) ≡ Some y'
+              → (b : Bool) → same_name (flat (slice_get r.object.refs at)) (ref_in x w) ≡ b
+              → EffectTo (Cas d o k w v)
+              (cond b (Goes (onward (with_int x d (pos 1))) (put_object store n (record r.object { refs = slice_set r.object.refs at (ref_in x v) }))) (Goes (onward (with_int x d (pos 0))) store))
+              (cond b (Goes (onward (with_int x' d (pos 1))) (put_object store' (name_to f n) (record y' { refs = slice_set y'.refs at (ref_in x' v) }))) (Goes (onward (with_int x' d (pos 0))) store'))
+          swapped d o k w v n y y' at r was' true e =
+              put S (Cas d o k w v) n r.object y' (SetRef at (ref_in x v)) _ _ _ refl (ap (λ q. record y' { refs = slice_set y'.refs at q }) (ref_carried x v)) r.is was' (r, e)
+          swapped d o k w v n y y' at r was' false e = same S (Cas d o k w v) _ _ refl
       effect_carried (Call a) may = refl
       effect_carried (Par a b) may = (refl, refl)
       effect_carried Ret may = tt

@@ -1,6 +1,7 @@
 pub mod Lists
 pub mod Carried
 pub mod Swaps
+pub mod Changed
 pub mod Effects
 pub mod Owners
 pub mod Follows

@@ -1,8 +1,7 @@
 -- A step of a renamed task is the renamed step.
-use Rattle.std.proofs.Common.{◌≡◌, ℕ, ℤ, ◌+◌, ◌-◌, ◌<◌, ◌≤◌, ◌==◌, Bool, true, false, cond, Option, Some, None, List, [], ◌∷◌, ◌++◌, length, map, nat_lt, slice_get, slice_set, inl, inr, refl, ap, sym, subst, ◌∙◌, arith}
+use Rattle.std.proofs.Common.{◌≡◌, ℕ, ℤ, ◌+◌, ◌-◌, ◌<◌, ◌≤◌, ◌==◌, Bool, true, false, cond, Option, Some, None, List, [], ◌∷◌, ◌++◌, length, map, nat_lt, slice_get, slice_set, refl, ap, sym, subst, ◌∙◌, arith}
 use Rattle.std.proofs.lemmas.Bool.{cond-true, cond-false}
 use Rattle.std.proofs.lemmas.List.{length-map}
-use Rattle.std.proofs.lemmas.Option.{same_Some}
 use Rattle.std.proofs.Math.Seq.{map-set}
 use Rattle.hh_lang.specs.declared.instr.Instr.{Instr}
 use Rattle.hh_lang.specs.declared.program.Line.{Line}
@@ -20,7 +19,8 @@ use Rattle.hh_model.specs.Step.{back_in, called, can_step, child, child_ended_by
 use Rattle.hh_model.specs.Tree.{Kept}
 use Rattle.renamed_tasks.specs.Renaming.{IsRenaming, or_none, ref_to, object_to, frame_to, task_to}
 use Rattle.renamed_tasks.specs.Alike.{AreAlike}
-use Rattle.renamed_tasks.proofs.Effects.{ChangeTo, EffectTo, Sees, SeenTo, SetsTo, TestTo, effect_carried, ref_carried, same_task, set_carried}
+use Rattle.renamed_tasks.proofs.Changed.{Change, Same, Grows, Edits, Edit, SetRef, SetNumber, Freezes, change_to, changed, edit_to, edited, put_in}
+use Rattle.renamed_tasks.proofs.Effects.{EffectTo, Sees, SeenTo, TestTo, effect_carried, ref_carried, same_task, set_carried}
 use Rattle.renamed_tasks.proofs.Lists.{front_map, got_map, last_map, push_map, set_to}
 use Rattle.renamed_tasks.proofs.Owners.{owner_to, test_to}
 use Rattle.renamed_tasks.proofs.Follows.{StoreTo, can_to, forks, halted, joins, kept_to, object_there, own, result_to, row_to, written}
@@ -60,15 +60,12 @@ module _ (p : ProgramText) (n : ℕ) (f g : ℕ → ℕ) (R : IsRenaming n f g) 
         tested None = tt
         tested (Some o) = test_to n f g R m m' K K' A o.strand s.strand
 
-    abbrev pub Changed : List (List Object) → List (List Object) → Type 0
-    Changed = ChangeTo f g R.back s m'.edges (owner_of m'.tasks) x.top m.store m'.store (λ b k i. Unit {0})
-
-    abbrev pub Acts : Effect → Effect → Type 0
+    abbrev pub Acts : Instr → Effect → Effect → Type 0
     Acts = EffectTo f g R.back s m'.edges (owner_of m'.tasks) x.top m.store m'.store (λ b k i. Unit {0})
 
-    pub acts : (instr : Instr) → Acts (effect s x.top m.store instr) (effect (setting m' (f t) (task_to f x)) (frame_to f x.top) m'.store instr)
+    pub acts : (instr : Instr) → Acts instr (effect s x.top m.store instr) (effect (setting m' (f t) (task_to f x)) (frame_to f x.top) m'.store instr)
     acts instr =
-        subst (λ lim. Acts (effect s x.top m.store instr) (effect (record { task = f t; strand = strand (f t) x.joins; field_limit = lim; edges = m'.edges; owner = owner_of m'.tasks }) (frame_to f x.top) m'.store instr)) (sym A.limit)
+        subst (λ lim. Acts instr (effect s x.top m.store instr) (effect (record { task = f t; strand = strand (f t) x.joins; field_limit = lim; edges = m'.edges; owner = owner_of m'.tasks }) (frame_to f x.top) m'.store instr)) (sym A.limit)
         (effect_carried f g R.back s m'.edges (owner_of m'.tasks) x.top m.store m'.store (λ b k i. Unit {0}) sees instr (λ b k i touches. tt))
 
     shift : (st st' a a' : List (List Object)) → st ≡ a → st' ≡ a' → StoreTo n f g R m m' A a a' → StoreTo n f g R m m' A st st'
@@ -81,24 +78,25 @@ module _ (p : ProgramText) (n : ℕ) (f g : ℕ → ℕ) (R : IsRenaming n f g) 
     rows_at : (u : ℕ) → row_of (slice_get m'.store (f u)) ≡ map (object_to f) (row_of (slice_get m.store u))
     rows_at u = ap row_of (A.objects u) ∙ row_to f (slice_get m.store u)
 
-    sets : (o o' y y' : Object) → o' ≡ object_to f o → SetsTo f g R.back s m'.edges (owner_of m'.tasks) x.top m.store m'.store (λ b k i. Unit {0}) o y o' y' → y' ≡ object_to f y
-    sets o o' y y' e (inl (at, v, h, h')) =
-        h' ∙ (ap (λ (w : Object). record w { refs = slice_set w.refs at (ref_to f v) }) e
-        ∙ (ap (λ rs. record (object_to f o) { refs = rs }) (sym (map-set (ref_to f) o.refs at v)) ∙ ap (object_to f) (sym h)))
-    sets o o' y y' e (inr (inl (at, k, h, h'))) = h' ∙ (ap (λ (w : Object). record w { ints = slice_set w.ints at k }) e ∙ ap (object_to f) (sym h))
-    sets o o' y y' e (inr (inr (h, h'))) = h' ∙ (ap (λ (w : Object). record w { mutable = false }) e ∙ ap (object_to f) (sym h))
+    edit_there : (e : Edit) (o : Object) → edited (edit_to f e) (object_to f o) ≡ object_to f (edited e o)
+    edit_there (SetRef at v) o = ap (λ rs. record (object_to f o) { refs = rs }) (sym (map-set (ref_to f) o.refs at v))
+    edit_there (SetNumber at k) o = refl
+    edit_there Freezes o = refl
 
-    pub store_to : (st st' : List (List Object)) → Changed st st' → StoreTo n f g R m m' A st st'
-    store_to st st' (inl (e, e')) = shift st st' m.store m'.store e e' A.objects
-    store_to st st' (inr (inl (o, e, e'))) =
-        shift st st' _ _ e e' (row_set t (row_of (slice_get m.store t) ++ o ∷ []) (row_of (slice_get m'.store (f t)) ++ object_to f o ∷ [])
-        (ap (λ w. w ++ object_to f o ∷ []) (rows_at t) ∙ push_map (object_to f) (row_of (slice_get m.store t)) o))
-    store_to st st' (inr (inr P)) =
-        let old : P.old' ≡ object_to f P.old = same_Some P.old' (object_to f P.old) (sym P.was' ∙ (object_there n f g R m m' A P.name ∙ ap (or_none (object_to f)) P.was)) in
-        let new : P.new' ≡ object_to f P.new = sets P.old P.old' P.new P.new' old P.sets in
-        shift st st' _ _ P.is P.is' (row_set P.name.task (slice_set (row_of (slice_get m.store P.name.task)) P.name.count P.new) (slice_set (row_of (slice_get m'.store (f P.name.task))) P.name.count P.new')
-        (ap (λ w. slice_set w P.name.count P.new') (rows_at P.name.task)
-        ∙ (ap (slice_set (map (object_to f) (row_of (slice_get m.store P.name.task))) P.name.count) new ∙ sym (map-set (object_to f) (row_of (slice_get m.store P.name.task)) P.name.count P.new))))
+    put_there : (row : List Object) (c : ℕ) (e : Edit) (o : Option Object) → put_in (map (object_to f) row) c (edit_to f e) (or_none (object_to f) o) ≡ map (object_to f) (put_in row c e o)
+    put_there row c e None = refl
+    put_there row c e (Some o) = ap (slice_set (map (object_to f) row) c) (edit_there e o) ∙ sym (map-set (object_to f) row c (edited e o))
+
+    change_there : (op : Change) → StoreTo n f g R m m' A (changed op t m.store) (changed (change_to f op) (f t) m'.store)
+    change_there Same = A.objects
+    change_there (Grows o) =
+        row_set t (row_of (slice_get m.store t) ++ o ∷ []) (row_of (slice_get m'.store (f t)) ++ object_to f o ∷ [])
+        (ap (λ w. w ++ object_to f o ∷ []) (rows_at t) ∙ push_map (object_to f) (row_of (slice_get m.store t)) o)
+    change_there (Edits k e) =
+        let row : List Object = row_of (slice_get m.store k.task) in
+        row_set k.task (put_in row k.count e (slice_get row k.count)) (put_in (row_of (slice_get m'.store (f k.task))) k.count (edit_to f e) (slice_get (row_of (slice_get m'.store (f k.task))) k.count))
+        (ap (λ w. put_in w k.count (edit_to f e) (slice_get w k.count)) (rows_at k.task)
+        ∙ (ap (put_in (map (object_to f) row) k.count (edit_to f e)) (got_map (object_to f) row k.count) ∙ put_there row k.count e (slice_get row k.count)))
 
     -- RETURNS
 
@@ -168,32 +166,32 @@ module _ (p : ProgramText) (n : ℕ) (f g : ℕ → ℕ) (R : IsRenaming n f g) 
 
     -- STEPS
 
-    pub follow_to : (line : ℕ) (e e' : Effect) → Acts e e' → Alike (follow m t x line e) (follow m' (f t) x' line e')
-    follow_to line (Goes a st) (Goes b st') h =
-        own n f g R m m' A t (record x { top = a }) (record x' { top = b }) st st' m.outputs m'.outputs (ap (λ w. record x' { top = w }) h.0) (store_to st st' h.1)
-    follow_to line (Prints k) (Prints l) h = own n f g R m m' A t (record x { top = onward x.top }) _ m.store m'.store (m.outputs ++ k ∷ []) (m'.outputs ++ l ∷ []) refl A.objects
-    follow_to line (Calls a) (Calls b) h =
+    pub follow_to : (line : ℕ) (i : Instr) (e e' : Effect) → Acts i e e' → Alike (follow m t x line e) (follow m' (f t) x' line e')
+    follow_to line i (Goes a st) (Goes b st') h =
+        own n f g R m m' A t (record x { top = a }) (record x' { top = b }) st st' m.outputs m'.outputs (ap (λ w. record x' { top = w }) h.1) (shift st st' _ _ h.2 h.3 (change_there h.0))
+    follow_to line i (Prints k) (Prints l) h = own n f g R m m' A t (record x { top = onward x.top }) _ m.store m'.store (m.outputs ++ k ∷ []) (m'.outputs ++ l ∷ []) refl A.objects
+    follow_to line i (Calls a) (Calls b) h =
         subst (λ c. Alike (called m t x a line) (called m' (f t) x' c line)) (sym h)
         (subst (λ k. Alike (called m t x a line) (cond (nat_lt (k + 1) frame_limit) (with_task m' (f t) (record x' { top = entry_frame a (frame_to f x.top); below = map (frame_to f) x.below ++ onward (frame_to f x.top) ∷ [] })) (ended_by m' (Trapped Depth (f t) line))))
         (sym (length-map x.below (frame_to f)))
         (either (nat_lt (length x.below + 1) frame_limit) _ _ _ _
         (written n f g R m m' A t (record x { top = entry_frame a x.top; below = x.below ++ onward x.top ∷ [] }) _ (ap (λ fs. record x' { top = entry_frame a (frame_to f x.top); below = fs }) (push_map (frame_to f) x.below (onward x.top))))
         (halted n f g R m m' A (Trapped Depth t line))))
-    follow_to line (Forks a b) (Forks c d) h =
+    follow_to line i (Forks a b) (Forks c d) h =
         subst (λ (w : ℕ × ℕ). Alike (forked m t x a b line) (forked m' (f t) x' w.0 w.1 line)) (λ j. (sym h.0 j, sym h.1 j))
         (either (nat_lt x.depth depth_limit) _ _ _ _
         (forks n f g R m m' A made rows rows' t x (record x { status = Waiting; top = onward x.top }) (child t (x.depth + 1) a x.top) (child t (x.depth + 1) b x.top) _ _ x.joins refl refl)
         (halted n f g R m m' A (Trapped Depth t line)))
-    follow_to line Returns Returns h = subst (λ o. Alike (returned m t x) (returned_to m' (f t) x' o)) (sym (last_map (frame_to f) x.below)) (by_frame (last_of x.below))
-    follow_to line (Traps a) (Traps b) h = subst (λ k. Alike (ended_by m (Trapped a t line)) (ended_by m' (Trapped k (f t) line))) (sym h) (halted n f g R m m' A (Trapped a t line))
-    follow_to line (Stops a) (Stops b) h =
+    follow_to line i Returns Returns h = subst (λ o. Alike (returned m t x) (returned_to m' (f t) x' o)) (sym (last_map (frame_to f) x.below)) (by_frame (last_of x.below))
+    follow_to line i (Traps a) (Traps b) h = subst (λ k. Alike (ended_by m (Trapped a t line)) (ended_by m' (Trapped k (f t) line))) (sym h) (halted n f g R m m' A (Trapped a t line))
+    follow_to line i (Stops a) (Stops b) h =
         subst (λ k. Alike (ended_by m (Entangled t (owner_of m.tasks a.task))) (ended_by m' (Entangled (f t) k)))
         (sym (ap (λ (w : Name). owner_of m'.tasks w.task) h ∙ owner_to n f g R m m' K K' A a.task)) (halted n f g R m m' A (Entangled t (owner_of m.tasks a.task)))
-    follow_to line _ _ h = absurd h
+    follow_to line i _ _ h = absurd h
 
     line_to : (o : Option Line) → Alike (stepped p m t x o) (stepped p m' (f t) x' o)
     line_to None = A
-    line_to (Some line) = follow_to line.number (effect s x.top m.store line.instr) _ (acts line.instr)
+    line_to (Some line) = follow_to line.number line.instr (effect s x.top m.store line.instr) _ (acts line.instr)
 
   pub step_to : Alike (step p m t) (step p m' (f t))
   step_to =
