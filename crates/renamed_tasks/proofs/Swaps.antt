@@ -26,42 +26,42 @@ side t = elim (cases_lt (t % 2) 1) [
 ]
 
 module _ (n : ℕ) (odd : n % 2 ≡ 1) where
-  abbrev q : ℕ → ℕ
+  abbrev pub q : ℕ → ℕ
   q t = swap n t
 
   -- WHERE A NUMBER GOES
 
-  at_low : (t : ℕ) → t < n → q t ≡ t
+  pub at_low : (t : ℕ) → t < n → q t ≡ t
   at_low t lt = cond-true (nat_lt t n) t (cond (nat_lt t (n + 2)) (t + 2) (cond (nat_lt t (n + 4)) (t - 2) t)) (lt-ltb t n lt)
 
   not_low : (t : ℕ) → n ≤ t → q t ≡ cond (nat_lt t (n + 2)) (t + 2) (cond (nat_lt t (n + 4)) (t - 2) t)
   not_low t ge = cond-false (nat_lt t n) t (cond (nat_lt t (n + 2)) (t + 2) (cond (nat_lt t (n + 4)) (t - 2) t)) (le-ltb t n ge)
 
-  at_first : (t : ℕ) → n ≤ t → t < n + 2 → q t ≡ t + 2
+  pub at_first : (t : ℕ) → n ≤ t → t < n + 2 → q t ≡ t + 2
   at_first t ge lt = not_low t ge ∙ cond-true (nat_lt t (n + 2)) (t + 2) (cond (nat_lt t (n + 4)) (t - 2) t) (lt-ltb t (n + 2) lt)
 
   not_first : (t : ℕ) → n + 2 ≤ t → q t ≡ cond (nat_lt t (n + 4)) (t - 2) t
   not_first t ge = not_low t (omega arith) ∙ cond-false (nat_lt t (n + 2)) (t + 2) (cond (nat_lt t (n + 4)) (t - 2) t) (le-ltb t (n + 2) ge)
 
-  at_second : (t : ℕ) → n + 2 ≤ t → t < n + 4 → q t ≡ t - 2
+  pub at_second : (t : ℕ) → n + 2 ≤ t → t < n + 4 → q t ≡ t - 2
   at_second t ge lt = not_first t ge ∙ cond-true (nat_lt t (n + 4)) (t - 2) t (lt-ltb t (n + 4) lt)
 
   at_high : (t : ℕ) → n + 4 ≤ t → q t ≡ t
   at_high t ge = not_first t (omega arith) ∙ cond-false (nat_lt t (n + 4)) (t - 2) t (le-ltb t (n + 4) ge)
 
-  abbrev Low : ℕ → Type 0
+  abbrev pub Low : ℕ → Type 0
   Low t = (t < n) × (q t ≡ t)
 
-  abbrev First : ℕ → Type 0
+  abbrev pub First : ℕ → Type 0
   First t = (n ≤ t) × (t < n + 2) × (q t ≡ t + 2)
 
-  abbrev Second : ℕ → Type 0
+  abbrev pub Second : ℕ → Type 0
   Second t = (n + 2 ≤ t) × (t < n + 4) × (q t ≡ t - 2)
 
-  abbrev High : ℕ → Type 0
+  abbrev pub High : ℕ → Type 0
   High t = (n + 4 ≤ t) × (q t ≡ t)
 
-  stands : (t : ℕ) → Low t ⊎ (First t ⊎ (Second t ⊎ High t))
+  pub stands : (t : ℕ) → Low t ⊎ (First t ⊎ (Second t ⊎ High t))
   stands t = elim (cases_lt t n) [
     | inl lt ↦ inl (lt, at_low t lt)
     | inr ge ↦ elim (cases_lt t (n + 2)) [

@@ -1,0 +1,15 @@
+pub mod StoreSteps
+pub mod Swapping
+pub mod Moves
+pub mod Apart
+pub mod Commuting
+pub mod Lows
+pub mod Forked
+pub mod Crossed
+pub mod Siblings
+pub mod SideBySide
+pub mod Accessed
+pub mod Beside
+pub mod Fields
+pub mod Leaving
+pub mod Commute
