@@ -4,16 +4,15 @@ use Rattle.std.proofs.lemmas.Bool.{cases_eq}
 use Rattle.std.proofs.lemmas.Option.{same_Some}
 use Rattle.listed.proofs.Members.{got_other, got_same}
 use Rattle.listed.specs.Space.{Space}
-use Rattle.run_trace.specs.declared.entry.Kind.TheVariants.{Ran}
-use Rattle.run_trace.specs.Entry.{Event}
 use Rattle.hh_model.specs.declared.data.State.{State as MachineState}
 use Rattle.hh_model.specs.declared.data.Task.{Task}
 use Rattle.hh_model.specs.Step.{child_ended_by, ended_task, is_running, parent_of, parents, result_of, with_task}
-use Rattle.heap_tree.specs.declared.state.State.TheVariants.{Ended}
-use Rattle.heap_tree.specs.Node.{Node, state_of as state_in_tree, with_state}
+use Rattle.run_trace.specs.declared.entry.Kind.TheVariants.{Ran}
+use Rattle.run_trace.specs.Entry.{Event}
 use Rattle.run_ledger.specs.declared.data.Ledger.{Ledger}
 use Rattle.run_ledger.specs.Heaps.{heap_of}
-use Rattle.task_machine.specs.declared.part.Private.{Private}
+use Rattle.heap_tree.specs.declared.state.State.TheVariants.{Ended}
+use Rattle.heap_tree.specs.Node.{Node, state_of as state_in_tree, with_state}
 use Rattle.ledger_steps.specs.Last.{EndsFirst, Ending, Runs, Splits}
 use Rattle.core_relation.specs.Value.{Home, Value}
 use Rattle.core_relation.specs.Changes.{EndsHome}
@@ -22,25 +21,26 @@ use Rattle.core_relation.specs.RanCounts.{RanCounts}
 use Rattle.core_relation.specs.Since.{OthersNotes}
 use Rattle.core_relation.specs.Whole.{StandsFor}
 use Rattle.core_relation.specs.Worker.{Fits as FitsValue}
-use Rattle.core_relation.proofs.RanWhole.{ran_stands_for}
-use Rattle.core_relation.proofs.With.{at_home, off_home}
-use Rattle.core_relation.proofs.Workers.{ran_leaves}
+use Rattle.core_relation.proofs.whole.RanWhole.{ran_stands_for}
+use Rattle.core_relation.proofs.changes.With.{at_home, off_home}
+use Rattle.core_relation.proofs.parts.Workers.{ran_leaves}
+use Rattle.task_machine.specs.declared.part.Private.{Private}
 use Rattle.shared_value.specs.declared.rest.Rest.{Rest}
 use Rattle.shared_value.specs.World.{World, accounts, begun_of, flat, frame_of, home_in, home_of, rest_at, totals_of, value_of}
 use Rattle.shared_value.specs.Measured.{AreMeasured, RestsAreMeasured}
 use Rattle.shared_value.specs.Stands.{HeapForm, IsWorld}
 use Rattle.shared_value.specs.Fits.{Fits, OthersFit, home_of_part, part_of}
-use Rattle.own_steps.specs.Alone.{IsShared, alone_event, ended_rest}
-use Rattle.child_tasks.specs.ChildEnds.{EndsChild, IsAtEnd, running_parent, where_running}
 use Rattle.shared_value.specs.Entered.{refused}
-use Rattle.child_tasks.proofs.ChildSteps as steps
-use Rattle.child_tasks.proofs.ChildSteps.{waits_stop}
-use Rattle.shared_value.proofs.Entering.{accounts_are, entered, entered_world, hand_is, held_apart, part_fits, unheld_before}
-use Rattle.child_tasks.proofs.LastEnds.{ends}
-use Rattle.own_steps.proofs.LastEntry as last
-use Rattle.own_steps.proofs.LastEntry.{last_event}
-use Rattle.shared_value.proofs.Now.{end_now, stands_now}
-use Rattle.shared_value.proofs.Taking.{made_by, node_by, node_off, put_there, worker_there}
+use Rattle.shared_value.proofs.EntryMade.{accounts_are, entered, entered_world, hand_is, held_apart, part_fits, unheld_before}
+use Rattle.shared_value.proofs.BeforeTheEnd.{end_now, stands_now}
+use Rattle.shared_value.proofs.TaskTaken.{made_by, node_by, node_off, put_there, worker_there}
+use Rattle.own_steps.specs.Alone.{IsShared, alone_event, ended_rest}
+use Rattle.own_steps.proofs.LastStepEntry as last
+use Rattle.own_steps.proofs.LastStepEntry.{last_event}
+use Rattle.child_tasks.specs.ChildEnds.{EndsChild, IsAtEnd, running_parent, where_running}
+use Rattle.child_tasks.proofs.ChildReturns as steps
+use Rattle.child_tasks.proofs.ChildReturns.{waits_stop}
+use Rattle.child_tasks.proofs.LastReturnKinds.{ends}
 
 module _ (w : World) (k : ℕ) (p : Private) (I : IsWorld w) (F : Fits w k p) (at_end : IsAtEnd w p) (free : refused w (alone_event k p) ≡ None) (open_ : state_in_tree w.tree (steps.other w k p I F at_end free) ≡ Some Ended → ⊥) where
   abbrev t : ℕ

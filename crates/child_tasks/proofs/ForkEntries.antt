@@ -7,24 +7,24 @@ use Rattle.listed.specs.Space.{Space}
 use Rattle.run_trace.specs.declared.entry.Kind.TheVariants.{Ran}
 use Rattle.run_trace.specs.Entry.{Event}
 use Rattle.heap_tree.specs.Node.{depth_of, forked}
-use Rattle.fork_join.specs.declared.forks.Child.{Child}
 use Rattle.remembered_set.specs.Sources.{Notes}
 use Rattle.write_barrier.specs.declared.sets.SetOf.{SetOf}
 use Rattle.write_barrier.specs.Stored.{content_of}
+use Rattle.inner_mark_gc.specs.Marks.{Marks}
+use Rattle.fork_join.specs.declared.forks.Child.{Child}
 use Rattle.task_machine.specs.declared.part.Private.{Private}
 use Rattle.shared_value.specs.declared.rest.Rest.{Rest}
-use Rattle.inner_mark_gc.specs.Marks.{Marks}
 use Rattle.shared_value.specs.World.{World, accounts, flat, rest_at}
 use Rattle.shared_value.specs.Stands.{IsWorld}
 use Rattle.shared_value.specs.Fits.{Fits, OthersFit}
-use Rattle.own_steps.specs.Alone.{alone_event}
-use Rattle.child_tasks.specs.Forks.{ForksOn, ForksTo, HomesFork, IsAtFork, SetsFork, begun_rest, keeping, nothing_noted, part_child, waiting_rest}
 use Rattle.shared_value.specs.Entered.{refused}
-use Rattle.child_tasks.proofs.Forked as forked_by
-use Rattle.child_tasks.proofs.Forked.{forked_goes, forked_others, forked_world}
-use Rattle.child_tasks.proofs.ForkSteps as steps
-use Rattle.own_steps.proofs.LastEntry.{last_event}
-use Rattle.shared_value.proofs.Taking.{item_there, put_there}
+use Rattle.shared_value.proofs.TaskTaken.{item_there, put_there}
+use Rattle.own_steps.specs.Alone.{alone_event}
+use Rattle.own_steps.proofs.LastStepEntry.{last_event}
+use Rattle.child_tasks.specs.Forks.{ForksOn, ForksTo, HomesFork, IsAtFork, SetsFork, begun_rest, keeping, nothing_noted, part_child, waiting_rest}
+use Rattle.child_tasks.proofs.ForkEntered as forked_by
+use Rattle.child_tasks.proofs.ForkEntered.{forked_goes, forked_others, forked_world}
+use Rattle.child_tasks.proofs.NextStepForks as steps
 
 -- ---- THE HOMES, as they are put one after another
 module _ (homes : List (Option Rest)) (p : Private) (made : p.task < length homes) (x y z : Option Rest) where

@@ -7,37 +7,37 @@ use Rattle.listed.proofs.Members.{got_within}
 use Rattle.listed.specs.Space.{Space}
 use Rattle.run_trace.specs.Entry.{Event}
 use Rattle.chunk_pool.specs.Chunks.{Chunks}
+use Rattle.task_frames.specs.Stack.{Stack}
 use Rattle.heap_tree.specs.declared.state.State.{State}
 use Rattle.heap_tree.specs.declared.state.State.TheVariants.{Ended, Waiting}
 use Rattle.heap_tree.specs.Node.{Node, parent_of as parent_in_tree, state_of as state_in_tree, with_state}
 use Rattle.heap_tree.specs.Pairs.{is_left, sibling}
 use Rattle.heap_tree.proofs.ChangeLemmas.{states_change}
 use Rattle.remembered_set.specs.Sources.{Notes, lifted}
-use Rattle.fork_join.specs.declared.sides.EndedChild.{EndedChild}
-use Rattle.fork_join.specs.Joined.{AreRelabelled, HasRoom, HaveEnded, Joins, joined_nodes, with_results}
-use Rattle.task_frames.specs.Stack.{Stack}
 use Rattle.write_barrier.specs.declared.sets.SetOf.{SetOf}
 use Rattle.write_barrier.specs.Stored.{content_at}
+use Rattle.fork_join.specs.declared.sides.EndedChild.{EndedChild}
+use Rattle.fork_join.specs.Joined.{AreRelabelled, HasRoom, HaveEnded, Joins, joined_nodes, with_results}
 use Rattle.task_machine.specs.declared.part.Private.{Private}
 use Rattle.shared_value.specs.declared.rest.Rest.{Rest}
 use Rattle.shared_value.specs.declared.rest.Work.TheVariants.{Calls}
 use Rattle.shared_value.specs.World.{World, rest_at}
 use Rattle.shared_value.specs.Stands.{IsWorld}
 use Rattle.shared_value.specs.Fits.{Fits, IsAtWork}
+use Rattle.shared_value.specs.Entered.{refused}
+use Rattle.shared_value.proofs.BeforeTheEnd.{stands_now}
+use Rattle.shared_value.proofs.TaskTaken.{item_there, told}
 use Rattle.own_steps.specs.Alone.{alone_event}
 use Rattle.child_tasks.specs.ChildEnds.{EndsChild, IsAtEnd}
-use Rattle.shared_value.specs.Entered.{refused}
 use Rattle.child_tasks.specs.Forks.{nothing_noted}
 use Rattle.child_tasks.specs.Joins.{AreSides, CanJoin, HasPlaces, HomesJoin, IsRestOf, SetsJoin, chunk_count, left_of, other_child, own_child, parent_side, right_of, sources_at}
-use Rattle.child_tasks.proofs.ChildSteps as steps
-use Rattle.child_tasks.proofs.ForkSteps.{tree_parents}
+use Rattle.child_tasks.proofs.ChildReturns as steps
+use Rattle.child_tasks.proofs.NextStepForks.{tree_parents}
 use Rattle.child_tasks.proofs.JoinTree.{HasCalls}
-use Rattle.child_tasks.proofs.JoinSides as both_sides
-use Rattle.child_tasks.proofs.JoinSteps as before
-use Rattle.child_tasks.proofs.Joined as joined
-use Rattle.shared_value.proofs.Now.{stands_now}
-use Rattle.shared_value.proofs.Taking.{item_there, told}
-use Rattle.child_tasks.proofs.Children.{both, count_of, each, in_pairs, right_next, sides, waits_in}
+use Rattle.child_tasks.proofs.JoinedHomes as both_sides
+use Rattle.child_tasks.proofs.SiblingReturned as before
+use Rattle.child_tasks.proofs.JoinEntered as joined
+use Rattle.child_tasks.proofs.TwoChildren.{both, count_of, each, in_pairs, right_next, sides, waits_in}
 
 none_some : {A B : Type 0} {x : A} → ◌≡◌ {A = Option A} None (Some x) → B
 none_some e = absurd cc

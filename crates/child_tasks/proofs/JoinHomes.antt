@@ -5,33 +5,33 @@ use Rattle.std.proofs.lemmas.Bool.{cases_Bool, false≢true}
 use Rattle.std.proofs.lemmas.List.{map-append}
 use Rattle.std.proofs.lemmas.Option.{same_Some}
 use Rattle.listed.proofs.Members.{any_from_in, contains_from_in, in_append_cases, in_append_left, in_append_right, in_from_any, in_from_contains}
+use Rattle.run_ledger.specs.declared.data.Ledger.{Ledger}
 use Rattle.object_layout.specs.declared.word.Addr.{Addr}
 use Rattle.object_layout.specs.Chunks.{has_chunk}
 use Rattle.object_layout.specs.Content.{Content}
 use Rattle.object_layout.proofs.Owning.{found_any}
-use Rattle.alloc_path.specs.Heap.{Heap, counted, merged, room_of, with_places}
-use Rattle.alloc_path.specs.View.{Level}
 use Rattle.chunk_pool.specs.declared.pool.Held.{Held}
 use Rattle.chunk_pool.specs.Chunks.{Chunks, held_at, owner_of}
+use Rattle.alloc_path.specs.Heap.{Heap, counted, merged, room_of, with_places}
+use Rattle.alloc_path.specs.View.{Level}
+use Rattle.task_frames.specs.Stack.{Stack}
 use Rattle.remembered_set.specs.declared.remembered.Source.{Source as Noticed}
 use Rattle.remembered_set.specs.Sources.{lifted}
 use Rattle.remembered_set.proofs.LiftLemmas.{lifted_are_there}
+use Rattle.write_barrier.specs.Stored.{Content as NotedOf}
 use Rattle.fork_join.specs.Joined.{AreRelabelled, with_results as with_both}
 use Rattle.fork_join.proofs.Owners.{joined_are_owned}
-use Rattle.task_frames.specs.Stack.{Stack}
-use Rattle.run_ledger.specs.declared.data.Ledger.{Ledger}
 use Rattle.ledger_steps.specs.Accounts.{Rests, own}
 use Rattle.core_relation.specs.Value.{Chunk, Home, In, Source, Value, sources}
 use Rattle.core_relation.specs.Changes.{IsLifted, JoinsHomes, top_with_results}
 use Rattle.core_relation.specs.Stands.{Stands}
-use Rattle.core_relation.proofs.Members.{in_chunk, in_map, map_in}
+use Rattle.core_relation.proofs.objects.Members.{in_chunk, in_map, map_in}
 use Rattle.shared_value.specs.declared.rest.Work.{Work}
 use Rattle.shared_value.specs.declared.rest.Work.TheVariants.{Calls, Result}
 use Rattle.shared_value.specs.Objects.{chunk_of, chunks_of}
-use Rattle.write_barrier.specs.Stored.{Content as NotedOf}
-use Rattle.child_tasks.specs.Joins.{sources_by}
-use Rattle.child_tasks.proofs.Notings.{noted_of}
 use Rattle.shared_value.specs.World.{home_by, source_of}
+use Rattle.child_tasks.specs.Joins.{sources_by}
+use Rattle.child_tasks.proofs.SetsNoted.{noted_of}
 
 -- ---- CHUNKS BY NUMBER
 

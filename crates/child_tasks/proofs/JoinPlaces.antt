@@ -9,10 +9,10 @@ use Rattle.alloc_path.specs.View.{Level}
 use Rattle.heap_tree.specs.Pairs.{sibling}
 use Rattle.write_barrier.specs.declared.sets.SetOf.{SetOf}
 use Rattle.write_barrier.specs.Stored.{content_at, content_of}
-use Rattle.task_machine.specs.declared.part.Private.{Private}
 use Rattle.core_relation.specs.Value.{Home, Noted, Value}
 use Rattle.core_relation.specs.Whole.{StandsForAll}
 use Rattle.core_relation.specs.Worker.{Fits as FitsValue}
+use Rattle.task_machine.specs.declared.part.Private.{Private}
 use Rattle.shared_value.specs.declared.rest.Rest.{Rest}
 use Rattle.shared_value.specs.declared.rest.Work.{Work}
 use Rattle.shared_value.specs.declared.rest.Work.TheVariants.{Calls, Result}
@@ -23,7 +23,7 @@ use Rattle.shared_value.specs.Fits.{Fits, part_of}
 use Rattle.own_steps.specs.Alone.{alone_event}
 use Rattle.child_tasks.specs.ChildEnds.{EndsChild}
 use Rattle.child_tasks.specs.Joins.{HasPlaces, IsSameRest, SameButPlaces, chunk_count, sources_at, sources_by}
-use Rattle.child_tasks.proofs.Notings.{noted_by, noted_of}
+use Rattle.child_tasks.proofs.SetsNoted.{noted_by, noted_of}
 
 same_home : (h : Heap) (view : List Level) (n slots spare : ℕ) (x : Work) → home_by (with_places h slots spare) view n x ≡ home_by h view n x
 same_home h view n slots spare (Calls s) = refl

@@ -4,20 +4,20 @@ use Rattle.std.proofs.lemmas.Bool.{cases_eq, false≢true}
 use Rattle.std.proofs.lemmas.Option.{same_Some}
 use Rattle.std.specs.Prelude.{All}
 use Rattle.std.proofs.lemmas.List.Elements.{All-cons, All-nil}
-use Rattle.core_relation.specs.Value.{In}
 use Rattle.hh_model.specs.declared.data.Name.{Name}
 use Rattle.hh_model.specs.declared.data.State.{State as MachineState}
 use Rattle.hh_model.specs.declared.data.Status.{Status}
 use Rattle.hh_model.specs.declared.data.Status.TheVariants.{Running, Waiting as WaitingOf, Ended as EndedOf, Joined as JoinedOf}
 use Rattle.hh_model.specs.declared.data.Task.{Task}
 use Rattle.hh_model.specs.Step.{is_over, is_waiting, kept_by, result_in, waits}
+use Rattle.object_layout.specs.declared.word.Addr.{Addr}
+use Rattle.alloc_path.specs.Heap.{Heap, room_of}
+use Rattle.alloc_path.specs.View.{Level}
+use Rattle.task_frames.specs.Stack.{Stack}
 use Rattle.heap_tree.specs.declared.state.State.TheVariants.{Ended, Joined, Ready}
 use Rattle.heap_tree.specs.Node.{Node, with_state}
 use Rattle.fork_join.specs.Joined.{joined_nodes}
-use Rattle.alloc_path.specs.Heap.{Heap, room_of}
-use Rattle.alloc_path.specs.View.{Level}
-use Rattle.object_layout.specs.declared.word.Addr.{Addr}
-use Rattle.task_frames.specs.Stack.{Stack}
+use Rattle.core_relation.specs.Value.{In}
 use Rattle.core_relation.specs.Reads.{HoldsRead, TaskIsRead}
 use Rattle.core_relation.specs.RanCounts.{node_then}
 use Rattle.core_relation.specs.Whole.{Node as SeenNode, State as SeenState, HasEnded, HasJoined, Ready as IsReady}
@@ -25,7 +25,7 @@ use Rattle.shared_value.specs.declared.rest.Work.{Work}
 use Rattle.shared_value.specs.declared.rest.Work.TheVariants.{Calls, Result}
 use Rattle.shared_value.specs.declared.rest.Rest.{Rest}
 use Rattle.shared_value.specs.World.{home_by, home_in, home_of, node_of}
-use Rattle.shared_value.proofs.Taking.{made_by, node_by, node_off}
+use Rattle.shared_value.proofs.TaskTaken.{made_by, node_by, node_off}
 
 -- ---- THE TREE
 

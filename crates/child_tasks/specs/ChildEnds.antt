@@ -10,8 +10,8 @@ use Rattle.run_ledger.specs.Steps.{has_no_caller}
 use Rattle.task_machine.specs.declared.part.Private.{Private}
 use Rattle.shared_value.specs.World.{World, accounts}
 use Rattle.shared_value.specs.Fits.{OthersFit}
-use Rattle.own_steps.specs.Alone.{alone_event, machine_after}
 use Rattle.shared_value.specs.Entered.{Enters}
+use Rattle.own_steps.specs.Alone.{alone_event, machine_after}
 
 -- ---- WHEN IT COMES
 

@@ -1,8 +1,5 @@
 -- An entry of a part's fresh steps and a fork.
 use Rattle.std.specs.Prelude.{◌≡◌, ◌≢◌, ◌≤◌, ℕ, ◌+◌, Bool, true, false, Option, Some, None, List, [], length, option_map, slice_get}
-use Rattle.alloc_path.specs.View.{view_below}
-use Rattle.fork_join.specs.declared.forks.Child.{Child}
-use Rattle.fork_join.specs.Forked.{new_child}
 use Rattle.hh_lang.specs.declared.instr.Instr.{Instr}
 use Rattle.hh_lang.specs.declared.instr.Instr.TheVariants.{Par}
 use Rattle.hh_lang.specs.declared.program.Line.{Line}
@@ -10,18 +7,21 @@ use Rattle.hh_lang.specs.Form.{ProgramText}
 use Rattle.hh_model.specs.declared.data.Task.{Task}
 use Rattle.hh_model.specs.Step.{fetched}
 use Rattle.run_ledger.specs.Steps.{task_steps}
+use Rattle.alloc_path.specs.View.{view_below}
 use Rattle.task_frames.specs.Stack.{with_next}
-use Rattle.task_machine.specs.declared.part.Private.{Private}
 use Rattle.write_barrier.specs.declared.sets.SetOf.{SetOf}
 use Rattle.write_barrier.specs.Stored.{Content, content_at}
-use Rattle.child_tasks.specs.declared.fork.Forking.{Forking}
-use Rattle.child_tasks.specs.declared.fork.Forking.TheVariants.{Forked, Over}
+use Rattle.fork_join.specs.declared.forks.Child.{Child}
+use Rattle.fork_join.specs.Forked.{new_child}
+use Rattle.task_machine.specs.declared.part.Private.{Private}
 use Rattle.shared_value.specs.declared.rest.Rest.{Rest}
 use Rattle.shared_value.specs.declared.rest.Work.TheVariants.{Calls}
 use Rattle.shared_value.specs.World.{World, accounts, rest_at}
 use Rattle.shared_value.specs.Fits.{OthersFit}
-use Rattle.own_steps.specs.Alone.{HaltsAlone, alone_event, machine_after}
 use Rattle.shared_value.specs.Entered.{Enters}
+use Rattle.own_steps.specs.Alone.{HaltsAlone, alone_event, machine_after}
+use Rattle.child_tasks.specs.declared.fork.Forking.{Forking}
+use Rattle.child_tasks.specs.declared.fork.Forking.TheVariants.{Forked, Over}
 
 -- ---- WHEN IT COMES
 

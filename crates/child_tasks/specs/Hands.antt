@@ -2,9 +2,9 @@
 use Rattle.std.specs.Prelude.{◌≡◌, ◌≢◌, ℕ, Option, Some, None, List, slice_set}
 use Rattle.run_ledger.specs.Heaps.{heap_of}
 use Rattle.core_relation.specs.Whole.{handed}
+use Rattle.shared_value.specs.World.{World, accounts}
 use Rattle.child_tasks.specs.declared.fork.Forking.{Forking}
 use Rattle.child_tasks.specs.declared.fork.Forking.TheVariants.{Forked, Over}
-use Rattle.shared_value.specs.World.{World, accounts}
 
 -- the worker holds no task; once the run is done the root is handed back
 abbrev pub HoldsNone : World → ℕ → Type 0

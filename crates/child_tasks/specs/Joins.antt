@@ -2,21 +2,21 @@
 use Rattle.std.specs.Prelude.{◌≡◌, ◌≢◌, ◌⊎◌, ℕ, ℤ, pos, ◌+◌, ◌≤◌, Bool, false, if◌then◌else◌, Option, Some, None, List, [], IfSome, length, slice_get}
 use Rattle.object_layout.specs.declared.word.Addr.{Addr}
 use Rattle.object_layout.specs.Content.{Content}
+use Rattle.chunk_pool.specs.Chunks.{Chunks}
 use Rattle.alloc_path.specs.Heap.{AreApart, Heap, merged, with_places}
+use Rattle.task_frames.specs.Stack.{Stack}
 use Rattle.heap_tree.specs.Pairs.{sibling}
+use Rattle.heap_tree.specs.Node.{Node}
 use Rattle.remembered_set.specs.declared.remembered.Source.{Source}
 use Rattle.remembered_set.specs.Sources.{Notes, lifted}
+use Rattle.write_barrier.specs.declared.sets.SetOf.{SetOf}
+use Rattle.write_barrier.specs.Stored.{Content as Noted, content_at}
 use Rattle.fork_join.specs.Forked.{no_heap}
-use Rattle.chunk_pool.specs.Chunks.{Chunks}
-use Rattle.heap_tree.specs.Node.{Node}
 use Rattle.fork_join.specs.declared.sides.EndedChild.{EndedChild}
 use Rattle.fork_join.specs.declared.sides.Side.{Side}
 use Rattle.fork_join.specs.Joined.{AreInUse, HasRoom, HaveEnded}
-use Rattle.task_frames.specs.Stack.{Stack}
 use Rattle.task_machine.specs.declared.part.Private.{Private}
 use Rattle.task_machine.specs.Plan.{int_of, ref_of}
-use Rattle.write_barrier.specs.declared.sets.SetOf.{SetOf}
-use Rattle.write_barrier.specs.Stored.{Content as Noted, content_at}
 use Rattle.shared_value.specs.declared.rest.Rest.{Rest}
 use Rattle.shared_value.specs.declared.rest.Work.{Work}
 use Rattle.shared_value.specs.declared.rest.Work.TheVariants.{Calls, Result}

@@ -1,11 +1,11 @@
 // What goes with the root before the first entry.
 
 ghost use Rattle.std.specs.Prelude.{◌≡◌, ◌∷◌, [], IfOk, None, Some, replicate};
-ghost use Rattle.child_tasks.specs.Forks.{nothing_noted};
-ghost use Rattle.shared_value.specs.World.{first_rest};
-ghost use Rattle.shared_value.specs.declared.rest.Rest.{Rest as RestOf};
 ghost use Rattle.write_barrier.specs.Stored.{content_of};
 ghost use Rattle.write_barrier.specs.declared.sets.SetOf.{SetOf as Set};
+ghost use Rattle.shared_value.specs.World.{first_rest};
+ghost use Rattle.shared_value.specs.declared.rest.Rest.{Rest as RestOf};
+ghost use Rattle.child_tasks.specs.Forks.{nothing_noted};
 
 use alloc_path::{LeafHeap, View};
 use hh_lang::Program;

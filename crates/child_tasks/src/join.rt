@@ -1,16 +1,16 @@
 // What a join takes out of the shared value, and the places that it needs.
 
 ghost use Rattle.std.specs.Prelude.{◌≡◌, ◌<◌, ◌+◌, ◌^◌, ◌↔◌, IsTrue, OnOk, IfOk, None, Some, slice_set, ◌≢◌, ◌≤◌, ◌++◌, ℕ, IfSome, [], false, length, slice_get};
+ghost use Rattle.task_frames.specs.Stack.{Stack};
 ghost use Rattle.heap_tree.specs.Pairs.{sibling, is_left};
+ghost use Rattle.write_barrier.specs.Stored.{content_at};
 ghost use Rattle.fork_join.specs.Forked.{no_heap};
 ghost use Rattle.fork_join.specs.Joined.{joined_nodes, with_results, AreRelabelled, Joins};
 ghost use Rattle.shared_value.specs.Fits.{IsAtWork};
-ghost use Rattle.child_tasks.specs.Forks.{nothing_noted};
-ghost use Rattle.child_tasks.specs.Joins.{chunk_count, left_of, other_child, own_child, parent_side, right_of, sources_at, work_result, CanJoin, IsRestOf, IsSameRest};
-ghost use Rattle.task_frames.specs.Stack.{Stack};
 ghost use Rattle.shared_value.specs.World.{rest_at};
 ghost use Rattle.shared_value.specs.declared.rest.Rest.{Rest as RestOf};
-ghost use Rattle.write_barrier.specs.Stored.{content_at};
+ghost use Rattle.child_tasks.specs.Forks.{nothing_noted};
+ghost use Rattle.child_tasks.specs.Joins.{chunk_count, left_of, other_child, own_child, parent_side, right_of, sources_at, work_result, CanJoin, IsRestOf, IsSameRest};
 
 use alloc_path::{LeafHeap, View};
 use chunk_pool::Pool;

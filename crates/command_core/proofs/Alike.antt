@@ -1,22 +1,22 @@
 -- `replay` and `model` write the same.
 use Rattle.std.proofs.Common.{◌≡◌, ◌∙◌, ℕ, List, [], ◌∷◌, Bool, true, false, ap, ap₂, sym, subst, length}
 use Rattle.std.specs.Prelude.{Option, Some, None, nat_le, unwrap_or}
+use Rattle.text_lines.specs.Lines.{lines_of}
 use Rattle.hh_lang.specs.Form.{ProgramText}
 use Rattle.run_trace.specs.Entry.{Event}
 use Rattle.run_trace.specs.Settings.{Limits}
 use Rattle.run_trace.specs.Trace.{AreTraceLines}
 use Rattle.run_trace.specs.declared.settings.Version.{Version}
 use Rattle.run_trace.specs.declared.trace.Trace.{Trace}
-use Rattle.run_ledger.specs.declared.data.RefusedAt.{RefusedAt}
-use Rattle.run_ledger.specs.declared.data.RunEnd.{RunEnd}
-use Rattle.run_ledger.specs.Journals.{end_of, refused_as_run}
-use Rattle.run_ledger.specs.Text.{out_text}
-use Rattle.text_lines.specs.Lines.{lines_of}
 use Rattle.trace_input.specs.declared.input.InputFault.{InputFault}
 use Rattle.trace_input.specs.declared.input.InputFault.TheVariants.{Source, BadLine}
 use Rattle.trace_input.specs.declared.input.TraceInput.{TraceInput}
 use Rattle.trace_input.specs.Cut.{trace_lines}
 use Rattle.trace_input.specs.Input.{IsInput, input_fault}
+use Rattle.run_ledger.specs.declared.data.RefusedAt.{RefusedAt}
+use Rattle.run_ledger.specs.declared.data.RunEnd.{RunEnd}
+use Rattle.run_ledger.specs.Journals.{end_of, refused_as_run}
+use Rattle.run_ledger.specs.Text.{out_text}
 use Rattle.command_line.specs.declared.line.Options.{Options}
 use Rattle.command_core.specs.declared.answer.Status.{Status}
 use Rattle.command_core.specs.declared.answer.Answer.{Answer}

@@ -2,12 +2,12 @@
 use Rattle.std.proofs.Common.{◌≡◌, ◌∙◌, ◌++◌, ◌∷◌, ℕ, List, Option, Some, true, refl, sym, ap, subst}
 use Rattle.listed.proofs.Members.{contains_from_in, in_from_contains}
 use Rattle.hh_lang.specs.Form.{IsProgram, ProgramText}
-use Rattle.run_trace.specs.Entry.{Event}
-use Rattle.run_trace.specs.Settings.{Limits, field_limit}
 use Rattle.hh_model.specs.declared.data.State.{State as Machine}
 use Rattle.hh_model.specs.Effect.{object_at}
 use Rattle.hh_model.specs.Step.{run}
 use Rattle.hh_model.proofs.Stopped.{reads_are_decided}
+use Rattle.run_trace.specs.Entry.{Event}
+use Rattle.run_trace.specs.Settings.{Limits, field_limit}
 use Rattle.run_ledger.specs.declared.data.Ledger.{Ledger}
 use Rattle.run_ledger.specs.Heaps.{heap_of, held_in}
 use Rattle.run_ledger.specs.Journals.{IsPrefix, is_legal, ledger_of, tasks_of}
@@ -18,7 +18,7 @@ use Rattle.ledger_steps.specs.Accounts.{Rests}
 use Rattle.core_relation.specs.Stands.{HomeStands}
 use Rattle.core_relation.specs.Value.{In, Value}
 use Rattle.core_relation.specs.Whole.{handed}
-use Rattle.core_relation.proofs.Members.{held_object, object_held}
+use Rattle.core_relation.proofs.objects.Members.{held_object, object_held}
 use Rattle.shared_value.specs.Stands.{IsWorld}
 use Rattle.shared_value.specs.World.{World, accounts, value_of, without_journal}
 use Rattle.heap_reading.proofs.KeptNames.{handed_held}

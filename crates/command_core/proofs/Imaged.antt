@@ -4,20 +4,20 @@ use Rattle.std.specs.Prelude.{Option, Some, None, nat_le}
 use Rattle.hh_lang.specs.Form.{ProgramText}
 use Rattle.run_trace.specs.Entry.{Event}
 use Rattle.run_trace.specs.Settings.{Limits}
-use Rattle.run_ledger.specs.declared.data.RunEnd.{RunEnd}
-use Rattle.run_ledger.specs.declared.data.RefusedAt.{RefusedAt}
-use Rattle.run_ledger.specs.Journals.{refused_as_run}
-use Rattle.run_ledger.specs.Text.{refused_line}
 use Rattle.trace_input.specs.declared.input.InputFault.{InputFault}
 use Rattle.trace_input.specs.declared.input.InputFault.TheVariants.{Source as SourceFault, BadLine}
 use Rattle.trace_input.specs.declared.input.TraceInput.{TraceInput}
 use Rattle.trace_input.specs.Input.{input_fault}
+use Rattle.run_ledger.specs.declared.data.RunEnd.{RunEnd}
+use Rattle.run_ledger.specs.declared.data.RefusedAt.{RefusedAt}
+use Rattle.run_ledger.specs.Journals.{refused_as_run}
+use Rattle.run_ledger.specs.Text.{refused_line}
 use Rattle.shared_value.specs.World.{World, accounts}
 use Rattle.shared_value.specs.Stands.{IsWorld}
-use Rattle.heap_image.specs.Text.{text_of}
-use Rattle.heap_image.proofs.Faultless.{sound_is_faultless}
 use Rattle.image_check.specs.declared.cause.Fault.{Fault}
 use Rattle.image_check.specs.Fault.{image_fault, image_limit, objects_in}
+use Rattle.heap_image.specs.Text.{text_of}
+use Rattle.heap_image.proofs.Faultless.{sound_is_faultless}
 use Rattle.command_core.specs.declared.answer.Status.{Status}
 use Rattle.command_core.specs.declared.answer.Status.TheVariants.{Done, Trace}
 use Rattle.command_core.specs.declared.answer.Answer.{Answer}

@@ -1,10 +1,11 @@
 -- What is answered of runs.
 use Rattle.std.proofs.Common.{◌∙◌, ◌≡◌, ◌+◌, ◌++◌, ℕ, Bool, List, [], true, true≢false, ap, ap₂, refl, sym, subst, append-nil, length}
 use Rattle.std.specs.Prelude.{Option, Some, None, false}
-use Rattle.hh_model.specs.declared.data.State.{State}
 use Rattle.hh_lang.specs.Form.{ProgramText}
+use Rattle.hh_model.specs.declared.data.State.{State}
 use Rattle.run_trace.specs.Entry.{Event}
 use Rattle.run_trace.specs.Settings.{Limits}
+use Rattle.trace_input.specs.declared.input.TraceInput.{TraceInput}
 use Rattle.run_ledger.specs.declared.data.RunEnd.{RunEnd}
 use Rattle.run_ledger.specs.declared.data.RefusedAt.{RefusedAt}
 use Rattle.run_ledger.specs.Journals.{IsPrefix, end_of, first_refused, is_legal, machine_of, or_short, refused_as_run}
@@ -15,11 +16,10 @@ use Rattle.run_ledger.proofs.Machine.{machine_is_run}
 use Rattle.run_report.specs.Written.{trace_part}
 use Rattle.shared_value.specs.World.{World, accounts, without_journal}
 use Rattle.shared_value.specs.Stands.{IsWorld}
-use Rattle.trace_input.specs.declared.input.TraceInput.{TraceInput}
-use Rattle.command_line.specs.declared.line.Options.{Options}
 use Rattle.worker_run.specs.declared.end.Finish.{Finish}
 use Rattle.worker_run.specs.declared.end.Finish.TheVariants.{Ended, NoMemory}
 use Rattle.worker_run.specs.Outcomes.{IsRun, finish_of}
+use Rattle.command_line.specs.declared.line.Options.{Options}
 use Rattle.command_core.specs.declared.answer.Answer.{Answer}
 use Rattle.command_core.specs.declared.answer.Status.TheVariants.{Trace}
 use Rattle.command_core.specs.declared.wanted.Wanted.{Wanted}

@@ -3,16 +3,16 @@ use Rattle.std.proofs.Common.{◌≡◌, ◌<◌, ◌≤◌, ℕ, List, true, fa
 use Rattle.std.specs.Prelude.{Option, Some, Err, nat_le}
 use Rattle.std.proofs.lemmas.Bool.{le-leb, lt-leb}
 use Rattle.hh_lang.specs.Form.{ProgramText}
+use Rattle.program_reader.specs.declared.cause.Refused.{Refused}
+use Rattle.program_reader.specs.Program.{reading_of}
+use Rattle.program_make.specs.Text.{made_text}
 use Rattle.run_trace.specs.Entry.{Event}
 use Rattle.run_trace.specs.Settings.{Limits}
+use Rattle.trace_input.specs.declared.input.TraceInput.{TraceInput}
 use Rattle.run_ledger.specs.declared.data.RunEnd.{RunEnd}
 use Rattle.run_ledger.specs.declared.data.RefusedAt.{RefusedAt}
 use Rattle.run_ledger.specs.Journals.{end_of, refused_as_run}
 use Rattle.run_ledger.specs.Text.{out_text}
-use Rattle.program_reader.specs.declared.cause.Refused.{Refused}
-use Rattle.program_reader.specs.Program.{reading_of}
-use Rattle.program_make.specs.Text.{made_text}
-use Rattle.trace_input.specs.declared.input.TraceInput.{TraceInput}
 use Rattle.command_line.specs.declared.line.Options.{Options}
 use Rattle.command_core.specs.declared.answer.Status.{Status}
 use Rattle.command_core.specs.declared.answer.Status.TheVariants.{Done}

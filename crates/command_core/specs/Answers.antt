@@ -2,35 +2,35 @@
 use Rattle.std.specs.Prelude.{◌≡◌, ◌+◌, ℕ, true, false, Bool, Option, Some, None, List, [], ◌∷◌, Result, Ok, Err, length, nat_le, codes}
 use Rattle.std.specs.Fmt.{decimal}
 use Rattle.hh_lang.specs.Form.{ProgramText}
-use Rattle.run_trace.specs.Settings.{Limits, field_limit, usual_limits}
-use Rattle.run_trace.specs.Entry.{Event}
-use Rattle.run_ledger.specs.declared.data.RunEnd.{RunEnd}
-use Rattle.run_ledger.specs.declared.data.Refused.TheVariants.{Short}
-use Rattle.run_ledger.specs.declared.data.RefusedAt.{RefusedAt}
-use Rattle.run_ledger.specs.Journals.{end_of, refused_as_run, machine_of, tasks_of}
-use Rattle.run_ledger.specs.Text.{end_line, out_text, refused_line}
 use Rattle.program_reader.specs.declared.cause.Cause.TheVariants.{TooLong}
 use Rattle.program_reader.specs.declared.cause.Refused.{Refused}
 use Rattle.program_reader.specs.Cause.{text_of_cause}
 use Rattle.program_reader.specs.Program.{reading_of}
 use Rattle.program_make.specs.Text.{made_text}
+use Rattle.run_trace.specs.Settings.{Limits, field_limit, usual_limits}
+use Rattle.run_trace.specs.Entry.{Event}
 use Rattle.trace_input.specs.declared.input.InputFault.{InputFault}
 use Rattle.trace_input.specs.declared.input.InputFault.TheVariants.{Source as SourceFault, BadLine}
 use Rattle.trace_input.specs.declared.input.TraceInput.{TraceInput}
 use Rattle.trace_input.specs.Input.{input_fault, IsInput}
-use Rattle.shared_value.specs.World.{World}
-use Rattle.shared_value.specs.Stands.{IsWorld}
-use Rattle.heap_image.specs.declared.picture.Picture.{Picture}
-use Rattle.heap_image.specs.Picture.{IsSoundPicture}
-use Rattle.heap_image.specs.Text.{text_of}
-use Rattle.shared_image.specs.Drawn.{IsPictureOf}
+use Rattle.run_ledger.specs.declared.data.RunEnd.{RunEnd}
+use Rattle.run_ledger.specs.declared.data.Refused.TheVariants.{Short}
+use Rattle.run_ledger.specs.declared.data.RefusedAt.{RefusedAt}
+use Rattle.run_ledger.specs.Journals.{end_of, refused_as_run, machine_of, tasks_of}
+use Rattle.run_ledger.specs.Text.{end_line, out_text, refused_line}
 use Rattle.race_report.specs.declared.data.Race.{Race}
 use Rattle.race_report.specs.Accesses.{accesses}
 use Rattle.race_report.specs.Report.{IsReport}
 use Rattle.race_report.specs.Text.{races_text}
+use Rattle.shared_value.specs.World.{World}
+use Rattle.shared_value.specs.Stands.{IsWorld}
 use Rattle.image_check.specs.declared.cause.Fault.{Fault}
 use Rattle.image_check.specs.Cause.{text_of_cause as text_of_fault}
 use Rattle.image_check.specs.Fault.{image_fault, objects_in}
+use Rattle.heap_image.specs.declared.picture.Picture.{Picture}
+use Rattle.heap_image.specs.Picture.{IsSoundPicture}
+use Rattle.heap_image.specs.Text.{text_of}
+use Rattle.shared_image.specs.Drawn.{IsPictureOf}
 use Rattle.command_line.specs.declared.line.Options.{Options}
 use Rattle.command_line.specs.declared.line.CommandLine.{CommandLine}
 use Rattle.command_line.specs.declared.line.CommandLine.TheVariants.{Check, Run, Replay, Model, Races, Image as ImageOf, Make, Verify}

@@ -1,9 +1,9 @@
 -- How an answer reaches the sink, and what a call hands back.
 use Rattle.std.specs.Prelude.{◌≡◌, ◌⊎◌, ℕ, Option, Some, None, List, [], take}
+use Rattle.outside_io.specs.Told.{with_more}
 use Rattle.run_trace.specs.Entry.{Event}
 use Rattle.shared_value.specs.World.{World}
 use Rattle.command_line.specs.declared.line.CommandLine.{CommandLine}
-use Rattle.outside_io.specs.Told.{with_more}
 use Rattle.command_core.specs.declared.answer.Status.{Status}
 use Rattle.command_core.specs.declared.answer.Status.TheVariants.{ReadFault, WriteFault, NoMemory}
 use Rattle.command_core.specs.declared.answer.Answer.{Answer}

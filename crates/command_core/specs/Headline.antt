@@ -2,8 +2,6 @@
 -- heaps handed back hold just what the definitions say.
 use Rattle.std.specs.Prelude.{◌≡◌, true, ◌↔◌, ◌++◌, ℕ, Bool, Option, Some, List, ◌∷◌, Contains}
 use Rattle.hh_lang.specs.Form.{ProgramText}
-use Rattle.run_trace.specs.Entry.{Event}
-use Rattle.run_trace.specs.Settings.{Limits, field_limit}
 use Rattle.hh_model.specs.declared.data.Name.{Name}
 use Rattle.hh_model.specs.declared.data.Object.{Object}
 use Rattle.hh_model.specs.declared.data.State.{State}
@@ -12,6 +10,8 @@ use Rattle.hh_model.specs.Effect.{object_at}
 use Rattle.hh_model.specs.ReadLaws.{IsDecided, ReadsNext}
 use Rattle.hh_model.specs.Step.{can_step, run}
 use Rattle.hh_model.specs.Store.{IsStored}
+use Rattle.run_trace.specs.Entry.{Event}
+use Rattle.run_trace.specs.Settings.{Limits, field_limit}
 use Rattle.run_ledger.specs.declared.data.Ledger.{Ledger}
 use Rattle.run_ledger.specs.Heaps.{heap_of, held, held_in}
 use Rattle.run_ledger.specs.Journals.{IsPrefix, ledger_of, opening, tasks_of}

@@ -2,12 +2,12 @@
 use Rattle.std.specs.Prelude.{◌≡◌, ◌≢◌, ◌≤◌, ◌⊎◌, List, ℕ, Option, Some, true, nat_le, length}
 use Rattle.outside_io.specs.Told.{with_more}
 use Rattle.hh_lang.specs.Form.{ProgramText}
-use Rattle.run_trace.specs.Settings.{Limits}
-use Rattle.run_ledger.specs.declared.data.RunEnd.{RunEnd}
 use Rattle.program_reader.specs.declared.cause.Refused.{Refused}
 use Rattle.program_make.specs.Text.{made_text}
+use Rattle.run_trace.specs.Settings.{Limits}
 use Rattle.trace_input.specs.declared.input.InputFault.TheVariants.{Source}
 use Rattle.trace_input.specs.Input.{input_fault}
+use Rattle.run_ledger.specs.declared.data.RunEnd.{RunEnd}
 use Rattle.image_check.specs.Fault.{image_limit}
 use Rattle.command_line.specs.declared.line.Options.{Options}
 use Rattle.command_line.specs.declared.line.CommandLine.{CommandLine}

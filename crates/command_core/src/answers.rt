@@ -1,8 +1,8 @@
 // What each command answers to its input.
 
 ghost use Rattle.std.specs.Prelude.{◌≤◌, ◌∷◌, [], codes, IfOk, IfErr, Some};
-ghost use Rattle.command_line.specs.CommandLine.{HasSize};
 ghost use Rattle.run_ledger.specs.Text.{end_line};
+ghost use Rattle.command_line.specs.CommandLine.{HasSize};
 ghost use Rattle.command_core.specs.Answers.{IsText, AnswersCheck, AnswersMake, AnswersLine, LeavesLine, LeavesMake};
 ghost use Rattle.command_core.specs.Delivery.{IsWanted};
 

@@ -1,16 +1,16 @@
 -- The names of large objects in lists of chunks.
 use Rattle.std.proofs.Common.{◌≡◌, ℕ, zero, suc, ◌==◌, Bool, true, false, cond, Option, Some, None, List, [], ◌∷◌, ◌++◌, map, inl, inr, refl, ap, ap₂, sym, ◌∙◌}
 use Rattle.std.specs.Prelude.{remove}
+use Rattle.hh_model.specs.declared.data.Name.{Name}
 use Rattle.object_layout.specs.declared.word.Addr.{Addr}
 use Rattle.object_layout.specs.Content.{Content}
 use Rattle.object_layout.specs.Chunks.{chunk_at}
 use Rattle.alloc_path.specs.Heap.{IsReserved}
-use Rattle.hh_model.specs.declared.data.Name.{Name}
-use Rattle.task_machine.specs.Accounts.{large_names, names_in}
 use Rattle.leaf_copy_gc.specs.Redirected.{led_chunk}
 use Rattle.leaf_copy_gc.specs.Exchanged.{unreserved}
 use Rattle.core_relation.specs.Value.{In}
-use Rattle.copied_part.proofs.Laying.{names_led}
+use Rattle.task_machine.specs.Accounts.{large_names, names_in}
+use Rattle.copied_part.proofs.NamesLaid.{names_led}
 
 -- ---- LARGE NAMES
 

@@ -1,16 +1,16 @@
 -- What a leaf collection makes of a part: the home before it and after it, and where it leads addresses.
 use Rattle.std.specs.Prelude.{◌≡◌, ℕ, ◌≤◌, pos, All, Some, None, List, Option, length, map, slice_get}
+use Rattle.hh_lang.specs.Form.{ProgramText}
+use Rattle.hh_model.specs.declared.data.Status.TheVariants.{Running}
+use Rattle.hh_model.specs.declared.data.Task.{Task}
+use Rattle.run_trace.specs.Settings.{Limits}
+use Rattle.run_ledger.specs.declared.data.Ledger.{Ledger}
+use Rattle.run_ledger.specs.Heaps.{end_numbers, heap_of, units_in}
 use Rattle.object_layout.specs.declared.word.Addr.{Addr}
 use Rattle.object_layout.specs.Content.{Content}
 use Rattle.object_layout.specs.Graph.{IsClosed, IsSound}
 use Rattle.alloc_path.specs.Heap.{Heap}
 use Rattle.alloc_path.specs.View.{Level}
-use Rattle.hh_lang.specs.Form.{ProgramText}
-use Rattle.run_trace.specs.Settings.{Limits}
-use Rattle.hh_model.specs.declared.data.Status.TheVariants.{Running}
-use Rattle.hh_model.specs.declared.data.Task.{Task}
-use Rattle.run_ledger.specs.declared.data.Ledger.{Ledger}
-use Rattle.run_ledger.specs.Heaps.{end_numbers, heap_of, units_in}
 use Rattle.task_frames.specs.Stack.{Stack}
 use Rattle.leaf_copy_gc.specs.declared.lists.Moved.{Moved}
 use Rattle.leaf_copy_gc.specs.Laws.{CanTake}

@@ -1,21 +1,21 @@
 -- A part that was copied fits the shared value for the end of its collection.
 use Rattle.std.specs.Prelude.{◌≡◌, ℕ, ◌/◌, ◌++◌, Some, List, map}
 use Rattle.object_layout.specs.Content.{Content}
-use Rattle.alloc_path.specs.Heap.{Heap}
 use Rattle.object_layout.specs.declared.word.Addr.{Addr}
+use Rattle.alloc_path.specs.Heap.{Heap}
+use Rattle.task_frames.specs.Stack.{Stack}
 use Rattle.leaf_copy_gc.specs.declared.lists.Moved.{Moved}
 use Rattle.leaf_copy_gc.specs.declared.lists.ToChunks.{ToChunks}
 use Rattle.leaf_copy_gc.specs.Laws.{CanTake}
 use Rattle.leaf_copy_gc.specs.Lists.{IsCollected}
-use Rattle.task_frames.specs.Stack.{Stack}
+use Rattle.core_relation.specs.Value.{In}
 use Rattle.task_machine.specs.declared.part.Begun.{Begun}
 use Rattle.task_machine.specs.declared.part.Private.{Private}
-use Rattle.core_relation.specs.Value.{In}
 use Rattle.shared_value.specs.Fits.{Fits}
 use Rattle.shared_value.specs.LeafBegin.{HasBegun, number_of}
-use Rattle.leaf_collections.specs.LeafEnd.{FitsCopied}
 use Rattle.shared_value.specs.Stands.{IsWorld}
 use Rattle.shared_value.specs.World.{World}
+use Rattle.leaf_collections.specs.LeafEnd.{FitsCopied}
 
 -- a part that fits with its begun collection, before the run's end, and the chunks that this took
 pub record IsCopying (w : World) (worker : ℕ) (p : Private) (b : Begun) (news : List Content) : Type 0 where

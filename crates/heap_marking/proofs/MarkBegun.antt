@@ -3,16 +3,16 @@ use Rattle.std.proofs.Common.{◌≡◌, ◌⊎◌, ◌↔◌, ℕ, suc, ◌+◌
 use Rattle.std.proofs.lemmas.Bool.{false≢true}
 use Rattle.listed.proofs.Members.{contains_from_in, in_append_cases, in_append_left, in_append_right, in_from_contains}
 use Rattle.walks.proofs.Reached.{reached_more, reached_start, reached_within}
-use Rattle.object_layout.specs.declared.word.Addr.{Addr}
-use Rattle.object_layout.specs.Chunks.{cell_of, object_count}
-use Rattle.object_layout.specs.Content.{Content}
-use Rattle.object_layout.specs.Graph.{IsHeld, Leads}
 use Rattle.hh_model.specs.declared.data.Task.{Task}
 use Rattle.hh_model.specs.Step.{is_waiting}
 use Rattle.run_ledger.specs.declared.data.Ledger.{Ledger}
 use Rattle.run_ledger.specs.Heaps.{heap_of}
 use Rattle.run_ledger.specs.Sound.{SoundLedger}
 use Rattle.run_ledger.proofs.Journals.{legal_sound}
+use Rattle.object_layout.specs.declared.word.Addr.{Addr}
+use Rattle.object_layout.specs.Chunks.{cell_of, object_count}
+use Rattle.object_layout.specs.Content.{Content}
+use Rattle.object_layout.specs.Graph.{IsHeld, Leads}
 use Rattle.inner_mark_gc.specs.Marks.{IsMarking, IsOf, Marks}
 use Rattle.inner_mark_gc.specs.Snapshot.{Fork, IsInSnapshot, Starts}
 use Rattle.ledger_steps.specs.Accounts.{Rests}
@@ -23,17 +23,17 @@ use Rattle.core_relation.specs.Marking.{GoesOn}
 use Rattle.core_relation.specs.Now.{IsReachedNow, StartsNow}
 use Rattle.core_relation.specs.Since.{kept}
 use Rattle.core_relation.specs.Whole.{StandsFor}
-use Rattle.core_relation.proofs.Past.{waiting_stops}
-use Rattle.core_relation.proofs.SnapshotNow.{snapshot_now}
+use Rattle.core_relation.proofs.whole.Past.{waiting_stops}
+use Rattle.core_relation.proofs.notes.SnapshotNow.{snapshot_now}
 use Rattle.shared_value.specs.declared.rest.Rest.{Rest}
 use Rattle.shared_value.specs.Objects.{chunks_of}
 use Rattle.shared_value.specs.World.{World, accounts, home_in, rest_at, totals_of, value_of}
 use Rattle.shared_value.specs.Stands.{HeapForm, IsWorld}
-use Rattle.heap_marking.specs.Marking.{MarksBegin}
-use Rattle.heap_marking.proofs.Closed.{held_seen, seen_held}
-use Rattle.shared_value.proofs.Now.{stands_now}
-use Rattle.shared_value.proofs.Targets.{home_chunks}
+use Rattle.shared_value.proofs.BeforeTheEnd.{stands_now}
+use Rattle.shared_value.proofs.RootsByAccounts.{home_chunks}
 use Rattle.shared_value.proofs.ObjectCounts.{objects_counted}
+use Rattle.heap_marking.specs.Marking.{MarksBegin}
+use Rattle.heap_marking.proofs.HeapClosed.{held_seen, seen_held}
 
 pub length_chunks : (cs : List Content) → length (chunks_of cs) ≡ length cs
 length_chunks [] = refl

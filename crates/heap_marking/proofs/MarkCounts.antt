@@ -4,30 +4,30 @@ use Rattle.std.specs.Prelude.{unwrap_or}
 use Rattle.std.proofs.Math.Nat.{min-eq_left, min-eq_right}
 use Rattle.std.proofs.lemmas.Bool.{cases_lt}
 use Rattle.listed.proofs.Members.{contains_from_in, in_from_contains}
-use Rattle.object_layout.specs.declared.word.Addr.{Addr}
-use Rattle.object_layout.proofs.Distinct.{distinct_take}
-use Rattle.object_layout.specs.Graph.{IsHeld, Leads}
+use Rattle.walks.proofs.Reached.{reached_within}
 use Rattle.hh_model.specs.declared.data.Name.{Name}
 use Rattle.run_ledger.specs.declared.data.Heap.{Heap}
 use Rattle.run_ledger.specs.declared.data.Ledger.{Ledger}
 use Rattle.run_ledger.specs.Heaps.{heap_of, held_in, left_in, marked_in, or_fresh, with_heap}
 use Rattle.run_ledger.proofs.History.{snapshots_are_held}
+use Rattle.object_layout.specs.declared.word.Addr.{Addr}
+use Rattle.object_layout.proofs.Distinct.{distinct_take}
+use Rattle.object_layout.specs.Graph.{IsHeld, Leads}
 use Rattle.inner_mark_gc.specs.Marks.{Marks, marked_of}
 use Rattle.inner_mark_gc.specs.Snapshot.{IsInSnapshot, Starts}
 use Rattle.inner_mark_gc.proofs.Marked.{in_take}
-use Rattle.walks.proofs.Reached.{reached_within}
 use Rattle.ledger_steps.specs.Accounts.{Rests}
 use Rattle.ledger_steps.proofs.Ahead.{heap_then, with_at}
 use Rattle.core_relation.specs.Value.{In, Seen, Value, objects}
 use Rattle.core_relation.specs.Marking.{GoesOn, MarkedBy}
 use Rattle.core_relation.specs.Since.{kept}
 use Rattle.core_relation.specs.Whole.{StandsFor}
-use Rattle.core_relation.proofs.MarksAll.{all_marked, few_marked}
-use Rattle.heap_marking.specs.Marking.{MarksCount}
+use Rattle.core_relation.proofs.notes.MarksAll.{all_marked, few_marked}
 use Rattle.shared_value.specs.World.{accounts, totals_of, value_of}
+use Rattle.shared_value.proofs.BeforeTheEnd.{stands_now}
+use Rattle.heap_marking.specs.Marking.{MarksCount}
 use Rattle.heap_marking.proofs.MarkBegun as begun
-use Rattle.heap_marking.proofs.MarkFurther.{is_since}
-use Rattle.shared_value.proofs.Now.{stands_now}
+use Rattle.heap_marking.proofs.MarkingGoesOn.{is_since}
 
 take_long : (n : ℕ) (xs : List Addr) → n ≤ length xs → length (take n xs) ≡ n
 take_long zero xs le = refl

@@ -4,13 +4,10 @@ use Rattle.std.specs.Prelude.{slice_index_or}
 use Rattle.std.proofs.lemmas.Bool.{cases_lt}
 use Rattle.std.proofs.lemmas.Option.{get_or_from_slice_get}
 use Rattle.listed.proofs.Members.{got_other, got_same, got_within}
-use Rattle.object_layout.specs.declared.word.Addr.{Addr}
-use Rattle.object_layout.specs.Chunks.{held_words}
-use Rattle.object_layout.specs.Graph.{IsHeld}
+use Rattle.hh_model.specs.declared.data.Task.{Task}
 use Rattle.run_trace.specs.declared.entry.Kind.TheVariants.{Mark, More}
 use Rattle.run_trace.specs.Entry.{Event}
 use Rattle.run_trace.specs.Settings.{Limits}
-use Rattle.hh_model.specs.declared.data.Task.{Task}
 use Rattle.run_ledger.specs.declared.data.Heap.{Heap as Account}
 use Rattle.run_ledger.specs.declared.data.Ledger.{Ledger}
 use Rattle.run_ledger.specs.declared.data.Refused.{Refused}
@@ -19,41 +16,44 @@ use Rattle.run_ledger.specs.Entries.{after, kind_refusal, refused_if, refused_un
 use Rattle.run_ledger.specs.Heaps.{heap_of, left_in, or_fresh, with_heap, words_in}
 use Rattle.run_ledger.specs.Sound.{SoundLedger}
 use Rattle.run_ledger.proofs.Journals.{entry_tells, legal_sound}
+use Rattle.object_layout.specs.declared.word.Addr.{Addr}
+use Rattle.object_layout.specs.Chunks.{held_words}
+use Rattle.object_layout.specs.Graph.{IsHeld}
 use Rattle.alloc_path.specs.Heap.{counted}
-use Rattle.inner_mark_gc.specs.Marks.{IsAllMarked, IsMarking, IsOf, Marks, marked_of}
-use Rattle.inner_mark_gc.specs.Snapshot.{Fork, IsSince}
 use Rattle.remembered_set.specs.Moved.{AreFields}
 use Rattle.write_barrier.specs.declared.sets.SetOf.{SetOf}
+use Rattle.inner_mark_gc.specs.Marks.{IsAllMarked, IsMarking, IsOf, Marks, marked_of}
+use Rattle.inner_mark_gc.specs.Snapshot.{Fork, IsSince}
 use Rattle.ledger_steps.proofs.Ahead.{heap_then, with_at}
 use Rattle.ledger_steps.proofs.Split.{legal_idle}
 use Rattle.core_relation.specs.Marking.{GoesOn}
 use Rattle.core_relation.specs.Since.{kept}
-use Rattle.core_relation.proofs.Past.{waiting_stops}
+use Rattle.core_relation.proofs.whole.Past.{waiting_stops}
 use Rattle.shared_value.specs.declared.rest.Rest.{Rest}
 use Rattle.shared_value.specs.Causes.{first_cause, or_else}
 use Rattle.shared_value.specs.Entered.{refused}
 use Rattle.shared_value.specs.Fits.{AllFit}
-use Rattle.heap_marking.specs.MarkCauses.{marking_cause, waiting_cause, words_cause}
-use Rattle.heap_marking.specs.Marking.{marked_more}
 use Rattle.shared_value.specs.RestingHeaps.{refs_in}
 use Rattle.shared_value.specs.Roots.{heaps_of, sources_of}
-use Rattle.heap_marking.specs.Starts.{starts_of}
 use Rattle.shared_value.specs.World.{World, accounts, flat, home_in, marks_at, noted_in, rest_at, value_of}
 use Rattle.shared_value.specs.Stands.{IsWorld}
-use Rattle.shared_value.proofs.AllWords.{words_are}
-use Rattle.shared_value.proofs.Entering.{entry_on}
+use Rattle.shared_value.proofs.HeapWords.{words_are}
+use Rattle.shared_value.proofs.EntryMade.{entry_on}
 use Rattle.shared_value.proofs.FirstCauses.{found_first, nothing_first}
+use Rattle.shared_value.proofs.BeforeTheEnd.{stands_now}
+use Rattle.shared_value.proofs.CausesTold.{nothing, on_is, refused_is}
+use Rattle.shared_value.proofs.TaskTaken.{put_there}
+use Rattle.shared_value.proofs.RootsByAccounts.{home_chunks}
+use Rattle.heap_marking.specs.MarkCauses.{marking_cause, waiting_cause, words_cause}
+use Rattle.heap_marking.specs.Marking.{marked_more}
+use Rattle.heap_marking.specs.Starts.{starts_of}
 use Rattle.heap_marking.proofs.MarkBegun.{marks_begin}
 use Rattle.heap_marking.proofs.MarkCauses.{marks_refuse}
 use Rattle.heap_marking.proofs.MarkCounts.{marks_count}
-use Rattle.heap_marking.proofs.MarkReady.{further, keeps, wait}
-use Rattle.heap_marking.proofs.MarkWorld.{marks_enter}
-use Rattle.shared_value.proofs.Now.{stands_now}
-use Rattle.shared_value.proofs.Refusals.{nothing, on_is, refused_is}
-use Rattle.heap_marking.proofs.StartsAre.{fields_there, starts_are, starts_held}
-use Rattle.shared_value.proofs.Taking.{put_there}
-use Rattle.shared_value.proofs.Targets.{home_chunks}
-use Rattle.heap_marking.proofs.WaitingHomes as homes
+use Rattle.heap_marking.proofs.MarkedHeap.{further, keeps, wait}
+use Rattle.heap_marking.proofs.MarkingEntered.{marks_enter}
+use Rattle.heap_marking.proofs.MarkingStarts.{fields_there, starts_are, starts_held}
+use Rattle.heap_marking.proofs.WaitingHome as homes
 
 -- WHY THEY ARE REFUSED
 

@@ -16,8 +16,8 @@ use Rattle.heap_marking.specs.declared.pace.Pace.{Pace}
 use Rattle.heap_marking.specs.declared.pace.Previous.{Previous}
 use Rattle.heap_marking.specs.declared.pace.Previous.TheVariants.{Other, Ran, Forked}
 use Rattle.heap_marking.specs.Pace.{HasGoneOn, IsForkOf, IsOver, KeepsMarks, KeepsPace, KeepsPrevious, TellsFork, TellsMark, is_parent, previous_of}
-use Rattle.heap_marking.proofs.TreeMoves.{WaitsOn}
-use Rattle.heap_marking.proofs.LedgerMoves.{IsTouched, Moves}
+use Rattle.heap_marking.proofs.StepsKeepForks.{WaitsOn}
+use Rattle.heap_marking.proofs.ForksStay.{IsTouched, Moves}
 
 -- WAITING ON A FORK
 since_tells : (o : Option Task) (joins : ℕ) → waits_since o joins ≡ true → (x : Task) × (o ≡ Some x) × (waits x.status ≡ true) × (x.joins ≡ joins)

@@ -3,24 +3,24 @@ use Rattle.std.proofs.Common.{◌≡◌, ℕ, suc, ◌+◌, ◌*◌, ◌/◌, �
 use Rattle.std.proofs.lemmas.Bool.{eqb-true, false≢true}
 use Rattle.std.proofs.lemmas.List.Sums.{sum_by-append, sum_by-cons}
 use Rattle.listed.proofs.Members.{in_append_left, in_append_right}
+use Rattle.hh_model.specs.declared.data.Name.{Name}
+use Rattle.hh_model.specs.declared.data.State.{State}
+use Rattle.run_ledger.specs.Heaps.{is_empty, units_sum, without_empty, words_at}
 use Rattle.object_layout.specs.declared.word.Addr.{Addr}
 use Rattle.object_layout.specs.Cell.{moved_to}
 use Rattle.object_layout.specs.Content.{Content}
 use Rattle.alloc_path.specs.Heap.{units}
 use Rattle.alloc_path.specs.Units.{unit_count}
-use Rattle.hh_model.specs.declared.data.Name.{Name}
-use Rattle.hh_model.specs.declared.data.State.{State}
-use Rattle.run_ledger.specs.Heaps.{is_empty, units_sum, without_empty, words_at}
 use Rattle.inner_mark_gc.specs.Marks.{has_address}
 use Rattle.inner_mark_gc.specs.Swept.{goes, has_object, stays, swept_chunk}
 use Rattle.core_relation.specs.Layout.{HoldsLarge, has_none, words}
 use Rattle.core_relation.specs.Stands.{large_chunks, names_of, small_chunks}
 use Rattle.core_relation.specs.Value.{In, Seen, objects_in}
-use Rattle.core_relation.proofs.Merged.{filter_append, map_append}
+use Rattle.core_relation.proofs.objects.Merged.{filter_append, map_append}
 use Rattle.shared_value.specs.Objects.{chunk_of, chunks_of}
 use Rattle.shared_value.proofs.SmallWords.{SameWords}
-use Rattle.heap_marking.proofs.SweptCells.{is_there, object_left, objects_kept}
 use Rattle.shared_value.proofs.ObjectCounts.{name_in}
+use Rattle.heap_marking.proofs.SweptCells.{is_there, object_left, objects_kept}
 
 -- a chunk of a heap without a reserved one
 pub record IsFilled (k : Content) : Type 0 where

@@ -3,28 +3,28 @@ use Rattle.std.proofs.Common.{◌≡◌, ℕ, ◌-◌, ◌*◌, ◌/◌, ◌≤�
 use Rattle.std.proofs.lemmas.Bool.{false≢true}
 use Rattle.std.proofs.lemmas.List.Elements.{All-get_or}
 use Rattle.listed.proofs.Members.{in_from_kept}
+use Rattle.run_ledger.specs.declared.data.Heap.{Heap as Account}
+use Rattle.run_ledger.specs.Heaps.{in_snapshot, is_empty, is_last_empty, swept_heap}
+use Rattle.run_ledger.specs.Reachable.{holds_name}
 use Rattle.object_layout.specs.declared.word.Addr.{Addr}
 use Rattle.object_layout.specs.Chunks.{chunk_at, no_chunk, place_in}
 use Rattle.object_layout.specs.Content.{Content}
 use Rattle.object_layout.specs.Place.{words_in}
 use Rattle.alloc_path.specs.Heap.{AreWithin, Heap, IsCurrent, IsSettled, IsTidy, room_at, room_of}
 use Rattle.alloc_path.proofs.HeapLemmas as heap
-use Rattle.run_ledger.specs.declared.data.Heap.{Heap as Account}
-use Rattle.run_ledger.specs.Heaps.{in_snapshot, is_empty, is_last_empty, swept_heap}
-use Rattle.run_ledger.specs.Reachable.{holds_name}
 use Rattle.inner_mark_gc.specs.Swept.{gone_of, number_at, place_at, swept}
 use Rattle.inner_mark_gc.proofs.Finding.{all_from}
 use Rattle.inner_mark_gc.proofs.Kept as kept_chunks
-use Rattle.task_machine.specs.Accounts.{IsLastSmall}
 use Rattle.core_relation.specs.Layout.{HoldsLarge, has_none}
 use Rattle.core_relation.specs.Value.{In, Seen, objects_in}
-use Rattle.core_relation.proofs.Members.{in_objects, in_map}
+use Rattle.core_relation.proofs.objects.Members.{in_objects, in_map}
+use Rattle.task_machine.specs.Accounts.{IsLastSmall}
 use Rattle.shared_value.specs.Objects.{chunk_of, chunks_of}
 use Rattle.shared_value.specs.Stands.{HeapForm}
-use Rattle.shared_value.proofs.Counts.{chunk_there}
-use Rattle.shared_value.proofs.Formed.{Formed}
-use Rattle.shared_value.proofs.LaidFrom.{place_there}
-use Rattle.shared_value.proofs.LeafSources.{all_at}
+use Rattle.shared_value.proofs.HeapCounts.{chunk_there}
+use Rattle.shared_value.proofs.PlacedForm.{Formed}
+use Rattle.shared_value.proofs.HeapLaidOut.{place_there}
+use Rattle.shared_value.proofs.FieldsNoted.{all_at}
 use Rattle.heap_marking.proofs.SweptCells.{is_there, large_kept, words_kept}
 use Rattle.heap_marking.proofs.SweptChunks.{AreFilled, Agrees, gone, has, has_is, has_names, kept_in, left, names, objects_left, swept_is}
 use Rattle.heap_marking.proofs.SweptPlaces.{goes_off, last_empty, left_was, small_names_of, stays_before}

@@ -4,20 +4,20 @@ use Rattle.std.proofs.lemmas.Bool.{cases_eq, false≢true}
 use Rattle.std.proofs.lemmas.Option.{same_Some}
 use Rattle.std.proofs.lemmas.List.Elements.{All-head, All-tail}
 use Rattle.listed.proofs.Members.{in_from_kept, in_kept}
-use Rattle.object_layout.specs.declared.word.Addr.{Addr}
-use Rattle.object_layout.specs.Content.{Content}
-use Rattle.alloc_path.specs.Heap.{Heap as HeapOfCode, IsFresh, room_of, with_places}
-use Rattle.alloc_path.specs.Units.{unit_count}
-use Rattle.alloc_path.specs.View.{Level}
-use Rattle.alloc_path.proofs.HeapLemmas.{fresh_cons}
-use Rattle.chunk_pool.specs.declared.pool.Held.{Held}
-use Rattle.chunk_pool.specs.Chunks.{Chunks, held_at, owner_of, units_held}
 use Rattle.hh_model.specs.declared.data.State.{State}
 use Rattle.hh_model.specs.Effect.{row_of}
 use Rattle.run_ledger.specs.declared.data.Heap.{Heap as Account}
 use Rattle.run_ledger.specs.declared.data.Ledger.{Ledger}
 use Rattle.run_ledger.specs.Heaps.{heap_of, left_in, or_fresh, swept_heap, with_heap}
 use Rattle.run_ledger.proofs.Members.{holds_from_in, in_from_holds}
+use Rattle.object_layout.specs.declared.word.Addr.{Addr}
+use Rattle.object_layout.specs.Content.{Content}
+use Rattle.chunk_pool.specs.declared.pool.Held.{Held}
+use Rattle.chunk_pool.specs.Chunks.{Chunks, held_at, owner_of, units_held}
+use Rattle.alloc_path.specs.Heap.{Heap as HeapOfCode, IsFresh, room_of, with_places}
+use Rattle.alloc_path.specs.Units.{unit_count}
+use Rattle.alloc_path.specs.View.{Level}
+use Rattle.alloc_path.proofs.HeapLemmas.{fresh_cons}
 use Rattle.inner_mark_gc.specs.Marks.{marked_of}
 use Rattle.inner_mark_gc.specs.Swept.{AreGiven, gone_of, goes, swept, units_kept}
 use Rattle.inner_mark_gc.proofs.Finding.{all_from}
@@ -26,20 +26,20 @@ use Rattle.core_relation.specs.Changes.{KeepsJust}
 use Rattle.core_relation.specs.Layout.{AreLaidOut}
 use Rattle.core_relation.specs.Stands.{HasNames, HomeStands}
 use Rattle.core_relation.specs.Value.{Chunk, Home, In, Seen, Value, objects, objects_in, sources}
-use Rattle.core_relation.proofs.Members.{in_map, map_in}
+use Rattle.core_relation.proofs.objects.Members.{in_map, map_in}
 use Rattle.shared_value.specs.declared.rest.Rest.{Rest}
 use Rattle.shared_value.specs.declared.rest.Work.{Work}
 use Rattle.shared_value.specs.declared.rest.Work.TheVariants.{Calls, Result}
-use Rattle.heap_marking.specs.MarkCauses.{marking_cause}
 use Rattle.shared_value.specs.Measured.{AreMeasured}
 use Rattle.shared_value.specs.Objects.{chunk_of, chunks_of}
 use Rattle.shared_value.specs.Stands.{HeapForm, IsWorld}
 use Rattle.shared_value.specs.World.{World, accounts, home_by, home_of, value_of}
 use Rattle.shared_value.proofs.HeapForms.{places_form}
-use Rattle.shared_value.proofs.Entering.{unheld_at_rest}
-use Rattle.shared_value.proofs.LaidFrom.{inside_from, laid_from}
-use Rattle.shared_value.proofs.Leading.{home_chunks}
-use Rattle.shared_value.proofs.LeafSources.{fresh_by, owner_none}
+use Rattle.shared_value.proofs.EntryMade.{unheld_at_rest}
+use Rattle.shared_value.proofs.HeapLaidOut.{inside_from, laid_from}
+use Rattle.shared_value.proofs.FieldsLed.{home_chunks}
+use Rattle.shared_value.proofs.FieldsNoted.{fresh_by, owner_none}
+use Rattle.heap_marking.specs.MarkCauses.{marking_cause}
 use Rattle.heap_marking.proofs.SweptCells.{is_there}
 use Rattle.heap_marking.proofs.SweptChunks.{gone, has, left, objects_left}
 use Rattle.heap_marking.proofs.SweptForm as form

@@ -2,22 +2,22 @@
 use Rattle.std.proofs.Common.{◌≡◌, ℕ, zero, suc, ◌+◌, ◌<◌, ◌==◌, arith, Bool, true, false, cond, not, Some, None, List, [], ◌∷◌, filter, length, map, inl, inr, refl, ap, sym, subst, ◌∙◌, eq-eqb, ne_eqb}
 use Rattle.std.proofs.lemmas.Bool.{cond-false, cond-true, eqb-true, false≢true}
 use Rattle.listed.proofs.Members.{in_from_kept}
+use Rattle.hh_model.specs.declared.data.Name.{Name}
+use Rattle.run_ledger.specs.Heaps.{is_empty, is_last_empty}
 use Rattle.object_layout.specs.declared.word.Addr.{Addr}
 use Rattle.object_layout.specs.Chunks.{chunk_at, place_of}
 use Rattle.object_layout.specs.Content.{Content}
 use Rattle.alloc_path.specs.Heap.{AreApart, IsFresh}
-use Rattle.hh_model.specs.declared.data.Name.{Name}
-use Rattle.run_ledger.specs.Heaps.{is_empty, is_last_empty}
 use Rattle.inner_mark_gc.specs.Swept.{stays, swept_chunk}
-use Rattle.task_machine.specs.Accounts.{IsLastSmall}
 use Rattle.core_relation.specs.Stands.{names_of, small_chunks}
 use Rattle.core_relation.specs.Value.{In}
-use Rattle.core_relation.proofs.Members.{map_in}
+use Rattle.core_relation.proofs.objects.Members.{map_in}
+use Rattle.task_machine.specs.Accounts.{IsLastSmall}
 use Rattle.shared_value.specs.Objects.{chunk_of, chunks_of}
-use Rattle.shared_value.proofs.Cells.{fresh_off}
-use Rattle.shared_value.proofs.Counts.{chunk_there}
-use Rattle.shared_value.proofs.LaidFrom.{place_there}
-use Rattle.shared_value.proofs.LeafSources.{fresh_by}
+use Rattle.shared_value.proofs.CellsRead.{fresh_off}
+use Rattle.shared_value.proofs.HeapCounts.{chunk_there}
+use Rattle.shared_value.proofs.HeapLaidOut.{place_there}
+use Rattle.shared_value.proofs.FieldsNoted.{fresh_by}
 use Rattle.heap_marking.proofs.SweptChunks.{has, left}
 
 pub one_number : (ks : List Content) (j k : Content) → AreApart ks → In ks j → In ks k → j.number ≡ k.number → j ≡ k

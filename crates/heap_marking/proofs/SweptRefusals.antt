@@ -7,11 +7,11 @@ use Rattle.run_ledger.specs.Entries.{counted, kind_refusal, refused_unless}
 use Rattle.run_ledger.specs.Heaps.{heap_of, left_in, marked_in, sweep_number}
 use Rattle.shared_value.specs.Causes.{first_cause, or_else}
 use Rattle.shared_value.specs.Entered.{refused}
-use Rattle.heap_marking.specs.MarkCauses.{marking_cause}
 use Rattle.shared_value.specs.Stands.{IsWorld}
 use Rattle.shared_value.specs.World.{World, accounts}
+use Rattle.shared_value.proofs.CausesTold.{on_is, refused_is}
+use Rattle.heap_marking.specs.MarkCauses.{marking_cause}
 use Rattle.heap_marking.proofs.MarkCauses.{marks_refuse}
-use Rattle.shared_value.proofs.Refusals.{on_is, refused_is}
 
 -- of a heap that is being marked
 abbrev pub sweep_cause : World → ℕ → ℕ → Option Refused

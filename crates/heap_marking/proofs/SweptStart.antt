@@ -1,7 +1,6 @@
 -- What is known of a heap that is marked to its end, before it is swept.
 use Rattle.std.proofs.Common.{◌≡◌, ℕ, zero, suc, arith, not, Bool, true, false, Option, Some, None, slice_get, refl, ap, sym, subst, ◌∙◌}
 use Rattle.listed.proofs.Members.{contains_from_in, in_from_contains}
-use Rattle.alloc_path.specs.Heap.{room_of}
 use Rattle.hh_model.specs.declared.data.Status.{Status}
 use Rattle.hh_model.specs.declared.data.Status.TheVariants.{Running, Waiting, Ended, Joined}
 use Rattle.hh_model.specs.declared.data.Task.{Task}
@@ -13,10 +12,10 @@ use Rattle.run_ledger.specs.Reachable.{holds_name}
 use Rattle.run_ledger.proofs.History.{snapshots_are_held}
 use Rattle.run_ledger.proofs.Members.{holds_from_in, in_from_holds}
 use Rattle.run_ledger.proofs.Use.{chunks_are_used}
+use Rattle.alloc_path.specs.Heap.{room_of}
 use Rattle.inner_mark_gc.specs.Marks.{IsDone, has_address, marked_of}
 use Rattle.inner_mark_gc.proofs.Addresses.{has_in, in_has}
 use Rattle.inner_mark_gc.proofs.Kept.{all_marked_is_done}
-use Rattle.task_machine.specs.Accounts.{AreReserved, IsCounted}
 use Rattle.ledger_steps.specs.Accounts.{Rests}
 use Rattle.core_relation.specs.Layout.{AreLaidOut}
 use Rattle.core_relation.specs.Marking.{MarkedBy}
@@ -24,22 +23,23 @@ use Rattle.core_relation.specs.Since.{kept as kept_of}
 use Rattle.core_relation.specs.Stands.{HasNames, HomeStands}
 use Rattle.core_relation.specs.Value.{Home, In, Seen, Value, objects, objects_in}
 use Rattle.core_relation.specs.Whole.{StandsFor}
-use Rattle.core_relation.proofs.MarksAll.{marks_are_all}
-use Rattle.core_relation.proofs.Members.{in_map}
+use Rattle.core_relation.proofs.notes.MarksAll.{marks_are_all}
+use Rattle.core_relation.proofs.objects.Members.{in_map}
+use Rattle.task_machine.specs.Accounts.{AreReserved, IsCounted}
 use Rattle.shared_value.specs.declared.rest.Rest.{Rest}
 use Rattle.shared_value.specs.declared.rest.Work.{Work}
 use Rattle.shared_value.specs.declared.rest.Work.TheVariants.{Calls, Result}
-use Rattle.heap_marking.specs.MarkCauses.{marking_cause}
-use Rattle.heap_marking.specs.MarkStand.{StandsMarked}
 use Rattle.shared_value.specs.Objects.{chunk_of, chunks_of}
 use Rattle.shared_value.specs.World.{World, accounts, home_by, home_in, home_of, totals_of, value_of}
 use Rattle.shared_value.specs.Stands.{HeapForm, IsWorld}
-use Rattle.shared_value.proofs.Counts.{counted_from}
+use Rattle.shared_value.proofs.HeapCounts.{counted_from}
 use Rattle.shared_value.proofs.HeapForms.{reserved_none}
-use Rattle.shared_value.proofs.Leading.{home_chunks}
+use Rattle.shared_value.proofs.FieldsLed.{home_chunks}
+use Rattle.shared_value.proofs.BeforeTheEnd.{stands_now}
+use Rattle.heap_marking.specs.MarkCauses.{marking_cause}
+use Rattle.heap_marking.specs.MarkStand.{StandsMarked}
 use Rattle.heap_marking.proofs.MarkBegun as begun
-use Rattle.heap_marking.proofs.MarkReady.{marks_stand}
-use Rattle.shared_value.proofs.Now.{stands_now}
+use Rattle.heap_marking.proofs.MarkedHeap.{marks_stand}
 use Rattle.heap_marking.proofs.SweptChunks.{Agrees}
 use Rattle.heap_marking.proofs.SweptForm.{HoldLarge}
 

@@ -6,15 +6,15 @@ use Rattle.std.proofs.lemmas.Option.{same_Some}
 use Rattle.std.proofs.lemmas.List.{length-map}
 use Rattle.std.proofs.lemmas.List.Sums.{sum_by-append, sum_by-cons}
 use Rattle.listed.proofs.Members.{in_append_left, in_append_right}
-use Rattle.object_layout.specs.declared.word.Addr.{Addr}
-use Rattle.object_layout.specs.Content.{Content}
-use Rattle.alloc_path.specs.Units.{counted32, unit_count}
 use Rattle.hh_model.specs.declared.data.State.{State}
 use Rattle.run_ledger.specs.declared.data.Heap.{Heap as Account}
 use Rattle.run_ledger.specs.declared.data.Ledger.{Ledger}
 use Rattle.run_ledger.specs.Heaps.{begun_in, heap_of, held, held_in, in_use, left_in, marked_in, or_fresh, small_in, sweep_number, swept_heap, units_in, units_sum, without_empty, words_at, words_sum}
 use Rattle.run_ledger.specs.Reachable.{holds_name}
 use Rattle.run_ledger.proofs.Space.{heaps_fit, use_is_bounded}
+use Rattle.object_layout.specs.declared.word.Addr.{Addr}
+use Rattle.object_layout.specs.Content.{Content}
+use Rattle.alloc_path.specs.Units.{counted32, unit_count}
 use Rattle.inner_mark_gc.specs.Marks.{IsDone, Marks, marked_of}
 use Rattle.inner_mark_gc.specs.Swept.{gone_of}
 use Rattle.inner_mark_gc.proofs.Finding.{found_few}
@@ -22,16 +22,16 @@ use Rattle.core_relation.specs.Layout.{words}
 use Rattle.core_relation.specs.Marking.{MarkedBy}
 use Rattle.core_relation.specs.Stands.{HasNames, large_chunks, names_of, small_chunks}
 use Rattle.core_relation.specs.Value.{In, Seen, objects_in}
-use Rattle.core_relation.proofs.Merged.{map_append}
+use Rattle.core_relation.proofs.objects.Merged.{map_append}
 use Rattle.shared_value.specs.declared.rest.Rest.{Rest}
-use Rattle.heap_marking.specs.MarkCauses.{marking_cause}
 use Rattle.shared_value.specs.Objects.{chunk_of, chunks_of}
 use Rattle.shared_value.specs.World.{World, accounts, marks_at, rest_at, value_of}
 use Rattle.shared_value.specs.Stands.{IsWorld}
-use Rattle.shared_value.proofs.AllWords.{words_same}
+use Rattle.shared_value.proofs.HeapWords.{words_same}
 use Rattle.shared_value.proofs.ObjectCounts.{objects_counted}
-use Rattle.heap_marking.proofs.SweptChunks.{Agrees, AreFilled, Goes, KnowWords, gone, large_left, large_units, left, many, small_left, units_gone}
 use Rattle.shared_value.proofs.ObjectCounts.{name_in}
+use Rattle.heap_marking.specs.MarkCauses.{marking_cause}
+use Rattle.heap_marking.proofs.SweptChunks.{Agrees, AreFilled, Goes, KnowWords, gone, large_left, large_units, left, many, small_left, units_gone}
 use Rattle.heap_marking.proofs.SweptForm.{filled, gone_plain}
 use Rattle.heap_marking.proofs.SweptStart as start
 

@@ -6,10 +6,10 @@ use Rattle.inner_mark_gc.specs.Marks.{IsAllMarked, IsMarking, Marks}
 use Rattle.inner_mark_gc.specs.Snapshot.{Fork, IsSince}
 use Rattle.core_relation.specs.Since.{kept}
 use Rattle.shared_value.specs.declared.rest.Rest.{Rest}
-use Rattle.heap_marking.specs.MarkCauses.{marking_cause}
-use Rattle.heap_marking.specs.Marking.{Further}
 use Rattle.shared_value.specs.World.{World, accounts, marks_at, rest_at, value_of}
 use Rattle.shared_value.specs.Stands.{IsWorld}
+use Rattle.heap_marking.specs.MarkCauses.{marking_cause}
+use Rattle.heap_marking.specs.Marking.{Further}
 
 pub record StandsMarked (w : World) (t : ℕ) : Type 0 where
   pub wait : is_waiting (slice_get (accounts w).machine.tasks t) ≡ true

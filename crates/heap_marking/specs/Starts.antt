@@ -2,10 +2,10 @@
 use Rattle.std.specs.Prelude.{ℕ, Option, Some, None, List, [], ◌++◌, slice_get}
 use Rattle.std.specs.List.{flat_map}
 use Rattle.object_layout.specs.declared.word.Addr.{Addr}
+use Rattle.task_frames.specs.Stack.{frames_of}
 use Rattle.remembered_set.specs.declared.remembered.Source.{Source}
 use Rattle.remembered_set.specs.Moved.{into, targets_of}
 use Rattle.leaf_copy_gc.specs.Survivors.{held_by}
-use Rattle.task_frames.specs.Stack.{frames_of}
 use Rattle.shared_value.specs.declared.heaps.Heaps.{Heaps}
 use Rattle.shared_value.specs.declared.rest.Rest.{Rest}
 use Rattle.shared_value.specs.declared.rest.Work.{Work}

@@ -1,10 +1,10 @@
 -- What a sweep asks of a heap and leaves of it.
 use Rattle.std.specs.Prelude.{◌≡◌, ℕ, false, All, IsSome, Option, Some, List, [], slice_set}
-use Rattle.alloc_path.specs.Heap.{Heap, with_places}
 use Rattle.chunk_pool.specs.Chunks.{Chunks, held_at}
+use Rattle.alloc_path.specs.Heap.{Heap, with_places}
+use Rattle.write_barrier.specs.Stored.{Content}
 use Rattle.inner_mark_gc.specs.Marks.{HasRoom, IsDone, Marks, marked_of}
 use Rattle.inner_mark_gc.specs.Swept.{AreGiven, gone_of, swept}
-use Rattle.write_barrier.specs.Stored.{Content}
 use Rattle.shared_value.specs.declared.rest.Rest.{Rest}
 
 -- all that was found is marked, and the heap's chunks are in use

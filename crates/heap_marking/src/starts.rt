@@ -2,13 +2,13 @@
 
 ghost use Rattle.std.specs.Prelude.{◌≡◌, ◌++◌, IfOk, OnOk, slice_get};
 ghost use Rattle.std.specs.List.{flat_map};
+ghost use Rattle.task_frames.specs.Stack.{frames_of};
 ghost use Rattle.remembered_set.specs.Moved.{into, AreFields};
 ghost use Rattle.leaf_copy_gc.specs.Survivors.{held_by};
-ghost use Rattle.task_frames.specs.Stack.{frames_of};
 ghost use Rattle.shared_value.specs.RestingHeaps.{refs_in};
 ghost use Rattle.shared_value.specs.Roots.{sources_of};
-ghost use Rattle.heap_marking.specs.Starts.{starts_by, starts_in};
 ghost use Rattle.shared_value.specs.World.{rest_at};
+ghost use Rattle.heap_marking.specs.Starts.{starts_by, starts_in};
 
 use alloc_path::LeafHeap;
 use object_layout::Addr;

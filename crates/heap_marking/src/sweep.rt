@@ -1,11 +1,11 @@
 // What a sweep does to the heap, the marking and the set of a task.
 
 ghost use Rattle.std.specs.Prelude.{◌≡◌, ◌≢◌, ◌<◌, ℕ, IsSome, None, Some, length, option_map, slice_get, slice_set};
+ghost use Rattle.write_barrier.specs.Stored.{content_at};
 ghost use Rattle.inner_mark_gc.specs.Marks.{Marks};
-ghost use Rattle.heap_marking.specs.Sweeping.{forgotten, CanSweep, SweepsHome};
 ghost use Rattle.shared_value.specs.World.{marks_at, rest_at};
 ghost use Rattle.shared_value.specs.declared.rest.Rest.{Rest as RestOf};
-ghost use Rattle.write_barrier.specs.Stored.{content_at};
+ghost use Rattle.heap_marking.specs.Sweeping.{forgotten, CanSweep, SweepsHome};
 
 use chunk_pool::Pool;
 use inner_mark_gc::Marking;

@@ -32,10 +32,10 @@ use Rattle.ledger_steps.proofs.Along.{steps_know}
 use Rattle.ledger_steps.proofs.Root.{root_alone}
 use Rattle.ledger_steps.proofs.Split.{entry_runs, legal_idle}
 use Rattle.core_relation.specs.Whole.{handed}
-use Rattle.core_relation.proofs.DoneHands.{done_hands_all}
-use Rattle.core_relation.proofs.HandedBack.{handed_halt, handed_on}
-use Rattle.shared_value.proofs.Entered.{accounts_then, legal_then}
-use Rattle.shared_value.proofs.Entering.{none_by}
+use Rattle.core_relation.proofs.whole.DoneHands.{done_hands_all}
+use Rattle.core_relation.proofs.whole.HandedBack.{handed_halt, handed_on}
+use Rattle.shared_value.proofs.JournalGoesOn.{accounts_then, legal_then}
+use Rattle.shared_value.proofs.EntryMade.{none_by}
 
 -- WHILE THE MACHINE GOES ON SO DOES THE RUN, over steps of a task
 abbrev Goes : Ledger → Type 0

@@ -6,12 +6,6 @@ use Rattle.std.proofs.lemmas.List.{append-nil, append_assoc}
 use Rattle.std.proofs.lemmas.List.Sums.{sum_by-append, sum_by-cons}
 use Rattle.std.proofs.lemmas.Option.{same_Some}
 use Rattle.listed.proofs.Members.{contains_from_in}
-use Rattle.object_layout.specs.Chunks.{held_words, object_count}
-use Rattle.object_layout.specs.Content.{Content}
-use Rattle.alloc_path.specs.Heap.{counted}
-use Rattle.heap_tree.specs.declared.state.State.{State}
-use Rattle.heap_tree.specs.declared.state.State.TheVariants.{Ready, Out, Waiting as Waits', Ended as Ended', Joined as Joined'}
-use Rattle.heap_tree.specs.Node.{Node}
 use Rattle.hh_model.specs.declared.data.Name.{Name}
 use Rattle.hh_model.specs.declared.data.State.{State as Machine}
 use Rattle.hh_model.specs.declared.data.Status.{Status}
@@ -31,6 +25,12 @@ use Rattle.run_ledger.proofs.Bounds.{steps_are_bounded}
 use Rattle.run_ledger.proofs.Counted.{journals_are_counted}
 use Rattle.run_ledger.proofs.Space.{heaps_fit, use_is_bounded}
 use Rattle.run_ledger.proofs.Stocks.{names_are_held_once}
+use Rattle.object_layout.specs.Chunks.{held_words, object_count}
+use Rattle.object_layout.specs.Content.{Content}
+use Rattle.alloc_path.specs.Heap.{counted}
+use Rattle.heap_tree.specs.declared.state.State.{State}
+use Rattle.heap_tree.specs.declared.state.State.TheVariants.{Ready, Out, Waiting as Waits', Ended as Ended', Joined as Joined'}
+use Rattle.heap_tree.specs.Node.{Node}
 use Rattle.ledger_steps.specs.Accounts.{Rests, rested}
 use Rattle.ledger_steps.proofs.Ahead.{with_off}
 use Rattle.ledger_steps.proofs.Rested.{rested_view}
@@ -39,17 +39,17 @@ use Rattle.core_relation.specs.Value.{In, Seen, objects_in}
 use Rattle.core_relation.specs.Whole.{Node as SeenNode, State as SeenState, by_end, handed, state_by}
 use Rattle.core_relation.specs.Whole.{Ready as IsReady, Out as IsOut, Waits, HasEnded, HasJoined}
 use Rattle.shared_value.specs.declared.rest.Rest.{Rest}
-use Rattle.heap_reading.specs.HeldNames.{is_state_running, kept_of}
 use Rattle.shared_value.specs.Objects.{chunk_of, chunks_of}
 use Rattle.shared_value.specs.World.{World, accounts, home_in, node_of, rest_at, state_of, value_of}
 use Rattle.shared_value.specs.Stands.{IsWorld}
-use Rattle.shared_value.proofs.AllWords.{words_are}
+use Rattle.shared_value.proofs.HeapWords.{words_are}
 use Rattle.shared_value.proofs.SameLength.{same_length}
-use Rattle.heap_reading.proofs.IdleTasks.{journal_idle}
-use Rattle.shared_value.proofs.Leading.{home_chunks}
+use Rattle.shared_value.proofs.FieldsLed.{home_chunks}
 use Rattle.shared_value.proofs.ObjectCounts.{objects_counted}
-use Rattle.shared_value.proofs.Now.{goes_by}
+use Rattle.shared_value.proofs.BeforeTheEnd.{goes_by}
 use Rattle.shared_value.proofs.ObjectCounts.{name_in}
+use Rattle.heap_reading.specs.HeldNames.{is_state_running, kept_of}
+use Rattle.heap_reading.proofs.IdleTasks.{journal_idle}
 
 -- WHO RUNS, by the tree
 seen_runs : SeenState → Bool

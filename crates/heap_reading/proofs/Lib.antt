@@ -1,7 +1,7 @@
 pub mod IdleTasks
 pub mod KeptNames
-pub mod ObjectReads
+pub mod ObjectsRead
 pub mod TreeNow
 pub mod InOrder
-pub mod LiveReads
-pub mod FieldReads
+pub mod LiveRead
+pub mod FieldsRead

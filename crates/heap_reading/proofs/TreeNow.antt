@@ -2,9 +2,6 @@
 use Rattle.std.proofs.Common.{◌≡◌, ℕ, Bool, true, false, Option, Some, None, List, [], ◌∷◌, option_map, slice_get, inl, inr, refl, ap, sym, subst, ◌∙◌}
 use Rattle.std.proofs.lemmas.Bool.{false≢true}
 use Rattle.std.proofs.lemmas.Option.{same_Some}
-use Rattle.heap_tree.specs.declared.state.State.{State}
-use Rattle.heap_tree.specs.declared.state.State.TheVariants.{Ready, Out, Waiting as Waits', Ended as Ended', Joined as Joined'}
-use Rattle.heap_tree.specs.Node.{Node, parent_in, parent_of}
 use Rattle.hh_model.specs.declared.data.State.{State as Machine}
 use Rattle.hh_model.specs.declared.data.Status.{Status}
 use Rattle.hh_model.specs.declared.data.Status.TheVariants.{Running, Waiting, Ended, Joined}
@@ -17,11 +14,14 @@ use Rattle.run_ledger.specs.declared.data.Ledger.{Ledger}
 use Rattle.run_ledger.specs.Heaps.{heap_of}
 use Rattle.run_ledger.specs.Sound.{SoundLedger}
 use Rattle.run_ledger.proofs.Journals.{legal_sound}
+use Rattle.heap_tree.specs.declared.state.State.{State}
+use Rattle.heap_tree.specs.declared.state.State.TheVariants.{Ready, Out, Waiting as Waits', Ended as Ended', Joined as Joined'}
+use Rattle.heap_tree.specs.Node.{Node, parent_in, parent_of}
 use Rattle.core_relation.specs.Whole.{Node as SeenNode, State as SeenState, handed, state_by}
 use Rattle.core_relation.specs.Whole.{Ready as IsReady, Out as IsOut, Waits, HasEnded, HasJoined}
 use Rattle.shared_value.specs.World.{World, accounts, node_of, state_of}
 use Rattle.shared_value.specs.Stands.{IsWorld}
-use Rattle.shared_value.proofs.Now.{goes_by}
+use Rattle.shared_value.proofs.BeforeTheEnd.{goes_by}
 
 -- WHO HAS JOINED
 has_joined : SeenState → Bool

@@ -2,21 +2,21 @@
 use Rattle.std.specs.Prelude.{◌≡◌, ◌⊎◌, ◌↔◌, ◌<◌, ◌*◌, ◌==◌, ℕ, FitsSigned, Option, Some, None, List, [], ◌∷◌, All, map, slice_get, if◌then◌else◌}
 use Rattle.std.specs.Int.{w64}
 use Rattle.listed.specs.Members.{In}
+use Rattle.hh_model.specs.Step.{owner_of}
 use Rattle.object_layout.specs.Cell.{IsRef}
 use Rattle.object_layout.specs.Layout.{word_of_ref}
-use Rattle.task_machine.specs.Place.{birth_of}
 use Rattle.chunk_pool.specs.declared.pool.Held.{Held}
 use Rattle.chunk_pool.specs.Chunks.{held_at, owner_of as holder_of}
 use Rattle.heap_tree.specs.declared.state.State.TheVariants.{Joined}
 use Rattle.heap_tree.specs.Node.{Node, state_of}
-use Rattle.hh_model.specs.Step.{owner_of}
 use Rattle.core_relation.specs.Value.{Chunk, Seen as SeenAt, Source, In as HasItem, sources}
+use Rattle.task_machine.specs.Place.{birth_of}
+use Rattle.shared_value.specs.World.{World, accounts, value_of}
 use Rattle.heap_reading.specs.declared.live.Live.{Live}
 use Rattle.heap_reading.specs.declared.live.InUse.{InUse}
 use Rattle.heap_reading.specs.declared.seen.Seen.{Seen}
 use Rattle.heap_reading.specs.declared.noted.Field.{Field}
 use Rattle.heap_reading.specs.HeldNames.{is_state_running}
-use Rattle.shared_value.specs.World.{World, accounts, value_of}
 
 -- LISTS
 

@@ -1,8 +1,8 @@
 // Remembered fields as they are told.
 
 ghost use Rattle.std.specs.Prelude.{◌≡◌, ◌<◌, IfOk, map};
-ghost use Rattle.heap_reading.specs.Image.{field_of};
 ghost use Rattle.shared_value.specs.World.{source_of};
+ghost use Rattle.heap_reading.specs.Image.{field_of};
 
 use crate::seen::number_of;
 use remembered_set::Source;

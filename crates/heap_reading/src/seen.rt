@@ -6,8 +6,8 @@ ghost use Rattle.object_layout.specs.Cell.{IsBorn, IsRef, moved_to, Born as IsBo
 ghost use Rattle.object_layout.specs.Layout.{word_of_ref};
 ghost use Rattle.object_layout.specs.Place.{cell_at, object_at};
 ghost use Rattle.object_layout.specs.declared.word.Birth.{Birth as BirthOf};
-ghost use Rattle.heap_reading.specs.Image.{shown, AreInWords};
 ghost use Rattle.shared_value.specs.Objects.{chunk_of, seen};
+ghost use Rattle.heap_reading.specs.Image.{shown, AreInWords};
 
 use listed::Listed;
 use object_layout::{

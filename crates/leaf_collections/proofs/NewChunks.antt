@@ -2,13 +2,13 @@
 use Rattle.std.proofs.Common.{◌≡◌, ℕ, zero, suc, ◌==◌, arith, true, false, Option, Some, None, List, [], ◌∷◌, length, map, All, slice_get, inl, inr, refl, ap, sym, subst, ◌∙◌, ne_eqb}
 use Rattle.std.specs.List.{AllByRecursion, IsDistinct}
 use Rattle.std.proofs.lemmas.Bool.{false≢true}
-use Rattle.object_layout.specs.declared.word.Birth.{Birth}
-use Rattle.object_layout.specs.Cell.{Born, IsBorn, Mark}
-use Rattle.object_layout.specs.Content.{Content}
 use Rattle.hh_model.specs.declared.data.Task.{Task}
 use Rattle.hh_model.specs.Step.{is_running}
 use Rattle.run_ledger.specs.Heaps.{heap_of}
 use Rattle.run_ledger.proofs.Holders.{tasks_are_held_once}
+use Rattle.object_layout.specs.declared.word.Birth.{Birth}
+use Rattle.object_layout.specs.Cell.{Born, IsBorn, Mark}
+use Rattle.object_layout.specs.Content.{Content}
 use Rattle.chunk_pool.specs.Chunks.{IsBlank}
 use Rattle.alloc_path.specs.Heap.{AreApart}
 use Rattle.leaf_copy_gc.specs.Laid.{AreNew}
@@ -18,7 +18,7 @@ use Rattle.core_relation.specs.Value.{In}
 use Rattle.shared_value.specs.World.{World, accounts}
 use Rattle.shared_value.specs.Stands.{IsWorld}
 use Rattle.shared_value.specs.LeafBegin.{number_of}
-use Rattle.shared_value.proofs.Cells.{fresh_off}
+use Rattle.shared_value.proofs.CellsRead.{fresh_off}
 
 -- LISTS
 

@@ -1,20 +1,20 @@
 -- A part whose heap was copied: it fits for the end of its leaf collection alone.
 use Rattle.std.specs.Prelude.{◌≡◌, ℕ, All, Some, None, List}
-use Rattle.object_layout.specs.Content.{Content}
-use Rattle.alloc_path.specs.Heap.{AreApart, IsFresh}
-use Rattle.chunk_pool.specs.Chunks.{owner_of}
-use Rattle.inner_mark_gc.specs.Swept.{units_kept}
-use Rattle.leaf_copy_gc.specs.declared.lists.Moved.{Moved}
-use Rattle.leaf_copy_gc.specs.Redirected.{new_address}
-use Rattle.remembered_set.specs.Moved.{AreInOrder, ArePlaces}
 use Rattle.run_trace.specs.Entry.{Event}
 use Rattle.run_trace.specs.Settings.{field_limit}
 use Rattle.run_trace.specs.declared.entry.Kind.TheVariants.{End}
 use Rattle.run_ledger.specs.Heaps.{end_numbers, heap_of}
+use Rattle.object_layout.specs.Content.{Content}
+use Rattle.chunk_pool.specs.Chunks.{owner_of}
+use Rattle.alloc_path.specs.Heap.{AreApart, IsFresh}
+use Rattle.remembered_set.specs.Moved.{AreInOrder, ArePlaces}
+use Rattle.leaf_copy_gc.specs.declared.lists.Moved.{Moved}
+use Rattle.leaf_copy_gc.specs.Redirected.{new_address}
+use Rattle.inner_mark_gc.specs.Swept.{units_kept}
 use Rattle.ledger_steps.specs.Accounts.{aside}
-use Rattle.task_machine.specs.declared.part.Private.{Private}
 use Rattle.core_relation.specs.Copies.{CopyFits}
 use Rattle.core_relation.specs.Value.{Home}
+use Rattle.task_machine.specs.declared.part.Private.{Private}
 use Rattle.shared_value.specs.Fits.{home_of_part}
 use Rattle.shared_value.specs.Measured.{AreMeasured}
 use Rattle.shared_value.specs.Stands.{HeapForm}

@@ -12,12 +12,12 @@ use Rattle.task_machine.specs.declared.part.Private.{Private}
 use Rattle.shared_value.specs.World.{World, accounts}
 use Rattle.shared_value.specs.Stands.{IsWorld}
 use Rattle.shared_value.specs.Fits.{Fits}
-use Rattle.own_steps.specs.Alone.{IsShared, machine_after}
 use Rattle.shared_value.specs.Next.{is_beyond, is_beyond_by, is_beyond_line, is_joint, next_line}
-use Rattle.others_objects.specs.Other.{IsOther, is_other, is_other_by, is_other_line}
-use Rattle.others_objects.proofs.Foreign.{frame, x}
+use Rattle.shared_value.proofs.PartFitsMachine as link
+use Rattle.own_steps.specs.Alone.{IsShared, machine_after}
 use Rattle.own_steps.proofs.LastSteps.{machine_same}
-use Rattle.shared_value.proofs.Linked as link
+use Rattle.others_objects.specs.Other.{IsOther, is_other, is_other_by, is_other_line}
+use Rattle.others_objects.proofs.ForeignObject.{frame, x}
 
 not_joint : (y : Task) (i : Instr) → ((g h : ℕ) → i ≡ Par g h → ⊥) → (i ≡ Ret → ⊥) → is_joint y i ≡ false
 not_joint y (Par g h) f r = absurd (f g h refl)

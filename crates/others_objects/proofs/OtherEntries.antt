@@ -2,36 +2,36 @@
 use Rattle.std.proofs.Common.{◌≡◌, ℕ, ℤ, suc, ◌+◌, ◌++◌, arith, Option, Some, None, ◌∷◌, [], refl, ap, sym, subst, ◌∙◌}
 use Rattle.std.proofs.lemmas.Option.{same_Some}
 use Rattle.listed.specs.Space.{Space}
-use Rattle.object_layout.specs.declared.word.Addr.{Addr}
 use Rattle.hh_lang.specs.declared.program.Line.{Line}
-use Rattle.run_trace.specs.declared.entry.Kind.TheVariants.{Ran}
-use Rattle.run_trace.specs.Entry.{Event}
 use Rattle.hh_model.specs.declared.data.Frame.{Frame as ModelFrame}
 use Rattle.hh_model.specs.declared.data.Name.{Name}
 use Rattle.hh_model.specs.declared.data.Task.{Task}
 use Rattle.hh_model.specs.Effect.{onward, with_int, with_ref}
 use Rattle.hh_model.specs.Step.{fetched}
+use Rattle.run_trace.specs.declared.entry.Kind.TheVariants.{Ran}
+use Rattle.run_trace.specs.Entry.{Event}
 use Rattle.run_ledger.specs.declared.data.Ledger.{Ledger}
 use Rattle.run_ledger.specs.Steps.{task_steps}
+use Rattle.object_layout.specs.declared.word.Addr.{Addr}
 use Rattle.task_frames.specs.declared.frames.Frame.{Frame}
 use Rattle.task_frames.specs.Stack.{with_int as with_number, with_next, with_reference}
-use Rattle.task_machine.specs.declared.part.Private.{Private}
 use Rattle.ledger_steps.specs.Last.{Splits}
 use Rattle.core_relation.specs.Reads.{FrameIsRead}
-use Rattle.core_relation.proofs.Carry.{all_set}
-use Rattle.core_relation.proofs.Store.{goes_on}
-use Rattle.others_objects.specs.declared.other.OtherStep.{OtherStep}
-use Rattle.others_objects.specs.declared.other.OtherStep.TheVariants.{SetsNumber, SetsReference}
+use Rattle.core_relation.proofs.objects.Carry.{all_set}
+use Rattle.core_relation.proofs.changes.Store.{goes_on}
+use Rattle.task_machine.specs.declared.part.Private.{Private}
 use Rattle.shared_value.specs.World.{World, accounts, frame_of}
 use Rattle.shared_value.specs.Stands.{IsWorld}
 use Rattle.shared_value.specs.Fits.{Fits, OthersFit}
-use Rattle.own_steps.specs.Alone.{GoesAlone, IsShared, alone_event}
 use Rattle.shared_value.specs.Entered.{refused}
-use Rattle.others_objects.specs.Other.{ReadsTo, SaysOther, TellsOther, then_places}
+use Rattle.own_steps.specs.Alone.{GoesAlone, IsShared, alone_event}
 use Rattle.own_steps.proofs.AloneEntries.{last_free}
-use Rattle.own_steps.proofs.LastEntry as last
-use Rattle.own_steps.proofs.LastEntry.{last_event}
-use Rattle.others_objects.proofs.OtherReads.{read_goes, read_others, read_part, read_world}
+use Rattle.own_steps.proofs.LastStepEntry as last
+use Rattle.own_steps.proofs.LastStepEntry.{last_event}
+use Rattle.others_objects.specs.declared.other.OtherStep.{OtherStep}
+use Rattle.others_objects.specs.declared.other.OtherStep.TheVariants.{SetsNumber, SetsReference}
+use Rattle.others_objects.specs.Other.{ReadsTo, SaysOther, TellsOther, then_places}
+use Rattle.others_objects.proofs.ReadEntered.{read_goes, read_others, read_part, read_world}
 
 module _ (w : World) (k : ℕ) (p : Private) (I : IsWorld w) (F : Fits w k p) (shared : IsShared w p) (free : refused w (alone_event k p) ≡ None) where
   more : suc p.fresh ≡ p.fresh + 1

@@ -1,10 +1,6 @@
 -- What the next step of a part does in the machine, where it works on an object that another task owns.
 use Rattle.std.proofs.Common.{◌≡◌, ℕ, ℤ, pos, ◌==◌, Bool, true, false, cond, Option, Some, None, List, length, slice_get, slice_set, unwrap_or, inl, inr, refl, ap, ap₂, sym, subst, ◌∙◌}
 use Rattle.std.proofs.lemmas.Bool.{cases_eq, cond-false, cond-true, ne_eqb}
-use Rattle.object_layout.specs.declared.word.Addr.{Addr}
-use Rattle.object_layout.specs.Cell.{Cell}
-use Rattle.object_layout.specs.Chunks.{cell_of}
-use Rattle.heap_tree.specs.Node.{is_on_path as tree_path}
 use Rattle.hh_lang.specs.declared.instr.Instr.{Instr}
 use Rattle.hh_lang.specs.declared.instr.Instr.TheVariants.{Set, Mov, Movr, Nil as NilOf, Calc, Same, Jmp, Jz, Newm, Pack, Getr, Geti, Putr, Puti, Cntr, Cnti, Freeze, Cas, Call, Par, Ret, Out}
 use Rattle.hh_lang.specs.declared.program.Line.{Line}
@@ -27,26 +23,30 @@ use Rattle.hh_model.proofs.Stored.{run_stored}
 use Rattle.hh_model.proofs.Taken.{step_taken}
 use Rattle.run_ledger.specs.declared.data.Ledger.{Ledger}
 use Rattle.run_ledger.specs.Steps.{task_steps, touched}
+use Rattle.object_layout.specs.declared.word.Addr.{Addr}
+use Rattle.object_layout.specs.Cell.{Cell}
+use Rattle.object_layout.specs.Chunks.{cell_of}
+use Rattle.object_layout.specs.References.{same_reference}
+use Rattle.heap_tree.specs.Node.{is_on_path as tree_path}
 use Rattle.ledger_steps.specs.Accounts.{Rests, own, rested}
 use Rattle.ledger_steps.specs.Last.{JustReads}
-use Rattle.task_machine.specs.declared.part.Private.{Private}
-use Rattle.object_layout.specs.References.{same_reference}
-use Rattle.task_machine.specs.Plan.{int_of, ref_of}
 use Rattle.core_relation.specs.Value.{In, Value}
 use Rattle.core_relation.specs.Fits.{with_home}
 use Rattle.core_relation.specs.Reads.{Reads}
 use Rattle.core_relation.specs.Stands.{Place}
-use Rattle.core_relation.proofs.Carry.{field_of}
-use Rattle.others_objects.specs.declared.other.OtherStep.{OtherStep}
-use Rattle.others_objects.specs.declared.other.OtherStep.TheVariants.{SetsNumber, SetsReference, Stops, Traps, StoresReference, Swaps, StoresNumber}
+use Rattle.core_relation.proofs.objects.Carry.{field_of}
+use Rattle.task_machine.specs.declared.part.Private.{Private}
+use Rattle.task_machine.specs.Plan.{int_of, ref_of}
 use Rattle.shared_value.specs.World.{World, accounts, value_of}
 use Rattle.shared_value.specs.Stands.{IsWorld}
 use Rattle.shared_value.specs.Fits.{Fits, home_of_part}
+use Rattle.shared_value.proofs.PartFitsMachine as link
+use Rattle.others_objects.specs.declared.other.OtherStep.{OtherStep}
+use Rattle.others_objects.specs.declared.other.OtherStep.TheVariants.{SetsNumber, SetsReference, Stops, Traps, StoresReference, Swaps, StoresNumber}
 use Rattle.others_objects.specs.Other.{ReadsTo, SaysOther, object_named, or_frozen, or_range, other_step, reads_into, swaps, yields}
-use Rattle.others_objects.proofs.Foreign.{IsForeign, holds, number_at, reads_length, register_at, x}
-use Rattle.shared_value.proofs.Linked as link
-use Rattle.others_objects.proofs.OtherPaths.{paths_same}
-use Rattle.others_objects.proofs.Others.{tests_same}
+use Rattle.others_objects.proofs.ForeignObject.{IsForeign, holds, number_at, reads_length, register_at, x}
+use Rattle.others_objects.proofs.TreePaths.{paths_same}
+use Rattle.others_objects.proofs.ForeignAddresses.{tests_same}
 
 module _ (w : World) (k : ℕ) (p : Private) (I : IsWorld w) (F : Fits w k p) (on : (accounts w).end ≡ None) where
   abbrev t : ℕ

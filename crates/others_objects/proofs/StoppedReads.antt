@@ -1,20 +1,20 @@
 -- A register is written only where the read isn't stopped.
 use Rattle.std.proofs.Common.{◌≡◌, ℕ, zero, suc, ◌+◌, ◌++◌, arith, Option, Some, None, [], ◌∷◌, refl, ap, sym, ◌∙◌}
 use Rattle.hh_lang.specs.Form.{ProgramText}
-use Rattle.run_trace.specs.Settings.{Limits}
 use Rattle.hh_model.specs.declared.data.End.{End}
 use Rattle.hh_model.specs.declared.data.State.{State}
 use Rattle.hh_model.specs.Step.{step}
+use Rattle.run_trace.specs.Settings.{Limits}
 use Rattle.run_ledger.specs.declared.data.Ledger.{Ledger}
 use Rattle.run_ledger.specs.Journals.{ledger_of}
 use Rattle.run_ledger.specs.Steps.{task_step, task_steps}
 use Rattle.run_ledger.proofs.Machine.{task_step_machine}
 use Rattle.run_ledger.proofs.Going.{machine_goes_on}
-use Rattle.others_objects.specs.OtherLaws.{StoppedReadsWriteNothing}
 use Rattle.shared_value.specs.World.{accounts}
+use Rattle.shared_value.proofs.JournalGoesOn.{accounts_then}
 use Rattle.own_steps.specs.Alone.{alone_event, machine_after}
-use Rattle.shared_value.proofs.Entered.{accounts_then}
 use Rattle.own_steps.proofs.LastSteps.{machine_same}
+use Rattle.others_objects.specs.OtherLaws.{StoppedReadsWriteNothing}
 
 steps_last : (p : ProgramText) (t i : ℕ) (l : Ledger) → task_steps p l t (suc i) ≡ task_step p (task_steps p l t i) t
 steps_last p t zero l = refl

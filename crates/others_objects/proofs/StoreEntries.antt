@@ -3,22 +3,19 @@ use Rattle.std.proofs.Common.{◌≡◌, ℕ, ℤ, pos, ◌+◌, ◌<◌, ◌++�
 use Rattle.std.specs.Prelude.{IsSome, slice_index_or}
 use Rattle.std.proofs.lemmas.Option.{same_Some}
 use Rattle.listed.specs.Space.{Space}
-use Rattle.object_layout.specs.declared.word.Addr.{Addr}
-use Rattle.object_layout.specs.Cell.{Cell, IsPlace, with_int as cell_int, with_ref as cell_ref}
-use Rattle.object_layout.specs.Chunks.{cell_of, object_of}
-use Rattle.chunk_pool.specs.Chunks.{held_at, owner_of as pool_owner}
-use Rattle.run_trace.specs.Entry.{Event}
 use Rattle.hh_model.specs.declared.data.Frame.{Frame as ModelFrame}
 use Rattle.hh_model.specs.declared.data.Name.{Name}
 use Rattle.hh_model.specs.declared.data.Object.{Object}
 use Rattle.hh_model.specs.declared.data.Task.{Task}
 use Rattle.hh_model.specs.Effect.{ref_in}
+use Rattle.run_trace.specs.Entry.{Event}
 use Rattle.run_ledger.specs.declared.data.Ledger.{Ledger}
 use Rattle.run_ledger.specs.Steps.{task_steps, touched}
+use Rattle.object_layout.specs.declared.word.Addr.{Addr}
+use Rattle.object_layout.specs.Cell.{Cell, IsPlace, with_int as cell_int, with_ref as cell_ref}
+use Rattle.object_layout.specs.Chunks.{cell_of, object_of}
+use Rattle.chunk_pool.specs.Chunks.{held_at, owner_of as pool_owner}
 use Rattle.task_frames.specs.Stack.{Stack}
-use Rattle.task_machine.specs.declared.part.Private.{Private}
-use Rattle.task_machine.specs.Plan.{ref_of}
-use Rattle.task_machine.proofs.Owned.{born_is, born_object}
 use Rattle.write_barrier.specs.declared.sets.SetOf.{SetOf}
 use Rattle.write_barrier.specs.Stored.{IsOwned, content_after, content_at}
 use Rattle.ledger_steps.specs.Accounts.{own, rested}
@@ -29,25 +26,28 @@ use Rattle.core_relation.specs.Fits.{with_home}
 use Rattle.core_relation.specs.Makes.{StoresInto}
 use Rattle.core_relation.specs.Since.{StoresNotes}
 use Rattle.core_relation.specs.Stands.{Place}
-use Rattle.core_relation.proofs.Roots.{name_at}
-use Rattle.others_objects.specs.declared.other.OtherStep.TheVariants.{StoresNumber}
+use Rattle.core_relation.proofs.notes.Roots.{name_at}
+use Rattle.task_machine.specs.declared.part.Private.{Private}
+use Rattle.task_machine.specs.Plan.{ref_of}
+use Rattle.task_machine.proofs.Owned.{born_is, born_object}
 use Rattle.shared_value.specs.declared.rest.Rest.{Rest}
 use Rattle.shared_value.specs.World.{World, accounts, flat, frame_of, rest_at, value_of}
 use Rattle.shared_value.specs.Stands.{IsWorld}
 use Rattle.shared_value.specs.Fits.{Fits, home_of_part}
-use Rattle.own_steps.specs.Alone.{GoesAlone, IsShared, alone_event}
 use Rattle.shared_value.specs.Entered.{refused}
-use Rattle.others_objects.specs.Other.{IsWritable, SaysOther, TellsOther, WritesNumber, WritesReference, put_rest, store_frames, store_of, then_places}
+use Rattle.shared_value.proofs.PartFitsMachine as link
+use Rattle.own_steps.specs.Alone.{GoesAlone, IsShared, alone_event}
 use Rattle.own_steps.proofs.AloneEntries.{is_safe, last_free}
-use Rattle.others_objects.proofs.Foreign.{IsForeign, register_at, x}
-use Rattle.own_steps.proofs.LastEntry as last
-use Rattle.own_steps.proofs.LastEntry.{last_event}
-use Rattle.shared_value.proofs.Linked as link
+use Rattle.own_steps.proofs.LastStepEntry as last
+use Rattle.own_steps.proofs.LastStepEntry.{last_event}
+use Rattle.others_objects.specs.declared.other.OtherStep.TheVariants.{StoresNumber}
+use Rattle.others_objects.specs.Other.{IsWritable, SaysOther, TellsOther, WritesNumber, WritesReference, put_rest, store_frames, store_of, then_places}
+use Rattle.others_objects.proofs.ForeignObject.{IsForeign, register_at, x}
 use Rattle.others_objects.proofs.OtherEntries as entries
-use Rattle.others_objects.proofs.OtherLines.{some_held}
-use Rattle.others_objects.proofs.OtherPaths.{made_there}
-use Rattle.others_objects.proofs.OtherStored as stored
-use Rattle.others_objects.proofs.OtherStores.{reads_address}
+use Rattle.others_objects.proofs.NextOtherLine.{some_held}
+use Rattle.others_objects.proofs.TreePaths.{made_there}
+use Rattle.others_objects.proofs.StoresByCalls as stored
+use Rattle.others_objects.proofs.StoreValue.{reads_address}
 use Rattle.others_objects.proofs.StoreKinds.{Made, by_cas, by_putr, reads_cas, reads_puti, reads_putr, stands_at}
 
 abbrev pub flag_of : Option ℕ → Option (ℕ × ℤ)

@@ -1,15 +1,6 @@
 -- What the next instruction of a part does with an object that another task owns, as the object's cell, the tree and the pool
 -- tell it.
 use Rattle.std.specs.Prelude.{◌≡◌, ℕ, ◌+◌, ◌<◌, pos, not, Bool, true, false, Option, Some, None, List, IsSome, length, slice_get, slice_index_or, unwrap_or, if◌then◌else◌}
-use Rattle.object_layout.specs.declared.word.Addr.{Addr}
-use Rattle.object_layout.specs.Cell.{Cell, IsObject}
-use Rattle.object_layout.specs.Chunks.{cell_of, object_of, put_object}
-use Rattle.object_layout.specs.Content.{Content}
-use Rattle.heap_tree.specs.Node.{Node, is_on_path}
-use Rattle.chunk_pool.specs.Chunks.{Chunks, held_at, owner_of}
-use Rattle.write_barrier.specs.Stored.{content_at, IsOwned}
-use Rattle.task_frames.specs.declared.frames.Frame.{Frame}
-use Rattle.task_frames.specs.Stack.{Stack, with_int as with_number, with_next}
 use Rattle.hh_lang.specs.declared.instr.Instr.{Instr}
 use Rattle.hh_lang.specs.declared.instr.Instr.TheVariants.{Getr, Geti, Putr, Puti, Cntr, Cnti, Freeze, Cas}
 use Rattle.hh_lang.specs.declared.program.Line.{Line}
@@ -24,22 +15,31 @@ use Rattle.hh_model.specs.declared.data.Trap.TheVariants.{Nil as NilTrap, Range,
 use Rattle.hh_model.specs.Effect.{Goes, effect, flat, int_in, object_at, onward, place_in, ref_in, same_name, with_int, with_ref}
 use Rattle.hh_model.specs.Step.{ended_by, fetched, setting, step}
 use Rattle.run_ledger.specs.Steps.{owns, touched}
+use Rattle.object_layout.specs.declared.word.Addr.{Addr}
+use Rattle.object_layout.specs.Cell.{Cell, IsObject}
+use Rattle.object_layout.specs.Chunks.{cell_of, object_of, put_object}
+use Rattle.object_layout.specs.Content.{Content}
+use Rattle.object_layout.specs.References.{same_reference}
+use Rattle.chunk_pool.specs.Chunks.{Chunks, held_at, owner_of}
+use Rattle.task_frames.specs.declared.frames.Frame.{Frame}
+use Rattle.task_frames.specs.Stack.{Stack, with_int as with_number, with_next}
+use Rattle.heap_tree.specs.Node.{Node, is_on_path}
+use Rattle.write_barrier.specs.Stored.{content_at, IsOwned}
 use Rattle.ledger_steps.specs.Accounts.{rested}
 use Rattle.ledger_steps.specs.Last.{JustReads}
-use Rattle.task_machine.specs.declared.part.Private.{Private}
-use Rattle.object_layout.specs.References.{same_reference}
-use Rattle.task_machine.specs.Plan.{int_of, ref_of}
 use Rattle.core_relation.specs.Fits.{with_home}
 use Rattle.core_relation.specs.Reads.{Reads}
 use Rattle.core_relation.specs.Stands.{Place}
-use Rattle.own_steps.specs.declared.alone.Alone.{Alone}
-use Rattle.own_steps.specs.declared.alone.Alone.TheVariants.{Goes as GoesOn, Over, Done, Beyond}
-use Rattle.others_objects.specs.declared.other.OtherStep.{OtherStep}
-use Rattle.others_objects.specs.declared.other.OtherStep.TheVariants.{SetsNumber, SetsReference, Stops, Traps, StoresReference, Swaps, StoresNumber}
+use Rattle.task_machine.specs.declared.part.Private.{Private}
+use Rattle.task_machine.specs.Plan.{int_of, ref_of}
 use Rattle.shared_value.specs.declared.rest.Rest.{Rest}
 use Rattle.shared_value.specs.World.{World, rest_at, value_of}
 use Rattle.shared_value.specs.Fits.{Fits, home_of_part}
+use Rattle.own_steps.specs.declared.alone.Alone.{Alone}
+use Rattle.own_steps.specs.declared.alone.Alone.TheVariants.{Goes as GoesOn, Over, Done, Beyond}
 use Rattle.own_steps.specs.Alone.{GoesAlone, HaltsAlone, machine_after, then_accounts}
+use Rattle.others_objects.specs.declared.other.OtherStep.{OtherStep}
+use Rattle.others_objects.specs.declared.other.OtherStep.TheVariants.{SetsNumber, SetsReference, Stops, Traps, StoresReference, Swaps, StoresNumber}
 
 -- ---- WHETHER IT WORKS ON ONE
 

@@ -8,8 +8,8 @@ use Rattle.task_machine.specs.declared.part.Private.{Private}
 use Rattle.shared_value.specs.World.{World, accounts}
 use Rattle.shared_value.specs.Stands.{IsWorld}
 use Rattle.shared_value.specs.Fits.{Fits}
-use Rattle.own_steps.specs.Alone.{GoesAlone, IsShared, machine_after}
 use Rattle.shared_value.specs.Next.{is_beyond, next_line}
+use Rattle.own_steps.specs.Alone.{GoesAlone, IsShared, machine_after}
 use Rattle.others_objects.specs.Other.{IsOther}
 
 -- where a part goes on after an entry with its next step, that step is no read that the machine stops

@@ -4,20 +4,20 @@ use Rattle.listed.specs.Space.{Space}
 use Rattle.hh_lang.specs.declared.instr.Instr.{Instr}
 use Rattle.hh_lang.specs.declared.instr.Instr.TheVariants.{Ret}
 use Rattle.hh_lang.specs.declared.program.Line.{Line}
-use Rattle.run_trace.specs.declared.entry.Kind.TheVariants.{Ran}
-use Rattle.run_trace.specs.Entry.{Event}
 use Rattle.hh_model.specs.declared.data.End.{End}
 use Rattle.hh_model.specs.declared.data.End.TheVariants.{Done, Trapped}
 use Rattle.hh_model.specs.declared.data.State.{State as MachineState}
 use Rattle.hh_model.specs.declared.data.Task.{Task}
 use Rattle.hh_model.specs.declared.data.Trap.{Trap}
 use Rattle.hh_model.specs.Step.{ended_by, fetched, step}
-use Rattle.heap_tree.specs.declared.state.State.TheVariants.{Ended}
-use Rattle.heap_tree.specs.Node.{with_state}
+use Rattle.run_trace.specs.declared.entry.Kind.TheVariants.{Ran}
+use Rattle.run_trace.specs.Entry.{Event}
 use Rattle.run_ledger.specs.declared.data.RunEnd.TheVariants.{Machine}
 use Rattle.run_ledger.specs.Steps.{has_no_caller, owns, touched}
 use Rattle.run_ledger.proofs.Bounds.{ran_tells}
 use Rattle.task_frames.specs.Stack.{with_next}
+use Rattle.heap_tree.specs.declared.state.State.TheVariants.{Ended}
+use Rattle.heap_tree.specs.Node.{with_state}
 use Rattle.ledger_steps.specs.Accounts.{Rests}
 use Rattle.core_relation.specs.Whole.{handed}
 use Rattle.task_machine.specs.declared.part.Private.{Private}
@@ -28,15 +28,15 @@ use Rattle.shared_value.specs.World.{World, accounts}
 use Rattle.shared_value.specs.Stands.{IsWorld}
 use Rattle.shared_value.specs.Fits.{Fits, OthersFit}
 use Rattle.shared_value.specs.Next.{is_beyond, is_beyond_by, is_beyond_line, is_joint}
-use Rattle.own_steps.specs.Alone.{FinishesAlone, GoesAlone, HaltsAlone, IsShared, Tells, alone_event, ended_rest, machine_after, then_accounts}
 use Rattle.shared_value.specs.Entered.{refused}
-use Rattle.own_steps.proofs.Finished.{done_ends, done_others, done_rests, done_world, has_home, has_node}
-use Rattle.own_steps.proofs.Halted.{halted_ends, halted_others, halted_part, halted_world}
-use Rattle.own_steps.proofs.LastEntry as last
-use Rattle.own_steps.proofs.LastEntry.{last_event}
+use Rattle.shared_value.proofs.BeforeTheEnd.{steps_now}
+use Rattle.own_steps.specs.Alone.{FinishesAlone, GoesAlone, HaltsAlone, IsShared, Tells, alone_event, ended_rest, machine_after, then_accounts}
+use Rattle.own_steps.proofs.RunDone.{done_ends, done_others, done_rests, done_world, has_home, has_node}
+use Rattle.own_steps.proofs.RunHalted.{halted_ends, halted_others, halted_part, halted_world}
+use Rattle.own_steps.proofs.LastStepEntry as last
+use Rattle.own_steps.proofs.LastStepEntry.{last_event}
 use Rattle.own_steps.proofs.LastSteps.{event_is, fits_machine, machine_same}
-use Rattle.shared_value.proofs.Now.{steps_now}
-use Rattle.own_steps.proofs.Printed.{output_goes, output_others, output_part, output_world}
+use Rattle.own_steps.proofs.OutputEntered.{output_goes, output_others, output_part, output_world}
 
 -- a step that can't be done ends the run so
 pub trap_is : (w : World) (p : Private) (kind : Trap) (number : ℕ) → Tells w p (Traps kind) number → step w.program (then_accounts w p).machine p.task ≡ ended_by (then_accounts w p).machine (Trapped kind p.task number)

@@ -3,11 +3,11 @@ use Rattle.std.proofs.Common.{◌≡◌, ℕ, zero, suc, ◌+◌, ◌≤◌, ◌
 use Rattle.std.proofs.lemmas.Bool.{cond-false, cond-true, false≢true}
 use Rattle.hh_lang.specs.declared.program.Line.{Line}
 use Rattle.hh_lang.specs.Form.{ProgramText}
+use Rattle.hh_model.specs.declared.data.State.{State}
+use Rattle.hh_model.specs.Step.{asked, fetched}
 use Rattle.run_trace.specs.declared.entry.Kind.TheVariants.{Ran}
 use Rattle.run_trace.specs.Entry.{Event}
 use Rattle.run_trace.specs.Settings.{Limits}
-use Rattle.hh_model.specs.declared.data.State.{State}
-use Rattle.hh_model.specs.Step.{asked, fetched}
 use Rattle.run_ledger.specs.declared.data.Ledger.{Ledger}
 use Rattle.run_ledger.specs.declared.data.Refused.{Refused}
 use Rattle.run_ledger.specs.declared.data.Refused.TheVariants.{Collecting, Long}
@@ -15,27 +15,27 @@ use Rattle.run_ledger.specs.Heaps.{heap_of, lacks_room}
 use Rattle.run_ledger.specs.Steps.{is_due, is_in_need, is_private, most_steps, on_asked, standing, task_step, task_steps}
 use Rattle.run_ledger.specs.Entries.{kind_refusal, refused_if, refused_unless}
 use Rattle.ledger_steps.specs.Accounts.{ArePrivate}
+use Rattle.core_relation.specs.Fits.{FitsAt as FitsValue, ahead}
+use Rattle.core_relation.proofs.parts.Quiet.{aside_is}
 use Rattle.task_machine.specs.declared.part.Private.{Private}
 use Rattle.task_machine.specs.Fits.{FitsNow as FitsMachine}
 use Rattle.task_machine.specs.Place.{Places}
 use Rattle.task_machine.proofs.Agreement.{has_line, same_line}
-use Rattle.core_relation.specs.Fits.{FitsAt as FitsValue, ahead}
-use Rattle.core_relation.proofs.Quiet.{aside_is}
 use Rattle.shared_value.specs.World.{World, accounts, value_of}
 use Rattle.shared_value.specs.Stands.{IsWorld}
 use Rattle.shared_value.specs.Fits.{Fits, part_of}
 use Rattle.shared_value.specs.Links.{above_of}
 use Rattle.shared_value.specs.Next.{ending, line_asks, next_line}
-use Rattle.own_steps.specs.Alone.{IsShared, Tells, alone_event, machine_after}
 use Rattle.shared_value.specs.Causes.{first_cause, or_else}
 use Rattle.shared_value.specs.Entered.{refused}
-use Rattle.shared_value.proofs.Asking.{asks_is}
-use Rattle.own_steps.proofs.Endings.{asks_none, ending_tells}
-use Rattle.shared_value.proofs.Linked as link
-use Rattle.shared_value.proofs.Begun.{at_part}
-use Rattle.shared_value.proofs.Now.{end_now}
-use Rattle.shared_value.proofs.Refusals.{refused_is}
-use Rattle.shared_value.proofs.Running.{fits_now, goes}
+use Rattle.shared_value.proofs.NextStepAsks.{asks_is}
+use Rattle.shared_value.proofs.PartFitsMachine as link
+use Rattle.shared_value.proofs.CollectionUnderWay.{at_part}
+use Rattle.shared_value.proofs.BeforeTheEnd.{end_now}
+use Rattle.shared_value.proofs.CausesTold.{refused_is}
+use Rattle.shared_value.proofs.StepsEntered.{fits_now, goes}
+use Rattle.own_steps.specs.Alone.{IsShared, Tells, alone_event, machine_after}
+use Rattle.own_steps.proofs.NextStepEnds.{asks_none, ending_tells}
 
 -- private steps and one more, which isn't
 standing_last : (p : ProgramText) (s : Limits) (t k : ℕ) (l : Ledger) → ArePrivate p s l t k → is_due s p (task_steps p l t k) t ≡ false → is_in_need p (task_steps p l t k) t ≡ false → is_private p (task_steps p l t k).machine t ≡ false

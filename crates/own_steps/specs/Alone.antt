@@ -3,14 +3,14 @@ use Rattle.std.specs.Prelude.{◌≤◌, ◌≡◌, ◌≢◌, ℕ, ◌+◌, ◌
 use Rattle.hh_lang.specs.declared.instr.Instr.TheVariants.{Out, Ret}
 use Rattle.hh_lang.specs.declared.program.Line.{Line}
 use Rattle.hh_lang.specs.Form.{ProgramText}
-use Rattle.run_trace.specs.declared.entry.Kind.TheVariants.{Ran}
-use Rattle.run_trace.specs.Entry.{Event}
 use Rattle.hh_model.specs.declared.data.End.{End}
 use Rattle.hh_model.specs.declared.data.End.TheVariants.{Done, Trapped}
 use Rattle.hh_model.specs.declared.data.State.{State}
 use Rattle.hh_model.specs.declared.data.Task.{Task}
 use Rattle.hh_model.specs.Effect.{int_in}
 use Rattle.hh_model.specs.Step.{ended_by, fetched, step}
+use Rattle.run_trace.specs.declared.entry.Kind.TheVariants.{Ran}
+use Rattle.run_trace.specs.Entry.{Event}
 use Rattle.run_ledger.specs.declared.data.Ledger.{Ledger}
 use Rattle.run_ledger.specs.declared.data.RunEnd.{RunEnd}
 use Rattle.run_ledger.specs.declared.data.RunEnd.TheVariants.{Machine}
@@ -18,17 +18,17 @@ use Rattle.run_ledger.specs.Steps.{is_private, owns, task_steps, touched}
 use Rattle.ledger_steps.specs.Accounts.{Rests}
 use Rattle.core_relation.specs.Whole.{handed}
 use Rattle.task_machine.specs.declared.part.Private.{Private}
-use Rattle.own_steps.specs.declared.alone.Alone.{Alone}
-use Rattle.own_steps.specs.declared.alone.Alone.TheVariants.{Goes, Over, Done as IsDone, Beyond as BeyondAlone}
+use Rattle.task_machine.specs.Plan.{int_of, ref_of}
 use Rattle.shared_value.specs.declared.next.Ending.{Ending}
 use Rattle.shared_value.specs.declared.next.Ending.TheVariants.{Prints, Returns, Traps, Beyond}
-use Rattle.task_machine.specs.Plan.{int_of, ref_of}
 use Rattle.shared_value.specs.declared.rest.Rest.{Rest}
 use Rattle.shared_value.specs.declared.rest.Work.TheVariants.{Result}
 use Rattle.shared_value.specs.World.{World, accounts}
 use Rattle.shared_value.specs.Fits.{Fits, OthersFit, beyond}
 use Rattle.shared_value.specs.Next.{is_beyond, is_joint}
 use Rattle.shared_value.specs.Entered.{Enters}
+use Rattle.own_steps.specs.declared.alone.Alone.{Alone}
+use Rattle.own_steps.specs.declared.alone.Alone.TheVariants.{Goes, Over, Done as IsDone, Beyond as BeyondAlone}
 
 -- its entry
 abbrev pub alone_event : ℕ → Private → Event

@@ -7,13 +7,13 @@ use Rattle.run_trace.specs.Settings.{Limits}
 use Rattle.run_ledger.specs.Journals.{ledger_of}
 use Rattle.run_ledger.specs.Pace.{idle, is_paced, pace_at_end, pace_of}
 use Rattle.run_ledger.specs.declared.data.Ledger.{Ledger}
-use Rattle.heap_marking.specs.declared.pace.Pace.{Pace}
-use Rattle.heap_marking.specs.declared.pace.Previous.TheVariants.{Other}
 use Rattle.shared_value.specs.declared.answer.NotEntered.{NotEntered}
 use Rattle.shared_value.specs.declared.answer.NotEntered.TheVariants.{NoMemory, Refuses}
-use Rattle.child_tasks.specs.Joins.{IsUnchanged}
-use Rattle.heap_marking.specs.Pace.{KeepsPace, KeepsPrevious}
 use Rattle.shared_value.specs.World.{World, accounts}
+use Rattle.child_tasks.specs.Joins.{IsUnchanged}
+use Rattle.heap_marking.specs.declared.pace.Pace.{Pace}
+use Rattle.heap_marking.specs.declared.pace.Previous.TheVariants.{Other}
+use Rattle.heap_marking.specs.Pace.{KeepsPace, KeepsPrevious}
 use Rattle.heap_marking.proofs.PaceKeeps.{keeps_items}
 use Rattle.paced_tree.specs.Owed.{AreIdle, KeepsPaces, NotesAt, SameMarks, noted_of}
 

@@ -14,7 +14,7 @@ use Rattle.ledger_steps.proofs.Ahead.{heap_then, with_at, with_machine}
 use Rattle.shared_value.specs.Entered.{refused, Enters}
 use Rattle.shared_value.specs.Stands.{IsWorld}
 use Rattle.shared_value.specs.World.{World, accounts}
-use Rattle.heap_marking.proofs.PaceStands.{entered_accounts}
+use Rattle.heap_marking.proofs.ForksTold.{entered_accounts}
 use Rattle.paced_tree.proofs.Noted.{went_on}
 
 there : (xs : List Heap) (k : ℕ) → k < length xs → (h : Heap) × (slice_get xs k ≡ Some h)

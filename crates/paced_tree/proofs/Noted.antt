@@ -1,6 +1,7 @@
 -- An entry that pays keeps what a paced value keeps.
 use Rattle.std.proofs.Common.{◌≡◌, ◌≢◌, ◌⊎◌, ℕ, zero, suc, ◌<◌, ◌≤◌, true, false, Option, Some, None, List, [], ◌∷◌, ◌++◌, length, slice_get, slice_set, replicate, inl, inr, refl, ap, sym, subst, ◌∙◌, arith, length-set, is_some, is_none}
 use Rattle.std.proofs.lemmas.Bool.{cases_eq, both_ways}
+use Rattle.std.specs.Prelude.{OnErr, OnOk, Result, Ok, Err}
 use Rattle.listed.proofs.Members.{got_other, got_within}
 use Rattle.hh_lang.specs.Form.{ProgramText}
 use Rattle.run_trace.specs.declared.entry.Kind.{Kind}
@@ -16,22 +17,21 @@ use Rattle.run_ledger.specs.Journals.{after_all, opening}
 use Rattle.run_ledger.specs.Pace.{idle, is_paced, noted, or_idle, pace_after, pace_after_all, pace_at_end, pace_of, pace_opening}
 use Rattle.run_ledger.proofs.Journals.{none_where}
 use Rattle.run_ledger.proofs.Paced.{pace_goes_on}
+use Rattle.run_ledger.specs.declared.data.Refused.{Refused}
+use Rattle.task_machine.specs.declared.part.Private.{Private}
+use Rattle.shared_value.specs.Entered.{cause_of, refused, Enters}
+use Rattle.shared_value.specs.Stands.{IsWorld}
+use Rattle.shared_value.specs.World.{World, accounts}
+use Rattle.own_steps.specs.Alone.{alone_event}
 use Rattle.heap_marking.specs.declared.pace.Pace.{Pace}
 use Rattle.heap_marking.specs.declared.pace.Previous.TheVariants.{Other}
-use Rattle.shared_value.specs.Entered.{cause_of, refused, Enters}
-use Rattle.run_ledger.specs.declared.data.Refused.{Refused}
-use Rattle.std.specs.Prelude.{OnErr, OnOk, Result, Ok, Err}
 use Rattle.heap_marking.specs.declared.pace.Fork.{Fork}
 use Rattle.heap_marking.specs.Pace.{IsForkOf, KeepsPace, previous_of}
 use Rattle.heap_marking.proofs.PaceKeeps.{mark_kept, steps_kept}
-use Rattle.task_machine.specs.declared.part.Private.{Private}
+use Rattle.heap_marking.proofs.ForksTold.{entered_accounts, paces_stay}
 use Rattle.shared_tree.specs.declared.ran_last.Ran.{Ran as RanOf}
 use Rattle.shared_tree.specs.declared.ran_last.Ran.TheVariants.{Goes as GoesOn, Forked as ForksInto, Ended as EndsWith, Over as IsOver, Done as IsDone}
-use Rattle.own_steps.specs.Alone.{alone_event}
 use Rattle.shared_tree.specs.Ran.{RanTo}
-use Rattle.shared_value.specs.Stands.{IsWorld}
-use Rattle.shared_value.specs.World.{World, accounts}
-use Rattle.heap_marking.proofs.PaceStands.{entered_accounts, paces_stay}
 use Rattle.paced_tree.specs.Owed.{KeepsNoted, KeepsPaces, NotesAt, NotesOther, Pays, noted_of}
 
 -- WHAT IS NOTED after one entry more

@@ -6,10 +6,10 @@ use Rattle.run_ledger.specs.declared.data.Ledger.{Ledger}
 use Rattle.run_ledger.specs.declared.data.Owed.{Owed}
 use Rattle.run_ledger.specs.declared.data.WorkerPace.{WorkerPace}
 use Rattle.run_ledger.specs.Pace.{gives, is_paced, noted, owed, pace_at_end, pace_of}
+use Rattle.shared_value.specs.World.{World, accounts}
 use Rattle.heap_marking.specs.declared.pace.Pace.{Pace}
 use Rattle.heap_marking.specs.declared.pace.Previous.TheVariants.{Other}
 use Rattle.heap_marking.specs.Pace.{KeepsPace}
-use Rattle.shared_value.specs.World.{World, accounts}
 
 -- what the journal keeps of the worker's entries
 abbrev pub noted_of : World → ℕ → WorkerPace

@@ -2,8 +2,8 @@
 
 ghost use Rattle.std.specs.Prelude.{◌≡◌, ◌<◌, ℕ, IfOk, OnOk, None, Some, is_some, length, slice_get, true};
 ghost use Rattle.hh_model.specs.Step.{is_waiting};
-ghost use Rattle.run_ledger.specs.Heaps.{heap_of};
 ghost use Rattle.run_trace.specs.declared.entry.Kind.TheVariants.{Mark, Ran};
+ghost use Rattle.run_ledger.specs.Heaps.{heap_of};
 ghost use Rattle.shared_value.specs.World.{accounts};
 ghost use Rattle.paced_tree.specs.Owed.{AreIdle, HasRoom, KeepsNoted, NotesAt, NotesOther, SameMarks};
 

@@ -8,10 +8,10 @@ ghost use Rattle.task_machine.specs.declared.part.Private.{Private as Part};
 ghost use Rattle.shared_value.specs.Causes.{first_cause};
 ghost use Rattle.shared_value.specs.Due.{IsHeld};
 ghost use Rattle.shared_value.specs.Fits.{AllFit, Fits};
-ghost use Rattle.heap_marking.specs.MarkCauses.{marking_cause};
 ghost use Rattle.shared_value.specs.Stands.{IsWorld};
 ghost use Rattle.shared_value.specs.World.{accounts, rest_at};
 ghost use Rattle.shared_value.specs.declared.rest.Rest.{Rest as RestOf};
+ghost use Rattle.heap_marking.specs.MarkCauses.{marking_cause};
 ghost use Rattle.paced_tree.specs.Owed.{owed_by};
 
 use crate::noting::idle_paces;

@@ -1,13 +1,13 @@
 // A worker takes a task, and steps are entered; or the run ends for spent fuel.
 
 ghost use Rattle.std.specs.Prelude.{◌≡◌, ◌<◌, OnErr, OnOk, IfErr, IfOk, None, Some};
-ghost use Rattle.own_steps.specs.Alone.{alone_event, IsShared};
 ghost use Rattle.shared_value.specs.Entered.{cause_of, refused, Enters, IsRefusedBy, RanAnswers};
 ghost use Rattle.shared_value.specs.Fits.{AllFit, Fits, OthersFit};
-ghost use Rattle.child_tasks.specs.Joins.{IsUnchanged};
-ghost use Rattle.shared_tree.specs.Ran.{RanTo};
 ghost use Rattle.shared_value.specs.World.{rest_at};
 ghost use Rattle.shared_value.specs.declared.rest.Rest.{Rest as RestOf};
+ghost use Rattle.own_steps.specs.Alone.{alone_event, IsShared};
+ghost use Rattle.child_tasks.specs.Joins.{IsUnchanged};
+ghost use Rattle.shared_tree.specs.Ran.{RanTo};
 ghost use Rattle.paced_tree.specs.Owed.{Pays};
 
 use crate::noting::{note_other, note_ran};

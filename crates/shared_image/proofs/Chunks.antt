@@ -7,17 +7,17 @@ use Rattle.object_layout.specs.Cell.{Born, Cell, Hole, Mark, Moved, size_of}
 use Rattle.object_layout.specs.Content.{Content}
 use Rattle.chunk_pool.specs.Chunks.{owner_of}
 use Rattle.heap_tree.specs.Node.{state_of}
-use Rattle.heap_image.specs.declared.picture.Picked.{Picked}
-use Rattle.heap_image.specs.Picture.{ObjectBefore}
 use Rattle.core_relation.specs.Value.{Chunk, In, Seen, Value, objects}
-use Rattle.core_relation.proofs.Members.{in_map, in_objects, map_in}
+use Rattle.core_relation.proofs.objects.Members.{in_map, in_objects, map_in}
 use Rattle.shared_value.specs.declared.rest.Rest.{Rest}
-use Rattle.heap_reading.specs.HeldNames.{is_state_running}
-use Rattle.heap_reading.specs.Image.{AreAll, Rises, objects_numbered, objects_of, objects_owned, shown}
 use Rattle.shared_value.specs.Objects.{chunk_of, chunks_of, objects_from, seen_by}
 use Rattle.shared_value.specs.Stands.{IsWorld}
 use Rattle.shared_value.specs.World.{World, home_in, rest_at, value_of}
-use Rattle.shared_value.proofs.Leading.{home_chunks}
+use Rattle.shared_value.proofs.FieldsLed.{home_chunks}
+use Rattle.heap_reading.specs.HeldNames.{is_state_running}
+use Rattle.heap_reading.specs.Image.{AreAll, Rises, objects_numbered, objects_of, objects_owned, shown}
+use Rattle.heap_image.specs.declared.picture.Picked.{Picked}
+use Rattle.heap_image.specs.Picture.{ObjectBefore}
 use Rattle.shared_image.specs.Drawn.{IsHandedBack, drawn_object}
 use Rattle.shared_image.proofs.Orders.{rises_map}
 use Rattle.shared_image.proofs.Resting.{H, chunk, near, owner}

@@ -3,33 +3,33 @@ use Rattle.std.proofs.Common.{◌≡◌, ◌⊎◌, ℕ, ◌+◌, ◌*◌, ◌<�
 use Rattle.std.proofs.lemmas.Bool.{cases_Bool}
 use Rattle.std.proofs.lemmas.List.{length-map}
 use Rattle.std.proofs.lemmas.Option.{same_Some, slice_get-map}
+use Rattle.hh_model.specs.declared.data.Name.{Name}
+use Rattle.hh_model.specs.declared.data.Object.{Object}
+use Rattle.hh_model.specs.declared.data.Task.{Task}
+use Rattle.hh_model.specs.Effect.{object_at}
+use Rattle.hh_model.specs.Step.{joined}
 use Rattle.object_layout.specs.declared.word.Addr.{Addr}
 use Rattle.object_layout.specs.Cell.{IsRef}
 use Rattle.object_layout.specs.Layout.{word_of_ref}
 use Rattle.chunk_pool.specs.declared.pool.Held.{Held}
 use Rattle.chunk_pool.specs.Chunks.{held_at}
 use Rattle.heap_tree.specs.Node.{state_of}
-use Rattle.hh_model.specs.declared.data.Name.{Name}
-use Rattle.hh_model.specs.declared.data.Object.{Object}
-use Rattle.hh_model.specs.declared.data.Task.{Task}
-use Rattle.hh_model.specs.Effect.{object_at}
-use Rattle.hh_model.specs.Step.{joined}
 use Rattle.ledger_steps.specs.Accounts.{Rests, own}
 use Rattle.core_relation.specs.Layout.{words}
 use Rattle.core_relation.specs.Reads.{IsRead}
 use Rattle.core_relation.specs.Stands.{HomeStands, IsSource, Place}
 use Rattle.core_relation.specs.Value.{Chunk as ChunkOf, In, Seen, Source, Value, objects, sources}
-use Rattle.core_relation.proofs.Members.{map_in}
-use Rattle.core_relation.proofs.Roots.{name_at}
+use Rattle.core_relation.proofs.objects.Members.{map_in}
+use Rattle.core_relation.proofs.notes.Roots.{name_at}
+use Rattle.shared_value.specs.Stands.{IsWorld}
+use Rattle.shared_value.specs.World.{World, value_of}
+use Rattle.heap_reading.specs.HeldNames.{is_state_running}
+use Rattle.heap_reading.specs.Image.{field_of, shown}
 use Rattle.image_check.specs.declared.line.Remembered.{Remembered}
 use Rattle.image_check.specs.Place.{offset}
 use Rattle.heap_image.specs.declared.picture.Picked.{Picked}
 use Rattle.heap_image.specs.declared.picture.Picture.{Picture}
 use Rattle.heap_image.specs.Picture.{AreApart, IsAncestor, IsFit, IsOwned, IsPlaced, IsRunning, KeepsToPath, LeadsSomewhere, end_of}
-use Rattle.heap_reading.specs.HeldNames.{is_state_running}
-use Rattle.heap_reading.specs.Image.{field_of, shown}
-use Rattle.shared_value.specs.Stands.{IsWorld}
-use Rattle.shared_value.specs.World.{World, value_of}
 use Rattle.shared_image.specs.Drawn.{AreHeldInWords, IsHandedBack, IsPictureOf, drawn_field, drawn_object}
 use Rattle.shared_image.proofs.Resting.{R as Known_R, H as Known_H, content as Known_content, own_is as Known_own_is, live as Known_live, chunk as Known_chunk, owner as Known_owner, near as Known_near, measured as Known_measured, S, made, read_length, waits_idle}
 use Rattle.shared_image.proofs.Known.{T, k, owners, rests, runs, task_live}

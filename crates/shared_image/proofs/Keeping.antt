@@ -1,28 +1,28 @@
 -- The objects of a picture are those that the heaps handed back hold.
 use Rattle.std.proofs.Common.{◌≡◌, ℕ, Option, Some, None, List, [], ◌∷◌, map, slice_get, inl, inr, refl, ap, sym, subst, ◌∙◌}
 use Rattle.std.proofs.lemmas.Bool.{cases_Bool}
-use Rattle.object_layout.specs.declared.word.Addr.{Addr}
-use Rattle.object_layout.specs.Cell.{IsRef}
-use Rattle.object_layout.specs.Layout.{word_of_ref}
 use Rattle.hh_model.specs.declared.data.Name.{Name}
 use Rattle.hh_model.specs.declared.data.State.{State as Machine}
 use Rattle.hh_model.specs.Effect.{object_at}
 use Rattle.hh_model.specs.Step.{is_running, owner_of}
 use Rattle.run_ledger.specs.declared.data.Ledger.{Ledger}
 use Rattle.run_ledger.specs.Heaps.{heap_of, held_in}
+use Rattle.object_layout.specs.declared.word.Addr.{Addr}
+use Rattle.object_layout.specs.Cell.{IsRef}
+use Rattle.object_layout.specs.Layout.{word_of_ref}
 use Rattle.heap_tree.specs.Node.{state_of}
 use Rattle.ledger_steps.specs.Accounts.{own}
 use Rattle.core_relation.specs.Reads.{AllRead}
 use Rattle.core_relation.specs.Stands.{Place}
 use Rattle.core_relation.specs.Value.{In, Seen, Value, objects}
-use Rattle.core_relation.proofs.Members.{held_object, object_held}
-use Rattle.heap_image.specs.declared.picture.Picture.{Picture}
-use Rattle.heap_image.specs.Picture.{IsOwned}
-use Rattle.heap_reading.specs.HeldNames.{is_state_running}
-use Rattle.heap_reading.specs.Image.{shown}
+use Rattle.core_relation.proofs.objects.Members.{held_object, object_held}
 use Rattle.shared_value.specs.Stands.{IsWorld}
 use Rattle.shared_value.specs.World.{World, accounts, value_of}
+use Rattle.heap_reading.specs.HeldNames.{is_state_running}
+use Rattle.heap_reading.specs.Image.{shown}
 use Rattle.heap_reading.proofs.KeptNames.{handed_held}
+use Rattle.heap_image.specs.declared.picture.Picture.{Picture}
+use Rattle.heap_image.specs.Picture.{IsOwned}
 use Rattle.shared_image.specs.Drawn.{AreHeldInWords, IsHandedBack, IsPictureOf, drawn_object}
 use Rattle.shared_image.specs.Held.{AreReferences, HasJustKept, IsReference, StandsFor}
 use Rattle.shared_image.proofs.Known.{k, owners, rests, runs, same}

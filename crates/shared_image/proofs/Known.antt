@@ -2,12 +2,7 @@
 use Rattle.std.proofs.Common.{◌≡◌, ℕ, ◌+◌, ◌^◌, ◌<◌, ◌≤◌, arith, false, Option, Some, None, List, length, max, slice_get, refl, ap, sym, subst, ◌∙◌}
 use Rattle.std.proofs.lemmas.Bool.{false≢true}
 use Rattle.std.proofs.lemmas.Option.{slice_get_within}
-use Rattle.run_trace.specs.declared.settings.Version.{Version}
-use Rattle.run_trace.specs.declared.settings.Version.TheVariants.{One, Two}
-use Rattle.run_trace.specs.Settings.{field_limit}
 use Rattle.listed.specs.Members.{In}
-use Rattle.heap_tree.specs.declared.state.State.TheVariants.{Joined as IsJoined}
-use Rattle.heap_tree.specs.Node.{state_of}
 use Rattle.hh_model.specs.declared.data.Name.{Name}
 use Rattle.hh_model.specs.declared.data.Object.{Object}
 use Rattle.hh_model.specs.declared.data.State.{State as Machine}
@@ -20,19 +15,24 @@ use Rattle.hh_model.specs.Tree.{HasOneRoot, TreeOf, joins_in, waiting}
 use Rattle.hh_model.proofs.PathLaws.{owners_are_walks, paths_are_walks}
 use Rattle.hh_model.proofs.Root.{runs_have_one_root}
 use Rattle.hh_model.proofs.Sizes.{limit_stays, sizes_are_bounded}
+use Rattle.run_trace.specs.declared.settings.Version.{Version}
+use Rattle.run_trace.specs.declared.settings.Version.TheVariants.{One, Two}
+use Rattle.run_trace.specs.Settings.{field_limit}
 use Rattle.run_ledger.specs.declared.data.Ledger.{Ledger}
 use Rattle.run_ledger.specs.Heaps.{heap_of, held_in}
 use Rattle.run_ledger.specs.Journals.{tasks_of}
 use Rattle.run_ledger.proofs.Bounds.{steps_are_bounded}
 use Rattle.run_ledger.proofs.Counted.{journals_are_counted}
 use Rattle.run_ledger.proofs.Machine.{machine_is_run}
+use Rattle.heap_tree.specs.declared.state.State.TheVariants.{Joined as IsJoined}
+use Rattle.heap_tree.specs.Node.{state_of}
 use Rattle.ledger_steps.specs.Accounts.{Rests}
 use Rattle.core_relation.specs.Whole.{handed}
+use Rattle.shared_value.specs.Stands.{IsWorld}
+use Rattle.shared_value.specs.World.{World, accounts}
 use Rattle.heap_reading.specs.declared.live.Live.{Live}
 use Rattle.heap_reading.specs.HeldNames.{is_state_running}
 use Rattle.heap_reading.specs.Image.{IsLive}
-use Rattle.shared_value.specs.Stands.{IsWorld}
-use Rattle.shared_value.specs.World.{World, accounts}
 use Rattle.heap_reading.proofs.IdleTasks.{journal_idle}
 use Rattle.heap_reading.proofs.KeptNames.{handed_held, runs_is}
 use Rattle.heap_reading.proofs.TreeNow.{joined_now, live_now, node_at, same_machine, sound, task_of, tree_of}

@@ -3,6 +3,10 @@ use Rattle.std.proofs.Common.{◌≡◌, ◌⊎◌, ℕ, zero, suc, ◌*◌, ◌
 use Rattle.std.proofs.lemmas.Bool.{false≢true}
 use Rattle.std.proofs.lemmas.Option.{same_Some}
 use Rattle.listed.specs.Members.{In}
+use Rattle.hh_model.specs.declared.data.State.{State as Machine}
+use Rattle.hh_model.specs.declared.data.Task.{Task}
+use Rattle.hh_model.specs.Paths.{IsWalkUp}
+use Rattle.hh_model.specs.Step.{is_on_path, joined, owner_of, parent_of, parents}
 use Rattle.object_layout.specs.declared.word.Addr.{Addr}
 use Rattle.object_layout.specs.Layout.{word_of_ref}
 use Rattle.chunk_pool.specs.declared.pool.Held.{Held}
@@ -10,21 +14,17 @@ use Rattle.chunk_pool.specs.Chunks.{held_at}
 use Rattle.heap_tree.specs.declared.state.State.{State}
 use Rattle.heap_tree.specs.declared.state.State.TheVariants.{Ready, Out, Waiting, Ended, Joined}
 use Rattle.heap_tree.specs.Node.{Node, state_of}
-use Rattle.hh_model.specs.declared.data.State.{State as Machine}
-use Rattle.hh_model.specs.declared.data.Task.{Task}
-use Rattle.hh_model.specs.Paths.{IsWalkUp}
-use Rattle.hh_model.specs.Step.{is_on_path, joined, owner_of, parent_of, parents}
+use Rattle.core_relation.specs.Value.{Value}
+use Rattle.shared_value.specs.Stands.{IsWorld}
+use Rattle.shared_value.specs.World.{World, accounts, value_of}
+use Rattle.heap_reading.specs.declared.live.InUse.{InUse}
+use Rattle.heap_reading.specs.HeldNames.{is_state_running}
+use Rattle.heap_reading.specs.Image.{IsInUse}
 use Rattle.image_check.specs.declared.line.State.TheVariants.{Running}
 use Rattle.image_check.specs.declared.line.Task.{Task as Drawn}
 use Rattle.image_check.specs.declared.line.Chunk.{Chunk}
 use Rattle.heap_image.specs.declared.picture.Picture.{Picture}
 use Rattle.heap_image.specs.Picture.{HasTask, IsAncestor, IsOwned, IsParent, IsRunning}
-use Rattle.core_relation.specs.Value.{Value}
-use Rattle.heap_reading.specs.declared.live.InUse.{InUse}
-use Rattle.heap_reading.specs.HeldNames.{is_state_running}
-use Rattle.heap_reading.specs.Image.{IsInUse}
-use Rattle.shared_value.specs.Stands.{IsWorld}
-use Rattle.shared_value.specs.World.{World, accounts, value_of}
 use Rattle.shared_image.specs.Drawn.{IsPictureOf, drawn_chunk, drawn_state, drawn_task}
 use Rattle.shared_image.proofs.Known.{T, owners, paths, same, task_live, tree}
 use Rattle.shared_image.proofs.Numbers.{chunk_of_word, word_some}

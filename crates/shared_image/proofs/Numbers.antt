@@ -4,13 +4,13 @@ use Rattle.std.specs.Prelude.{FitsSigned}
 use Rattle.std.specs.Int.{w64}
 use Rattle.std.proofs.lemmas.List.Elements.{All-head, All-tail}
 use Rattle.std.proofs.lemmas.Option.{same_Some}
-use Rattle.hh_lang.specs.Number.{fits_i64}
 use Rattle.listed.specs.Members.{In}
+use Rattle.hh_lang.specs.Number.{fits_i64}
 use Rattle.object_layout.specs.declared.word.Addr.{Addr}
 use Rattle.object_layout.specs.Layout.{word_of_ref}
+use Rattle.heap_reading.specs.Image.{Rises}
 use Rattle.image_check.specs.Place.{chunk_number, offset}
 use Rattle.heap_image.specs.Picture.{Rises as RisesAt}
-use Rattle.heap_reading.specs.Image.{Rises}
 
 -- ADDRESSES
 chunk_by : (c o n : ℕ) → o < 1024 → n ≡ c * 1024 + o + 1 → (n - 1) / 1024 ≡ c

@@ -2,8 +2,6 @@
 use Rattle.std.proofs.Common.{◌≡◌, ℕ, suc, ◌<◌, true, false, Option, Some, None, List, [], ◌∷◌, length, is_some, slice_get, refl, ap, subst, ◌∙◌}
 use Rattle.std.proofs.lemmas.Bool.{false≢true}
 use Rattle.std.proofs.lemmas.Option.{slice_get_within}
-use Rattle.object_layout.specs.declared.word.Addr.{Addr}
-use Rattle.chunk_pool.specs.Chunks.{held_at}
 use Rattle.hh_model.specs.declared.data.Name.{Name}
 use Rattle.hh_model.specs.declared.data.Object.{Object}
 use Rattle.hh_model.specs.declared.data.Status.{Status}
@@ -12,17 +10,19 @@ use Rattle.hh_model.specs.declared.data.Task.{Task}
 use Rattle.hh_model.specs.Effect.{object_at}
 use Rattle.hh_model.specs.Step.{is_running, is_waiting, joined, runs as status_runs, waits}
 use Rattle.run_ledger.specs.Heaps.{heap_of}
+use Rattle.object_layout.specs.declared.word.Addr.{Addr}
+use Rattle.chunk_pool.specs.Chunks.{held_at}
 use Rattle.ledger_steps.specs.Accounts.{Rests, own}
 use Rattle.core_relation.specs.Reads.{AllRead, IsRead}
 use Rattle.core_relation.specs.Stands.{HomeStands, Place, Stands}
 use Rattle.core_relation.specs.Value.{Chunk as ChunkOf, In, Seen, Value, objects, objects_in}
-use Rattle.core_relation.proofs.Members.{in_chunk, map_in, object_held}
+use Rattle.core_relation.proofs.objects.Members.{in_chunk, map_in, object_held}
 use Rattle.shared_value.specs.declared.rest.Rest.{Rest}
 use Rattle.shared_value.specs.Measured.{IsUnheld}
 use Rattle.shared_value.specs.Objects.{chunk_of}
 use Rattle.shared_value.specs.Stands.{IsWorld}
 use Rattle.shared_value.specs.World.{World, home_in, rest_at, value_of}
-use Rattle.shared_value.proofs.Leading.{home_chunks}
+use Rattle.shared_value.proofs.FieldsLed.{home_chunks}
 use Rattle.shared_image.specs.Drawn.{IsHandedBack}
 use Rattle.shared_image.proofs.Known.{T, k, owned, owners, rests}
 

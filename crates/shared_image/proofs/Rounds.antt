@@ -1,21 +1,21 @@
 -- A picture grows chunk by chunk, and task by task.
 use Rattle.std.proofs.Common.{◌≡◌, ◌⊎◌, ℕ, ◌+◌, ◌*◌, ◌<◌, Option, Some, None, List, [], ◌∷◌, ◌++◌, length, map, option_map, slice_get, take, inl, inr, refl, sym, subst}
 use Rattle.listed.proofs.Members.{in_append_cases, in_append_left, in_append_right}
+use Rattle.hh_model.specs.Step.{owner_of}
 use Rattle.chunk_pool.specs.declared.pool.Held.{Held}
 use Rattle.chunk_pool.specs.Chunks.{held_at}
-use Rattle.hh_model.specs.Step.{owner_of}
-use Rattle.image_check.specs.declared.line.Remembered.{Remembered}
-use Rattle.heap_image.specs.declared.picture.Picked.{Picked}
-use Rattle.heap_image.specs.Picture.{ChunkBefore, FieldBefore, ObjectBefore, TaskBefore}
 use Rattle.core_relation.specs.Value.{In, Seen, objects}
+use Rattle.shared_value.specs.Stands.{IsWorld}
+use Rattle.shared_value.specs.World.{World, accounts, value_of}
 use Rattle.heap_reading.specs.declared.live.InUse.{InUse}
 use Rattle.heap_reading.specs.declared.live.Live.{Live}
 use Rattle.heap_reading.specs.declared.noted.Field.{Field}
 use Rattle.heap_reading.specs.Image.{AreAll, AreInWords, ChunkBefore as InUseBefore, FieldBefore as NotedBefore, IsInUse, IsLive, IsNoted, LiveBefore, objects_of, shown}
-use Rattle.shared_value.specs.Stands.{IsWorld}
-use Rattle.shared_value.specs.World.{World, accounts, value_of}
 use Rattle.heap_reading.proofs.InOrder.{all_same}
-use Rattle.heap_reading.proofs.ObjectReads.{take_next}
+use Rattle.heap_reading.proofs.ObjectsRead.{take_next}
+use Rattle.image_check.specs.declared.line.Remembered.{Remembered}
+use Rattle.heap_image.specs.declared.picture.Picked.{Picked}
+use Rattle.heap_image.specs.Picture.{ChunkBefore, FieldBefore, ObjectBefore, TaskBefore}
 use Rattle.shared_image.specs.Drawing.{AreFieldsOf, AreObjectsOf}
 use Rattle.shared_image.specs.Drawn.{AreHeldInWords, IsFieldOf, IsHandedBack, IsObjectOf, IsPictureOf, drawn_chunk, drawn_field, drawn_object, drawn_task}
 use Rattle.shared_image.proofs.Chunks.{one, told_apart, told_back, told_in_order, told_there}

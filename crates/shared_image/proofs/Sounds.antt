@@ -4,20 +4,25 @@ use Rattle.std.specs.Prelude.{FitsSigned}
 use Rattle.std.specs.Int.{w64}
 use Rattle.std.proofs.lemmas.List.{length-map}
 use Rattle.std.proofs.lemmas.Option.{slice_get_within}
-use Rattle.object_layout.specs.declared.word.Addr.{Addr}
-use Rattle.object_layout.specs.Cell.{IsRef}
-use Rattle.object_layout.specs.Layout.{word_of_ref}
-use Rattle.chunk_pool.specs.declared.pool.Held.{Held}
-use Rattle.chunk_pool.specs.Chunks.{AreChunks, held_at, held_in, units_held, units_in, units_in_use}
 use Rattle.hh_model.specs.declared.data.State.{State as Machine}
 use Rattle.hh_model.specs.declared.data.Task.{Task as TaskOf}
 use Rattle.hh_model.specs.Step.{joined, owner_of, parent_of as parents_in, parents}
 use Rattle.hh_model.proofs.Paths.{owner_le}
 use Rattle.run_ledger.specs.Heaps.{in_use}
 use Rattle.run_ledger.proofs.Space.{use_is_bounded}
+use Rattle.object_layout.specs.declared.word.Addr.{Addr}
+use Rattle.object_layout.specs.Cell.{IsRef}
+use Rattle.object_layout.specs.Layout.{word_of_ref}
+use Rattle.chunk_pool.specs.declared.pool.Held.{Held}
+use Rattle.chunk_pool.specs.Chunks.{AreChunks, held_at, held_in, units_held, units_in, units_in_use}
 use Rattle.core_relation.specs.Stands.{Place}
 use Rattle.core_relation.specs.Value.{In, Seen, Value, objects}
-use Rattle.core_relation.proofs.Members.{map_in}
+use Rattle.core_relation.proofs.objects.Members.{map_in}
+use Rattle.shared_value.specs.Stands.{IsWorld}
+use Rattle.shared_value.specs.World.{World, accounts, value_of}
+use Rattle.shared_value.proofs.BeforeTheEnd.{used_now}
+use Rattle.heap_reading.specs.declared.live.Live.{Live}
+use Rattle.heap_reading.specs.Image.{IsLive, shown}
 use Rattle.image_check.specs.declared.line.Birth.{Birth}
 use Rattle.image_check.specs.declared.line.Task.{Task}
 use Rattle.image_check.specs.declared.line.Chunk.{Chunk}
@@ -26,11 +31,6 @@ use Rattle.heap_image.specs.declared.picture.Picked.{Picked}
 use Rattle.heap_image.specs.declared.picture.Picture.{Picture}
 use Rattle.heap_image.specs.Form.{HasFitParent, IsChunkForm, IsFieldForm, IsInForm, IsObjectForm, IsTaskForm}
 use Rattle.heap_image.specs.Picture.{AreApart, HasTask, IsFit, IsOwned, IsPlaced, IsSoundPicture, KeepsToPath, ObjectBefore, TaskBefore, ChunkBefore, FieldBefore}
-use Rattle.heap_reading.specs.declared.live.Live.{Live}
-use Rattle.heap_reading.specs.Image.{IsLive, shown}
-use Rattle.shared_value.specs.Stands.{IsWorld}
-use Rattle.shared_value.specs.World.{World, accounts, value_of}
-use Rattle.shared_value.proofs.Now.{used_now}
 use Rattle.shared_image.specs.Drawn.{AreHeldInWords, IsHandedBack, IsPictureOf, drawn_field, drawn_object}
 use Rattle.shared_image.proofs.Known.{T, few, fields_few, k, live_task, owners, root, same, stored_few, tree}
 use Rattle.shared_image.proofs.Links.{has_task, parent_live}

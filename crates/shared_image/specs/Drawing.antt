@@ -1,13 +1,13 @@
 -- A picture as it is drawn: chunk by chunk, and task by task.
 use Rattle.std.specs.Prelude.{◌≡◌, List}
-use Rattle.image_check.specs.declared.line.Remembered.{Remembered}
-use Rattle.heap_image.specs.declared.picture.Picked.{Picked}
 use Rattle.core_relation.specs.Value.{In, Seen}
+use Rattle.shared_value.specs.World.{World}
 use Rattle.heap_reading.specs.declared.live.InUse.{InUse}
 use Rattle.heap_reading.specs.declared.live.Live.{Live}
 use Rattle.heap_reading.specs.declared.noted.Field.{Field}
 use Rattle.heap_reading.specs.Image.{IsNoted, objects_of, shown}
-use Rattle.shared_value.specs.World.{World}
+use Rattle.image_check.specs.declared.line.Remembered.{Remembered}
+use Rattle.heap_image.specs.declared.picture.Picked.{Picked}
 use Rattle.shared_image.specs.Drawn.{drawn_field, drawn_object}
 
 -- it is an object of one of these chunks

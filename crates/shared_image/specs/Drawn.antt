@@ -3,6 +3,14 @@ use Rattle.std.specs.Prelude.{◌≡◌, ℕ, false}
 use Rattle.heap_tree.specs.declared.state.State.{State}
 use Rattle.heap_tree.specs.declared.state.State.TheVariants.{Ready, Out, Waiting, Ended, Joined}
 use Rattle.heap_tree.specs.Node.{state_of}
+use Rattle.core_relation.specs.Value.{In, Seen as SeenAt, objects}
+use Rattle.shared_value.specs.World.{World, value_of}
+use Rattle.heap_reading.specs.declared.live.InUse.{InUse}
+use Rattle.heap_reading.specs.declared.live.Live.{Live}
+use Rattle.heap_reading.specs.declared.noted.Field.{Field}
+use Rattle.heap_reading.specs.declared.seen.Seen.{Seen}
+use Rattle.heap_reading.specs.HeldNames.{is_state_running}
+use Rattle.heap_reading.specs.Image.{AreAll, IsInUse, IsInWords, IsLive, IsNoted, shown}
 use Rattle.image_check.specs.declared.line.State.{State as Drawn}
 use Rattle.image_check.specs.declared.line.State.TheVariants.{Running as IsRunning, Waiting as IsWaiting, Ended as HasEnded}
 use Rattle.image_check.specs.declared.line.Task.{Task}
@@ -11,14 +19,6 @@ use Rattle.image_check.specs.declared.line.Remembered.{Remembered}
 use Rattle.heap_image.specs.declared.picture.Picked.{Picked}
 use Rattle.heap_image.specs.declared.picture.Picture.{Picture}
 use Rattle.heap_image.specs.Picture.{ChunkBefore, FieldBefore, ObjectBefore, TaskBefore}
-use Rattle.core_relation.specs.Value.{In, Seen as SeenAt, objects}
-use Rattle.heap_reading.specs.declared.live.InUse.{InUse}
-use Rattle.heap_reading.specs.declared.live.Live.{Live}
-use Rattle.heap_reading.specs.declared.noted.Field.{Field}
-use Rattle.heap_reading.specs.declared.seen.Seen.{Seen}
-use Rattle.heap_reading.specs.HeldNames.{is_state_running}
-use Rattle.heap_reading.specs.Image.{AreAll, IsInUse, IsInWords, IsLive, IsNoted, shown}
-use Rattle.shared_value.specs.World.{World, value_of}
 
 -- ONE BY ONE
 

@@ -9,38 +9,38 @@ use Rattle.hh_model.specs.declared.data.Task.{Task}
 use Rattle.hh_model.specs.Step.{fetched}
 use Rattle.run_ledger.specs.declared.data.Ledger.{Ledger}
 use Rattle.run_ledger.specs.Steps.{owns, task_steps, touched}
+use Rattle.run_ledger.specs.declared.data.Refused.{Refused}
+use Rattle.write_barrier.specs.declared.sets.SetOf.{SetOf}
+use Rattle.write_barrier.specs.Stored.{content_of}
 use Rattle.task_machine.specs.declared.part.Private.{Private}
 use Rattle.task_machine.specs.Fits.{FitsNow as FitsMachine}
 use Rattle.task_machine.specs.Place.{Places}
 use Rattle.task_machine.proofs.Agreement.{same_line}
-use Rattle.write_barrier.specs.declared.sets.SetOf.{SetOf}
-use Rattle.write_barrier.specs.Stored.{content_of}
 use Rattle.shared_value.specs.World.{World, accounts, flat, rest_at, value_of}
 use Rattle.shared_value.specs.Stands.{IsWorld}
 use Rattle.shared_value.specs.Fits.{AllFit, Fits}
-use Rattle.own_steps.specs.Alone.{IsBeyond, IsShared, alone_event, machine_after}
-use Rattle.child_tasks.specs.ChildEnds.{IsAtEnd, is_last, is_last_by, is_last_line}
-use Rattle.run_ledger.specs.declared.data.Refused.{Refused}
 use Rattle.shared_value.specs.Entered.{IsCaused, RanAnswers, refused}
 use Rattle.shared_value.specs.declared.answer.NotRan.{NotRan}
-use Rattle.child_tasks.specs.Forks.{ForkAnswered, IsAtFork, is_fork, is_fork_by, is_par}
-use Rattle.child_tasks.specs.Hands.{HoldsNone, LeavesHand}
-use Rattle.child_tasks.specs.Joins.{IsUnchanged, SameButPlaces}
 use Rattle.shared_value.specs.declared.answer.NotEntered.{NotEntered}
 use Rattle.shared_value.specs.declared.answer.NotEntered.TheVariants.{NoMemory, Refuses}
 use Rattle.shared_value.specs.Links.{above_of}
 use Rattle.shared_value.specs.Next.{is_beyond, is_beyond_by, is_beyond_line, is_joint, next_line}
+use Rattle.shared_value.proofs.SameLength.{same_length}
+use Rattle.shared_value.proofs.TaskTaken.{put_there, worker_there}
+use Rattle.own_steps.specs.Alone.{IsBeyond, IsShared, alone_event, machine_after}
+use Rattle.own_steps.proofs.AloneEntries.{runs_on}
+use Rattle.own_steps.proofs.LastSteps.{fits_machine, machine_same}
+use Rattle.child_tasks.specs.ChildEnds.{IsAtEnd, is_last, is_last_by, is_last_line}
+use Rattle.child_tasks.specs.Forks.{ForkAnswered, IsAtFork, is_fork, is_fork_by, is_par}
+use Rattle.child_tasks.specs.Hands.{HoldsNone, LeavesHand}
+use Rattle.child_tasks.specs.Joins.{IsUnchanged, SameButPlaces}
+use Rattle.child_tasks.specs.declared.fork.Forking.{Forking}
+use Rattle.child_tasks.specs.declared.fork.Forking.TheVariants.{Forked, Over}
+use Rattle.child_tasks.proofs.JoinPlaces.{same_itself, same_world}
 use Rattle.others_objects.specs.Other.{IsOther, SameButRoom, is_other, is_other_by, is_other_line}
 use Rattle.shared_tree.specs.declared.ran_last.Ran.{Ran}
 use Rattle.shared_tree.specs.declared.ran_last.Ran.TheVariants.{Forked as RanForked, Over as RanOver}
 use Rattle.shared_tree.specs.Ran.{IsJoint, RanTo}
-use Rattle.child_tasks.specs.declared.fork.Forking.{Forking}
-use Rattle.child_tasks.specs.declared.fork.Forking.TheVariants.{Forked, Over}
-use Rattle.own_steps.proofs.AloneEntries.{runs_on}
-use Rattle.shared_value.proofs.SameLength.{same_length}
-use Rattle.child_tasks.proofs.JoinPlaces.{same_itself, same_world}
-use Rattle.own_steps.proofs.LastSteps.{fits_machine, machine_same}
-use Rattle.shared_value.proofs.Taking.{put_there, worker_there}
 
 or_false : (a : Bool) → (a || false) ≡ true → a ≡ true
 or_false true e = e

@@ -1,17 +1,17 @@
 -- The one entry of a part's fresh steps and its next one, which isn't private, whatever that is.
 use Rattle.std.specs.Prelude.{◌≡◌, ℕ, true}
 use Rattle.task_machine.specs.declared.part.Private.{Private}
-use Rattle.shared_tree.specs.declared.ran_last.Joint.{Joint}
-use Rattle.shared_tree.specs.declared.ran_last.Joint.TheVariants.{Forks, Returns, Works}
-use Rattle.shared_tree.specs.declared.ran_last.Ran.{Ran}
-use Rattle.shared_tree.specs.declared.ran_last.Ran.TheVariants.{Goes, Forked, Ended, Over, Done}
 use Rattle.shared_value.specs.World.{World}
+use Rattle.shared_value.specs.Next.{is_beyond}
 use Rattle.own_steps.specs.Alone.{FinishesAlone, GoesAlone, HaltsAlone, machine_after}
 use Rattle.child_tasks.specs.ChildEnds.{EndsChild, IsAtEnd}
 use Rattle.child_tasks.specs.Forks.{ForksOn, IsAtFork}
 use Rattle.child_tasks.specs.Hands.{HoldsNone}
-use Rattle.shared_value.specs.Next.{is_beyond}
 use Rattle.others_objects.specs.Other.{IsOther}
+use Rattle.shared_tree.specs.declared.ran_last.Joint.{Joint}
+use Rattle.shared_tree.specs.declared.ran_last.Joint.TheVariants.{Forks, Returns, Works}
+use Rattle.shared_tree.specs.declared.ran_last.Ran.{Ran}
+use Rattle.shared_tree.specs.declared.ran_last.Ran.TheVariants.{Goes, Forked, Ended, Over, Done}
 
 -- other tasks have part in the part's next step
 abbrev pub IsJoint : World → Private → Type 0

@@ -3,10 +3,10 @@
 ghost use Rattle.std.specs.Prelude.{◌≡◌, ◌<◌, ◌+◌, OnErr, OnOk, IfErr, IfOk, None, Some, slice_set};
 ghost use Rattle.heap_tree.specs.Node.{parent_of, state_of};
 ghost use Rattle.heap_tree.specs.Pairs.{sibling};
-ghost use Rattle.own_steps.specs.Alone.{alone_event};
-ghost use Rattle.child_tasks.specs.ChildEnds.{EndsChild, IsAtEnd};
 ghost use Rattle.shared_value.specs.Entered.{refused, RanAnswers};
 ghost use Rattle.shared_value.specs.Fits.{AllFit, Fits};
+ghost use Rattle.own_steps.specs.Alone.{alone_event};
+ghost use Rattle.child_tasks.specs.ChildEnds.{EndsChild, IsAtEnd};
 ghost use Rattle.child_tasks.specs.Joins.{HasPlaces, IsUnchanged, SameButPlaces};
 
 use crate::shared::Shared;

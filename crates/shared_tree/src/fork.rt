@@ -2,9 +2,9 @@
 
 ghost use Rattle.std.specs.Prelude.{◌≡◌, ◌<◌, ◌+◌, ◌-◌, OnErr, IfErr, IfOk, None, Some};
 ghost use Rattle.heap_tree.specs.Node.{depth_of};
-ghost use Rattle.own_steps.specs.Alone.{alone_event};
 ghost use Rattle.shared_value.specs.Entered.{refused, RanAnswers};
 ghost use Rattle.shared_value.specs.Fits.{Fits};
+ghost use Rattle.own_steps.specs.Alone.{alone_event};
 ghost use Rattle.child_tasks.specs.Hands.{LeavesHand};
 ghost use Rattle.child_tasks.specs.Forks.{ForkAnswered, ForksTo, IsAtFork};
 

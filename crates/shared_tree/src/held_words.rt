@@ -1,11 +1,11 @@
 // What lies in the heaps of the tasks that don't run.
 
 ghost use Rattle.std.specs.Prelude.{◌≡◌, ◌<◌, length};
-ghost use Rattle.alloc_path.specs.Heap.{counted};
 ghost use Rattle.run_ledger.specs.Heaps.{words_sum};
 ghost use Rattle.run_ledger.specs.Report.{kept};
-ghost use Rattle.heap_reading.specs.HeldNames.{kept_of};
+ghost use Rattle.alloc_path.specs.Heap.{counted};
 ghost use Rattle.shared_value.specs.World.{accounts};
+ghost use Rattle.heap_reading.specs.HeldNames.{kept_of};
 
 use crate::shared::Shared;
 use heap_reading::is_running;

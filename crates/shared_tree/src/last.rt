@@ -2,9 +2,9 @@
 
 ghost use Rattle.std.specs.Prelude.{◌≡◌, ◌≢◌, ◌<◌, ◌+◌, OnErr, OnOk, IfErr, IfOk, None};
 ghost use Rattle.hh_model.specs.Step.{ended_by, step};
-ghost use Rattle.own_steps.specs.Alone.{alone_event, then_accounts, Answered, FinishesAlone, GoesAlone, HaltsAlone, IsShared, Tells};
 ghost use Rattle.shared_value.specs.Entered.{refused, RanAnswers};
 ghost use Rattle.shared_value.specs.Fits.{Fits};
+ghost use Rattle.own_steps.specs.Alone.{alone_event, then_accounts, Answered, FinishesAlone, GoesAlone, HaltsAlone, IsShared, Tells};
 
 use crate::shared::Shared;
 use heap_tree::State;

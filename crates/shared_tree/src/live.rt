@@ -1,10 +1,10 @@
 // Which tasks haven't joined, and which chunks are in use.
 
 ghost use Rattle.std.specs.Prelude.{◌≡◌, ◌<◌, IfOk, IfSome, None};
-ghost use Rattle.chunk_pool.specs.Chunks.{AreChunks};
 ghost use Rattle.hh_model.specs.Step.{owner_of};
-ghost use Rattle.heap_reading.specs.Image.{AreAll, ChunkBefore, IsInUse, IsLive, LiveBefore};
+ghost use Rattle.chunk_pool.specs.Chunks.{AreChunks};
 ghost use Rattle.shared_value.specs.World.{accounts};
+ghost use Rattle.heap_reading.specs.Image.{AreAll, ChunkBefore, IsInUse, IsLive, LiveBefore};
 
 use crate::shared::Shared;
 use heap_marking::is_joined;

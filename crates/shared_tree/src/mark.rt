@@ -5,8 +5,8 @@ ghost use Rattle.run_ledger.specs.Heaps.{heap_of};
 ghost use Rattle.core_relation.specs.Marking.{GoesOn};
 ghost use Rattle.shared_value.specs.Entered.{refused, Answers, Enters};
 ghost use Rattle.shared_value.specs.Fits.{AllFit};
-ghost use Rattle.heap_marking.specs.MarkCauses.{words_cause};
 ghost use Rattle.shared_value.specs.World.{accounts, value_of};
+ghost use Rattle.heap_marking.specs.MarkCauses.{words_cause};
 
 use crate::shared::Shared;
 use heap_marking::{is_marking, put_marking, waiting_cause, words_cause};

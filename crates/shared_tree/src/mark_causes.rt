@@ -1,10 +1,10 @@
 // What there is of the heap of a waiting task, and what is left of it to mark.
 
 ghost use Rattle.std.specs.Prelude.{◌≡◌, ◌==◌, None};
-ghost use Rattle.alloc_path.specs.Heap.{counted};
 ghost use Rattle.run_ledger.specs.Heaps.{heap_of, left_in, words_in};
-ghost use Rattle.heap_marking.specs.MarkCauses.{marking_cause, waiting_cause};
+ghost use Rattle.alloc_path.specs.Heap.{counted};
 ghost use Rattle.shared_value.specs.World.{accounts};
+ghost use Rattle.heap_marking.specs.MarkCauses.{marking_cause, waiting_cause};
 
 use crate::shared::Shared;
 

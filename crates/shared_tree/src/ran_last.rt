@@ -1,10 +1,10 @@
 // A part's steps are entered with its next one, which isn't private, whatever that is.
 
 ghost use Rattle.std.specs.Prelude.{◌≡◌, ◌<◌, OnErr, IfErr, IfOk, None};
-ghost use Rattle.own_steps.specs.Alone.{alone_event, IsShared};
-ghost use Rattle.child_tasks.specs.ChildEnds.{IsAtEnd};
 ghost use Rattle.shared_value.specs.Entered.{refused, RanAnswers};
 ghost use Rattle.shared_value.specs.Fits.{AllFit, Fits};
+ghost use Rattle.own_steps.specs.Alone.{alone_event, IsShared};
+ghost use Rattle.child_tasks.specs.ChildEnds.{IsAtEnd};
 ghost use Rattle.child_tasks.specs.Forks.{IsAtFork};
 ghost use Rattle.child_tasks.specs.Joins.{IsUnchanged};
 ghost use Rattle.others_objects.specs.Other.{IsOther};

@@ -1,9 +1,9 @@
 // A part's steps are entered with one that works on an object of another task.
 
 ghost use Rattle.std.specs.Prelude.{◌≡◌, ◌<◌, OnErr, IfErr, IfOk, None};
-ghost use Rattle.own_steps.specs.Alone.{alone_event, GoesAlone, IsShared};
 ghost use Rattle.shared_value.specs.Entered.{refused, RanAnswers};
 ghost use Rattle.shared_value.specs.Fits.{Fits};
+ghost use Rattle.own_steps.specs.Alone.{alone_event, GoesAlone, IsShared};
 ghost use Rattle.child_tasks.specs.Joins.{IsUnchanged};
 ghost use Rattle.others_objects.specs.Other.{IsOther, OtherAnswered, SameButRoom, TellsOther};
 

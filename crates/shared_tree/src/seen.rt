@@ -2,8 +2,8 @@
 
 ghost use Rattle.std.specs.Prelude.{◌≡◌, ◌<◌, All, IfOk, IfSome, None, [], map};
 ghost use Rattle.object_layout.specs.Cell.{moved_to};
-ghost use Rattle.heap_reading.specs.Image.{objects_of, shown, AreInWords};
 ghost use Rattle.shared_value.specs.Objects.{chunk_of};
+ghost use Rattle.heap_reading.specs.Image.{objects_of, shown, AreInWords};
 
 use crate::shared::Shared;
 use heap_reading::{Seen, is_running, seen_in};

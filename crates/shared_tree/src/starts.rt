@@ -1,9 +1,9 @@
 // Where the marking of a heap begins.
 
 ghost use Rattle.std.specs.Prelude.{◌≡◌, IfOk, None};
+ghost use Rattle.shared_value.specs.World.{accounts};
 ghost use Rattle.heap_marking.specs.MarkCauses.{waiting_cause};
 ghost use Rattle.heap_marking.specs.Starts.{starts_by, starts_of};
-ghost use Rattle.shared_value.specs.World.{accounts};
 
 use crate::shared::Shared;
 use chunk_pool::Pool;

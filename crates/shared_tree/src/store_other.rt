@@ -1,9 +1,9 @@
 // A part's steps are entered with one that writes an object of another task.
 
 ghost use Rattle.std.specs.Prelude.{◌≡◌, ◌<◌, ◌+◌, OnErr, OnOk, IfErr, IfOk, None};
-ghost use Rattle.own_steps.specs.Alone.{alone_event, GoesAlone, IsShared};
 ghost use Rattle.shared_value.specs.Entered.{refused, RanAnswers};
 ghost use Rattle.shared_value.specs.Fits.{Fits};
+ghost use Rattle.own_steps.specs.Alone.{alone_event, GoesAlone, IsShared};
 ghost use Rattle.others_objects.specs.Other.{store_of, OtherAnswered, SameButRoom, TellsOther};
 
 use crate::shared::Shared;

@@ -2,8 +2,6 @@
 use Rattle.std.proofs.Common.{◌≡◌, ℕ, suc, ◌+◌, ◌-◌, ◌^◌, ◌<◌, ◌≤◌, arith, Option, None, List, [], ◌∷◌, length, map, nat_le, inl, inr, refl, ap, ap₂, sym, subst, ◌∙◌}
 use Rattle.std.specs.List.{flat_map}
 use Rattle.std.proofs.lemmas.Bool.{cases_lt, lt-leb}
-use Rattle.object_layout.specs.declared.word.Addr.{Addr}
-use Rattle.object_layout.specs.Chunks.{small_words}
 use Rattle.hh_model.specs.declared.data.Name.{Name}
 use Rattle.hh_model.specs.declared.data.State.{State}
 use Rattle.hh_model.specs.Effect.{object_at}
@@ -11,10 +9,10 @@ use Rattle.run_ledger.specs.declared.data.Heap.{Heap as Account}
 use Rattle.run_ledger.specs.declared.data.Ledger.{Ledger}
 use Rattle.run_ledger.specs.Heaps.{heap_of, let_go, small_in, take_of, words_of, words_sum}
 use Rattle.run_ledger.specs.Entries.{is_pool_enough}
+use Rattle.object_layout.specs.declared.word.Addr.{Addr}
+use Rattle.object_layout.specs.Chunks.{small_words}
 use Rattle.chunk_pool.specs.Chunks.{units_in_use}
 use Rattle.alloc_path.specs.Heap.{counted}
-use Rattle.task_machine.specs.declared.part.Private.{Private}
-use Rattle.task_machine.specs.Accounts.{small_lists}
 use Rattle.ledger_steps.specs.Accounts.{aside, rested}
 use Rattle.ledger_steps.proofs.Ahead.{with_machine}
 use Rattle.ledger_steps.proofs.Rested.{rested_view, rested_worker}
@@ -23,15 +21,17 @@ use Rattle.core_relation.specs.Fits.{with_home}
 use Rattle.core_relation.specs.Reads.{AllRead}
 use Rattle.core_relation.specs.Stands.{HomeStands, Stands, names_of, small_chunks}
 use Rattle.core_relation.specs.Value.{Home, In, Seen, Value, objects_in}
-use Rattle.core_relation.proofs.Members.{in_map, in_objects}
-use Rattle.core_relation.proofs.With.{at_home}
+use Rattle.core_relation.proofs.objects.Members.{in_map, in_objects}
+use Rattle.core_relation.proofs.changes.With.{at_home}
+use Rattle.task_machine.specs.declared.part.Private.{Private}
+use Rattle.task_machine.specs.Accounts.{small_lists}
 use Rattle.shared_value.specs.Objects.{chunk_of}
 use Rattle.shared_value.specs.World.{World, accounts, value_of}
 use Rattle.shared_value.specs.Stands.{IsWorld}
 use Rattle.shared_value.specs.Fits.{Fits, home_of_part}
 use Rattle.shared_value.specs.Due.{take_by}
-use Rattle.shared_value.proofs.Counts.{small_names}
-use Rattle.shared_value.proofs.Now.{used_now}
+use Rattle.shared_value.proofs.HeapCounts.{small_names}
+use Rattle.shared_value.proofs.BeforeTheEnd.{used_now}
 use Rattle.shared_value.proofs.SmallWords.{SameWords, small_counted}
 
 -- both lists have as many

@@ -1,11 +1,11 @@
 -- The objects that are read of chunks: their names, and how many there are.
 use Rattle.std.proofs.Common.{◌≡◌, ℕ, ◌+◌, ◌++◌, arith, None, List, [], ◌∷◌, All, length, length-append, refl}
 use Rattle.std.proofs.lemmas.List.Elements.{All-head, All-tail}
+use Rattle.hh_model.specs.declared.data.Name.{Name}
 use Rattle.object_layout.specs.Cell.{Born, Cell, Hole, Mark, Moved, moved_to, size_of}
 use Rattle.object_layout.specs.Chunks.{held_size, object_count, one_each, sum_in}
 use Rattle.object_layout.specs.Content.{Content}
 use Rattle.alloc_path.specs.Heap.{AreTidy, IsTidy}
-use Rattle.hh_model.specs.declared.data.Name.{Name}
 use Rattle.core_relation.specs.Value.{Seen, objects_in}
 use Rattle.shared_value.specs.Objects.{chunk_of, chunks_of, objects_from, seen_by}
 

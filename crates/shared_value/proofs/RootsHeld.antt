@@ -5,28 +5,28 @@ use Rattle.std.specs.List.{AllByRecursion}
 use Rattle.std.proofs.lemmas.Bool.{false≢true}
 use Rattle.std.proofs.lemmas.Option.{get_or_from_slice_get, same_Some}
 use Rattle.listed.proofs.Members.{in_append_cases, in_append_left, in_append_right}
+use Rattle.hh_model.specs.declared.data.Name.{Name}
+use Rattle.hh_model.specs.declared.data.Object.{Object}
+use Rattle.hh_model.specs.Effect.{object_at}
+use Rattle.run_ledger.specs.declared.data.Ledger.{Ledger}
 use Rattle.object_layout.specs.declared.word.Addr.{Addr}
 use Rattle.object_layout.specs.Chunks.{has_chunk, place_in}
 use Rattle.object_layout.specs.Content.{Content}
 use Rattle.remembered_set.specs.declared.remembered.Source.{Source}
 use Rattle.remembered_set.specs.Moved.{AreFields, held_by, into, targets_of}
-use Rattle.hh_model.specs.declared.data.Name.{Name}
-use Rattle.hh_model.specs.declared.data.Object.{Object}
-use Rattle.hh_model.specs.Effect.{object_at}
-use Rattle.run_ledger.specs.declared.data.Ledger.{Ledger}
 use Rattle.ledger_steps.specs.Accounts.{Rests, own}
 use Rattle.core_relation.specs.Begins.{AreRoots, IsRoot}
 use Rattle.core_relation.specs.Stands.{IsSource, Place, Stands}
 use Rattle.core_relation.specs.Value.{Chunk, In, Lies, Seen, Value, objects, objects_in, sources}
-use Rattle.core_relation.proofs.Members.{in_chunk, in_map, map_in}
-use Rattle.core_relation.proofs.Roots.{name_at}
+use Rattle.core_relation.proofs.objects.Members.{in_chunk, in_map, map_in}
+use Rattle.core_relation.proofs.notes.Roots.{name_at}
 use Rattle.shared_value.specs.declared.heaps.Heaps.{Heaps}
 use Rattle.shared_value.specs.Objects.{chunk_of, chunks_of}
 use Rattle.shared_value.specs.World.{source_of}
 use Rattle.shared_value.specs.RestingHeaps.{refs_in}
-use Rattle.shared_value.proofs.Cells.{fresh_off}
+use Rattle.shared_value.proofs.CellsRead.{fresh_off}
 use Rattle.shared_value.proofs.FreeChunks.{refs_long}
-use Rattle.shared_value.proofs.Linked.{placed_in}
+use Rattle.shared_value.proofs.PartFitsMachine.{placed_in}
 
 -- ---- LISTS
 

@@ -3,19 +3,19 @@ use Rattle.std.proofs.Common.{◌≡◌, ℕ, suc, ◌+◌, ◌*◌, ◌/◌, �
 use Rattle.std.specs.List.{flat_map}
 use Rattle.std.proofs.lemmas.Bool.{cond-true, cond-false, eqb-true}
 use Rattle.std.proofs.lemmas.List.Sums.{sum_by-append, sum_by-cons}
+use Rattle.hh_model.specs.declared.data.State.{State}
+use Rattle.run_ledger.specs.Heaps.{words_at, words_sum}
 use Rattle.object_layout.specs.Cell.{Born, Cell, Hole, Mark, Moved, moved_to, size_of}
 use Rattle.object_layout.specs.Chunks.{held_size, small_part, small_words, sum_in}
 use Rattle.object_layout.specs.Content.{Content}
 use Rattle.object_layout.specs.Place.{words_in}
 use Rattle.alloc_path.specs.Heap.{AreTidy, AreWithin}
-use Rattle.hh_model.specs.declared.data.State.{State}
-use Rattle.run_ledger.specs.Heaps.{words_at, words_sum}
-use Rattle.task_machine.specs.Accounts.{named_by, names_in, small_lists}
-use Rattle.task_machine.specs.Place.{name_of}
 use Rattle.core_relation.specs.Layout.{HoldsLarge, words}
 use Rattle.core_relation.specs.Value.{In, Seen}
+use Rattle.task_machine.specs.Accounts.{named_by, names_in, small_lists}
+use Rattle.task_machine.specs.Place.{name_of}
 use Rattle.shared_value.specs.Objects.{chunk_of, objects_from, seen, seen_by}
-use Rattle.shared_value.proofs.Cells.{behind}
+use Rattle.shared_value.proofs.CellsRead.{behind}
 
 -- the machine's object of this name has as many words
 abbrev pub SameWords : State → Seen → Type 0

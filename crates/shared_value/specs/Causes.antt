@@ -1,5 +1,6 @@
 -- Why entries are refused, as the shared value tells it.
 use Rattle.std.specs.Prelude.{ℕ, ◌&&◌, not, Bool, true, false, Option, Some, None, is_some, nat_le, nat_lt}
+use Rattle.std.specs.Prelude.{slice_get}
 use Rattle.run_trace.specs.declared.entry.Kind.{Kind}
 use Rattle.run_trace.specs.declared.entry.Kind.TheVariants.{Took, Ran, Chunk, Begin, End, PutOff, Mark, More, Sweep, Fuel}
 use Rattle.run_trace.specs.Settings.{Limits}
@@ -7,12 +8,11 @@ use Rattle.run_ledger.specs.declared.data.Refused.{Refused}
 use Rattle.run_ledger.specs.declared.data.Refused.TheVariants.{Collecting, Due, Over, Spent, NoWorker, NotNeeded, NotReady, NotSpent}
 use Rattle.run_ledger.specs.declared.data.RunEnd.{RunEnd}
 use Rattle.run_ledger.specs.Entries.{refused_if, refused_unless, refused_holding}
+use Rattle.alloc_path.specs.Heap.{place_for, room_of}
 use Rattle.heap_tree.specs.declared.state.State.{State}
 use Rattle.heap_tree.specs.declared.state.State.TheVariants.{Ready, Out, Waiting, Ended, Joined}
-use Rattle.alloc_path.specs.Heap.{place_for, room_of}
-use Rattle.task_machine.specs.declared.part.Private.{Private}
 use Rattle.heap_tree.specs.Node.{state_of}
-use Rattle.std.specs.Prelude.{slice_get}
+use Rattle.task_machine.specs.declared.part.Private.{Private}
 use Rattle.shared_value.specs.World.{World, flat}
 
 -- the causes that come before what the entry says

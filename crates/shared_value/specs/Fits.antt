@@ -1,16 +1,16 @@
 -- The part that a worker holds fits the shared value.
 use Rattle.std.specs.Prelude.{◌≡◌, ◌≢◌, ℕ, pos, Some, None}
 use Rattle.hh_lang.specs.Form.{ProgramText}
-use Rattle.run_ledger.specs.declared.data.Ledger.{Ledger}
 use Rattle.run_trace.specs.Settings.{Limits, field_limit}
+use Rattle.run_ledger.specs.declared.data.Ledger.{Ledger}
 use Rattle.run_ledger.specs.Heaps.{heap_of}
 use Rattle.run_ledger.specs.Steps.{task_steps}
-use Rattle.task_machine.specs.declared.part.Private.{Private}
+use Rattle.task_frames.specs.Stack.{Stack}
 use Rattle.ledger_steps.specs.Accounts.{aside, rested}
 use Rattle.core_relation.specs.Value.{Home}
 use Rattle.core_relation.specs.Fits.{Part, part_for}
 use Rattle.core_relation.specs.Worker.{Fits as FitsValue}
-use Rattle.task_frames.specs.Stack.{Stack}
+use Rattle.task_machine.specs.declared.part.Private.{Private}
 use Rattle.shared_value.specs.declared.rest.Rest.{Rest}
 use Rattle.shared_value.specs.declared.rest.Work.{Work}
 use Rattle.shared_value.specs.declared.rest.Work.TheVariants.{Calls, Result}

@@ -1,16 +1,16 @@
 -- The first meaning of a part that fits: the machine after its fresh steps, and where the shared value has the names of the
 -- tasks above it.
 use Rattle.std.specs.Prelude.{ℕ, ◌==◌, Option, Some, None, List, [], ◌∷◌, if◌then◌else◌, is_none}
-use Rattle.object_layout.specs.declared.word.Addr.{Addr}
 use Rattle.hh_model.specs.declared.data.Name.{Name}
 use Rattle.run_ledger.specs.declared.data.Ledger.{Ledger}
 use Rattle.run_ledger.specs.Heaps.{heap_of}
 use Rattle.run_ledger.specs.Reachable.{is_name}
+use Rattle.object_layout.specs.declared.word.Addr.{Addr}
+use Rattle.ledger_steps.specs.Accounts.{own}
+use Rattle.core_relation.specs.Value.{Seen, Value, objects}
 use Rattle.task_machine.specs.declared.part.Private.{Private}
 use Rattle.task_machine.specs.Place.{Places}
 use Rattle.task_machine.specs.Fits.{FitsNow as FitsMachine}
-use Rattle.core_relation.specs.Value.{Seen, Value, objects}
-use Rattle.ledger_steps.specs.Accounts.{own}
 use Rattle.shared_value.specs.World.{World, accounts, value_of}
 use Rattle.shared_value.specs.Fits.{beyond}
 

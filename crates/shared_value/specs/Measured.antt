@@ -2,9 +2,9 @@
 use Rattle.std.specs.Prelude.{◌≡◌, ◌≢◌, ℕ, ◌/◌, Option, Some, None, List, [], slice_get}
 use Rattle.object_layout.specs.Content.{Content}
 use Rattle.chunk_pool.specs.Chunks.{Chunks, held_at, one_unit}
+use Rattle.core_relation.specs.Value.{In}
 use Rattle.task_machine.specs.declared.part.Begun.{Begun}
 use Rattle.task_machine.specs.declared.part.Private.{Private}
-use Rattle.core_relation.specs.Value.{In}
 use Rattle.shared_value.specs.declared.rest.Rest.{Rest}
 use Rattle.shared_value.specs.World.{flat, rest_at}
 

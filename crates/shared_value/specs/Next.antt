@@ -1,10 +1,6 @@
 -- What the next instruction of a part comes to, as its own frames and heap tell: the words that it allocates, and what it does
 -- where it comes to no private step.
 use Rattle.std.specs.Prelude.{ℕ, ◌+◌, ◌&&◌, ◌||◌, not, Bool, true, false, Option, Some, None, List, length, slice_get, is_some, if◌then◌else◌}
-use Rattle.object_layout.specs.declared.word.Addr.{Addr}
-use Rattle.object_layout.specs.Cell.{Cell}
-use Rattle.object_layout.specs.Chunks.{object_of, place_in}
-use Rattle.object_layout.specs.Content.{Content}
 use Rattle.hh_lang.specs.declared.instr.Instr.{Instr}
 use Rattle.hh_lang.specs.declared.instr.Instr.TheVariants.{Newm, Pack, Calc, Getr, Geti, Putr, Puti, Cntr, Cnti, Freeze, Cas, Call, Par, Ret, Out}
 use Rattle.hh_lang.specs.declared.program.Line.{Line}
@@ -16,6 +12,10 @@ use Rattle.hh_model.specs.Effect.{counts_in, place_in as place_in_count}
 use Rattle.hh_model.specs.Names.{words_for}
 use Rattle.hh_model.specs.Step.{fetched}
 use Rattle.run_ledger.specs.Steps.{has_no_caller, owns, touched}
+use Rattle.object_layout.specs.declared.word.Addr.{Addr}
+use Rattle.object_layout.specs.Cell.{Cell}
+use Rattle.object_layout.specs.Chunks.{object_of, place_in}
+use Rattle.object_layout.specs.Content.{Content}
 use Rattle.task_frames.specs.declared.frames.Frame.{Frame}
 use Rattle.task_machine.specs.declared.part.Private.{Private}
 use Rattle.task_machine.specs.Plan.{int_of, ref_of}

@@ -1,15 +1,15 @@
 -- What every shared value keeps.
 use Rattle.std.specs.Prelude.{◌≡◌, ℕ, ◌<◌, ◌*◌, ◌/◌, ◌^◌, true, Some, [], length}
-use Rattle.object_layout.specs.Chunks.{chunk_at}
-use Rattle.object_layout.specs.Content.{Content}
-use Rattle.alloc_path.specs.Heap.{AreTidy, AreWithin, Heap}
 use Rattle.hh_lang.specs.Form.{IsProgram}
 use Rattle.run_trace.specs.Settings.{AreLimits}
 use Rattle.run_ledger.specs.Journals.{is_legal}
-use Rattle.task_machine.specs.Accounts.{IsLastLarge, IsLastSmall}
-use Rattle.task_machine.specs.Fits.{IsShaped}
+use Rattle.object_layout.specs.Chunks.{chunk_at}
+use Rattle.object_layout.specs.Content.{Content}
+use Rattle.alloc_path.specs.Heap.{AreTidy, AreWithin, Heap}
 use Rattle.core_relation.specs.Value.{In}
 use Rattle.core_relation.specs.Whole.{StandsForAll}
+use Rattle.task_machine.specs.Accounts.{IsLastLarge, IsLastSmall}
+use Rattle.task_machine.specs.Fits.{IsShaped}
 use Rattle.shared_value.specs.declared.rest.Rest.{Rest}
 use Rattle.shared_value.specs.Measured.{RestsAreMeasured}
 use Rattle.shared_value.specs.Objects.{AreNear, chunk_of}

@@ -1,28 +1,28 @@
 -- The shared value as contracts see it, and what it holds as the relation to the accounts speaks of it.
 use Rattle.std.specs.Prelude.{ℕ, ℤ, pos, Bool, false, Option, Some, None, List, [], ◌∷◌, map, replicate, slice_get, option_map}
-use Rattle.object_layout.specs.declared.word.Addr.{Addr}
+use Rattle.listed.specs.Space.{Space}
 use Rattle.hh_lang.specs.Form.{ProgramText}
 use Rattle.run_trace.specs.Entry.{Event}
 use Rattle.run_trace.specs.Settings.{Limits}
 use Rattle.run_ledger.specs.declared.data.Ledger.{Ledger}
 use Rattle.run_ledger.specs.declared.data.RunEnd.{RunEnd}
 use Rattle.run_ledger.specs.Journals.{ledger_of}
-use Rattle.listed.specs.Space.{Space}
+use Rattle.object_layout.specs.declared.word.Addr.{Addr}
+use Rattle.chunk_pool.specs.Chunks.{Chunks, owner_of, units_in_use}
 use Rattle.alloc_path.specs.Heap.{Heap, room_of}
 use Rattle.alloc_path.specs.View.{Level}
+use Rattle.task_frames.specs.declared.frames.Frame.{Frame}
+use Rattle.task_frames.specs.Stack.{Stack}
 use Rattle.heap_tree.specs.declared.state.State.{State}
 use Rattle.heap_tree.specs.declared.state.State.TheVariants.{Ready, Out, Waiting, Ended, Joined}
 use Rattle.heap_tree.specs.Node.{Node}
-use Rattle.chunk_pool.specs.Chunks.{Chunks, owner_of, units_in_use}
 use Rattle.remembered_set.specs.declared.remembered.Source.{Source}
 use Rattle.write_barrier.specs.declared.sets.SetOf.{SetOf}
 use Rattle.inner_mark_gc.specs.Marks.{Marks}
-use Rattle.task_frames.specs.declared.frames.Frame.{Frame}
-use Rattle.task_frames.specs.Stack.{Stack}
-use Rattle.task_machine.specs.declared.part.Begun.{Begun as BegunPart}
 use Rattle.core_relation.specs.Value.{Begun, Frame as SeenFrame, Home, Noted, Source as SeenSource, Value}
 use Rattle.core_relation.specs.Whole.{Node as SeenNode, State as SeenState, Totals}
 use Rattle.core_relation.specs.Whole.{Ready as IsReady, Out as IsOut, Waits, HasEnded, HasJoined}
+use Rattle.task_machine.specs.declared.part.Begun.{Begun as BegunPart}
 use Rattle.shared_value.specs.declared.rest.Rest.{Rest}
 use Rattle.shared_value.specs.declared.rest.Work.{Work}
 use Rattle.shared_value.specs.declared.rest.Work.TheVariants.{Calls, Result}

@@ -1,8 +1,8 @@
 // What goes with a task that no worker holds.
 
 ghost use Rattle.std.specs.Prelude.{◌≡◌, ◌<◌, None};
-ghost use Rattle.shared_value.specs.Fits.{taken_part, IsAtWork};
 ghost use Rattle.task_frames.specs.Stack.{Stack};
+ghost use Rattle.shared_value.specs.Fits.{taken_part, IsAtWork};
 
 use alloc_path::{LeafHeap, View};
 use object_layout::Addr;

@@ -1,46 +1,46 @@
 -- Entries that aren't refused, where the worker may make one.
 use Rattle.std.proofs.Common.{◌≡◌, ℕ, ◌+◌, ◌<◌, ◌&&◌, not, true, false, Bool, Option, Some, None, is_none, is_some, nat_le, nat_lt, option_map, refl, ap, sym, subst, ◌∙◌, arith}
 use Rattle.std.proofs.lemmas.Bool.{false≢true}
-use Rattle.alloc_path.specs.Heap.{place_for, room_of}
-use Rattle.leaf_copy_gc.specs.declared.lists.Moved.{Moved}
+use Rattle.hh_model.specs.Step.{asked}
 use Rattle.run_trace.specs.declared.entry.Kind.{Kind}
 use Rattle.run_trace.specs.declared.entry.Kind.TheVariants.{Ran, Chunk, Begin, PutOff, Fuel, Mark, More, Sweep}
-use Rattle.hh_model.specs.Step.{asked}
+use Rattle.run_trace.specs.Settings.{Limits}
 use Rattle.run_ledger.specs.declared.data.Owed.TheVariants.{Mark as OwesMark, More as OwesMore, Sweep as OwesSweep}
 use Rattle.run_ledger.specs.declared.data.Refused.{Refused}
 use Rattle.run_ledger.specs.declared.data.Refused.TheVariants.{Collecting, Due as DueCause, NoWorker, NotDue, NotNeeded, NotSpent, Over, PoolEnough, PoolShort, Spent}
 use Rattle.run_ledger.specs.declared.data.RunEnd.{RunEnd}
-use Rattle.run_trace.specs.Settings.{Limits}
 use Rattle.run_ledger.specs.Cuts.{CanBeGiven}
 use Rattle.run_ledger.specs.Entries.{is_pool_enough, kind_refusal, refused_if, refused_unless}
 use Rattle.run_ledger.specs.Heaps.{heap_of, sweep_number}
 use Rattle.run_ledger.specs.Steps.{on_asked}
 use Rattle.run_ledger.proofs.OwedEntries.{owed_can_be_given}
 use Rattle.chunk_pool.specs.Chunks.{units_in_use}
+use Rattle.alloc_path.specs.Heap.{place_for, room_of}
+use Rattle.leaf_copy_gc.specs.declared.lists.Moved.{Moved}
 use Rattle.task_machine.specs.declared.part.Private.{Private}
 use Rattle.task_machine.specs.declared.part.Paused.TheVariants.{Due, NeedChunk}
 use Rattle.task_machine.specs.Steps.{lacks_place}
 use Rattle.shared_value.specs.declared.answer.NotEntered.{NotEntered}
 use Rattle.shared_value.specs.declared.answer.NotEntered.TheVariants.{NoMemory, Refuses}
-use Rattle.own_steps.specs.Alone.{IsShared, alone_event, machine_after}
 use Rattle.shared_value.specs.Causes.{first_cause, need_cause, or_else}
 use Rattle.shared_value.specs.Due.{due_cause, is_part_due}
 use Rattle.shared_value.specs.Entered.{IsCaused, refused}
 use Rattle.shared_value.specs.Fits.{Fits}
-use Rattle.leaf_collections.specs.LeafEnd.{FitsCopied, end_event}
 use Rattle.shared_value.specs.Links.{FitsFirst}
 use Rattle.shared_value.specs.Next.{part_asks}
 use Rattle.shared_value.specs.Stands.{IsWorld}
 use Rattle.shared_value.specs.World.{World, accounts}
-use Rattle.shared_value.proofs.Asking.{asked_same}
-use Rattle.leaf_collections.proofs.BeginCauses.{begin_answer}
+use Rattle.shared_value.proofs.NextStepAsks.{asked_same}
+use Rattle.shared_value.proofs.BeforeTheEnd.{end_now, steps_now}
+use Rattle.shared_value.proofs.CausesTold.{refused_is}
+use Rattle.shared_value.proofs.StepsEntered.{ran_answer}
+use Rattle.own_steps.specs.Alone.{IsShared, alone_event, machine_after}
 use Rattle.own_steps.proofs.LastSteps.{alone_answer}
-use Rattle.leaf_collections.proofs.LeafRefusals.{end_answer}
-use Rattle.leaf_collections.proofs.Needs.{chunk_answer}
-use Rattle.shared_value.proofs.Now.{end_now, steps_now}
-use Rattle.leaf_collections.proofs.PutOff.{put_off_answer, without_fresh}
-use Rattle.shared_value.proofs.Refusals.{refused_is}
-use Rattle.shared_value.proofs.Running.{ran_answer}
+use Rattle.leaf_collections.specs.LeafEnd.{FitsCopied, end_event}
+use Rattle.leaf_collections.proofs.WhyNoCollection.{begin_answer}
+use Rattle.leaf_collections.proofs.WhyNoEnd.{end_answer}
+use Rattle.leaf_collections.proofs.WhyNoChunk.{chunk_answer}
+use Rattle.leaf_collections.proofs.CollectionPutOff.{put_off_answer, without_fresh}
 use Rattle.paced_tree.specs.Owed.{owed_by}
 use Rattle.turn_entries.specs.Parts.{IsPaused}
 use Rattle.turn_entries.proofs.Stepping.{first}

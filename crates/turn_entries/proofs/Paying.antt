@@ -14,9 +14,9 @@ use Rattle.run_ledger.specs.Heaps.{heap_of, left_in, marked_in, sweep_number}
 use Rattle.run_ledger.specs.Pace.{gives}
 use Rattle.run_ledger.proofs.OwedEntries.{owed_can_be_given}
 use Rattle.shared_value.specs.Causes.{or_else}
-use Rattle.heap_marking.specs.MarkCauses.{marking_cause}
 use Rattle.shared_value.specs.Stands.{IsWorld}
 use Rattle.shared_value.specs.World.{World, accounts}
+use Rattle.heap_marking.specs.MarkCauses.{marking_cause}
 use Rattle.heap_marking.proofs.MarkCauses.{marks_refuse}
 use Rattle.paced_tree.specs.Owed.{Pays, owed_by}
 

@@ -27,14 +27,14 @@ use Rattle.task_machine.specs.Outline.{steps}
 use Rattle.task_machine.specs.Ready.{FitsSome}
 use Rattle.task_machine.specs.Run.{KeepsRest, Pauses, PausesBy, Runs}
 use Rattle.task_machine.proofs.Behind.{steps_more}
-use Rattle.own_steps.specs.Alone.{machine_after}
 use Rattle.shared_value.specs.Fits.{Fits, beyond}
 use Rattle.shared_value.specs.Links.{FitsFirst, above_of}
 use Rattle.shared_value.specs.Stands.{IsWorld}
 use Rattle.shared_value.specs.World.{World, accounts, value_of}
-use Rattle.own_steps.proofs.Bounded.{limit_small}
-use Rattle.own_steps.proofs.FitsAgain.{parts_fit_again}
-use Rattle.shared_value.proofs.Linked.{second_gives_first}
+use Rattle.shared_value.proofs.PartFitsMachine.{second_gives_first}
+use Rattle.own_steps.specs.Alone.{machine_after}
+use Rattle.own_steps.proofs.WordsFew.{limit_small}
+use Rattle.own_steps.proofs.FitsAfterSteps.{parts_fit_again}
 use Rattle.turn_entries.specs.Parts.{AtSome, GoesOn, HasGrown, IsPaused, MayRun}
 
 -- ---- THE MACHINE BEHIND THE FRESH STEPS

@@ -5,17 +5,17 @@ use Rattle.run_trace.specs.Entry.{Event}
 use Rattle.run_trace.specs.declared.entry.Kind.{Kind}
 use Rattle.run_trace.specs.declared.entry.Kind.TheVariants.{Took}
 use Rattle.run_ledger.specs.declared.data.RunEnd.{RunEnd}
+use Rattle.task_machine.specs.declared.part.Paused.TheVariants.{Shared}
+use Rattle.task_machine.specs.declared.part.Private.{Private}
 use Rattle.shared_value.specs.Entered.{Enters, refused}
 use Rattle.shared_value.specs.Fits.{AllFit, Fits, OthersFit}
 use Rattle.shared_value.specs.declared.answer.NotEntered.{NotEntered}
 use Rattle.shared_value.specs.declared.answer.NotEntered.TheVariants.{NoMemory, Refuses}
-use Rattle.child_tasks.specs.ChildEnds.{running_parent}
-use Rattle.child_tasks.specs.Hands.{HoldsNone}
-use Rattle.task_machine.specs.declared.part.Paused.TheVariants.{Shared}
-use Rattle.child_tasks.specs.Joins.{IsUnchanged, SameButPlaces}
 use Rattle.shared_value.specs.Stands.{IsWorld}
 use Rattle.shared_value.specs.World.{World, accounts}
-use Rattle.task_machine.specs.declared.part.Private.{Private}
+use Rattle.child_tasks.specs.ChildEnds.{running_parent}
+use Rattle.child_tasks.specs.Hands.{HoldsNone}
+use Rattle.child_tasks.specs.Joins.{IsUnchanged, SameButPlaces}
 use Rattle.turn_entries.specs.declared.act.Acted.{Acted}
 use Rattle.turn_entries.specs.declared.act.Acted.TheVariants.{Entered, Same}
 use Rattle.turn_entries.specs.declared.held.Next.{Next}

@@ -4,12 +4,12 @@ use Rattle.run_trace.specs.declared.entry.Kind.{Kind}
 use Rattle.run_trace.specs.declared.entry.Kind.TheVariants.{Took}
 use Rattle.task_machine.specs.declared.part.Private.{Private}
 use Rattle.task_machine.specs.declared.part.Paused.TheVariants.{Shared}
-use Rattle.child_tasks.specs.ChildEnds.{running_parent}
 use Rattle.shared_value.specs.Entered.{refused}
 use Rattle.shared_value.specs.Fits.{AllFit, Fits}
-use Rattle.child_tasks.specs.Hands.{HoldsNone}
 use Rattle.shared_value.specs.Stands.{IsWorld}
 use Rattle.shared_value.specs.World.{World, accounts}
+use Rattle.child_tasks.specs.ChildEnds.{running_parent}
+use Rattle.child_tasks.specs.Hands.{HoldsNone}
 use Rattle.turn_entries.specs.declared.act.Acted.{Acted}
 use Rattle.turn_entries.specs.declared.act.Acted.TheVariants.{Entered, Same}
 use Rattle.turn_entries.specs.declared.held.Next.{Next}

@@ -7,12 +7,12 @@ use Rattle.task_machine.specs.declared.part.Private.{Private}
 use Rattle.task_machine.specs.declared.part.Paused.{Paused}
 use Rattle.task_machine.specs.declared.part.Paused.TheVariants.{Spent}
 use Rattle.task_machine.specs.Run.{Pauses}
-use Rattle.own_steps.specs.Alone.{machine_after}
 use Rattle.shared_value.specs.Fits.{Fits}
 use Rattle.shared_value.specs.LeafBegin.{HasBegun}
-use Rattle.leaf_collections.specs.LeafEnd.{FitsCopied}
 use Rattle.shared_value.specs.Stands.{IsWorld}
 use Rattle.shared_value.specs.World.{World, accounts}
+use Rattle.own_steps.specs.Alone.{machine_after}
+use Rattle.leaf_collections.specs.LeafEnd.{FitsCopied}
 use Rattle.turn_lock.specs.declared.view.View.{View}
 use Rattle.turn_entries.specs.declared.held.Collecting.{Collecting}
 use Rattle.turn_entries.specs.declared.held.Copied.{Copied}

@@ -2,10 +2,10 @@
 ghost use Rattle.std.specs.Prelude.{◌≡◌, ◌<◌, None, false};
 ghost use Rattle.shared_value.specs.Causes.{first_cause};
 ghost use Rattle.shared_value.specs.World.{accounts};
+ghost use Rattle.paced_tree.specs.Owed.{owed_by};
 ghost use Rattle.turn_entries.specs.Acts.{Acts, ActsFor, EndsEntered, EndsHalted};
 ghost use Rattle.turn_entries.specs.Next.{going_kind, is_wanting, owing_kind};
 ghost use Rattle.turn_entries.specs.Parts.{BringsTo};
-ghost use Rattle.paced_tree.specs.Owed.{owed_by};
 
 use crate::held::{Next, Ready};
 use crate::run::Run;

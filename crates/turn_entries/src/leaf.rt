@@ -1,14 +1,14 @@
 //! The entries of leaf collections.
 ghost use Rattle.std.specs.Prelude.{◌≡◌, ◌<◌, None, true, false};
+ghost use Rattle.run_trace.specs.declared.entry.Kind.{Kind as KindOf};
 ghost use Rattle.run_ledger.specs.declared.data.Owed.{Owed as OwedOf};
 ghost use Rattle.run_ledger.specs.Entries.{is_pool_enough};
 ghost use Rattle.shared_value.specs.Causes.{first_cause};
-ghost use Rattle.leaf_collections.specs.LeafEnd.{FitsCopied};
 ghost use Rattle.shared_value.specs.World.{accounts};
-ghost use Rattle.run_trace.specs.declared.entry.Kind.{Kind as KindOf};
+ghost use Rattle.leaf_collections.specs.LeafEnd.{FitsCopied};
+ghost use Rattle.paced_tree.specs.Owed.{owed_by};
 ghost use Rattle.turn_entries.specs.Acts.{ActsAnyhow};
 ghost use Rattle.turn_entries.specs.Next.{due_kind};
-ghost use Rattle.paced_tree.specs.Owed.{owed_by};
 ghost use Rattle.turn_entries.specs.Parts.{IsPaused};
 
 use crate::act::Acted;

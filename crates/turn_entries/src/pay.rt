@@ -1,14 +1,14 @@
 //! The entries that a worker owes to the collections of waiting tasks' heaps, and the end for spent fuel.
 ghost use Rattle.std.specs.Prelude.{◌≡◌, ◌<◌, Some, None, is_some, true, false};
+ghost use Rattle.run_trace.specs.declared.entry.Kind.{Kind as KindOf};
 ghost use Rattle.run_ledger.specs.declared.data.Owed.{Owed as OwedOf};
-ghost use Rattle.shared_value.specs.Causes.{first_cause};
-ghost use Rattle.shared_value.specs.World.{accounts};
 ghost use Rattle.run_ledger.specs.Heaps.{heap_of, sweep_number};
 ghost use Rattle.run_ledger.specs.Pace.{marked_at_once};
-ghost use Rattle.run_trace.specs.declared.entry.Kind.{Kind as KindOf};
+ghost use Rattle.shared_value.specs.Causes.{first_cause};
+ghost use Rattle.shared_value.specs.World.{accounts};
+ghost use Rattle.paced_tree.specs.Owed.{owed_by};
 ghost use Rattle.turn_entries.specs.Acts.{ActsAnyhow, ActsFor, EndsPaid};
 ghost use Rattle.turn_entries.specs.Next.{is_wanting};
-ghost use Rattle.paced_tree.specs.Owed.{owed_by};
 ghost use Rattle.turn_entries.specs.Parts.{next_after, BringsTo};
 
 use crate::act::Acted;

@@ -1,12 +1,12 @@
 //! The entries that a worker comes for.
 ghost use Rattle.std.specs.Prelude.{◌≡◌, ◌+◌, ◌<◌, Some, None, false};
+ghost use Rattle.run_trace.specs.declared.entry.Kind.{Kind as KindOf};
 ghost use Rattle.run_ledger.specs.declared.data.Owed.{Owed as OwedOf};
 ghost use Rattle.shared_value.specs.Causes.{first_cause};
 ghost use Rattle.shared_value.specs.World.{accounts};
-ghost use Rattle.run_trace.specs.declared.entry.Kind.{Kind as KindOf};
+ghost use Rattle.paced_tree.specs.Owed.{owed_by};
 ghost use Rattle.turn_entries.specs.Acts.{after_end, ActsAnyhow, ActsFor};
 ghost use Rattle.turn_entries.specs.Next.{brought_kind, is_wanting, paused_kind};
-ghost use Rattle.paced_tree.specs.Owed.{owed_by};
 ghost use Rattle.turn_entries.specs.Parts.{BringsTo, IsPaused, MayRun};
 
 use crate::act::Acted;

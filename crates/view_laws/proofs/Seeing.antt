@@ -22,9 +22,9 @@ use Rattle.ledger_steps.specs.Accounts.{Rests}
 use Rattle.ledger_steps.proofs.Known.{legal_knows}
 use Rattle.core_relation.specs.Value.{Chunk, In, Seen, Value, objects}
 use Rattle.core_relation.specs.Stands.{HomeStands}
-use Rattle.core_relation.proofs.Members.{in_chunk}
+use Rattle.core_relation.proofs.objects.Members.{in_chunk}
 use Rattle.task_machine.specs.Run.{Runs}
-use Rattle.shared_value.proofs.Linked as link
+use Rattle.shared_value.proofs.PartFitsMachine as link
 use Rattle.view_laws.specs.Laws.{FrozenReferUp, FrozenStay, LeadTo, LevelsAreApart, ReadsStay, SeenNamesAreHeld}
 
 -- ---- IMMUTABLE OBJECTS

@@ -1,27 +1,27 @@
 -- The copy of a part whose collection has begun.
 use Rattle.std.proofs.Common.{◌≡◌, ℕ, ◌+◌, ◌*◌, ◌/◌, ◌≤◌, All, List, length, map, refl, ap, sym, subst, ◌∙◌}
+use Rattle.hh_lang.specs.Form.{ProgramText}
 use Rattle.object_layout.specs.declared.word.Addr.{Addr}
 use Rattle.object_layout.specs.Content.{Content}
 use Rattle.alloc_path.specs.Heap.{Heap}
-use Rattle.hh_lang.specs.Form.{ProgramText}
+use Rattle.task_frames.specs.Stack.{Stack}
 use Rattle.leaf_copy_gc.specs.declared.lists.Moved.{Moved}
 use Rattle.leaf_copy_gc.specs.Laws.{CanTake}
 use Rattle.leaf_copy_gc.specs.Lists.{IsCollected}
 use Rattle.leaf_copy_gc.specs.Survivors.{IsSound, as_reference}
 use Rattle.ledger_steps.specs.Accounts.{aside}
-use Rattle.task_frames.specs.Stack.{Stack}
 use Rattle.task_machine.specs.declared.part.Begun.{Begun}
 use Rattle.task_machine.specs.declared.part.Private.{Private}
 use Rattle.shared_value.specs.Fits.{Fits}
 use Rattle.shared_value.specs.LeafBegin.{HasBegun, number_of}
-use Rattle.leaf_collections.specs.LeafEnd.{FitsCopied}
 use Rattle.shared_value.specs.World.{World, accounts, value_of}
-use Rattle.shared_value.proofs.Running.{status}
+use Rattle.shared_value.proofs.StepsEntered.{status}
+use Rattle.leaf_collections.specs.LeafEnd.{FitsCopied}
 use Rattle.copied_part.specs.Copied.{CanCopy}
 use Rattle.copied_part.specs.Handed.{IsCopying}
-use Rattle.copied_part.proofs.Beginning.{begun_is_copying}
-use Rattle.copied_part.proofs.Handing.{begun, copied_fits}
-use Rattle.copied_part.proofs.Saying.{begun_can_copy}
+use Rattle.copied_part.proofs.CopyBegins.{begun_is_copying}
+use Rattle.copied_part.proofs.CopyHanded.{begun, copied_fits}
+use Rattle.copied_part.proofs.CopySays.{begun_can_copy}
 use Rattle.turn_entries.specs.declared.held.Collecting.{Collecting}
 use Rattle.turn_entries.specs.Parts.{GoesOn, MayCopy}
 

@@ -6,15 +6,14 @@ use Rattle.hh_lang.specs.Form.{ProgramText}
 use Rattle.run_trace.specs.Entry.{Event}
 use Rattle.run_trace.specs.Settings.{Limits}
 use Rattle.run_trace.specs.declared.entry.Kind.{Kind}
+use Rattle.task_machine.specs.declared.part.Private.{Private}
 use Rattle.shared_value.specs.Fits.{Fits}
 use Rattle.shared_value.specs.Stands.{IsWorld}
 use Rattle.shared_value.specs.World.{World, accounts}
-use Rattle.task_machine.specs.declared.part.Private.{Private}
 use Rattle.turn_lock.specs.Journal.{entries_by}
 use Rattle.turn_lock.specs.Seats.{view, Extends, GaveOne, HasNoTurn, HasTurn, IsAlike, Knows, SameWorker, own_entries, with_given, with_taken}
 use Rattle.turn_lock.proofs.Laws.{own_of_taken}
 use Rattle.turn_entries.specs.declared.act.Acted.TheVariants.{Entered, Same}
-use Rattle.worker_run.specs.declared.desk.Desk.{Desk}
 use Rattle.turn_entries.specs.declared.held.Collecting.{Collecting}
 use Rattle.turn_entries.specs.declared.held.Copied.{Copied}
 use Rattle.turn_entries.specs.declared.held.Next.{Next}
@@ -24,10 +23,11 @@ use Rattle.turn_entries.specs.declared.held.Ready.TheVariants.{Paused as HasPaus
 use Rattle.turn_entries.specs.declared.run.Run.{Run}
 use Rattle.turn_entries.specs.declared.run.Setup.{Setup}
 use Rattle.turn_entries.specs.Acts.{Acts, Follows, WhyNone}
-use Rattle.worker_run.specs.Desks.{GivesOne, HasEntry, HasGiven, HasStopped, IsDesk, SameDesk, TakesTurn, entries_of}
 use Rattle.turn_entries.specs.Parts.{BringsTo, ComesWith, GoesWith, Keeps, Sight, TakesFrom, WasCopied}
 use Rattle.turn_entries.specs.Values.{EntersOne, FitsKept, IsSame, is_over, journal_of, setup_of, worker_of}
 use Rattle.turn_entries.proofs.Turning.{ended_over}
+use Rattle.worker_run.specs.declared.desk.Desk.{Desk}
+use Rattle.worker_run.specs.Desks.{GivesOne, HasEntry, HasGiven, HasStopped, IsDesk, SameDesk, TakesTurn, entries_of}
 
 some_one : {A : Type 0} (a b : A) → Some a ≡ Some b → a ≡ b
 some_one a b e = ap (λ o. unwrap_or o a) e

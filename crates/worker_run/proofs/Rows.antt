@@ -8,23 +8,23 @@ use Rattle.atomic_table.specs.declared.shared.Seat.{Seat}
 use Rattle.hh_lang.specs.Form.{ProgramText}
 use Rattle.run_trace.specs.Entry.{Event}
 use Rattle.run_trace.specs.Settings.{Limits}
-use Rattle.steal_scheduler.specs.declared.hand.Hand.{Hand}
-use Rattle.steal_scheduler.specs.Hands.{AreNewHands, thefts}
 use Rattle.run_ledger.specs.Journals.{is_legal}
 use Rattle.run_ledger.specs.Pace.{is_paced}
+use Rattle.task_machine.specs.declared.part.Private.{Private}
 use Rattle.shared_value.specs.Stands.{IsWorld}
 use Rattle.shared_value.specs.World.{World}
-use Rattle.task_machine.specs.declared.part.Private.{Private}
 use Rattle.turn_lock.specs.Journal.{entries_by}
 use Rattle.turn_lock.specs.Seats.{view, HasNoTurn, HasOwnEntries, SameWorker, own_entries, AreNewSeats, AreAllSeats, IsLeftBy}
 use Rattle.turn_lock.proofs.Laws.{first_there, new_are_all, kept_are_all}
-use Rattle.worker_run.specs.declared.desk.Desk.{Desk}
+use Rattle.steal_scheduler.specs.declared.hand.Hand.{Hand}
+use Rattle.steal_scheduler.specs.Hands.{AreNewHands, thefts}
 use Rattle.turn_entries.specs.declared.run.Run.{Run}
 use Rattle.turn_entries.specs.declared.run.Setup.{Setup}
-use Rattle.worker_run.specs.Desks.{AreAllDesks, AreHands, AreNewDesks, HasOfEach, HaveStopped, IsDesk, SameDesk, entries_of}
-use Rattle.worker_run.specs.Outcomes.{IsRun, WasGivenBack}
 use Rattle.turn_entries.specs.Parts.{Sight}
 use Rattle.turn_entries.specs.Values.{FitsKept, journal_of, setup_of, worker_of}
+use Rattle.worker_run.specs.declared.desk.Desk.{Desk}
+use Rattle.worker_run.specs.Desks.{AreAllDesks, AreHands, AreNewDesks, HasOfEach, HaveStopped, IsDesk, SameDesk, entries_of}
+use Rattle.worker_run.specs.Outcomes.{IsRun, WasGivenBack}
 
 abbrev pub Chair : Type 0
 Chair = Seat (Option Run) Sight

@@ -5,18 +5,18 @@ use Rattle.hh_lang.specs.Form.{ProgramText}
 use Rattle.run_trace.specs.Entry.{Event}
 use Rattle.run_trace.specs.declared.entry.Kind.{Kind}
 use Rattle.run_trace.specs.Settings.{Limits}
-use Rattle.steal_scheduler.specs.declared.hand.Hand.{Hand}
-use Rattle.steal_scheduler.specs.Hands.{thefts}
+use Rattle.shared_value.specs.Stands.{IsWorld}
 use Rattle.turn_lock.specs.Journal.{entries_by}
 use Rattle.turn_lock.specs.Seats.{view, own_entries, AreAllSeats, HasNoTurn, HasTurn, Knows, SameWorker}
+use Rattle.steal_scheduler.specs.declared.hand.Hand.{Hand}
+use Rattle.steal_scheduler.specs.Hands.{thefts}
 use Rattle.turn_entries.specs.declared.act.Acted.TheVariants.{Entered, Same}
-use Rattle.worker_run.specs.declared.desk.Desk.{Desk}
 use Rattle.turn_entries.specs.declared.held.Next.{Next}
 use Rattle.turn_entries.specs.declared.held.Ready.{Ready}
-use Rattle.shared_value.specs.Stands.{IsWorld}
 use Rattle.turn_entries.specs.declared.run.Run.{Run}
 use Rattle.turn_entries.specs.Acts.{Acts}
 use Rattle.turn_entries.specs.Values.{journal_of, setup_of, worker_of, is_over, EntersOne, FitsKept}
+use Rattle.worker_run.specs.declared.desk.Desk.{Desk}
 
 -- the entries of its own that the desk's seat has seen
 abbrev pub entries_of : Desk → List Event

@@ -3,8 +3,8 @@ ghost use Rattle.std.specs.Prelude.{◌≡◌, IfSome, option_map};
 ghost use Rattle.shared_value.specs.Fits.{Fits};
 ghost use Rattle.turn_lock.specs.Seats.{view};
 ghost use Rattle.turn_lock.specs.Turn.{identity};
-ghost use Rattle.worker_run.specs.Desks.{GivesOne, HasEntry, HasGiven, IsDesk, SameDesk, TakesTurn};
 ghost use Rattle.turn_entries.specs.Parts.{ComesWith, GoesWith, TakesFrom};
+ghost use Rattle.worker_run.specs.Desks.{GivesOne, HasEntry, HasGiven, IsDesk, SameDesk, TakesTurn};
 
 use crate::desk::Desk;
 use hh_lang::Program;

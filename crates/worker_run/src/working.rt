@@ -2,8 +2,8 @@
 ghost use Rattle.std.specs.Prelude.{◌≡◌, IfNone, IfSome};
 ghost use Rattle.turn_lock.specs.Seats.{view};
 ghost use Rattle.turn_lock.specs.Turn.{identity};
-ghost use Rattle.worker_run.specs.Desks.{ChangesHand, FewThefts, HasStopped, IsDesk, SameDesk};
 ghost use Rattle.turn_entries.specs.Parts.{BringsNothing, ComesWith, GoesWith};
+ghost use Rattle.worker_run.specs.Desks.{ChangesHand, FewThefts, HasStopped, IsDesk, SameDesk};
 
 use crate::bell::Bell;
 use crate::desk::Desk;

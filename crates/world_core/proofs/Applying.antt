@@ -6,16 +6,16 @@ use Rattle.run_trace.specs.declared.entry.Kind.{Kind}
 use Rattle.run_trace.specs.declared.entry.Kind.TheVariants.{Took, Ran, Chunk, Begin, End, PutOff, Mark, More, Sweep, Fuel}
 use Rattle.run_ledger.specs.declared.data.Refused.{Refused}
 use Rattle.run_ledger.specs.Entries.{is_fuel, kind_refusal}
+use Rattle.write_barrier.specs.Stored.{content_at}
 use Rattle.shared_value.specs.declared.answer.NotEntered.{NotEntered}
 use Rattle.shared_value.specs.declared.answer.NotEntered.TheVariants.{NoMemory, Refuses}
 use Rattle.shared_value.specs.Causes.{first_cause, or_else}
 use Rattle.shared_value.specs.Entered.{refused}
 use Rattle.shared_value.specs.Fits.{AllFit}
-use Rattle.child_tasks.specs.Joins.{IsSameRest, SameButPlaces}
 use Rattle.shared_value.specs.Stands.{IsWorld}
 use Rattle.shared_value.specs.World.{World, accounts, rest_at}
-use Rattle.write_barrier.specs.Stored.{content_at}
-use Rattle.shared_value.proofs.Refusals.{refused_is}
+use Rattle.shared_value.proofs.CausesTold.{refused_is}
+use Rattle.child_tasks.specs.Joins.{IsSameRest, SameButPlaces}
 use Rattle.world_core.specs.declared.held.Held.{Held}
 use Rattle.world_core.specs.Applied.{AnswersAll, AnswersApart, AnswersFor, RefusesAll, SameButReserved, SameButRoomier, WantsAll, is_own}
 use Rattle.world_core.specs.Whole.{AllHold, Holds}

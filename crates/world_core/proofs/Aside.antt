@@ -1,16 +1,16 @@
 -- What holds of accounts holds of them with the machine's end left aside.
 use Rattle.std.proofs.Common.{ℕ}
-use Rattle.hh_model.specs.declared.data.Name.{Name}
-use Rattle.object_layout.specs.declared.word.Addr.{Addr}
 use Rattle.hh_lang.specs.Form.{ProgramText}
+use Rattle.hh_model.specs.declared.data.Name.{Name}
 use Rattle.run_trace.specs.Settings.{Limits}
 use Rattle.run_ledger.specs.declared.data.Ledger.{Ledger}
+use Rattle.object_layout.specs.declared.word.Addr.{Addr}
 use Rattle.ledger_steps.specs.Accounts.{Knows, aside}
 use Rattle.core_relation.specs.Fits.{Part}
 use Rattle.core_relation.specs.Stands.{HomeStands, IsSource, Place, Stands}
 use Rattle.core_relation.specs.Value.{Source, Value}
 use Rattle.core_relation.specs.Worker.{Fits}
-use Rattle.core_relation.proofs.Carry.{object_kept, task_kept}
+use Rattle.core_relation.proofs.objects.Carry.{object_kept, task_kept}
 
 pub knows_aside : (l : Ledger) → Knows l → Knows (aside l)
 knows_aside l K = record { sound = K.sound; stored = K.stored; rows = K.rows }

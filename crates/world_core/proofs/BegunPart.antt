@@ -1,18 +1,18 @@
 -- A part whose leaf collection has begun can be copied, and holds as a copy then.
 use Rattle.std.proofs.Common.{◌≡◌, ℕ, All, Some, None, List, map, refl, ap, sym, subst, ◌∙◌}
+use Rattle.run_trace.specs.declared.entry.Kind.TheVariants.{Begin}
+use Rattle.run_ledger.specs.declared.data.Ledger.{Ledger}
+use Rattle.run_ledger.specs.Heaps.{take_of, within}
 use Rattle.object_layout.specs.declared.word.Addr.{Addr}
 use Rattle.object_layout.specs.Content.{Content}
 use Rattle.alloc_path.specs.Heap.{Heap}
+use Rattle.task_frames.specs.Stack.{Stack}
 use Rattle.leaf_copy_gc.specs.declared.lists.Moved.{Moved}
 use Rattle.leaf_copy_gc.specs.declared.lists.ToChunks.{ToChunks}
 use Rattle.leaf_copy_gc.specs.Laws.{CanTake}
 use Rattle.leaf_copy_gc.specs.Lists.{IsCollected}
 use Rattle.leaf_copy_gc.specs.Survivors.{IsSound, as_reference}
-use Rattle.run_trace.specs.declared.entry.Kind.TheVariants.{Begin}
-use Rattle.run_ledger.specs.declared.data.Ledger.{Ledger}
-use Rattle.run_ledger.specs.Heaps.{take_of, within}
 use Rattle.ledger_steps.specs.Accounts.{aside}
-use Rattle.task_frames.specs.Stack.{Stack}
 use Rattle.task_machine.specs.declared.part.Begun.{Begun}
 use Rattle.task_machine.specs.declared.part.Private.{Private}
 use Rattle.shared_value.specs.Entered.{Enters}
@@ -20,12 +20,12 @@ use Rattle.shared_value.specs.Fits.{Fits}
 use Rattle.shared_value.specs.LeafBegin.{HasBegun, number_of}
 use Rattle.shared_value.specs.Stands.{IsWorld}
 use Rattle.shared_value.specs.World.{World, accounts, value_of}
-use Rattle.shared_value.proofs.Running.{status}
+use Rattle.shared_value.proofs.StepsEntered.{status}
 use Rattle.copied_part.specs.Copied.{CanCopy}
 use Rattle.copied_part.specs.Handed.{IsCopying}
-use Rattle.copied_part.proofs.Beginning.{begun_is_copying}
-use Rattle.copied_part.proofs.Handing.{begun}
-use Rattle.copied_part.proofs.Saying.{begun_can_copy}
+use Rattle.copied_part.proofs.CopyBegins.{begun_is_copying}
+use Rattle.copied_part.proofs.CopyHanded.{begun}
+use Rattle.copied_part.proofs.CopySays.{begun_can_copy}
 use Rattle.world_core.specs.Whole.{HoldsCopy}
 use Rattle.world_core.proofs.Entries.{heap_end}
 use Rattle.world_core.proofs.Holding.{then_accounts}

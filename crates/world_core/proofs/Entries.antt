@@ -13,11 +13,11 @@ use Rattle.run_ledger.specs.Steps.{task_steps}
 use Rattle.run_ledger.proofs.Bounds.{steps_are_bounded}
 use Rattle.run_ledger.proofs.Counted.{journals_are_counted}
 use Rattle.run_ledger.proofs.Machine.{heap_machine, task_step_machine}
+use Rattle.ledger_steps.proofs.Split.{steps_last}
+use Rattle.ledger_steps.specs.Accounts.{aside}
 use Rattle.task_machine.specs.declared.part.Private.{Private}
 use Rattle.task_machine.specs.Outline.{steps}
 use Rattle.task_machine.specs.Fits.{unended}
-use Rattle.ledger_steps.proofs.Split.{steps_last}
-use Rattle.ledger_steps.specs.Accounts.{aside}
 use Rattle.shared_value.specs.World.{World, accounts}
 use Rattle.shared_value.specs.Stands.{IsWorld}
 use Rattle.shared_value.specs.Fits.{beyond}

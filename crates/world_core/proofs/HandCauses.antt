@@ -2,10 +2,9 @@
 use Rattle.std.proofs.Common.{◌≡◌, ◌≢◌, ℕ, ◌==◌, Bool, true, false, cond, min, Option, Some, None, slice_get, is_some, refl, ap, sym, subst, ◌∙◌, eq-eqb}
 use Rattle.std.proofs.lemmas.Bool.{and_from, eqb-true, false≢true}
 use Rattle.std.proofs.lemmas.Option.{same_Some}
-use Rattle.leaf_copy_gc.specs.declared.lists.Moved.{Moved}
+use Rattle.hh_model.specs.Step.{is_running}
 use Rattle.run_trace.specs.declared.entry.Kind.{Kind}
 use Rattle.run_trace.specs.declared.entry.Kind.TheVariants.{Begin, Chunk, End, PutOff, Ran}
-use Rattle.hh_model.specs.Step.{is_running}
 use Rattle.run_ledger.specs.Laws.{HoldsTasks}
 use Rattle.run_ledger.specs.declared.data.Ledger.{Ledger}
 use Rattle.run_ledger.specs.declared.data.Refused.{Refused}
@@ -14,22 +13,23 @@ use Rattle.run_ledger.specs.Entries.{ends_as, is_fuel, is_held_by, is_out, is_po
 use Rattle.run_ledger.specs.Heaps.{end_numbers, heap_of, in_use}
 use Rattle.run_ledger.specs.Steps.{is_due, is_in_need, most_steps, standing}
 use Rattle.run_ledger.proofs.Holders.{tasks_are_held_once}
-use Rattle.core_relation.proofs.HandedBack.{handed_on}
+use Rattle.leaf_copy_gc.specs.declared.lists.Moved.{Moved}
+use Rattle.core_relation.proofs.whole.HandedBack.{handed_on}
 use Rattle.task_machine.specs.declared.part.Begun.{Begun}
 use Rattle.task_machine.specs.declared.part.Private.{Private}
 use Rattle.shared_value.specs.Causes.{first_cause, or_else, task_held}
 use Rattle.shared_value.specs.Entered.{refused}
 use Rattle.shared_value.specs.Fits.{Fits}
-use Rattle.child_tasks.specs.Hands.{HoldsNone}
-use Rattle.leaf_collections.specs.LeafEnd.{FitsCopied, end_event}
 use Rattle.shared_value.specs.Stands.{IsWorld}
 use Rattle.shared_value.specs.World.{World, accounts}
-use Rattle.own_steps.proofs.Apart.{apart_cause, unless_false}
-use Rattle.shared_value.proofs.Begun.{at_part, begun_is}
-use Rattle.leaf_collections.proofs.LeafRefusals.{end_answer, unless_true}
-use Rattle.shared_value.proofs.Refusals.{on_is, refused_is}
+use Rattle.shared_value.proofs.CollectionUnderWay.{at_part, begun_is}
+use Rattle.shared_value.proofs.CausesTold.{on_is, refused_is}
+use Rattle.own_steps.proofs.TaskNotHeld.{apart_cause, unless_false}
+use Rattle.child_tasks.specs.Hands.{HoldsNone}
+use Rattle.leaf_collections.specs.LeafEnd.{FitsCopied, end_event}
+use Rattle.leaf_collections.proofs.WhyNoEnd.{end_answer, unless_true}
 use Rattle.copied_part.specs.Handed.{IsCopying}
-use Rattle.copied_part.proofs.Handing.{copied_fits}
+use Rattle.copied_part.proofs.CopyHanded.{copied_fits}
 use Rattle.world_core.specs.declared.held.Held.{Held}
 use Rattle.world_core.specs.declared.held.Held.TheVariants.{Nothing, Part, Copied}
 use Rattle.world_core.specs.Applied.{copied_cause, idle_cause}

@@ -3,7 +3,6 @@ use Rattle.std.proofs.Common.{◌≡◌, ◌≢◌, ℕ, Bool, true, false, Some
 use Rattle.std.proofs.lemmas.Bool.{cases_eq, false≢true}
 use Rattle.std.proofs.lemmas.Option.{same_Some}
 use Rattle.listed.proofs.Members.{got_other, got_same}
-use Rattle.leaf_copy_gc.specs.declared.lists.Moved.{Moved}
 use Rattle.hh_lang.specs.Form.{ProgramText}
 use Rattle.run_trace.specs.Entry.{Event}
 use Rattle.run_trace.specs.Settings.{Limits}
@@ -11,16 +10,17 @@ use Rattle.run_ledger.specs.declared.data.Ledger.{Ledger}
 use Rattle.run_ledger.specs.Entries.{after}
 use Rattle.run_ledger.specs.Heaps.{heap_of}
 use Rattle.run_ledger.specs.Journals.{ledger_of}
+use Rattle.leaf_copy_gc.specs.declared.lists.Moved.{Moved}
 use Rattle.core_relation.specs.Whole.{handed}
-use Rattle.core_relation.proofs.HandedBack.{handed_on}
+use Rattle.core_relation.proofs.whole.HandedBack.{handed_on}
 use Rattle.task_machine.specs.declared.part.Private.{Private}
 use Rattle.shared_value.specs.Entered.{Enters, refused}
 use Rattle.shared_value.specs.Fits.{AllFit, Fits, OthersFit}
+use Rattle.shared_value.specs.World.{World, accounts}
+use Rattle.shared_value.proofs.JournalGoesOn.{accounts_then}
+use Rattle.shared_value.proofs.EntryMade.{entry_on, held_by_end}
 use Rattle.child_tasks.specs.Hands.{HoldsNone}
 use Rattle.child_tasks.specs.Joins.{SameButPlaces}
-use Rattle.shared_value.specs.World.{World, accounts}
-use Rattle.shared_value.proofs.Entered.{accounts_then}
-use Rattle.shared_value.proofs.Entering.{entry_on, held_by_end}
 use Rattle.child_tasks.proofs.JoinPlaces.{same_world}
 use Rattle.world_core.specs.declared.held.Held.{Held}
 use Rattle.world_core.specs.declared.held.Held.TheVariants.{Nothing, Part, Copied}

@@ -14,7 +14,7 @@ use Rattle.shared_value.specs.Stands.{IsWorld}
 use Rattle.shared_value.specs.Fits.{Fits}
 use Rattle.shared_value.specs.Links.{FitsFirst, above_of}
 use Rattle.own_steps.specs.Alone.{machine_after}
-use Rattle.own_steps.proofs.FitsAgain.{parts_fit_again}
+use Rattle.own_steps.proofs.FitsAfterSteps.{parts_fit_again}
 use Rattle.world_core.specs.Next.{IsNext}
 use Rattle.world_core.proofs.Entries.{beyond_machine}
 

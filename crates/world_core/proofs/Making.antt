@@ -2,27 +2,27 @@
 use Rattle.std.proofs.Common.{◌≡◌, ℕ, true, false, Option, Some, None, Result, Ok, Err, is_some, option_map, refl, ap, sym, subst, ◌∙◌}
 use Rattle.std.specs.Result.{OnErr, OnOk}
 use Rattle.std.proofs.lemmas.Bool.{false≢true}
-use Rattle.leaf_copy_gc.specs.declared.lists.Moved.{Moved}
 use Rattle.run_trace.specs.Entry.{Event}
+use Rattle.run_trace.specs.declared.entry.Kind.TheVariants.{End}
 use Rattle.run_ledger.specs.declared.data.Refused.{Refused}
+use Rattle.run_ledger.specs.declared.data.Refused.TheVariants.{Collecting}
+use Rattle.run_ledger.specs.Entries.{ends_as, refused_if}
+use Rattle.leaf_copy_gc.specs.declared.lists.Moved.{Moved}
 use Rattle.task_machine.specs.declared.part.Private.{Private}
 use Rattle.shared_value.specs.declared.answer.NotEntered.{NotEntered}
 use Rattle.shared_value.specs.declared.answer.NotEntered.TheVariants.{NoMemory, Refuses}
-use Rattle.shared_tree.specs.declared.ran_last.Ran.{Ran}
-use Rattle.shared_tree.specs.declared.ran_last.Ran.TheVariants.{Done, Ended, Forked, Goes, Over}
-use Rattle.own_steps.specs.Alone.{IsShared, alone_event}
 use Rattle.shared_value.specs.Causes.{first_cause, or_else}
-use Rattle.run_ledger.specs.declared.data.Refused.TheVariants.{Collecting}
-use Rattle.run_ledger.specs.Entries.{ends_as, refused_if}
-use Rattle.run_trace.specs.declared.entry.Kind.TheVariants.{End}
-use Rattle.own_steps.proofs.LastSteps.{alone_answer}
 use Rattle.shared_value.specs.Entered.{Answers, Enters, IsCaused, IsSamePart, refused}
 use Rattle.shared_value.specs.Fits.{AllFit, Fits, OthersFit}
-use Rattle.child_tasks.specs.Joins.{IsUnchanged}
-use Rattle.leaf_collections.specs.LeafEnd.{ended}
-use Rattle.shared_tree.specs.Ran.{RanTo}
 use Rattle.shared_value.specs.Stands.{IsWorld}
 use Rattle.shared_value.specs.World.{World}
+use Rattle.own_steps.specs.Alone.{IsShared, alone_event}
+use Rattle.own_steps.proofs.LastSteps.{alone_answer}
+use Rattle.child_tasks.specs.Joins.{IsUnchanged}
+use Rattle.leaf_collections.specs.LeafEnd.{ended}
+use Rattle.shared_tree.specs.declared.ran_last.Ran.{Ran}
+use Rattle.shared_tree.specs.declared.ran_last.Ran.TheVariants.{Done, Ended, Forked, Goes, Over}
+use Rattle.shared_tree.specs.Ran.{RanTo}
 use Rattle.shared_tree.proofs.Joints.{fit_by}
 use Rattle.world_core.specs.declared.held.Held.{Held}
 use Rattle.world_core.specs.declared.held.Held.TheVariants.{Part, Copied}

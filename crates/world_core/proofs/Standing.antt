@@ -13,25 +13,25 @@ use Rattle.run_ledger.specs.Heaps.{heap_of, lacks_room}
 use Rattle.run_ledger.specs.Steps.{is_due, is_in_need, is_private, most_steps, on_asked, standing, task_step, task_steps}
 use Rattle.ledger_steps.specs.Accounts.{ArePrivate}
 use Rattle.core_relation.specs.Fits.{FitsAt}
+use Rattle.core_relation.specs.Fits.{ahead}
+use Rattle.core_relation.proofs.parts.Quiet.{aside_is}
 use Rattle.task_machine.specs.declared.part.Paused.{Paused}
 use Rattle.task_machine.specs.declared.part.Paused.TheVariants.{Shared, Due, NeedChunk, Spent}
 use Rattle.task_machine.specs.declared.part.Private.{Private}
 use Rattle.task_machine.specs.Steps.{is_part_due, is_part_in_need, lacks_place}
 use Rattle.task_machine.proofs.Counted.{lacks_same}
-use Rattle.core_relation.specs.Fits.{ahead}
-use Rattle.own_steps.specs.Alone.{IsShared, machine_after}
 use Rattle.shared_value.specs.Causes.{first_cause}
 use Rattle.shared_value.specs.Entered.{refused}
 use Rattle.shared_value.specs.Fits.{Fits, part_of}
 use Rattle.shared_value.specs.Next.{next_line}
 use Rattle.shared_value.specs.Stands.{IsWorld}
 use Rattle.shared_value.specs.World.{World, accounts, value_of}
-use Rattle.shared_value.proofs.Asking.{asks_is, asks_two, counted_is, since_is}
-use Rattle.shared_value.proofs.Begun.{at_part}
-use Rattle.core_relation.proofs.Quiet.{aside_is}
+use Rattle.shared_value.proofs.NextStepAsks.{asks_is, asks_two, counted_is, since_is}
+use Rattle.shared_value.proofs.CollectionUnderWay.{at_part}
+use Rattle.shared_value.proofs.PartFitsMachine as link
+use Rattle.shared_value.proofs.StepsEntered.{fits_now, goes}
+use Rattle.own_steps.specs.Alone.{IsShared, machine_after}
 use Rattle.own_steps.proofs.LastSteps as last
-use Rattle.shared_value.proofs.Linked as link
-use Rattle.shared_value.proofs.Running.{fits_now, goes}
 use Rattle.world_core.specs.Next.{IsNext, standing_by}
 use Rattle.world_core.proofs.HandCauses.{behind, on}
 

@@ -5,11 +5,14 @@ use Rattle.std.proofs.lemmas.Option.{same_Some}
 use Rattle.listed.proofs.Members.{got_within}
 use Rattle.hh_lang.specs.Form.{ProgramText}
 use Rattle.hh_model.specs.Step.{is_running}
+use Rattle.hh_model.specs.declared.data.End.TheVariants.{Done, Entangled, Trapped}
 use Rattle.run_ledger.specs.Heaps.{heap_of, let_go}
 use Rattle.run_ledger.specs.Laws.{HoldsTasks}
 use Rattle.run_ledger.specs.Steps.{task_steps}
 use Rattle.run_ledger.specs.declared.data.Ledger.{Ledger}
 use Rattle.run_ledger.proofs.Holders.{tasks_are_held_once}
+use Rattle.run_ledger.specs.declared.data.RunEnd.{RunEnd}
+use Rattle.run_ledger.specs.declared.data.RunEnd.TheVariants.{Fuel, Machine, Pool}
 use Rattle.ledger_steps.specs.Accounts.{Knows, Rests, aside}
 use Rattle.ledger_steps.proofs.Known.{legal_knows}
 use Rattle.ledger_steps.proofs.Rested.{rested_knows, rested_worker}
@@ -17,18 +20,15 @@ use Rattle.core_relation.specs.Fits.{Part as PartOf, ahead}
 use Rattle.core_relation.specs.Frames.{NotOf, all_ahead}
 use Rattle.core_relation.specs.Value.{In}
 use Rattle.core_relation.specs.Worker.{AllFit, Fits as FitsValue}
-use Rattle.core_relation.proofs.All.{all_fit_together}
+use Rattle.core_relation.proofs.parts.All.{all_fit_together}
+use Rattle.core_relation.specs.Whole.{by_end, handed}
 use Rattle.shared_value.specs.Fits.{part_of}
 use Rattle.shared_value.specs.Stands.{IsWorld}
-use Rattle.core_relation.specs.Whole.{by_end, handed}
-use Rattle.hh_model.specs.declared.data.End.TheVariants.{Done, Entangled, Trapped}
-use Rattle.run_ledger.specs.declared.data.RunEnd.{RunEnd}
-use Rattle.run_ledger.specs.declared.data.RunEnd.TheVariants.{Fuel, Machine, Pool}
 use Rattle.shared_value.specs.World.{World, accounts, flat, value_of}
+use Rattle.shared_value.proofs.EntryMade.{held_by_end}
+use Rattle.heap_reading.proofs.IdleTasks.{done_idles}
 use Rattle.world_core.specs.declared.held.Held.{Held}
 use Rattle.world_core.specs.declared.held.Held.TheVariants.{Nothing, Part, Copied}
-use Rattle.shared_value.proofs.Entering.{held_by_end}
-use Rattle.heap_reading.proofs.IdleTasks.{done_idles}
 use Rattle.world_core.specs.Together.{AreParts, HoldsOneOf, IsPartIn, PartsStand, StandsTogether, with_parts}
 use Rattle.world_core.specs.Whole.{Holds, IsWhole, Whole}
 use Rattle.world_core.proofs.Aside.{fits_aside, knows_aside, stands_aside}

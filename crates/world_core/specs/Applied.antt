@@ -7,12 +7,12 @@ use Rattle.run_ledger.specs.declared.data.Refused.{Refused}
 use Rattle.run_ledger.specs.declared.data.Refused.TheVariants.{Collecting, NotCollecting, NotOut}
 use Rattle.shared_value.specs.declared.answer.NotEntered.{NotEntered}
 use Rattle.shared_value.specs.declared.answer.NotEntered.TheVariants.{NoMemory, Refuses}
-use Rattle.shared_tree.specs.declared.ran_last.Ran.{Ran}
-use Rattle.shared_tree.specs.declared.ran_last.Ran.TheVariants.{Done, Ended, Forked, Goes, Over}
 use Rattle.shared_value.specs.Entered.{Enters, refused}
 use Rattle.shared_value.specs.Fits.{AllFit, OthersFit}
-use Rattle.child_tasks.specs.Joins.{SameButPlaces}
 use Rattle.shared_value.specs.World.{World}
+use Rattle.child_tasks.specs.Joins.{SameButPlaces}
+use Rattle.shared_tree.specs.declared.ran_last.Ran.{Ran}
+use Rattle.shared_tree.specs.declared.ran_last.Ran.TheVariants.{Done, Ended, Forked, Goes, Over}
 use Rattle.world_core.specs.declared.held.Held.{Held}
 use Rattle.world_core.specs.declared.held.Held.TheVariants.{Nothing, Part, Copied}
 use Rattle.world_core.specs.declared.held.Made.{Made}

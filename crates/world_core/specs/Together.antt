@@ -1,17 +1,17 @@
 -- All parts together: with the home of each part that a worker holds put into the shared value, that stands for the accounts.
 use Rattle.std.specs.Prelude.{◌≡◌, ℕ, Some, List, slice_get}
-use Rattle.leaf_copy_gc.specs.declared.lists.Moved.{Moved}
 use Rattle.run_ledger.specs.declared.data.Ledger.{Ledger}
+use Rattle.leaf_copy_gc.specs.declared.lists.Moved.{Moved}
 use Rattle.ledger_steps.specs.Accounts.{Rests, aside}
-use Rattle.task_machine.specs.declared.part.Private.{Private}
 use Rattle.core_relation.specs.Fits.{Part as PartOf}
 use Rattle.core_relation.specs.Frames.{all_ahead, with_homes}
 use Rattle.core_relation.specs.Stands.{Stands}
 use Rattle.core_relation.specs.Value.{In}
 use Rattle.core_relation.specs.Whole.{handed}
+use Rattle.task_machine.specs.declared.part.Private.{Private}
 use Rattle.shared_value.specs.Fits.{part_of}
-use Rattle.leaf_collections.specs.LeafEnd.{FitsCopied}
 use Rattle.shared_value.specs.World.{World, accounts, value_of}
+use Rattle.leaf_collections.specs.LeafEnd.{FitsCopied}
 use Rattle.world_core.specs.declared.held.Held.{Held}
 use Rattle.world_core.specs.declared.held.Held.TheVariants.{Nothing, Part, Copied}
 use Rattle.world_core.specs.Whole.{HoldsCopy, Whole}

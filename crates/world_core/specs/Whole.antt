@@ -7,9 +7,9 @@ use Rattle.leaf_copy_gc.specs.Lists.{IsCollected}
 use Rattle.task_machine.specs.declared.part.Begun.{Begun}
 use Rattle.task_machine.specs.declared.part.Private.{Private}
 use Rattle.shared_value.specs.Fits.{Fits}
-use Rattle.child_tasks.specs.Hands.{HoldsNone}
 use Rattle.shared_value.specs.LeafBegin.{number_of}
 use Rattle.shared_value.specs.World.{World}
+use Rattle.child_tasks.specs.Hands.{HoldsNone}
 use Rattle.world_core.specs.declared.held.Held.{Held}
 use Rattle.world_core.specs.declared.held.Held.TheVariants.{Nothing, Part, Copied}
 

@@ -1,11 +1,11 @@
 // A leaf collection of a task begins.
 
 ghost use Rattle.std.specs.Prelude.{◌≡◌, ◌<◌, None, false};
+ghost use Rattle.task_machine.specs.declared.part.Private.{Private as PartOf};
 ghost use Rattle.shared_value.specs.Causes.{first_cause};
 ghost use Rattle.shared_value.specs.LeafBegin.{HasBegun};
 ghost use Rattle.shared_value.specs.Fits.{Fits};
 ghost use Rattle.shared_value.specs.World.{accounts};
-ghost use Rattle.task_machine.specs.declared.part.Private.{Private as PartOf};
 ghost use Rattle.world_core.specs.Applied.{MakesFor};
 ghost use Rattle.world_core.specs.Whole.{Holds, HoldsCopy, HoldsPart};
 

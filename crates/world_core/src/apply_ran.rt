@@ -1,9 +1,9 @@
 // A task takes steps.
 
 ghost use Rattle.std.specs.Prelude.{◌≡◌, ◌<◌, ◌≤◌, ◌+◌, ◌^◌, IfOk, None, false};
-ghost use Rattle.own_steps.specs.Alone.{alone_event, IsShared};
 ghost use Rattle.shared_value.specs.Causes.{first_cause};
 ghost use Rattle.shared_value.specs.Fits.{Fits};
+ghost use Rattle.own_steps.specs.Alone.{alone_event, IsShared};
 ghost use Rattle.world_core.specs.Applied.{hand_of, MakesFor};
 ghost use Rattle.world_core.specs.Next.{standing_by, IsNext};
 ghost use Rattle.world_core.specs.Whole.{Holds, HoldsPart};

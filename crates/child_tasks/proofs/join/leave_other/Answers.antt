@@ -6,7 +6,7 @@ use Rattle.alloc_path.specs.View.{Level}
 use Rattle.fork_join.specs.declared.sides.EndedChild.{EndedChild}
 use Rattle.shared_value.specs.declared.rest.Rest.{Rest}
 use Rattle.shared_value.specs.World.{flat, rest_at}
-use Rattle.shared_value.proofs.Taking.{put_there}
+use Rattle.shared_value.proofs.TaskTaken.{put_there}
 use Rattle.child_tasks.proofs.join.leave_other.Goals as goal
 
 pub returns-clause-child : goal.returns-clause-child

@@ -5,7 +5,7 @@ use Rattle.alloc_path.specs.View.{Level}
 use Rattle.shared_value.specs.declared.rest.Rest.{Rest}
 use Rattle.shared_value.specs.declared.rest.Work.TheVariants.{Calls}
 use Rattle.shared_value.specs.World.{flat, rest_at}
-use Rattle.shared_value.proofs.Taking.{put_there}
+use Rattle.shared_value.proofs.TaskTaken.{put_there}
 use Rattle.child_tasks.proofs.join.leave_own.Goals as goal
 
 pub returns-clause-own : goal.returns-clause-own

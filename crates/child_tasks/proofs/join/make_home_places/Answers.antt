@@ -2,9 +2,9 @@ use Rattle.std.proofs.Common.{◌≡◌, ℕ, ◌<◌, ◌≤◌, Option, Some, 
 use Rattle.std.specs.Prelude.{IfSome, OnOk}
 use Rattle.alloc_path.specs.Heap.{Heap}
 use Rattle.shared_value.specs.declared.rest.Rest.{Rest}
-use Rattle.child_tasks.specs.Joins.{IsSameRest}
 use Rattle.shared_value.specs.World.{flat, rest_at}
-use Rattle.shared_value.proofs.Taking.{put_there}
+use Rattle.shared_value.proofs.TaskTaken.{put_there}
+use Rattle.child_tasks.specs.Joins.{IsSameRest}
 use Rattle.child_tasks.proofs.join.make_home_places.Goals as goal
 
 pub returns-in_default-clause-same : goal.returns-in_default-clause-same

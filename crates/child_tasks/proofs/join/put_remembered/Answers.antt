@@ -3,9 +3,9 @@ use Rattle.std.proofs.lemmas.Option.{same_Some}
 use Rattle.listed.proofs.Members.{got_other}
 use Rattle.write_barrier.specs.declared.sets.SetOf.{SetOf}
 use Rattle.write_barrier.specs.Stored.{Content, content_of}
+use Rattle.shared_value.proofs.TaskTaken.{put_there}
 use Rattle.child_tasks.specs.Forks.{nothing_noted}
 use Rattle.child_tasks.proofs.ForkEntries.{item_is}
-use Rattle.shared_value.proofs.Taking.{put_there}
 use Rattle.child_tasks.proofs.join.put_remembered.Goals as goal
 
 pub returns-clause-at : goal.returns-clause-at

@@ -3,7 +3,7 @@ use Rattle.std.proofs.lemmas.Option.{slice_get-get_or}
 use Rattle.listed.proofs.Members.{got_other}
 use Rattle.write_barrier.specs.declared.sets.SetOf.{SetOf}
 use Rattle.write_barrier.specs.Stored.{content_of}
-use Rattle.shared_value.proofs.Taking.{put_there}
+use Rattle.shared_value.proofs.TaskTaken.{put_there}
 use Rattle.child_tasks.proofs.join.take_remembered.Goals as goal
 
 pub returns-clause-empty : goal.returns-clause-empty

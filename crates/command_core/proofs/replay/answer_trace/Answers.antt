@@ -2,9 +2,9 @@ use Rattle.std.proofs.Common.{◌≡◌, ◌∙◌, ap, rules, sym, subst}
 use Rattle.std.specs.Prelude.{Some}
 use Rattle.std.proofs.lemmas.Result.{IfErr-weaker, IfOk-weaker}
 use Rattle.run_ledger.specs.Journals.{IsPrefix, first_refused}
-use Rattle.shared_value.specs.World.{World}
 use Rattle.run_ledger.specs.declared.data.RefusedAt.{RefusedAt}
 use Rattle.run_ledger.specs.Text.{refused_line}
+use Rattle.shared_value.specs.World.{World}
 use Rattle.world_core.specs.Replay.{HasCome}
 use Rattle.world_core.specs.Whole.{Whole}
 use Rattle.command_core.specs.declared.answer.Status.TheVariants.{Trace}

@@ -1,4 +1,4 @@
-use Rattle.copied_part.proofs.Saying as proved
+use Rattle.copied_part.proofs.CopySays as proved
 use Rattle.copied_part.proofs.laws.begun_can_copy.Goals as goal
 
 pub returns : goal.returns

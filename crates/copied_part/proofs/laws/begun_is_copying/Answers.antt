@@ -1,4 +1,4 @@
-use Rattle.copied_part.proofs.Beginning as proved
+use Rattle.copied_part.proofs.CopyBegins as proved
 use Rattle.copied_part.proofs.laws.begun_is_copying.Goals as goal
 
 pub returns : goal.returns

@@ -1,4 +1,4 @@
-use Rattle.copied_part.proofs.Handing as proved
+use Rattle.copied_part.proofs.CopyHanded as proved
 use Rattle.copied_part.proofs.laws.copied_fits.Goals as goal
 
 pub returns : goal.returns

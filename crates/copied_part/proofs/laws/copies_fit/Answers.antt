@@ -1,4 +1,4 @@
-use Rattle.copied_part.proofs.Copying as proved
+use Rattle.copied_part.proofs.CopyMade as proved
 use Rattle.copied_part.proofs.laws.copies_fit.Goals as goal
 
 pub returns : goal.returns

@@ -1,4 +1,4 @@
-use Rattle.copied_part.proofs.Saying as proved
+use Rattle.copied_part.proofs.CopySays as proved
 use Rattle.copied_part.proofs.laws.numbers_are_said.Goals as goal
 
 pub returns : goal.returns

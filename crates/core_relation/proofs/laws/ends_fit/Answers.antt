@@ -1,4 +1,4 @@
-use Rattle.core_relation.proofs.OwnFits as proved
+use Rattle.core_relation.proofs.parts.OwnFits as proved
 use Rattle.core_relation.proofs.laws.ends_fit.Goals as goal
 
 pub returns : goal.returns

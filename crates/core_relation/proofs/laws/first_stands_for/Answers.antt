@@ -1,4 +1,4 @@
-use Rattle.core_relation.proofs.Journals as proved
+use Rattle.core_relation.proofs.whole.Journals as proved
 use Rattle.core_relation.proofs.laws.first_stands_for.Goals as goal
 
 pub returns : goal.returns

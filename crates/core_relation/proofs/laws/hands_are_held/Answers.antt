@@ -1,4 +1,4 @@
-use Rattle.core_relation.proofs.Hands as proved
+use Rattle.core_relation.proofs.whole.Hands as proved
 use Rattle.core_relation.proofs.laws.hands_are_held.Goals as goal
 
 pub returns : goal.returns

@@ -1,4 +1,4 @@
-use Rattle.core_relation.proofs.MarksAll as proved
+use Rattle.core_relation.proofs.notes.MarksAll as proved
 use Rattle.core_relation.proofs.laws.marks_are_all.Goals as goal
 
 pub returns : goal.returns

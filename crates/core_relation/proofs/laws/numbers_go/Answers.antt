@@ -1,4 +1,4 @@
-use Rattle.core_relation.proofs.Sets as proved
+use Rattle.core_relation.proofs.parts.Sets as proved
 use Rattle.core_relation.proofs.laws.numbers_go.Goals as goal
 
 pub returns : goal.returns

@@ -1,4 +1,4 @@
-use Rattle.core_relation.proofs.RanFits as proved
+use Rattle.core_relation.proofs.parts.RanFits as proved
 use Rattle.core_relation.proofs.laws.ran_fits.Goals as goal
 
 pub returns : goal.returns

@@ -1,4 +1,4 @@
-use Rattle.core_relation.proofs.SnapshotNow as proved
+use Rattle.core_relation.proofs.notes.SnapshotNow as proved
 use Rattle.core_relation.proofs.laws.snapshots_are_now.Goals as goal
 
 pub returns : goal.returns

@@ -1,4 +1,4 @@
-use Rattle.core_relation.proofs.TookFits as proved
+use Rattle.core_relation.proofs.parts.TookFits as proved
 use Rattle.core_relation.proofs.laws.took_fits.Goals as goal
 
 pub returns : goal.returns

@@ -1,4 +1,4 @@
-use Rattle.core_relation.proofs.WorkersPast as proved
+use Rattle.core_relation.proofs.parts.WorkersPast as proved
 use Rattle.core_relation.proofs.laws.took_leaves.Goals as goal
 
 pub returns : goal.returns

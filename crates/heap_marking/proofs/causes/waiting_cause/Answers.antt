@@ -4,8 +4,8 @@ use Rattle.run_ledger.specs.declared.data.Refused.TheVariants.{NotWaiting, Swept
 use Rattle.run_ledger.specs.Entries.{refused_unless}
 use Rattle.heap_tree.specs.Node.{Node, state_of}
 use Rattle.write_barrier.specs.declared.sets.SetOf.{SetOf}
-use Rattle.heap_marking.specs.MarkCauses.{is_state_waiting, waiting_cause_in}
 use Rattle.shared_value.specs.World.{noted_in}
+use Rattle.heap_marking.specs.MarkCauses.{is_state_waiting, waiting_cause_in}
 use Rattle.heap_marking.proofs.causes.waiting_cause.Goals as goal
 
 cause_is : (tree : List Node) (sets : List SetOf) (t : ℕ) {b : Bool} → is_state_waiting (state_of tree t) ≡ true → (noted_in (slice_get sets t)).keeps ≡ b → waiting_cause_in tree sets t ≡ refused_unless b Swept None

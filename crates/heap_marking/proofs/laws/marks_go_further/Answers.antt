@@ -1,4 +1,4 @@
-use Rattle.heap_marking.proofs.MarkFurther as proved
+use Rattle.heap_marking.proofs.MarkingGoesOn as proved
 use Rattle.heap_marking.proofs.laws.marks_go_further.Goals as goal
 
 pub returns : goal.returns

@@ -1,4 +1,4 @@
-use Rattle.heap_marking.proofs.MarkReady as proved
+use Rattle.heap_marking.proofs.MarkedHeap as proved
 use Rattle.heap_marking.proofs.laws.marks_stand.Goals as goal
 
 pub returns : goal.returns

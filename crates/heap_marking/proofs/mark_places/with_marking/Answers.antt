@@ -2,7 +2,7 @@ use Rattle.std.proofs.Common.{◌≡◌, ℕ, ◌<◌, Option, Some, List, arith
 use Rattle.listed.proofs.Members.{got_other}
 use Rattle.inner_mark_gc.specs.Marks.{Marks}
 use Rattle.shared_value.specs.World.{flat, marks_at}
-use Rattle.shared_value.proofs.Taking.{put_there}
+use Rattle.shared_value.proofs.TaskTaken.{put_there}
 use Rattle.heap_marking.proofs.mark_places.with_marking.Goals as goal
 
 pub returns-clause-there : goal.returns-clause-there

@@ -1,4 +1,4 @@
-use Rattle.heap_marking.proofs.PaceStands as proved
+use Rattle.heap_marking.proofs.ForksTold as proved
 use Rattle.heap_marking.proofs.pace.paces_stay.Goals as goal
 
 pub returns : goal.returns

@@ -1,11 +1,11 @@
 use Rattle.std.proofs.Common.{ℕ, ◌<◌, ◌++◌, List, Option, arith, length, length-append, append_assoc, take, ap, sym, ◌∙◌}
 use Rattle.std.specs.List.{flat_map}
 use Rattle.object_layout.specs.declared.word.Addr.{Addr}
-use Rattle.remembered_set.specs.Moved.{into}
 use Rattle.task_frames.specs.declared.frames.Frame.{Frame}
 use Rattle.task_frames.specs.Stack.{frames_of, references_of}
+use Rattle.remembered_set.specs.Moved.{into}
 use Rattle.leaf_copy_gc.specs.Survivors.{held_by}
-use Rattle.heap_marking.proofs.StartLists.{frames_more}
+use Rattle.heap_marking.proofs.FrameReferences.{frames_more}
 use Rattle.heap_marking.proofs.starts.push_registers.Goals as goal
 
 pub loop-frame-preserved : goal.loop-frame-preserved

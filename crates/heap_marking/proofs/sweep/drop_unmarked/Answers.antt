@@ -1,13 +1,13 @@
 use Rattle.std.proofs.Common.{false, true, ◌≡◌, ◌<◌, arith, Some, length, length-set, slice_set, ap, sym, subst, ◌∙◌, ℕ, List, Option, None, refl, slice_get}
 use Rattle.std.proofs.lemmas.Option.{same_Some}
+use Rattle.std.specs.Prelude.{IsSome}
 use Rattle.listed.proofs.Members.{got_within}
 use Rattle.alloc_path.specs.Heap.{Heap}
 use Rattle.inner_mark_gc.specs.Marks.{Marks}
 use Rattle.shared_value.specs.declared.rest.Rest.{Rest}
-use Rattle.heap_marking.specs.Sweeping.{SweepsHome}
 use Rattle.shared_value.specs.World.{flat, marks_at, rest_at}
 use Rattle.shared_value.proofs.Replaced.{set_twice}
-use Rattle.std.specs.Prelude.{IsSome}
+use Rattle.heap_marking.specs.Sweeping.{SweepsHome}
 use Rattle.heap_marking.proofs.sweep.drop_unmarked.Goals as goal
 
 pub sweep-requires-clause-room : goal.sweep-requires-clause-room

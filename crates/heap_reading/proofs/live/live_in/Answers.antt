@@ -3,7 +3,7 @@ use Rattle.std.proofs.lemmas.Option.{slice_get_within}
 use Rattle.heap_tree.specs.Node.{Node}
 use Rattle.heap_reading.specs.declared.live.Live.{Live}
 use Rattle.heap_reading.specs.Image.{AreAll, IsLiveIn, LiveBefore}
-use Rattle.heap_reading.proofs.LiveReads.{all_below, live_once, one_below, skip_below}
+use Rattle.heap_reading.proofs.LiveRead.{all_below, live_once, one_below, skip_below}
 use Rattle.heap_reading.proofs.live.live_in.Goals.{in-Some+in_ok-push, in_default}
 use Rattle.heap_reading.proofs.live.live_in.Goals as goal
 

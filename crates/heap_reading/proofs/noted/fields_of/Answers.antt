@@ -1,7 +1,7 @@
 use Rattle.std.proofs.Common.{◌≡◌, sym, map, rules}
 use Rattle.std.proofs.lemmas.List.{map_more}
-use Rattle.heap_reading.specs.Image.{field_of}
 use Rattle.shared_value.specs.World.{source_of}
+use Rattle.heap_reading.specs.Image.{field_of}
 use Rattle.heap_reading.proofs.noted.fields_of.Goals as goal
 
 pub loop-source-preserved : goal.loop-source-preserved

@@ -1,6 +1,6 @@
 use Rattle.std.proofs.Common.{◌≡◌, map, take}
-use Rattle.heap_reading.specs.Image.{field_of}
 use Rattle.shared_value.specs.World.{source_of}
+use Rattle.heap_reading.specs.Image.{field_of}
 use Rattle.heap_reading.proofs.noted.fields_of.Given as goal
 
 abbrev pub invariant-loop-source : goal.invariant-loop-source

@@ -3,7 +3,7 @@ use Rattle.object_layout.specs.Cell.{IsPlace, IsRef}
 use Rattle.object_layout.specs.declared.word.Addr.{Addr}
 use Rattle.object_layout.specs.Layout.{word_of_ref}
 use Rattle.object_layout.specs.Place.{object_at}
-use Rattle.heap_reading.proofs.ObjectReads.{all_next, map_next}
+use Rattle.heap_reading.proofs.ObjectsRead.{all_next, map_next}
 use Rattle.heap_reading.proofs.seen.refs_at.Goals as goal
 
 near_of : (r : Option Addr) → IsPlace r → IfSome r (λ a. a.chunk < 2 ^ 32) → IsRef r

@@ -2,9 +2,9 @@ use Rattle.std.proofs.Common.{◌≡◌, ◌++◌, ◌∷◌, [], None, All, ap,
 use Rattle.std.proofs.lemmas.List.Elements.{All-head}
 use Rattle.object_layout.specs.Cell.{Cell, IsObject, moved_to}
 use Rattle.object_layout.specs.Place.{cell_at, cells_from}
-use Rattle.heap_reading.specs.Image.{IsInWords, shown}
 use Rattle.shared_value.specs.Objects.{objects_from, seen}
-use Rattle.heap_reading.proofs.ObjectReads.{born_from, born_is, objects_more, objects_same, unmoved_next, words_more, words_same}
+use Rattle.heap_reading.specs.Image.{IsInWords, shown}
+use Rattle.heap_reading.proofs.ObjectsRead.{born_from, born_is, objects_more, objects_same, unmoved_next, words_more, words_same}
 use Rattle.heap_reading.proofs.seen.seen_in.Goals as goal
 
 pub seen_at-requires : goal.seen_at-requires

@@ -2,8 +2,8 @@ use Rattle.std.proofs.Common.{◌≡◌, ◌+◌, ◌-◌, ◌<◌, ◌≤◌, �
 use Rattle.object_layout.specs.Cell.{moved_to}
 use Rattle.object_layout.specs.Place.{IsCellAt, cells_from}
 use Rattle.core_relation.specs.Value.{Seen, In}
-use Rattle.heap_reading.specs.Image.{IsInWords, shown}
 use Rattle.shared_value.specs.Objects.{objects_from}
+use Rattle.heap_reading.specs.Image.{IsInWords, shown}
 use Rattle.heap_reading.proofs.seen.seen_in.Given as goal
 
 abbrev pub invariant-loop-at : goal.invariant-loop-at

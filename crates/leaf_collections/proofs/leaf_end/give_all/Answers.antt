@@ -5,9 +5,9 @@ use Rattle.std.proofs.lemmas.Iterator.Consumers.{YieldsList-turn}
 use Rattle.std.proofs.lemmas.Iterator.Adapters.{YieldsList-from_vec}
 use Rattle.std.specs.Prelude.{IsSome}
 use Rattle.object_layout.specs.Content.{Content}
+use Rattle.chunk_pool.specs.Chunks.{held_at}
 use Rattle.alloc_path.specs.Heap.{IsFresh}
 use Rattle.alloc_path.proofs.HeapLemmas.{apart_before}
-use Rattle.chunk_pool.specs.Chunks.{held_at}
 use Rattle.inner_mark_gc.proofs.Giving.{given_both, given_one}
 use Rattle.leaf_collections.proofs.leaf_end.give_all.Goals as goal
 

@@ -5,9 +5,9 @@ use Rattle.object_layout.specs.Cell.{with_int}
 use Rattle.object_layout.specs.Chunks.{cell_of, put_object}
 use Rattle.alloc_path.specs.Heap.{Heap}
 use Rattle.shared_value.specs.declared.rest.Rest.{Rest}
-use Rattle.others_objects.specs.Other.{put_rest}
 use Rattle.shared_value.specs.World.{flat}
 use Rattle.shared_value.proofs.Replaced.{set_twice}
+use Rattle.others_objects.specs.Other.{put_rest}
 use Rattle.others_objects.proofs.write_other.write_number.Goals as goal
 
 pub returns : goal.returns

@@ -1,12 +1,12 @@
 use Rattle.std.proofs.Common.{◌≡◌, ℕ, Some, slice_get, slice_set, ap, ap₂, sym, ◌∙◌}
 use Rattle.std.proofs.lemmas.Option.{same_Some}
-use Rattle.alloc_path.specs.Heap.{Heap}
-use Rattle.shared_value.specs.declared.rest.Rest.{Rest}
 use Rattle.object_layout.specs.Cell.{with_ref}
 use Rattle.object_layout.specs.Chunks.{cell_of}
-use Rattle.others_objects.specs.Other.{put_rest}
+use Rattle.alloc_path.specs.Heap.{Heap}
+use Rattle.shared_value.specs.declared.rest.Rest.{Rest}
 use Rattle.shared_value.specs.World.{flat}
 use Rattle.shared_value.proofs.Replaced.{on_err, on_ok, set_back, set_twice}
+use Rattle.others_objects.specs.Other.{put_rest}
 use Rattle.others_objects.proofs.write_other.write_reference.Goals as goal
 
 pub returns-clause-written : goal.returns-clause-written

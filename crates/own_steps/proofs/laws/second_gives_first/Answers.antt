@@ -1,4 +1,4 @@
-use Rattle.shared_value.proofs.Linked as proved
+use Rattle.shared_value.proofs.PartFitsMachine as proved
 use Rattle.own_steps.proofs.laws.second_gives_first.Goals as goal
 
 pub returns : goal.returns

@@ -1,8 +1,8 @@
 use Rattle.std.proofs.Common.{List, map, sym, subst}
+use Rattle.shared_value.specs.World.{World}
 use Rattle.image_check.specs.declared.line.Task.{Task}
 use Rattle.image_check.specs.declared.line.Chunk.{Chunk}
 use Rattle.heap_image.specs.declared.picture.Picture.{Picture}
-use Rattle.shared_value.specs.World.{World}
 use Rattle.shared_image.specs.Drawn.{IsPictureOf, drawn_task}
 use Rattle.shared_image.proofs.Rounds.{picture_of}
 use Rattle.shared_image.proofs.Sounds.{picture_sound}

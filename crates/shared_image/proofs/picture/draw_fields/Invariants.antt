@@ -1,6 +1,6 @@
 use Rattle.std.proofs.Common.{take}
-use Rattle.heap_image.specs.Picture.{FieldBefore}
 use Rattle.heap_reading.specs.Image.{AreAll}
+use Rattle.heap_image.specs.Picture.{FieldBefore}
 use Rattle.shared_image.specs.Drawing.{AreFieldsOf}
 use Rattle.shared_image.proofs.picture.draw_fields.Given as goal
 

@@ -1,8 +1,8 @@
 use Rattle.std.proofs.Common.{take}
-use Rattle.heap_image.specs.Picture.{ObjectBefore}
 use Rattle.core_relation.specs.Value.{In}
 use Rattle.heap_reading.specs.declared.live.InUse.{InUse}
 use Rattle.heap_reading.specs.Image.{AreAll, AreInWords, objects_of}
+use Rattle.heap_image.specs.Picture.{ObjectBefore}
 use Rattle.shared_image.specs.Drawing.{AreObjectsOf}
 use Rattle.shared_image.proofs.picture.draw_objects.Given as goal
 

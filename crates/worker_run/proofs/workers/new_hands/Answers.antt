@@ -1,7 +1,7 @@
 use Rattle.std.proofs.Common.{rules, ◌<◌, ap, length}
+use Rattle.std.proofs.Common.{List}
 use Rattle.steal_scheduler.specs.declared.hand.Hand.{Hand}
 use Rattle.steal_scheduler.specs.declared.theft.Theft.{Theft}
-use Rattle.std.proofs.Common.{List}
 use Rattle.worker_run.proofs.Rows.{set_first}
 use Rattle.worker_run.proofs.workers.new_hands.Goals as goal
 

@@ -1,9 +1,9 @@
 use Rattle.std.proofs.Common.{◌≡◌}
-use Rattle.turn_entries.specs.declared.held.Next.TheVariants.{Stop}
 use Rattle.turn_lock.specs.Seats.{view}
 use Rattle.turn_lock.specs.Turn.{identity}
-use Rattle.worker_run.specs.Desks.{HasStopped, IsDesk, SameDesk}
+use Rattle.turn_entries.specs.declared.held.Next.TheVariants.{Stop}
 use Rattle.turn_entries.specs.Parts.{GoesWith}
+use Rattle.worker_run.specs.Desks.{HasStopped, IsDesk, SameDesk}
 use Rattle.worker_run.proofs.working.work.Given as goal
 
 abbrev pub invariant-loop : goal.invariant-loop

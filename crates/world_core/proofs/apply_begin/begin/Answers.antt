@@ -1,8 +1,8 @@
 use Rattle.run_trace.specs.Entry.{Event}
 use Rattle.run_trace.specs.declared.entry.Kind.TheVariants.{Begin}
+use Rattle.shared_value.proofs.EntryMade.{entry_on}
 use Rattle.world_core.proofs.BegunPart.{begin_on}
 use Rattle.world_core.proofs.Making.{begin_fails}
-use Rattle.shared_value.proofs.Entering.{entry_on}
 use Rattle.world_core.proofs.apply_begin.begin.Goals as goal
 
 pub copy_begun-moved-requires-clause-goes : goal.copy_begun-moved-requires-clause-goes

@@ -1,5 +1,5 @@
 use Rattle.std.proofs.Common.{◌∙◌}
-use Rattle.shared_value.proofs.Running.{ran_answer}
+use Rattle.shared_value.proofs.StepsEntered.{ran_answer}
 use Rattle.world_core.proofs.Making.{never}
 use Rattle.world_core.proofs.apply_ran.enter_private.Goals as goal
 

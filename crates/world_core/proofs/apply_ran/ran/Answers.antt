@@ -1,6 +1,6 @@
 use Rattle.std.proofs.Common.{refl}
-use Rattle.shared_tree.proofs.Joints.{fit_by}
 use Rattle.child_tasks.proofs.JoinPlaces.{same_world}
+use Rattle.shared_tree.proofs.Joints.{fit_by}
 use Rattle.world_core.proofs.Making.{stopped_part}
 use Rattle.world_core.proofs.apply_ran.ran.Goals as goal
 

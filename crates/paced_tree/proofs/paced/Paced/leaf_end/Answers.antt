@@ -1,9 +1,9 @@
 use Rattle.std.proofs.Common.{◌≡◌, Some, None, refl, sym, subst}
 use Rattle.run_trace.specs.Entry.{Event}
-use Rattle.leaf_collections.specs.LeafEnd.{end_event}
 use Rattle.shared_value.specs.World.{World}
 use Rattle.shared_value.specs.Entered.{refused}
 use Rattle.shared_value.specs.Fits.{OthersFit}
+use Rattle.leaf_collections.specs.LeafEnd.{end_event}
 use Rattle.paced_tree.specs.Owed.{Pays}
 use Rattle.paced_tree.proofs.Noted.{other_then}
 use Rattle.paced_tree.proofs.paced.Paced.leaf_end.Goals as goal

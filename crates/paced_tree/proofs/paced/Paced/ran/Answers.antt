@@ -1,9 +1,9 @@
 use Rattle.std.proofs.Common.{◌≡◌, ◌+◌, None, sym, subst, inr}
 use Rattle.run_trace.specs.Entry.{Event}
-use Rattle.own_steps.specs.Alone.{alone_event, IsShared}
 use Rattle.shared_value.specs.World.{World}
 use Rattle.shared_value.specs.Entered.{refused, IsCaused}
 use Rattle.shared_value.specs.Fits.{AllFit, Fits}
+use Rattle.own_steps.specs.Alone.{alone_event, IsShared}
 use Rattle.child_tasks.specs.Joins.{IsUnchanged}
 use Rattle.shared_tree.specs.Ran.{RanTo}
 use Rattle.paced_tree.specs.Owed.{Pays}

@@ -1,9 +1,9 @@
 use Rattle.std.proofs.Common.{◌≡◌, Some, None, sym, subst, inr}
+use Rattle.std.specs.Prelude.{option_map}
 use Rattle.run_trace.specs.Entry.{Event}
 use Rattle.run_trace.specs.declared.entry.Kind.TheVariants.{Ran}
-use Rattle.shared_value.specs.World.{World}
-use Rattle.std.specs.Prelude.{option_map}
 use Rattle.run_ledger.specs.declared.data.Refused.{Refused}
+use Rattle.shared_value.specs.World.{World}
 use Rattle.shared_value.specs.declared.answer.NotEntered.TheVariants.{Refuses}
 use Rattle.shared_value.specs.Entered.{refused}
 use Rattle.shared_value.specs.Fits.{Fits, OthersFit}

@@ -6,11 +6,11 @@ use Rattle.task_machine.specs.declared.part.Private.{Private}
 use Rattle.shared_value.specs.Causes.{first_cause, or_else}
 use Rattle.shared_value.specs.World.{World}
 use Rattle.shared_value.specs.Fits.{Fits}
-use Rattle.own_steps.specs.Alone.{IsShared, alone_event}
 use Rattle.shared_value.specs.Entered.{refused}
-use Rattle.shared_tree.specs.contracts.shared.Shared.{the_view}
-use Rattle.own_steps.proofs.LastSteps.{alone_answer}
 use Rattle.shared_value.proofs.FirstCauses.{found_first, nothing_first}
+use Rattle.own_steps.specs.Alone.{IsShared, alone_event}
+use Rattle.own_steps.proofs.LastSteps.{alone_answer}
+use Rattle.shared_tree.specs.contracts.shared.Shared.{the_view}
 use Rattle.shared_tree.proofs.shared.Shared.alone_refused.Goals as goal
 
 -- as the causes come in turn

@@ -1,8 +1,8 @@
 use Rattle.std.proofs.Common.{ℕ, ◌+◌, ◌<◌, List, refl, subst, sym, ◌∙◌}
+use Rattle.shared_value.specs.World.{World}
 use Rattle.heap_reading.specs.declared.live.InUse.{InUse}
 use Rattle.heap_reading.specs.Image.{AreAll, ChunkBefore, IsInUse}
-use Rattle.shared_value.specs.World.{World}
-use Rattle.heap_reading.proofs.LiveReads.{chunk_once, one_below, skip_below}
+use Rattle.heap_reading.proofs.LiveRead.{chunk_once, one_below, skip_below}
 use Rattle.shared_tree.proofs.shared.Shared.chunk_list.Goals.{in-Some+in_ok-push, in_default}
 use Rattle.shared_tree.proofs.shared.Shared.chunk_list.Goals as goal
 

@@ -6,8 +6,8 @@ use Rattle.shared_value.specs.Causes.{chunk_cause, first_cause}
 use Rattle.shared_value.specs.Entered.{refused}
 use Rattle.shared_value.specs.Fits.{Fits}
 use Rattle.shared_value.specs.Next.{part_asks}
+use Rattle.leaf_collections.proofs.WhyNoChunk.{chunk_answer, first_answer}
 use Rattle.shared_tree.specs.contracts.shared.Shared.{the_view}
-use Rattle.leaf_collections.proofs.Needs.{chunk_answer, first_answer}
 use Rattle.shared_tree.proofs.shared.Shared.chunk_refused.Goals as goal
 
 pub returns-then-is_some : goal.returns-then-is_some

@@ -1,15 +1,15 @@
 use Rattle.std.specs.Prelude.{vec_len}
 use Rattle.std.proofs.Common.{refl, ◌≡◌, ℕ, ◌-◌, ◌++◌, ◌∷◌, [], List, None, Some, Err, map, arith, ap, sym, subst, ◌∙◌, ◌<◌}
+use Rattle.listed.specs.Space.{Space}
+use Rattle.run_trace.specs.Entry.{Event}
+use Rattle.run_trace.specs.declared.entry.Kind.TheVariants.{Begin}
 use Rattle.object_layout.specs.Chunks.{small_words}
 use Rattle.object_layout.specs.Content.{Content}
-use Rattle.listed.specs.Space.{Space}
+use Rattle.chunk_pool.specs.declared.pool.NotTaken.{NotTaken}
+use Rattle.chunk_pool.specs.Chunks.{Chunks}
 use Rattle.alloc_path.specs.Heap.{Heap, counted, with_places}
 use Rattle.leaf_copy_gc.specs.declared.lists.ToChunks.{ToChunks}
 use Rattle.leaf_copy_gc.specs.Lists.{AreReserved}
-use Rattle.chunk_pool.specs.declared.pool.NotTaken.{NotTaken}
-use Rattle.chunk_pool.specs.Chunks.{Chunks}
-use Rattle.run_trace.specs.Entry.{Event}
-use Rattle.run_trace.specs.declared.entry.Kind.TheVariants.{Begin}
 use Rattle.task_machine.specs.declared.part.Private.{Private}
 use Rattle.shared_value.specs.World.{World}
 use Rattle.shared_value.specs.Stands.{IsWorld}
@@ -18,10 +18,10 @@ use Rattle.shared_value.specs.Due.{take_by}
 use Rattle.shared_value.specs.Entered.{refused}
 use Rattle.shared_value.specs.LeafBegin.{number_of}
 use Rattle.shared_value.specs.Roots.{roots_of}
+use Rattle.shared_value.proofs.JournalGoesOn.{journal_by}
+use Rattle.leaf_collections.proofs.BeginEntered.{begin_count, begin_few, begin_free, begins_apart, begins_fit, begins_idle, begins_long, begins_with, begins_world}
+use Rattle.leaf_collections.proofs.ChunkGiven.{places_fit}
 use Rattle.shared_tree.specs.contracts.shared.Shared.{the_view}
-use Rattle.leaf_collections.proofs.BeginCall.{begin_count, begin_few, begin_free, begins_apart, begins_fit, begins_idle, begins_long, begins_with, begins_world}
-use Rattle.leaf_collections.proofs.Chunked.{places_fit}
-use Rattle.shared_value.proofs.Entered.{journal_by}
 use Rattle.shared_tree.proofs.shared.Shared.enter_begin.Goals as goal
 
 -- how many chunks the code takes

@@ -1,20 +1,20 @@
 use Rattle.std.proofs.Common.{◌≡◌, ℕ, ◌+◌, ◌-◌, arith, Some, None, [], slice_set, ap, sym, subst, ◌∙◌}
 use Rattle.hh_model.specs.declared.data.End.TheVariants.{Done}
+use Rattle.run_ledger.specs.declared.data.RunEnd.TheVariants.{Machine}
 use Rattle.heap_tree.specs.declared.state.State.TheVariants.{Ended}
 use Rattle.heap_tree.specs.Node.{with_state}
-use Rattle.run_ledger.specs.declared.data.RunEnd.TheVariants.{Machine}
 use Rattle.task_machine.specs.declared.part.Private.{Private}
 use Rattle.shared_value.specs.declared.next.Ending.TheVariants.{Returns}
 use Rattle.shared_value.specs.declared.rest.Rest.{Rest}
 use Rattle.shared_value.specs.Stands.{IsWorld}
 use Rattle.shared_value.specs.World.{World}
 use Rattle.shared_value.specs.Fits.{Fits}
-use Rattle.own_steps.specs.Alone.{IsShared, alone_event}
 use Rattle.shared_value.specs.Entered.{refused}
-use Rattle.shared_tree.specs.contracts.shared.Shared.{the_view}
+use Rattle.shared_value.proofs.JournalGoesOn.{four_changed, journal_by}
+use Rattle.own_steps.specs.Alone.{IsShared, alone_event}
 use Rattle.own_steps.specs.Alone.{FinishesAlone, Tells, ended_rest}
 use Rattle.own_steps.proofs.AloneEntries.{alone_small, finishes_alone, finished_world, home_there, node_there}
-use Rattle.shared_value.proofs.Entered.{four_changed, journal_by}
+use Rattle.shared_tree.specs.contracts.shared.Shared.{the_view}
 use Rattle.shared_tree.proofs.shared.Shared.enter_done.Goals as goal
 
 pub overflow_add-self-2 : goal.overflow_add-self-2

@@ -7,14 +7,14 @@ use Rattle.shared_value.specs.declared.rest.Rest.{Rest}
 use Rattle.shared_value.specs.Stands.{IsWorld}
 use Rattle.shared_value.specs.World.{World}
 use Rattle.shared_value.specs.Fits.{Fits}
-use Rattle.own_steps.specs.Alone.{alone_event, ended_rest}
-use Rattle.child_tasks.specs.ChildEnds.{EndsChild, IsAtEnd}
 use Rattle.shared_value.specs.Entered.{refused}
-use Rattle.shared_tree.specs.contracts.shared.Shared.{the_view}
+use Rattle.shared_value.proofs.JournalGoesOn.{four_changed, journal_by}
+use Rattle.own_steps.specs.Alone.{alone_event, ended_rest}
 use Rattle.own_steps.proofs.AloneEntries.{alone_small}
+use Rattle.child_tasks.specs.ChildEnds.{EndsChild, IsAtEnd}
 use Rattle.child_tasks.proofs.ChildEnded.{alone_ends, alone_world, has_home, has_node}
-use Rattle.child_tasks.proofs.ChildSteps.{end_shared}
-use Rattle.shared_value.proofs.Entered.{four_changed, journal_by}
+use Rattle.child_tasks.proofs.ChildReturns.{end_shared}
+use Rattle.shared_tree.specs.contracts.shared.Shared.{the_view}
 use Rattle.shared_tree.proofs.shared.Shared.enter_end.Goals as goal
 
 pub overflow_add-self-2 : goal.overflow_add-self-2

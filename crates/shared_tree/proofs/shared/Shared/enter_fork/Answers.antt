@@ -2,21 +2,21 @@ use Rattle.std.proofs.Common.{◌≡◌, ℕ, ◌+◌, ◌-◌, ◌<◌, arith, 
 use Rattle.listed.specs.Space.{Space}
 use Rattle.run_trace.specs.Entry.{Event}
 use Rattle.heap_tree.specs.Node.{Node, depth_of, forked}
-use Rattle.fork_join.specs.declared.forks.Child.{Child}
 use Rattle.write_barrier.specs.declared.sets.SetOf.{SetOf}
+use Rattle.fork_join.specs.declared.forks.Child.{Child}
 use Rattle.task_machine.specs.declared.part.Private.{Private}
 use Rattle.shared_value.specs.declared.rest.Rest.{Rest}
 use Rattle.shared_value.specs.Stands.{IsWorld}
 use Rattle.shared_value.specs.World.{World}
 use Rattle.shared_value.specs.Fits.{Fits}
-use Rattle.own_steps.specs.Alone.{alone_event}
-use Rattle.child_tasks.specs.Forks.{ForksOn, ForksTo, HomesFork, IsAtFork, SetsFork, part_child}
 use Rattle.shared_value.specs.Entered.{refused}
-use Rattle.shared_tree.specs.contracts.shared.Shared.{the_view}
+use Rattle.shared_value.proofs.JournalGoesOn.{four_changed, journal_by}
+use Rattle.own_steps.specs.Alone.{alone_event}
 use Rattle.own_steps.proofs.AloneEntries.{alone_small, next_small}
-use Rattle.shared_value.proofs.Entered.{four_changed, journal_by}
+use Rattle.child_tasks.specs.Forks.{ForksOn, ForksTo, HomesFork, IsAtFork, SetsFork, part_child}
 use Rattle.child_tasks.proofs.ForkEntries.{alone_forks, alone_world, homes_fork_by, own_home, own_set}
-use Rattle.child_tasks.proofs.ForkSteps.{few_tasks, fork_shared, on, tree_out}
+use Rattle.child_tasks.proofs.NextStepForks.{few_tasks, fork_shared, on, tree_out}
+use Rattle.shared_tree.specs.contracts.shared.Shared.{the_view}
 use Rattle.shared_tree.proofs.shared.Shared.enter_fork.Goals as goal
 
 pub grow-grown-requires-clause-out : goal.grow-grown-requires-clause-out

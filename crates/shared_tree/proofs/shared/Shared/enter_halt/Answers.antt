@@ -1,17 +1,17 @@
 use Rattle.std.proofs.Common.{◌≡◌, ℕ, ◌+◌, ◌-◌, arith, Some, None, [], sym, subst}
 use Rattle.listed.specs.Space.{Space}
-use Rattle.run_trace.specs.Entry.{Event}
 use Rattle.hh_model.specs.Step.{ended_by, step}
+use Rattle.run_trace.specs.Entry.{Event}
 use Rattle.run_ledger.specs.declared.data.RunEnd.TheVariants.{Machine}
 use Rattle.task_machine.specs.declared.part.Private.{Private}
 use Rattle.shared_value.specs.Stands.{IsWorld}
 use Rattle.shared_value.specs.World.{World}
 use Rattle.shared_value.specs.Fits.{Fits}
-use Rattle.own_steps.specs.Alone.{HaltsAlone, IsShared, alone_event, then_accounts}
 use Rattle.shared_value.specs.Entered.{refused}
-use Rattle.shared_tree.specs.contracts.shared.Shared.{the_view}
+use Rattle.shared_value.proofs.JournalGoesOn.{journal_by}
+use Rattle.own_steps.specs.Alone.{HaltsAlone, IsShared, alone_event, then_accounts}
 use Rattle.own_steps.proofs.AloneEntries.{alone_small, halt_world, halts_alone}
-use Rattle.shared_value.proofs.Entered.{journal_by}
+use Rattle.shared_tree.specs.contracts.shared.Shared.{the_view}
 use Rattle.shared_tree.proofs.shared.Shared.enter_halt.Goals as goal
 
 pub overflow_add-self-2 : goal.overflow_add-self-2

@@ -6,24 +6,24 @@ use Rattle.heap_tree.specs.declared.state.State.TheVariants.{Ended}
 use Rattle.heap_tree.specs.Node.{Node, parent_of, state_of, with_state}
 use Rattle.heap_tree.specs.Pairs.{sibling}
 use Rattle.remembered_set.specs.Sources.{Notes}
+use Rattle.write_barrier.specs.declared.sets.SetOf.{SetOf}
 use Rattle.fork_join.specs.declared.sides.EndedChild.{EndedChild}
 use Rattle.fork_join.specs.Joined.{joined_nodes}
-use Rattle.write_barrier.specs.declared.sets.SetOf.{SetOf}
 use Rattle.task_machine.specs.declared.part.Private.{Private}
 use Rattle.shared_value.specs.declared.rest.Rest.{Rest}
 use Rattle.shared_value.specs.World.{World}
 use Rattle.shared_value.specs.Stands.{IsWorld}
 use Rattle.shared_value.specs.Fits.{Fits}
-use Rattle.own_steps.specs.Alone.{alone_event}
-use Rattle.child_tasks.specs.ChildEnds.{EndsChild, IsAtEnd}
 use Rattle.shared_value.specs.Entered.{refused}
-use Rattle.child_tasks.specs.Joins.{CanJoin, HasPlaces, parent_side}
-use Rattle.shared_tree.specs.contracts.shared.Shared.{the_view}
+use Rattle.shared_value.proofs.JournalGoesOn.{four_changed, journal_by}
+use Rattle.own_steps.specs.Alone.{alone_event}
 use Rattle.own_steps.proofs.AloneEntries.{alone_small}
-use Rattle.child_tasks.proofs.ChildSteps.{end_shared, few_tasks, own_made, parent_low}
-use Rattle.shared_value.proofs.Entered.{four_changed, journal_by}
+use Rattle.child_tasks.specs.ChildEnds.{EndsChild, IsAtEnd}
+use Rattle.child_tasks.specs.Joins.{CanJoin, HasPlaces, parent_side}
+use Rattle.child_tasks.proofs.ChildReturns.{end_shared, few_tasks, own_made, parent_low}
 use Rattle.child_tasks.proofs.JoinEntries.{other_made, other_set, own_set, parent_is, parent_made, parent_set}
-use Rattle.child_tasks.proofs.JoinFacts.{Put, Taken, both_made, can_join}
+use Rattle.child_tasks.proofs.JoinValue.{Put, Taken, both_made, can_join}
+use Rattle.shared_tree.specs.contracts.shared.Shared.{the_view}
 use Rattle.shared_tree.proofs.shared.Shared.enter_join.Goals as goal
 
 pub sibling_of-other-requires-clause-child : goal.sibling_of-other-requires-clause-child

@@ -4,9 +4,9 @@ use Rattle.listed.specs.Space.{Space}
 use Rattle.run_trace.specs.Entry.{Event}
 use Rattle.object_layout.specs.declared.word.Addr.{Addr}
 use Rattle.object_layout.specs.Content.{Content}
+use Rattle.chunk_pool.specs.Chunks.{Chunks, held_at}
 use Rattle.remembered_set.specs.Moved.{AreFields, redirected, AreInOrder, ArePlaces}
 use Rattle.remembered_set.specs.Sources.{StandOnce}
-use Rattle.chunk_pool.specs.Chunks.{Chunks, held_at}
 use Rattle.write_barrier.specs.declared.sets.SetOf.{SetOf}
 use Rattle.leaf_copy_gc.specs.declared.lists.Moved.{Moved}
 use Rattle.leaf_copy_gc.proofs.ListLemmas.{all_from}
@@ -16,12 +16,12 @@ use Rattle.shared_value.specs.declared.rest.Rest.{Rest}
 use Rattle.shared_value.specs.World.{World}
 use Rattle.shared_value.specs.Fits.{OthersFit}
 use Rattle.shared_value.specs.Entered.{Enters, refused}
-use Rattle.leaf_collections.specs.LeafEnd.{FitsCopied, end_event}
 use Rattle.shared_value.specs.RestingHeaps.{refs_in, with_ref_in}
 use Rattle.shared_value.specs.Roots.{heaps_of, sources_of}
+use Rattle.shared_value.proofs.JournalGoesOn.{journal_by}
+use Rattle.leaf_collections.specs.LeafEnd.{FitsCopied, end_event}
+use Rattle.leaf_collections.proofs.CollectionEnds.{are_fields, back_in_use, fits_so, others_so, pool_same, world_so}
 use Rattle.shared_tree.specs.contracts.shared.Shared.{the_view}
-use Rattle.shared_value.proofs.Entered.{journal_by}
-use Rattle.leaf_collections.proofs.LeafEnds.{are_fields, back_in_use, fits_so, others_so, pool_same, world_so}
 use Rattle.shared_tree.proofs.shared.Shared.enter_leaf_end.Goals as goal
 
 some_is : {A : Type 0} (o : Option A) → is_some o ≡ true → IsSome o

@@ -8,9 +8,9 @@ use Rattle.shared_value.specs.Entered.{refused}
 use Rattle.shared_value.specs.Fits.{AllFit}
 use Rattle.shared_value.specs.World.{World, accounts, value_of}
 use Rattle.shared_value.specs.Stands.{IsWorld}
-use Rattle.shared_tree.specs.contracts.shared.Shared.{the_view}
-use Rattle.shared_value.proofs.Entered.{journal_by}
+use Rattle.shared_value.proofs.JournalGoesOn.{journal_by}
 use Rattle.heap_marking.proofs.MarkEntries.{mark_enters}
+use Rattle.shared_tree.specs.contracts.shared.Shared.{the_view}
 use Rattle.shared_tree.proofs.shared.Shared.enter_mark.Goals as goal
 
 pub invariant_of-self-2 : goal.invariant_of-self-2

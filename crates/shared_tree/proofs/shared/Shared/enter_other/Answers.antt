@@ -1,9 +1,9 @@
 use Rattle.std.proofs.Common.{ap, subst, ◌∙◌}
 use Rattle.hh_model.specs.declared.data.End.TheVariants.{Trapped}
 use Rattle.hh_model.specs.Step.{ended_by}
+use Rattle.own_steps.specs.Alone.{then_accounts}
 use Rattle.others_objects.specs.declared.other.OtherStep.{OtherStep}
 use Rattle.others_objects.specs.declared.other.OtherStep.TheVariants.{Stops, Traps}
-use Rattle.own_steps.specs.Alone.{then_accounts}
 use Rattle.others_objects.specs.Other.{TellsOther}
 use Rattle.shared_tree.proofs.shared.Shared.enter_other.Goals as goal
 

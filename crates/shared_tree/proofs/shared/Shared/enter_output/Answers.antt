@@ -9,12 +9,12 @@ use Rattle.shared_value.specs.declared.next.Ending.TheVariants.{Prints}
 use Rattle.shared_value.specs.Stands.{IsWorld}
 use Rattle.shared_value.specs.World.{World}
 use Rattle.shared_value.specs.Fits.{Fits}
-use Rattle.own_steps.specs.Alone.{IsShared, alone_event}
 use Rattle.shared_value.specs.Entered.{refused}
-use Rattle.shared_tree.specs.contracts.shared.Shared.{the_view}
+use Rattle.shared_value.proofs.JournalGoesOn.{journal_by}
+use Rattle.own_steps.specs.Alone.{IsShared, alone_event}
 use Rattle.own_steps.specs.Alone.{GoesAlone, Tells}
 use Rattle.own_steps.proofs.AloneEntries.{alone_small, next_small, printed_goes, printed_world}
-use Rattle.shared_value.proofs.Entered.{journal_by}
+use Rattle.shared_tree.specs.contracts.shared.Shared.{the_view}
 use Rattle.shared_tree.proofs.shared.Shared.enter_output.Goals as goal
 
 -- the value by what the code made of it

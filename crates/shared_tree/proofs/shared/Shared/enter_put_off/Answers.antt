@@ -7,9 +7,9 @@ use Rattle.shared_value.specs.World.{World}
 use Rattle.shared_value.specs.Stands.{IsWorld}
 use Rattle.shared_value.specs.Fits.{Fits, OthersFit}
 use Rattle.shared_value.specs.Entered.{refused}
+use Rattle.shared_value.proofs.JournalGoesOn.{journal_by}
+use Rattle.leaf_collections.proofs.CollectionPutOff.{put_off_apart, put_off_fits, put_off_stands, reset}
 use Rattle.shared_tree.specs.contracts.shared.Shared.{the_view}
-use Rattle.shared_value.proofs.Entered.{journal_by}
-use Rattle.leaf_collections.proofs.PutOff.{put_off_apart, put_off_fits, put_off_stands, reset}
 use Rattle.shared_tree.proofs.shared.Shared.enter_put_off.Goals as goal
 
 -- the journal with the entry, as the call names the task

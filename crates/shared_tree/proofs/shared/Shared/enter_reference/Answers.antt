@@ -3,17 +3,17 @@ use Rattle.listed.specs.Space.{Space}
 use Rattle.run_trace.specs.Entry.{Event}
 use Rattle.task_frames.specs.Stack.{Stack, with_next, with_reference}
 use Rattle.task_machine.specs.declared.part.Private.{Private}
-use Rattle.others_objects.specs.declared.other.OtherStep.TheVariants.{SetsReference}
 use Rattle.shared_value.specs.Stands.{IsWorld}
 use Rattle.shared_value.specs.World.{World}
 use Rattle.shared_value.specs.Fits.{Fits}
-use Rattle.own_steps.specs.Alone.{GoesAlone, IsShared, alone_event}
 use Rattle.shared_value.specs.Entered.{refused}
-use Rattle.others_objects.specs.Other.{TellsOther}
-use Rattle.shared_tree.specs.contracts.shared.Shared.{the_view}
+use Rattle.shared_value.proofs.JournalGoesOn.{journal_by}
+use Rattle.own_steps.specs.Alone.{GoesAlone, IsShared, alone_event}
 use Rattle.own_steps.proofs.AloneEntries.{alone_small, next_small}
-use Rattle.shared_value.proofs.Entered.{journal_by}
+use Rattle.others_objects.specs.declared.other.OtherStep.TheVariants.{SetsReference}
+use Rattle.others_objects.specs.Other.{TellsOther}
 use Rattle.others_objects.proofs.OtherEntries.{reference_goes, reference_world}
+use Rattle.shared_tree.specs.contracts.shared.Shared.{the_view}
 use Rattle.shared_tree.proofs.shared.Shared.enter_reference.Goals as goal
 
 pub overflow_add-self-2 : goal.overflow_add-self-2

@@ -1,25 +1,25 @@
 use Rattle.std.proofs.Common.{◌≡◌, ℕ, ◌-◌, ◌<◌, ◌++◌, ◌∷◌, [], All, List, Some, None, min, ap, sym, subst, ◌∙◌}
 use Rattle.std.proofs.lemmas.List.{length-set}
 use Rattle.listed.specs.Space.{Space}
-use Rattle.object_layout.specs.declared.word.Addr.{Addr}
-use Rattle.object_layout.specs.Graph.{IsHeld}
 use Rattle.run_trace.specs.Entry.{Event}
 use Rattle.run_trace.specs.declared.entry.Kind.TheVariants.{More}
 use Rattle.run_ledger.specs.Heaps.{heap_of, left_in}
+use Rattle.object_layout.specs.declared.word.Addr.{Addr}
+use Rattle.object_layout.specs.Graph.{IsHeld}
 use Rattle.inner_mark_gc.specs.Marks.{IsAllMarked, IsMarking, IsOf}
 use Rattle.inner_mark_gc.specs.Snapshot.{Fork, IsSince}
 use Rattle.core_relation.specs.Since.{kept}
 use Rattle.shared_value.specs.Entered.{refused}
 use Rattle.shared_value.specs.Fits.{AllFit}
-use Rattle.heap_marking.specs.MarkCauses.{marking_cause}
-use Rattle.heap_marking.specs.Marking.{Further}
 use Rattle.shared_value.specs.World.{World, accounts, flat, marks_at, rest_at, value_of}
 use Rattle.shared_value.specs.Stands.{IsWorld}
-use Rattle.shared_tree.specs.contracts.shared.Shared.{the_view}
-use Rattle.shared_value.proofs.Entered.{journal_by}
-use Rattle.shared_value.proofs.Entering.{entry_on}
+use Rattle.shared_value.proofs.JournalGoesOn.{journal_by}
+use Rattle.shared_value.proofs.EntryMade.{entry_on}
+use Rattle.heap_marking.specs.MarkCauses.{marking_cause}
+use Rattle.heap_marking.specs.Marking.{Further}
 use Rattle.heap_marking.proofs.MarkEntries.{kept_is, put_back, some_count, some_enters, some_marks}
-use Rattle.heap_marking.proofs.MarkReady.{further, homes_within, keeps, marks_within, never_gone, never_unmarked, sets_within}
+use Rattle.heap_marking.proofs.MarkedHeap.{further, homes_within, keeps, marks_within, never_gone, never_unmarked, sets_within}
+use Rattle.shared_tree.specs.contracts.shared.Shared.{the_view}
 use Rattle.shared_tree.proofs.shared.Shared.enter_some.Goals as goal
 
 pub at-requires : goal.at-requires

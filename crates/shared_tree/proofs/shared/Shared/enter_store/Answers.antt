@@ -2,26 +2,26 @@ use Rattle.std.proofs.Common.{◌≡◌, ℕ, ◌+◌, ◌-◌, ◌++◌, arith,
 use Rattle.std.specs.Prelude.{OnErr, slice_index_or}
 use Rattle.std.proofs.Math.Seq.{take-append_seam}
 use Rattle.listed.specs.Space.{Space}
+use Rattle.run_trace.specs.Entry.{Event}
 use Rattle.object_layout.specs.Cell.{with_ref}
 use Rattle.object_layout.specs.Chunks.{cell_of, object_of}
-use Rattle.run_trace.specs.Entry.{Event}
 use Rattle.task_frames.specs.Stack.{Stack}
-use Rattle.task_machine.specs.declared.part.Private.{Private}
 use Rattle.write_barrier.specs.declared.sets.SetOf.{SetOf}
 use Rattle.write_barrier.specs.Stored.{content_after, content_at}
-use Rattle.others_objects.specs.declared.other.OtherStep.{OtherStep}
+use Rattle.task_machine.specs.declared.part.Private.{Private}
 use Rattle.shared_value.specs.declared.rest.Rest.{Rest}
 use Rattle.shared_value.specs.Stands.{IsWorld}
 use Rattle.shared_value.specs.World.{World}
 use Rattle.shared_value.specs.Fits.{Fits}
-use Rattle.own_steps.specs.Alone.{GoesAlone, IsShared, alone_event}
 use Rattle.shared_value.specs.Entered.{refused}
-use Rattle.others_objects.specs.Other.{SameButRoom, TellsOther, put_rest, store_frames, store_of}
-use Rattle.shared_tree.specs.contracts.shared.Shared.{the_view}
+use Rattle.shared_value.proofs.JournalGoesOn.{journal_by}
+use Rattle.own_steps.specs.Alone.{GoesAlone, IsShared, alone_event}
 use Rattle.own_steps.proofs.AloneEntries.{alone_small, next_small}
-use Rattle.shared_value.proofs.Entered.{journal_by}
-use Rattle.others_objects.proofs.Rooms.{roomier_same, roomier_world}
+use Rattle.others_objects.specs.declared.other.OtherStep.{OtherStep}
+use Rattle.others_objects.specs.Other.{SameButRoom, TellsOther, put_rest, store_frames, store_of}
+use Rattle.others_objects.proofs.SetRooms.{roomier_same, roomier_world}
 use Rattle.others_objects.proofs.StoreEntries as entries
+use Rattle.shared_tree.specs.contracts.shared.Shared.{the_view}
 use Rattle.shared_tree.proofs.shared.Shared.enter_store.Goals as goal
 
 always_err : {A E P : Type 0} (r : Result A E) → P → OnErr r P

@@ -1,23 +1,23 @@
 use Rattle.std.proofs.Common.{◌≡◌, ℕ, ℤ, ◌+◌, ◌-◌, arith, Option, Some, None, List, [], slice_set, ap, sym, subst, ◌∙◌, w64}
 use Rattle.std.proofs.lemmas.Int.{to_z-of_z}
 use Rattle.listed.specs.Space.{Space}
+use Rattle.run_trace.specs.Entry.{Event}
 use Rattle.object_layout.specs.Cell.{with_int}
 use Rattle.object_layout.specs.Chunks.{cell_of}
-use Rattle.run_trace.specs.Entry.{Event}
 use Rattle.task_frames.specs.Stack.{Stack}
 use Rattle.task_machine.specs.declared.part.Private.{Private}
-use Rattle.others_objects.specs.declared.other.OtherStep.TheVariants.{StoresNumber}
 use Rattle.shared_value.specs.declared.rest.Rest.{Rest}
 use Rattle.shared_value.specs.Stands.{IsWorld}
 use Rattle.shared_value.specs.World.{World}
 use Rattle.shared_value.specs.Fits.{Fits}
-use Rattle.own_steps.specs.Alone.{GoesAlone, IsShared, alone_event}
 use Rattle.shared_value.specs.Entered.{refused}
-use Rattle.others_objects.specs.Other.{TellsOther, put_rest, store_frames}
-use Rattle.shared_tree.specs.contracts.shared.Shared.{the_view}
+use Rattle.shared_value.proofs.JournalGoesOn.{journal_by}
+use Rattle.own_steps.specs.Alone.{GoesAlone, IsShared, alone_event}
 use Rattle.own_steps.proofs.AloneEntries.{alone_small, next_small}
-use Rattle.shared_value.proofs.Entered.{journal_by}
+use Rattle.others_objects.specs.declared.other.OtherStep.TheVariants.{StoresNumber}
+use Rattle.others_objects.specs.Other.{TellsOther, put_rest, store_frames}
 use Rattle.others_objects.proofs.StoreEntries as entries
+use Rattle.shared_tree.specs.contracts.shared.Shared.{the_view}
 use Rattle.shared_tree.proofs.shared.Shared.enter_store_number.Goals as goal
 
 -- the value by what the code made of it

@@ -4,9 +4,9 @@ use Rattle.run_trace.specs.declared.entry.Kind.TheVariants.{Sweep}
 use Rattle.shared_value.specs.World.{World}
 use Rattle.shared_value.specs.Fits.{AllFit}
 use Rattle.shared_value.specs.Entered.{refused}
+use Rattle.shared_value.proofs.JournalGoesOn.{journal_by}
+use Rattle.heap_marking.proofs.SweepEntered.{can_all, fits_so, has_home, has_marking, has_set, m, marked, r, there, world_so}
 use Rattle.shared_tree.specs.contracts.shared.Shared.{the_view}
-use Rattle.shared_value.proofs.Entered.{journal_by}
-use Rattle.heap_marking.proofs.SweptWorld.{can_all, fits_so, has_home, has_marking, has_set, m, marked, r, there, world_so}
 use Rattle.shared_tree.proofs.shared.Shared.enter_sweep.Goals as goal
 
 pub drop_unmarked-requires-clause-home : goal.drop_unmarked-requires-clause-home

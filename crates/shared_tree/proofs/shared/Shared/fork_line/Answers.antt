@@ -4,14 +4,14 @@ use Rattle.hh_lang.specs.Form.{line_at}
 use Rattle.task_machine.specs.declared.part.Private.{Private}
 use Rattle.shared_value.specs.World.{World}
 use Rattle.shared_value.specs.Fits.{Fits}
-use Rattle.own_steps.specs.Alone.{alone_event}
-use Rattle.child_tasks.specs.Forks.{ForksTo, IsAtFork}
 use Rattle.shared_value.specs.Entered.{refused}
 use Rattle.shared_value.specs.Next.{next_line}
-use Rattle.shared_tree.specs.contracts.shared.Shared.{the_view}
+use Rattle.own_steps.specs.Alone.{alone_event}
 use Rattle.own_steps.proofs.AloneEntries.{runs_on}
-use Rattle.child_tasks.proofs.ForkSteps.{fork_shared, forks_to, is_par_line, par_is}
 use Rattle.own_steps.proofs.LastSteps.{some_line}
+use Rattle.child_tasks.specs.Forks.{ForksTo, IsAtFork}
+use Rattle.child_tasks.proofs.NextStepForks.{fork_shared, forks_to, is_par_line, par_is}
+use Rattle.shared_tree.specs.contracts.shared.Shared.{the_view}
 use Rattle.shared_tree.proofs.shared.Shared.fork_line.Goals as goal
 
 none_some : (line : Line) → ◌≡◌ {A = Option Line} None (Some line) → ⊥

@@ -1,7 +1,7 @@
 use Rattle.std.proofs.Common.{subst}
-use Rattle.heap_marking.specs.Pace.{IsForkIn}
 use Rattle.shared_value.specs.World.{World}
-use Rattle.heap_marking.proofs.PaceStands.{fork_is}
+use Rattle.heap_marking.specs.Pace.{IsForkIn}
+use Rattle.heap_marking.proofs.ForksTold.{fork_is}
 use Rattle.shared_tree.proofs.shared.Shared.fork_of.Goals as goal
 
 pub returns : goal.returns

@@ -1,5 +1,6 @@
 use Rattle.std.proofs.Common.{◌≡◌, ℕ, ◌+◌, ◌-◌, ◌<◌, ◌≤◌, None, Some, [], inl, inr, Ok, Err, refl, ap, sym, subst, ◌∙◌, Result}
 use Rattle.std.proofs.lemmas.Bool.{cases_lt}
+use Rattle.std.specs.Prelude.{OnErr}
 use Rattle.listed.specs.Space.{Space}
 use Rattle.run_trace.specs.Entry.{Event}
 use Rattle.run_trace.specs.declared.entry.Kind.TheVariants.{Chunk}
@@ -15,10 +16,9 @@ use Rattle.shared_value.specs.Stands.{IsWorld}
 use Rattle.shared_value.specs.Fits.{Fits, OthersFit}
 use Rattle.shared_value.specs.Next.{part_asks}
 use Rattle.shared_value.specs.Entered.{Enters, refused}
+use Rattle.shared_value.proofs.JournalGoesOn.{journal_by}
+use Rattle.leaf_collections.proofs.ChunkGiven.{given_fresh, given_others, given_part, given_world, places_fit, pool_others, pool_part, pool_world}
 use Rattle.shared_tree.specs.contracts.shared.Shared.{the_view}
-use Rattle.leaf_collections.proofs.Chunked.{given_fresh, given_others, given_part, given_world, places_fit, pool_others, pool_part, pool_world}
-use Rattle.shared_value.proofs.Entered.{journal_by}
-use Rattle.std.specs.Prelude.{OnErr}
 use Rattle.shared_tree.proofs.shared.Shared.give_chunk.Goals as goal
 
 room_of_space : Space Event → ℕ → Space Event

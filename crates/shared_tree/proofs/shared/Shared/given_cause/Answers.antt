@@ -1,8 +1,8 @@
 use Rattle.std.proofs.Common.{◌≡◌, ℕ, ◌<◌, ◌^◌, arith, Some, None, ap, ◌∙◌}
-use Rattle.heap_marking.specs.MarkCauses.{marking_cause}
 use Rattle.shared_value.specs.World.{World, accounts, flat, marks_at}
-use Rattle.shared_tree.specs.contracts.shared.Shared.{the_view}
+use Rattle.heap_marking.specs.MarkCauses.{marking_cause}
 use Rattle.heap_marking.proofs.SweptUnits.{few_at}
+use Rattle.shared_tree.specs.contracts.shared.Shared.{the_view}
 use Rattle.shared_tree.proofs.shared.Shared.given_cause.Goals as goal
 
 pub overflow_cast-result : goal.overflow_cast-result

@@ -1,8 +1,8 @@
 use Rattle.std.proofs.Common.{sym, subst}
 use Rattle.shared_value.specs.World.{World}
 use Rattle.shared_value.specs.Fits.{Fits}
+use Rattle.shared_value.proofs.JournalGoesOn.{halted_fit}
 use Rattle.shared_tree.specs.contracts.shared.Shared.{the_view}
-use Rattle.shared_value.proofs.Entered.{halted_fit}
 use Rattle.shared_tree.proofs.shared.Shared.halt.Goals as goal
 
 pub returns-clause-fits : goal.returns-clause-fits

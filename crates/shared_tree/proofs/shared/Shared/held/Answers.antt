@@ -1,13 +1,13 @@
 use Rattle.std.proofs.Common.{◌≡◌, ℕ, arith, length, length-append, ap, sym, ◌∙◌}
 use Rattle.std.proofs.lemmas.List.Sums.{sum_by-append}
-use Rattle.alloc_path.specs.Heap.{counted}
 use Rattle.run_ledger.specs.declared.data.Ledger.{Ledger}
 use Rattle.run_ledger.specs.Heaps.{words_at, words_sum}
 use Rattle.run_ledger.specs.Report.{kept}
-use Rattle.heap_reading.specs.HeldNames.{kept_of}
+use Rattle.alloc_path.specs.Heap.{counted}
 use Rattle.shared_value.specs.World.{World, accounts}
-use Rattle.shared_tree.specs.contracts.shared.Shared.{the_view}
+use Rattle.heap_reading.specs.HeldNames.{kept_of}
 use Rattle.heap_reading.proofs.KeptNames.{counted_few, counted_more, homes_few, kept_before, kept_homes, kept_more, objects_few, words_few}
+use Rattle.shared_tree.specs.contracts.shared.Shared.{the_view}
 use Rattle.shared_tree.proofs.shared.Shared.held.Goals as goal
 
 pub overflow_cast-t-end : goal.overflow_cast-t-end

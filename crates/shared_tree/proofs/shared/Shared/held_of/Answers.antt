@@ -1,11 +1,11 @@
 use Rattle.std.proofs.Common.{◌≡◌, true, false, None, Some, List, length, slice_get, ap, sym, ◌∙◌}
-use Rattle.alloc_path.specs.Heap.{counted}
 use Rattle.hh_model.specs.declared.data.Name.{Name}
 use Rattle.hh_model.specs.Step.{is_running}
 use Rattle.run_ledger.specs.Heaps.{words_sum}
+use Rattle.alloc_path.specs.Heap.{counted}
 use Rattle.heap_tree.specs.Node.{state_of}
-use Rattle.heap_reading.specs.HeldNames.{is_state_running}
 use Rattle.shared_value.specs.World.{World, accounts, flat, rest_at}
+use Rattle.heap_reading.specs.HeldNames.{is_state_running}
 use Rattle.heap_reading.proofs.KeptNames.{none_of, nothing_kept, objects_are, runs_is, words_kept}
 use Rattle.shared_tree.proofs.shared.Shared.held_of.Goals as goal
 

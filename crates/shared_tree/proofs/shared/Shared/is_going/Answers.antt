@@ -1,13 +1,13 @@
 use Rattle.std.proofs.Common.{◌≡◌, ℕ, Bool, true, false, not, Option, Some, None, List, is_none, is_some, refl, ap, sym, ◌∙◌}
 use Rattle.std.proofs.lemmas.Bool.{false≢true}
-use Rattle.run_ledger.specs.declared.data.Refused.{Refused}
 use Rattle.hh_model.specs.Step.{joined}
+use Rattle.run_ledger.specs.declared.data.Refused.{Refused}
 use Rattle.heap_tree.specs.Node.{state_of}
 use Rattle.write_barrier.specs.declared.sets.SetOf.{SetOf}
+use Rattle.shared_value.specs.World.{World, accounts}
 use Rattle.heap_marking.specs.MarkCauses.{waiting_cause, waiting_cause_in}
 use Rattle.heap_marking.specs.Pace.{is_state_joined}
-use Rattle.shared_value.specs.World.{World, accounts}
-use Rattle.heap_marking.proofs.PaceStands.{goes_free, joined_is, joined_stops}
+use Rattle.heap_marking.proofs.ForksTold.{goes_free, joined_is, joined_stops}
 use Rattle.shared_tree.proofs.shared.Shared.is_going.Goals as goal
 
 none_is : (o : Option Refused) (b : Bool) → is_some o ≡ not b → b ≡ is_none o

@@ -1,16 +1,16 @@
 use Rattle.std.proofs.Common.{◌≡◌, ◌==◌, ◌↔◌, ℕ, All, IsTrue, List, Some, None, ap, sym, subst, ◌∙◌}
+use Rattle.run_ledger.specs.Heaps.{heap_of, left_in}
 use Rattle.object_layout.specs.declared.word.Addr.{Addr}
 use Rattle.object_layout.specs.Graph.{IsHeld}
-use Rattle.run_ledger.specs.Heaps.{heap_of, left_in}
 use Rattle.inner_mark_gc.specs.Marks.{IsAllMarked, IsMarking, IsOf}
 use Rattle.inner_mark_gc.specs.Snapshot.{Fork, IsSince}
 use Rattle.core_relation.specs.Since.{kept}
+use Rattle.shared_value.specs.World.{World, accounts, flat, marks_at, rest_at, value_of}
 use Rattle.heap_marking.specs.MarkCauses.{marking_cause}
 use Rattle.heap_marking.specs.Marking.{Further}
-use Rattle.shared_value.specs.World.{World, accounts, flat, marks_at, rest_at, value_of}
-use Rattle.shared_tree.specs.contracts.shared.Shared.{the_view}
 use Rattle.heap_marking.proofs.MarkEntries.{kept_is}
-use Rattle.heap_marking.proofs.MarkReady.{further, keeps, left_by, marks_within, never_gone}
+use Rattle.heap_marking.proofs.MarkedHeap.{further, keeps, left_by, marks_within, never_gone}
+use Rattle.shared_tree.specs.contracts.shared.Shared.{the_view}
 use Rattle.shared_tree.proofs.shared.Shared.is_marked.Goals as goal
 
 pub unreachable-requires : goal.unreachable-requires

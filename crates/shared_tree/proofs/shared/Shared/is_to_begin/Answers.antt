@@ -1,7 +1,7 @@
 use Rattle.std.proofs.Common.{nat_le, is_some, ap, ap₂, sym, ◌∙◌}
 use Rattle.run_trace.specs.Settings.{Limits}
 use Rattle.shared_value.specs.World.{World, marks_at}
-use Rattle.heap_marking.proofs.PaceStands.{begin_stops, begin_counted, begin_marked}
+use Rattle.heap_marking.proofs.ForksTold.{begin_stops, begin_counted, begin_marked}
 use Rattle.shared_tree.proofs.shared.Shared.is_to_begin.Goals as goal
 
 pub returns-then-is_going : goal.returns-then-is_going

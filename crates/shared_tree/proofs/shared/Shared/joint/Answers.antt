@@ -4,17 +4,17 @@ use Rattle.hh_lang.specs.Form.{line_at}
 use Rattle.task_machine.specs.declared.part.Private.{Private}
 use Rattle.shared_value.specs.World.{World}
 use Rattle.shared_value.specs.Fits.{Fits}
-use Rattle.own_steps.specs.Alone.{IsShared, alone_event}
-use Rattle.child_tasks.specs.ChildEnds.{IsAtEnd}
 use Rattle.shared_value.specs.Entered.{refused}
-use Rattle.child_tasks.specs.Forks.{IsAtFork}
 use Rattle.shared_value.specs.Next.{next_line}
+use Rattle.own_steps.specs.Alone.{IsShared, alone_event}
+use Rattle.own_steps.proofs.AloneEntries.{runs_on}
+use Rattle.own_steps.proofs.LastSteps.{some_line}
+use Rattle.child_tasks.specs.ChildEnds.{IsAtEnd}
+use Rattle.child_tasks.specs.Forks.{IsAtFork}
 use Rattle.others_objects.specs.Other.{IsOther}
 use Rattle.shared_tree.specs.Ran.{IsJoint}
 use Rattle.shared_tree.specs.contracts.shared.Shared.{the_view}
-use Rattle.own_steps.proofs.AloneEntries.{runs_on}
 use Rattle.shared_tree.proofs.Joints.{at_end, at_fork, at_other}
-use Rattle.own_steps.proofs.LastSteps.{some_line}
 use Rattle.shared_tree.proofs.shared.Shared.joint.Goals as goal
 
 none_some : (line : Line) → ◌≡◌ {A = Option Line} None (Some line) → ⊥

@@ -11,11 +11,11 @@ use Rattle.shared_value.specs.Due.{due_cause}
 use Rattle.shared_value.specs.Entered.{refused}
 use Rattle.shared_value.specs.Fits.{Fits}
 use Rattle.shared_value.specs.Next.{part_asks}
-use Rattle.shared_tree.specs.contracts.shared.Shared.{the_view}
-use Rattle.leaf_collections.proofs.Needs.{first_answer}
 use Rattle.shared_value.proofs.FirstCauses.{found_first, nothing_first}
-use Rattle.leaf_collections.proofs.BeginCauses.{begin_answer}
-use Rattle.leaf_collections.proofs.PutOff.{without_fresh}
+use Rattle.leaf_collections.proofs.WhyNoChunk.{first_answer}
+use Rattle.leaf_collections.proofs.WhyNoCollection.{begin_answer}
+use Rattle.leaf_collections.proofs.CollectionPutOff.{without_fresh}
+use Rattle.shared_tree.specs.contracts.shared.Shared.{the_view}
 use Rattle.shared_tree.proofs.shared.Shared.leaf_begin_refused.Goals as goal
 
 pub returns-then-is_some : goal.returns-then-is_some

@@ -6,8 +6,8 @@ use Rattle.shared_value.specs.Causes.{first_cause}
 use Rattle.shared_value.specs.Entered.{refused}
 use Rattle.shared_value.specs.Stands.{IsWorld}
 use Rattle.leaf_collections.specs.LeafEnd.{FitsCopied, end_event}
+use Rattle.leaf_collections.proofs.WhyNoEnd.{end_answer}
 use Rattle.shared_tree.specs.contracts.shared.Shared.{the_view}
-use Rattle.leaf_collections.proofs.LeafRefusals.{end_answer}
 use Rattle.shared_tree.proofs.shared.Shared.leaf_end.Goals as goal
 
 -- the first cause is the only one

@@ -1,6 +1,6 @@
 use Rattle.std.proofs.Common.{IfOk, subst}
-use Rattle.heap_reading.specs.Image.{AreAll, IsLiveIn, LiveBefore}
 use Rattle.shared_value.specs.World.{World}
+use Rattle.heap_reading.specs.Image.{AreAll, IsLiveIn, LiveBefore}
 use Rattle.shared_tree.proofs.shared.Shared.live.Goals as goal
 
 pub returns : goal.returns

@@ -8,14 +8,14 @@ use Rattle.shared_value.specs.declared.rest.Rest.{Rest}
 use Rattle.shared_value.specs.World.{World, rest_at}
 use Rattle.shared_value.specs.Stands.{IsWorld}
 use Rattle.shared_value.specs.Fits.{Fits}
+use Rattle.shared_value.specs.Entered.{refused}
 use Rattle.own_steps.specs.Alone.{alone_event}
 use Rattle.child_tasks.specs.ChildEnds.{IsAtEnd}
-use Rattle.shared_value.specs.Entered.{refused}
 use Rattle.child_tasks.specs.Joins.{SameButPlaces, chunk_count, sources_at}
-use Rattle.shared_tree.specs.contracts.shared.Shared.{the_view}
-use Rattle.child_tasks.proofs.ChildSteps.{few_tasks, own_made, parent_low}
+use Rattle.child_tasks.proofs.ChildReturns.{few_tasks, own_made, parent_low}
 use Rattle.child_tasks.proofs.JoinEntries.{q, other_made, other_set, own_set, parent_is, parent_made, parent_other, parent_set}
 use Rattle.child_tasks.proofs.JoinPlaces.{placed_has, placed_same, places_world, same_world}
+use Rattle.shared_tree.specs.contracts.shared.Shared.{the_view}
 use Rattle.shared_tree.proofs.shared.Shared.make_join_places.Goals as goal
 
 pub sibling_of-other-requires-clause-child : goal.sibling_of-other-requires-clause-child

@@ -5,12 +5,12 @@ use Rattle.alloc_path.specs.Heap.{counted}
 use Rattle.write_barrier.specs.declared.sets.SetOf.{SetOf}
 use Rattle.shared_value.specs.Causes.{first_cause}
 use Rattle.shared_value.specs.Entered.{refused}
-use Rattle.heap_marking.specs.MarkCauses.{waiting_cause, waiting_cause_in, words_cause}
 use Rattle.shared_value.specs.World.{World, accounts, marks_at}
 use Rattle.shared_value.specs.Stands.{IsWorld}
-use Rattle.shared_tree.specs.contracts.shared.Shared.{the_view}
+use Rattle.leaf_collections.proofs.WhyNoChunk.{first_answer}
+use Rattle.heap_marking.specs.MarkCauses.{waiting_cause, waiting_cause_in, words_cause}
 use Rattle.heap_marking.proofs.MarkEntries.{mark_as_marking, mark_as_waiting, mark_as_words}
-use Rattle.leaf_collections.proofs.Needs.{first_answer}
+use Rattle.shared_tree.specs.contracts.shared.Shared.{the_view}
 use Rattle.shared_tree.proofs.shared.Shared.mark_refused.Goals as goal
 
 pub returns-then-is_some : goal.returns-then-is_some

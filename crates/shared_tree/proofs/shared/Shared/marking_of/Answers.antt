@@ -1,19 +1,19 @@
 use Rattle.std.proofs.Common.{◌≡◌, ◌↔◌, ℕ, ◌<◌, All, IfOk, Result, Ok, Err, Some, None, List, length, ap, sym, subst, ◌∙◌}
-use Rattle.object_layout.specs.declared.word.Addr.{Addr}
-use Rattle.object_layout.specs.Graph.{IsHeld}
 use Rattle.run_trace.specs.declared.entry.Kind.TheVariants.{Mark}
 use Rattle.run_ledger.specs.Heaps.{heap_of}
+use Rattle.object_layout.specs.declared.word.Addr.{Addr}
+use Rattle.object_layout.specs.Graph.{IsHeld}
 use Rattle.inner_mark_gc.specs.Marks.{IsMarking, IsOf}
 use Rattle.inner_mark_gc.specs.Snapshot.{Fork}
 use Rattle.core_relation.specs.Marking.{GoesOn}
-use Rattle.heap_marking.specs.MarkCauses.{waiting_cause}
-use Rattle.heap_marking.specs.Starts.{starts_of}
 use Rattle.shared_value.specs.World.{World, accounts, flat, rest_at, value_of}
 use Rattle.shared_value.specs.Stands.{IsWorld}
-use Rattle.shared_tree.specs.contracts.shared.Shared.{the_view}
-use Rattle.shared_value.proofs.Entering.{entry_on}
+use Rattle.shared_value.proofs.EntryMade.{entry_on}
+use Rattle.heap_marking.specs.MarkCauses.{waiting_cause}
+use Rattle.heap_marking.specs.Starts.{starts_of}
 use Rattle.heap_marking.proofs.MarkEntries.{mark_goes, mark_holds, mark_waits}
-use Rattle.heap_marking.proofs.WaitingHomes.{never_gone, within}
+use Rattle.heap_marking.proofs.WaitingHome.{never_gone, within}
+use Rattle.shared_tree.specs.contracts.shared.Shared.{the_view}
 use Rattle.shared_tree.proofs.shared.Shared.marking_of.Goals as goal
 
 both_ok : {A E : Type 0} (P Q S : A → Type 0) (r : Result A E) → ((a : A) → P a → Q a → S a) → IfOk r P → IfOk r Q → IfOk r S

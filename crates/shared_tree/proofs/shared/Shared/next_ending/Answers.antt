@@ -5,13 +5,13 @@ use Rattle.task_machine.specs.declared.part.Private.{Private}
 use Rattle.shared_value.specs.declared.next.Ending.{Ending}
 use Rattle.shared_value.specs.World.{World}
 use Rattle.shared_value.specs.Fits.{Fits}
-use Rattle.own_steps.specs.Alone.{IsShared, alone_event}
 use Rattle.shared_value.specs.Entered.{refused}
-use Rattle.shared_tree.specs.contracts.shared.Shared.{the_view}
-use Rattle.own_steps.specs.Alone.{Tells}
 use Rattle.shared_value.specs.Next.{next_line}
+use Rattle.own_steps.specs.Alone.{IsShared, alone_event}
+use Rattle.own_steps.specs.Alone.{Tells}
 use Rattle.own_steps.proofs.AloneEntries.{is_safe, runs_on}
 use Rattle.own_steps.proofs.LastSteps.{some_line, tells}
+use Rattle.shared_tree.specs.contracts.shared.Shared.{the_view}
 use Rattle.shared_tree.proofs.shared.Shared.next_ending.Goals as goal
 
 none_some : (line : Line) → ◌≡◌ {A = Option Line} None (Some line) → ⊥

@@ -1,10 +1,10 @@
 use Rattle.std.proofs.Common.{Some, None, List, subst, sym, ◌∙◌}
 use Rattle.run_ledger.specs.declared.data.Ledger.{Ledger}
+use Rattle.shared_value.specs.World.{accounts}
 use Rattle.heap_marking.specs.declared.pace.Fork.{Fork}
 use Rattle.heap_marking.specs.Pace.{IsLastGoing}
-use Rattle.shared_value.specs.World.{accounts}
 use Rattle.heap_marking.proofs.PaceOwes.{owed_marks}
-use Rattle.heap_marking.proofs.PaceStands.{marked_free}
+use Rattle.heap_marking.proofs.ForksTold.{marked_free}
 use Rattle.shared_tree.proofs.shared.Shared.owed_to_marks.Goals as goal
 
 pub returns-in-Some : goal.returns-in-Some

@@ -1,12 +1,12 @@
 use Rattle.std.proofs.Common.{◌≡◌, ◌∙◌, ℕ, Option, Some, None, true, false, refl, sym, ap}
 use Rattle.std.proofs.lemmas.Bool.{false≢true}
+use Rattle.hh_model.specs.Step.{joined, parents}
 use Rattle.heap_tree.specs.declared.state.State.{State}
 use Rattle.heap_tree.specs.declared.state.State.TheVariants.{Ready, Out, Waiting, Ended, Joined}
 use Rattle.heap_tree.specs.Node.{parent_of, state_of}
-use Rattle.hh_model.specs.Step.{joined, parents}
-use Rattle.heap_marking.specs.Pace.{is_state_joined}
 use Rattle.shared_value.specs.Stands.{IsWorld}
 use Rattle.shared_value.specs.World.{World, accounts}
+use Rattle.heap_marking.specs.Pace.{is_state_joined}
 use Rattle.heap_reading.proofs.TreeNow.{owner_live, owner_up, told_joined, told_live, told_parent, tree_of}
 use Rattle.shared_tree.proofs.shared.Shared.owner_now.Goals as goal
 

@@ -4,8 +4,8 @@ use Rattle.task_machine.specs.declared.part.Private.{Private}
 use Rattle.shared_value.specs.World.{World, accounts}
 use Rattle.shared_value.specs.Due.{IsHeld, take_by}
 use Rattle.shared_value.specs.Fits.{Fits}
-use Rattle.shared_tree.specs.contracts.shared.Shared.{the_view}
 use Rattle.shared_value.proofs.FreeChunks.{enough_is}
+use Rattle.shared_tree.specs.contracts.shared.Shared.{the_view}
 use Rattle.shared_tree.proofs.shared.Shared.pool_enough.Goals as goal
 
 pub returns : goal.returns

@@ -1,10 +1,10 @@
 use Rattle.std.proofs.Common.{◌≡◌, None, subst}
 use Rattle.std.specs.Result.{OnErr}
 use Rattle.shared_value.specs.World.{World}
-use Rattle.own_steps.specs.Alone.{Answered, IsBeyond, IsShared, alone_event}
-use Rattle.own_steps.specs.declared.alone.Alone.{Alone}
 use Rattle.shared_value.specs.Entered.{refused}
 use Rattle.shared_value.specs.Fits.{AllFit, Fits}
+use Rattle.own_steps.specs.Alone.{Answered, IsBeyond, IsShared, alone_event}
+use Rattle.own_steps.specs.declared.alone.Alone.{Alone}
 use Rattle.shared_tree.specs.Ran.{IsJoint}
 use Rattle.shared_tree.proofs.Joints.{beyond_same, fit_by, same_by}
 use Rattle.shared_tree.proofs.shared.Shared.ran.Goals as goal

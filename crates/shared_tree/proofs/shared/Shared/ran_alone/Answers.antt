@@ -3,8 +3,8 @@ use Rattle.task_machine.specs.declared.part.Private.{Private}
 use Rattle.shared_value.specs.declared.next.Ending.{Ending}
 use Rattle.shared_value.specs.declared.next.Ending.TheVariants.{Beyond, Returns}
 use Rattle.shared_value.specs.World.{World}
-use Rattle.own_steps.specs.Alone.{Tells, alone_event}
 use Rattle.shared_value.specs.Entered.{refused}
+use Rattle.own_steps.specs.Alone.{Tells, alone_event}
 use Rattle.own_steps.proofs.AloneEntries.{child_beyond, other_beyond, trap_is}
 use Rattle.shared_tree.proofs.shared.Shared.ran_alone.Goals as goal
 

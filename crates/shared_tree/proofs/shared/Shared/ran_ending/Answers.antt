@@ -1,14 +1,14 @@
 use Rattle.std.proofs.Common.{false, true, ◌≡◌, ℕ, Option, Some, None, slice_set, ap, sym, ◌∙◌, ◌<◌, arith, refl, subst}
 use Rattle.heap_tree.specs.Node.{parent_of, state_of}
 use Rattle.heap_tree.specs.declared.state.State.{State}
+use Rattle.heap_tree.specs.Pairs.{sibling}
 use Rattle.task_machine.specs.declared.part.Private.{Private}
 use Rattle.shared_value.specs.World.{World}
+use Rattle.shared_value.specs.Entered.{refused}
 use Rattle.own_steps.specs.Alone.{alone_event}
 use Rattle.child_tasks.specs.ChildEnds.{IsAtEnd}
-use Rattle.shared_value.specs.Entered.{refused}
-use Rattle.child_tasks.proofs.ChildSteps.{end_shared, few_tasks, own_made, parent_low, tree_parent}
+use Rattle.child_tasks.proofs.ChildReturns.{end_shared, few_tasks, own_made, parent_low, tree_parent}
 use Rattle.child_tasks.proofs.JoinPlaces.{places_ends, places_fit, places_same}
-use Rattle.heap_tree.specs.Pairs.{sibling}
 use Rattle.shared_tree.proofs.shared.Shared.ran_ending.Goals as goal
 
 none_some : {q : ℕ} → ◌≡◌ {A = Option ℕ} None (Some q) → ⊥

@@ -1,13 +1,13 @@
 use Rattle.std.proofs.Common.{◌≡◌, ◌≤◌, ◌<◌, ℕ, None, length, sym, subst, ◌∙◌}
 use Rattle.listed.proofs.Members.{got_within}
-use Rattle.heap_tree.specs.Node.{depth_of}
 use Rattle.hh_model.specs.declared.data.Trap.TheVariants.{Depth}
+use Rattle.heap_tree.specs.Node.{depth_of}
 use Rattle.task_machine.specs.declared.part.Private.{Private}
 use Rattle.shared_value.specs.World.{World}
-use Rattle.own_steps.specs.Alone.{alone_event}
 use Rattle.shared_value.specs.Entered.{refused}
+use Rattle.own_steps.specs.Alone.{alone_event}
 use Rattle.own_steps.proofs.AloneEntries.{trap_is}
-use Rattle.child_tasks.proofs.ForkSteps.{deep_traps, fork_shared, node_out, on}
+use Rattle.child_tasks.proofs.NextStepForks.{deep_traps, fork_shared, node_out, on}
 use Rattle.shared_tree.proofs.shared.Shared.ran_forking.Goals as goal
 
 pub depth-requires : goal.depth-requires

@@ -7,8 +7,8 @@ use Rattle.shared_value.specs.Causes.{first_cause}
 use Rattle.shared_value.specs.Entered.{refused}
 use Rattle.shared_value.specs.Fits.{Fits}
 use Rattle.shared_value.specs.Stands.{IsWorld}
+use Rattle.shared_value.proofs.StepsEntered.{ran_answer}
 use Rattle.shared_tree.specs.contracts.shared.Shared.{the_view}
-use Rattle.shared_value.proofs.Running.{ran_answer}
 use Rattle.shared_tree.proofs.shared.Shared.ran_private.Goals as goal
 
 -- the first cause is the only one

@@ -1,9 +1,9 @@
 use Rattle.std.proofs.Common.{◌≡◌, ◌<◌, arith, ap, sym, ◌∙◌, subst, Some, slice_get, length, map}
 use Rattle.std.proofs.lemmas.Option.{slice_get_read}
 use Rattle.write_barrier.specs.declared.sets.SetOf.{SetOf}
-use Rattle.heap_reading.specs.Image.{AreAll, FieldBefore, IsNoted, field_of}
 use Rattle.shared_value.specs.World.{World, source_of}
-use Rattle.heap_reading.proofs.FieldReads.{noted_in_order}
+use Rattle.heap_reading.specs.Image.{AreAll, FieldBefore, IsNoted, field_of}
+use Rattle.heap_reading.proofs.FieldsRead.{noted_in_order}
 use Rattle.shared_tree.proofs.shared.Shared.remembered.Goals as goal
 
 pub returns : goal.returns

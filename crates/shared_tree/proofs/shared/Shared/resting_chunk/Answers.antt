@@ -2,11 +2,11 @@ use Rattle.std.proofs.Common.{◌≡◌, Some, None, [], IfSome, ap, ◌∙◌, 
 use Rattle.chunk_pool.specs.declared.pool.Held.{Held}
 use Rattle.chunk_pool.specs.Chunks.{owner_of}
 use Rattle.heap_tree.specs.Node.{state_of}
-use Rattle.heap_reading.specs.HeldNames.{is_state_running}
-use Rattle.heap_reading.specs.Image.{objects_of, objects_numbered, objects_owned}
 use Rattle.shared_value.specs.Objects.{chunk_of, chunks_of}
 use Rattle.shared_value.specs.World.{World, flat, rest_at, value_of}
-use Rattle.heap_reading.proofs.ObjectReads.{none_numbered, resting_objects, some_numbered}
+use Rattle.heap_reading.specs.HeldNames.{is_state_running}
+use Rattle.heap_reading.specs.Image.{objects_of, objects_numbered, objects_owned}
+use Rattle.heap_reading.proofs.ObjectsRead.{none_numbered, resting_objects, some_numbered}
 use Rattle.shared_tree.proofs.shared.Shared.resting_chunk.Goals as goal
 
 -- the objects of the number are those of its chunk in the heap that was found

@@ -1,6 +1,6 @@
 use Rattle.std.proofs.Common.{◌≡◌, ℕ, None, List, Option, slice_get, ap, sym, subst, ◌∙◌}
-use Rattle.remembered_set.specs.Moved.{AreFields}
 use Rattle.chunk_pool.specs.Chunks.{Chunks}
+use Rattle.remembered_set.specs.Moved.{AreFields}
 use Rattle.write_barrier.specs.declared.sets.SetOf.{SetOf}
 use Rattle.task_machine.specs.declared.part.Private.{Private}
 use Rattle.shared_value.specs.declared.rest.Rest.{Rest}
@@ -8,8 +8,8 @@ use Rattle.shared_value.specs.World.{World, accounts}
 use Rattle.shared_value.specs.Fits.{Fits}
 use Rattle.shared_value.specs.RestingHeaps.{refs_in}
 use Rattle.shared_value.specs.Roots.{sources_of}
+use Rattle.shared_value.proofs.RootsByAccounts.{are_fields}
 use Rattle.shared_tree.specs.contracts.shared.Shared.{the_view}
-use Rattle.shared_value.proofs.Targets.{are_fields}
 use Rattle.shared_tree.proofs.shared.Shared.roots.Goals as goal
 
 pub targets_in-roots-requires : goal.targets_in-roots-requires

@@ -1,14 +1,14 @@
 use Rattle.std.proofs.Common.{◌≡◌, ℕ, true, false, List, is_some, ap, sym, subst, ◌∙◌}
 use Rattle.run_trace.specs.declared.entry.Kind.TheVariants.{More}
+use Rattle.write_barrier.specs.declared.sets.SetOf.{SetOf}
 use Rattle.shared_value.specs.Causes.{first_cause}
 use Rattle.shared_value.specs.Entered.{refused}
-use Rattle.write_barrier.specs.declared.sets.SetOf.{SetOf}
-use Rattle.heap_marking.specs.MarkCauses.{marking_cause, marking_cause_in}
 use Rattle.shared_value.specs.World.{World}
 use Rattle.shared_value.specs.Stands.{IsWorld}
-use Rattle.shared_tree.specs.contracts.shared.Shared.{the_view}
+use Rattle.leaf_collections.proofs.WhyNoChunk.{first_answer}
+use Rattle.heap_marking.specs.MarkCauses.{marking_cause, marking_cause_in}
 use Rattle.heap_marking.proofs.MarkEntries.{some_as_left, some_as_marking}
-use Rattle.leaf_collections.proofs.Needs.{first_answer}
+use Rattle.shared_tree.specs.contracts.shared.Shared.{the_view}
 use Rattle.shared_tree.proofs.shared.Shared.some_refused.Goals as goal
 
 pub returns-then-is_some : goal.returns-then-is_some

@@ -1,14 +1,14 @@
 use Rattle.std.proofs.Common.{◌≡◌, ℕ, None, List, Option, slice_get, ap, sym, subst, ◌∙◌}
-use Rattle.remembered_set.specs.Moved.{AreFields}
 use Rattle.chunk_pool.specs.Chunks.{Chunks}
+use Rattle.remembered_set.specs.Moved.{AreFields}
 use Rattle.write_barrier.specs.declared.sets.SetOf.{SetOf}
 use Rattle.shared_value.specs.declared.rest.Rest.{Rest}
-use Rattle.heap_marking.specs.MarkCauses.{waiting_cause}
 use Rattle.shared_value.specs.World.{World, accounts}
 use Rattle.shared_value.specs.RestingHeaps.{refs_in}
 use Rattle.shared_value.specs.Roots.{sources_of}
-use Rattle.shared_tree.specs.contracts.shared.Shared.{the_view}
+use Rattle.heap_marking.specs.MarkCauses.{waiting_cause}
 use Rattle.heap_marking.proofs.MarkEntries.{mark_fields}
+use Rattle.shared_tree.specs.contracts.shared.Shared.{the_view}
 use Rattle.shared_tree.proofs.shared.Shared.starts.Goals as goal
 
 pub starts_by-starts-requires : goal.starts_by-starts-requires

@@ -1,14 +1,14 @@
 use Rattle.std.proofs.Common.{◌≡◌, ℕ, true, false, List, is_some, ap, sym, subst, ◌∙◌}
 use Rattle.run_trace.specs.Entry.{Event}
 use Rattle.run_trace.specs.declared.entry.Kind.TheVariants.{Sweep}
+use Rattle.write_barrier.specs.declared.sets.SetOf.{SetOf}
 use Rattle.shared_value.specs.Causes.{first_cause, or_else}
 use Rattle.shared_value.specs.Entered.{refused}
-use Rattle.heap_marking.specs.MarkCauses.{marking_cause, marking_cause_in}
-use Rattle.write_barrier.specs.declared.sets.SetOf.{SetOf}
 use Rattle.shared_value.specs.World.{World}
-use Rattle.shared_tree.specs.contracts.shared.Shared.{the_view}
 use Rattle.shared_value.proofs.FirstCauses.{found_first, nothing_first}
+use Rattle.heap_marking.specs.MarkCauses.{marking_cause, marking_cause_in}
 use Rattle.heap_marking.proofs.SweptRefusals.{sweep_answer, sweep_cause}
+use Rattle.shared_tree.specs.contracts.shared.Shared.{the_view}
 use Rattle.shared_tree.proofs.shared.Shared.sweep_refused.Goals as goal
 
 pub returns-then-is_some-2 : goal.returns-then-is_some-2

@@ -1,11 +1,11 @@
 use Rattle.std.proofs.Common.{◌≡◌, ℕ, Some, None, ap, sym, ◌∙◌}
-use Rattle.alloc_path.specs.Heap.{counted}
 use Rattle.run_ledger.specs.Heaps.{heap_of, words_in}
-use Rattle.heap_marking.specs.MarkCauses.{waiting_cause}
+use Rattle.alloc_path.specs.Heap.{counted}
 use Rattle.shared_value.specs.World.{World, accounts, flat, rest_at}
-use Rattle.shared_tree.specs.contracts.shared.Shared.{the_view}
+use Rattle.heap_marking.specs.MarkCauses.{waiting_cause}
 use Rattle.heap_marking.proofs.MarkEntries.{words_now}
-use Rattle.heap_marking.proofs.WaitingHomes.{never_gone}
+use Rattle.heap_marking.proofs.WaitingHome.{never_gone}
+use Rattle.shared_tree.specs.contracts.shared.Shared.{the_view}
 use Rattle.shared_tree.proofs.shared.Shared.words_at.Goals as goal
 
 pub unreachable-requires : goal.unreachable-requires

@@ -1,10 +1,10 @@
 use Rattle.std.proofs.Common.{◌≡◌, ℕ, Some, None, ap, ◌∙◌}
 use Rattle.run_ledger.specs.Heaps.{heap_of, left_in, sweep_number}
-use Rattle.heap_marking.specs.MarkCauses.{marking_cause}
 use Rattle.shared_value.specs.World.{World, accounts, flat, marks_at, rest_at}
-use Rattle.shared_tree.specs.contracts.shared.Shared.{the_view}
-use Rattle.heap_marking.proofs.MarkReady.{marks_within, never_gone}
+use Rattle.heap_marking.specs.MarkCauses.{marking_cause}
+use Rattle.heap_marking.proofs.MarkedHeap.{marks_within, never_gone}
 use Rattle.heap_marking.proofs.SweptUnits.{would_be}
+use Rattle.shared_tree.specs.contracts.shared.Shared.{the_view}
 use Rattle.shared_tree.proofs.shared.Shared.would_give.Goals as goal
 
 pub unreachable-requires : goal.unreachable-requires

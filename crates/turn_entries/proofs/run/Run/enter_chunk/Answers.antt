@@ -1,7 +1,7 @@
 use Rattle.std.proofs.Common.{refl}
+use Rattle.std.proofs.Common.{Some}
 use Rattle.run_trace.specs.declared.entry.Kind.TheVariants.{Chunk}
 use Rattle.run_trace.specs.declared.entry.Kind.{Kind}
-use Rattle.std.proofs.Common.{Some}
 use Rattle.turn_entries.proofs.Free.{chunk_free, only_memory}
 use Rattle.turn_entries.proofs.Going.{may_heap}
 use Rattle.turn_entries.proofs.Turning.{not_over, one, unchanged}

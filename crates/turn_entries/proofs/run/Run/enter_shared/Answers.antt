@@ -1,15 +1,15 @@
 use Rattle.std.proofs.Common.{◌+◌, Option, Some, None, inr, refl, ap, subst, sym, ◌∙◌}
 use Rattle.std.specs.Prelude.{is_some}
-use Rattle.run_ledger.specs.declared.data.RunEnd.{RunEnd}
 use Rattle.run_trace.specs.declared.entry.Kind.{Kind}
 use Rattle.run_trace.specs.declared.entry.Kind.TheVariants.{Ran}
+use Rattle.run_ledger.specs.declared.data.RunEnd.{RunEnd}
+use Rattle.task_machine.specs.declared.part.Paused.TheVariants.{Shared}
 use Rattle.own_steps.specs.Alone.{FinishesAlone, GoesAlone, HaltsAlone}
 use Rattle.child_tasks.specs.ChildEnds.{EndsChild}
 use Rattle.child_tasks.specs.Forks.{ForksOn}
 use Rattle.child_tasks.specs.Hands.{HoldsNone}
 use Rattle.paced_tree.specs.Ran.{RanTo}
 use Rattle.turn_entries.specs.declared.held.Ready.TheVariants.{Paused as HasPaused}
-use Rattle.task_machine.specs.declared.part.Paused.TheVariants.{Shared}
 use Rattle.turn_entries.specs.Acts.{Follows}
 use Rattle.turn_entries.proofs.Free.{alone_free, only_memory}
 use Rattle.turn_entries.proofs.Going.{may_alone, stands_shared}

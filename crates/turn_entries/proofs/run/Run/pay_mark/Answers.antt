@@ -1,6 +1,6 @@
+use Rattle.std.proofs.Common.{Some, refl}
 use Rattle.run_trace.specs.declared.entry.Kind.{Kind}
 use Rattle.run_trace.specs.declared.entry.Kind.TheVariants.{Mark}
-use Rattle.std.proofs.Common.{Some, refl}
 use Rattle.turn_entries.proofs.Free.{mark_free, only_memory}
 use Rattle.turn_entries.proofs.Turning.{not_over, one_of_all, unchanged}
 use Rattle.turn_entries.proofs.run.Run.pay_mark.Goals as goal

@@ -1,6 +1,6 @@
+use Rattle.std.proofs.Common.{Some, refl, ap, sym, ◌∙◌}
 use Rattle.run_trace.specs.declared.entry.Kind.{Kind}
 use Rattle.run_trace.specs.declared.entry.Kind.TheVariants.{More}
-use Rattle.std.proofs.Common.{Some, refl, ap, sym, ◌∙◌}
 use Rattle.shared_value.specs.Entered.{cause_of}
 use Rattle.turn_entries.proofs.Free.{more_free, not_refused}
 use Rattle.turn_entries.proofs.Turning.{one_of_all}

@@ -1,6 +1,6 @@
+use Rattle.std.proofs.Common.{ℕ, Some, subst, refl, ap, sym, ◌∙◌}
 use Rattle.run_trace.specs.declared.entry.Kind.{Kind}
 use Rattle.run_trace.specs.declared.entry.Kind.TheVariants.{Sweep}
-use Rattle.std.proofs.Common.{ℕ, Some, subst, refl, ap, sym, ◌∙◌}
 use Rattle.shared_value.specs.Entered.{cause_of}
 use Rattle.turn_entries.specs.Acts.{ActsFor}
 use Rattle.turn_entries.proofs.Free.{sweep_free, not_refused}

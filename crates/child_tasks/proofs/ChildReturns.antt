@@ -1,0 +1,246 @@
+-- A part whose next step is the last return of a task that another one forked: what is known before it is entered.
+use Rattle.std.proofs.Common.{◌≡◌, ℕ, ℤ, suc, ◌+◌, ◌-◌, ◌<◌, ◌^◌, ◌&&◌, arith, not, Bool, true, false, Option, Some, None, List, [], ◌∷◌, length, slice_get, option_map, is_none, is_some, inl, inr, refl, ap, sym, ◌∙◌}
+use Rattle.std.proofs.lemmas.Bool.{cases_eq, and_parts, cond-false, cond-true, false≢true}
+use Rattle.std.proofs.lemmas.Option.{same_Some}
+use Rattle.listed.proofs.Members.{got_within}
+use Rattle.hh_lang.specs.declared.instr.Instr.{Instr}
+use Rattle.hh_lang.specs.declared.instr.Instr.TheVariants.{Ret}
+use Rattle.hh_lang.specs.declared.program.Line.{Line}
+use Rattle.hh_model.specs.declared.data.Frame.{Frame as Framed}
+use Rattle.hh_model.specs.declared.data.Name.{Name}
+use Rattle.hh_model.specs.declared.data.State.{State as MachineState}
+use Rattle.hh_model.specs.declared.data.Status.{Status}
+use Rattle.hh_model.specs.declared.data.Status.TheVariants.{Running, Waiting as WaitingOf, Ended as EndedWith, Joined as JoinedOf}
+use Rattle.hh_model.specs.declared.data.Task.{Task}
+use Rattle.hh_model.specs.Effect.{effect}
+use Rattle.hh_model.specs.Step.{child_ended_by, fetched, follow, is_joined, is_left, is_over, is_running, is_waiting, kept_by, last_of, last_return, parent_of, parents, result_in, result_of, returned_to, runs, setting, sibling, step, waits}
+use Rattle.hh_model.specs.Tree.{TreeOf}
+use Rattle.run_ledger.specs.declared.data.Ledger.{Ledger}
+use Rattle.run_ledger.specs.Heaps.{heap_of}
+use Rattle.run_ledger.specs.Steps.{has_no_caller, is_open, is_private_by, is_private_line, task_steps}
+use Rattle.run_ledger.proofs.Bounds.{ran_tells}
+use Rattle.run_ledger.proofs.Counted.{journals_are_counted}
+use Rattle.heap_tree.specs.declared.state.State.{State}
+use Rattle.heap_tree.specs.declared.state.State.TheVariants.{Ready, Out, Waiting, Ended, Joined}
+use Rattle.heap_tree.specs.Node.{Node, parent_of as parent_in_tree, state_of as state_in_tree}
+use Rattle.ledger_steps.specs.Last.{Splits}
+use Rattle.core_relation.specs.Whole.{Node as SeenNode, state_by}
+use Rattle.core_relation.specs.Whole.{HasEnded}
+use Rattle.task_machine.specs.declared.part.Private.{Private}
+use Rattle.shared_value.specs.Entered.{refused}
+use Rattle.shared_value.specs.Fits.{Fits}
+use Rattle.shared_value.specs.Stands.{IsWorld}
+use Rattle.shared_value.specs.World.{World, accounts, node_of, state_of}
+use Rattle.shared_value.proofs.PartFitsMachine as link
+use Rattle.shared_value.proofs.BeforeTheEnd.{stands_now}
+use Rattle.shared_value.proofs.StepAccounts.{After}
+use Rattle.shared_value.proofs.TaskTaken.{told}
+use Rattle.own_steps.specs.Alone.{IsShared, alone_event, machine_after}
+use Rattle.own_steps.proofs.AloneEntries.{last_free, runs_on}
+use Rattle.own_steps.proofs.LastStepEntry as last
+use Rattle.own_steps.proofs.LastSteps.{machine_same}
+use Rattle.child_tasks.specs.ChildEnds.{IsAtEnd, is_last, is_last_by, is_last_line}
+use Rattle.child_tasks.proofs.NextStepForks.{node_out, tree_long, tree_parents}
+
+-- ---- IT ISN'T PRIVATE
+
+last_open : (x : Task) (i : Instr) (b : Bool) → is_last x i ≡ true → (not (is_open x i) && b) ≡ false
+last_open x Ret b e = ap (λ c. not c && b) (and_parts (has_no_caller x.below) (is_some x.parent) e).0
+last_open x _ b e = absurd cc
+
+some_is : (o : Option ℕ) → is_some o ≡ true → (q : ℕ) × (o ≡ Some q)
+some_is None e = absurd (false≢true e)
+some_is (Some q) e = (q, refl)
+
+lone_is : (fs : List Framed) → has_no_caller fs ≡ true → fs ≡ []
+lone_is [] e = refl
+lone_is (f ∷ fs) e = absurd (false≢true e)
+
+last_is : (x : Task) (i : Instr) → is_last x i ≡ true → (i ≡ Ret) × (x.below ≡ []) × (q : ℕ) × (x.parent ≡ Some q)
+last_is x Ret e =
+    let b = and_parts (has_no_caller x.below) (is_some x.parent) e in
+    let q = some_is x.parent b.1 in
+    (refl, lone_is x.below b.0, q.0, q.1)
+last_is x _ e = absurd cc
+
+module _ (w : World) (p : Private) where
+  abbrev m : MachineState
+  m = machine_after w p
+
+  by_line : (x : Task) (o : Option Line) → is_last_line x o ≡ true → is_private_line w.program m p.task x o ≡ false
+  by_line x None h = refl
+  by_line x (Some line) h = last_open x line.instr _ h
+
+  by_task : (o : Option Task) → is_last_by w.program o ≡ true → is_private_by w.program m p.task o ≡ false
+  by_task None h = refl
+  by_task (Some x) h = by_line x (fetched w.program x.top) h
+
+  pub end_shared : IsAtEnd w p → IsShared w p
+  end_shared at = record { last = by_task (slice_get m.tasks p.task) at.ends; few = at.few }
+
+-- ---- WHETHER A TASK HAS ENDED, by the tree
+
+ended_state : (s : State) → state_of s ≡ HasEnded → s ≡ Ended
+ended_state Ended e = refl
+ended_state Ready e = absurd cc
+ended_state Out e = absurd cc
+ended_state Waiting e = absurd cc
+ended_state Joined e = absurd cc
+
+not_running : (o : Option ℕ) → HasEnded ≡ state_by Running o → ⊥
+not_running None e = cc
+not_running (Some k) e = cc
+
+abbrev Tells : Status → State → Type 0
+Tells s st = (st ≡ Ended → (r : ℤ × Option Name) × (result_in s ≡ Some r)) × ((st ≡ Ended → ⊥) → result_in s ≡ None)
+
+status_tells : (k : Option ℕ) (s : Status) (st : State) → state_of st ≡ state_by s k → Tells s st
+status_tells k Running st e = ((λ q. absurd (not_running k (ap state_of (sym q) ∙ e))), (λ n. refl))
+status_tells k WaitingOf st e = ((λ q. let z = ap state_of (sym q) ∙ e in absurd cc), (λ n. refl))
+status_tells k (EndedWith n r) st e = ((λ q. ((n, r), refl)), (λ never. absurd (never (ended_state st e))))
+status_tells k JoinedOf st e = ((λ q. let z = ap state_of (sym q) ∙ e in absurd cc), (λ n. refl))
+
+abbrev state_in : Option Node → Option State
+state_in o = option_map (λ (n : Node). n.state) o
+
+none_some : {A B : Type 0} {x : A} → ◌≡◌ {A = Option A} None (Some x) → B
+none_some e = absurd cc
+
+node_tells : (k : Option ℕ) (n : Option Node) (o : Option Task) → option_map node_of n ≡ option_map (told k) o
+    → (state_in n ≡ Some Ended → (r : ℤ × Option Name) × (kept_by o ≡ Some r)) × ((state_in n ≡ Some Ended → ⊥) → kept_by o ≡ None)
+node_tells k None None e = ((λ q. none_some q), (λ n. refl))
+node_tells k None (Some x) e = none_some e
+node_tells k (Some n) None e = none_some (sym e)
+node_tells k (Some n) (Some x) e =
+    let s = status_tells k x.status n.state (ap (λ (z : SeenNode). z.state) (same_Some (node_of n) (told k x) e)) in
+    ((λ q. s.0 (same_Some n.state Ended q)), (λ never. s.1 (λ q. never (ap Some q))))
+
+pub waits_stop : (o : Option Task) → is_waiting o ≡ true → is_running o ≡ false
+waits_stop None e = refl
+waits_stop (Some x) e = by x.status e
+  where
+    by : (s : Status) → waits s ≡ true → runs s ≡ false
+    by Running e = absurd (false≢true e)
+    by WaitingOf e = refl
+    by (EndedWith n r) e = refl
+    by JoinedOf e = refl
+
+sibling_by : (t : ℕ) (b : Bool) → is_left t ≡ b → 0 < t → sibling t ≡ t → ⊥
+sibling_by t true e pos same = let s : sibling t ≡ t + 1 = cond-true (is_left t) (t + 1) (t - 1) e in omega (arith, s, same)
+sibling_by t false e pos same = let s : sibling t ≡ t - 1 = cond-false (is_left t) (t + 1) (t - 1) e in omega (arith, s, same, pos)
+
+-- ---- THE NEXT STEP
+
+module _ (w : World) (k : ℕ) (p : Private) (I : IsWorld w) (F : Fits w k p) (at_end : IsAtEnd w p) (free : refused w (alone_event k p) ≡ None) where
+  abbrev pub shared : IsShared w p
+  shared = end_shared w p at_end
+
+  pub on : (accounts w).end ≡ None
+  on = runs_on w k p I F shared free
+
+  abbrev pub free_last : refused w (last.last_event k p) ≡ None
+  free_last = last_free w k p I F shared free
+
+  abbrev pub t : ℕ
+  t = p.task
+
+  abbrev pub l : Ledger
+  l = accounts w
+
+  abbrev pub M : Ledger
+  M = task_steps w.program l t p.fresh
+
+  abbrev pub S : Splits w.program w.settings l (last.L w k p I F shared free_last) t p.fresh
+  S = last.S w k p I F shared free_last
+
+  last_here : is_last S.task S.line.instr ≡ true
+  last_here =
+      ap (is_last_line S.task) (sym S.at.next)
+      ∙ (ap (is_last_by w.program) (sym S.at.task) ∙ (ap (λ (m : MachineState). is_last_by w.program (slice_get m.tasks t)) (sym (machine_same w k p I F shared on)) ∙ at_end.ends))
+
+  pub says : (S.line.instr ≡ Ret) × (S.task.below ≡ []) × (q : ℕ) × (S.task.parent ≡ Some q)
+  says = last_is S.task S.line.instr last_here
+
+  abbrev pub parent : ℕ
+  parent = says.2
+
+  abbrev pub parent_is : S.task.parent ≡ Some parent
+  parent_is = says.3
+
+  abbrev pub kept_tree : TreeOf M.machine.tasks M.machine.edges
+  kept_tree = (last.knows_mid w k p I F shared free_last).sound.kept.tree
+
+  pub par_mid : parents M.machine.tasks t ≡ Some parent
+  par_mid = ap parent_of S.at.task ∙ parent_is
+
+  pub parent_low : parent < t
+  parent_low = kept_tree.low t parent par_mid
+
+  pub not_root : t ≡ 0 → ⊥
+  not_root e = omega (arith, parent_low, e)
+
+  pub parent_apart : parent ≡ t → ⊥
+  parent_apart e = omega (arith, parent_low, e)
+
+  pub live_mid : is_joined (slice_get M.machine.tasks t) ≡ false
+  live_mid = ap is_joined S.at.task ∙ ap is_over S.at.runs
+
+  pub parent_waits : is_waiting (slice_get M.machine.tasks parent) ≡ true
+  parent_waits = kept_tree.waits t parent par_mid live_mid
+
+  abbrev A : After l M t F.fits.task
+  A = link.A w k p I F on
+
+  pub same_then : (u : ℕ) → (u ≡ t → ⊥) → slice_get M.machine.tasks u ≡ slice_get l.machine.tasks u
+  same_then u ne = A.others u ne
+
+  -- the tree is that of the machine then
+  pub then_parents : (u : ℕ) → parents M.machine.tasks u ≡ parents l.machine.tasks u
+  then_parents u = elim (cases_eq u t) [
+    | inl q ↦ ap (parents M.machine.tasks) q ∙ (ap parent_of A.is ∙ (A.parent ∙ (ap parent_of (sym F.fits.is) ∙ ap (parents l.machine.tasks) (sym q))))
+    | inr ne ↦ ap parent_of (A.others u ne)
+  ]
+
+  pub tree_parent : parent_in_tree w.tree t ≡ Some parent
+  tree_parent = tree_parents w I on t ∙ (sym (then_parents t) ∙ par_mid)
+
+  -- fewer than 2^31 tasks
+  pub few_tasks : length w.tree < 2 ^ 31
+  few_tasks =
+      let a = ran_tells w.program w.settings l k t (suc p.fresh) (ap is_none free_last) in
+      let c = (journals_are_counted w.program w.settings w.journal.items).counts.made in
+      let d = I.limits.fuel.1 in
+      omega (arith, a.2, c, d, tree_long w I on)
+
+  pub own_made : t < length w.tree
+  own_made = let n = node_out w I on k p F in got_within w.tree t n.0 n.1
+
+  abbrev pub other : ℕ
+  other = sibling t
+
+  pub other_apart : other ≡ t → ⊥
+  other_apart e = sibling_by t (is_left t) refl (omega (arith, parent_low)) e
+
+  pub other_parent : parents M.machine.tasks other ≡ Some parent
+  other_parent = kept_tree.pairs t parent par_mid
+
+  other_same : slice_get M.machine.tasks other ≡ slice_get l.machine.tasks other
+  other_same = A.others other other_apart
+
+  pub other_ended : state_in_tree w.tree other ≡ Some Ended → (r : ℤ × Option Name) × (kept_by (slice_get M.machine.tasks other) ≡ Some r)
+  other_ended e =
+      let n = node_tells (heap_of l other).worker (slice_get w.tree other) (slice_get l.machine.tasks other) ((stands_now w I on).totals.node other) in
+      let r = n.0 e in
+      (r.0, ap kept_by other_same ∙ r.1)
+
+  pub other_open : (state_in_tree w.tree other ≡ Some Ended → ⊥) → kept_by (slice_get M.machine.tasks other) ≡ None
+  other_open never =
+      let n = node_tells (heap_of l other).worker (slice_get w.tree other) (slice_get l.machine.tasks other) ((stands_now w I on).totals.node other) in
+      ap kept_by other_same ∙ n.1 never
+
+  -- the machine after the step
+  pub step_is : step w.program M.machine t ≡ child_ended_by M.machine t S.task parent (result_of S.task.top) (kept_by (slice_get M.machine.tasks other))
+  step_is =
+      last.taken w k p I F shared free_last
+      ∙ (ap (λ (i : Instr). follow M.machine t S.task S.line.number (effect (setting M.machine t S.task) S.task.top M.machine.store i)) says.0
+      ∙ (ap (λ (fs : List Framed). returned_to M.machine t S.task (last_of fs)) says.1 ∙ ap (last_return M.machine t S.task) parent_is))

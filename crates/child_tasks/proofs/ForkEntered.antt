@@ -1,0 +1,326 @@
+-- A fork is entered: the task waits, and two children are ready.
+use Rattle.std.proofs.Common.{◌≡◌, ℕ, zero, suc, ◌+◌, ◌<◌, ◌++◌, arith, true, false, nat_lt, Option, Some, None, List, [], ◌∷◌, length, length-set, slice_get, slice_set, option_map, inl, inr, refl, ap, ap₂, sym, subst, ◌∙◌}
+use Rattle.std.proofs.lemmas.Bool.{cases_eq, cases_lt, cond-true, lt-ltb}
+use Rattle.std.proofs.lemmas.Option.{same_Some}
+use Rattle.listed.proofs.Members.{got_back, got_front, got_other, got_past, got_within}
+use Rattle.listed.specs.Space.{Space}
+use Rattle.hh_lang.specs.declared.instr.Instr.{Instr}
+use Rattle.hh_lang.specs.declared.instr.Instr.TheVariants.{Par}
+use Rattle.hh_model.specs.declared.data.State.{State as MachineState}
+use Rattle.hh_model.specs.declared.data.Status.TheVariants.{Waiting as WaitingOf}
+use Rattle.hh_model.specs.declared.data.Task.{Task}
+use Rattle.hh_model.specs.Effect.{onward}
+use Rattle.hh_model.specs.Step.{child, depth_limit, edge, strand, strand_of}
+use Rattle.hh_model.proofs.Runs.{grown_at}
+use Rattle.run_trace.specs.Entry.{Event}
+use Rattle.run_ledger.specs.declared.data.Ledger.{Ledger}
+use Rattle.object_layout.specs.declared.word.Addr.{Addr}
+use Rattle.alloc_path.specs.View.{view_below}
+use Rattle.heap_tree.specs.declared.state.State.TheVariants.{Waiting}
+use Rattle.heap_tree.specs.Node.{Node, child_of, depth_of, forked, with_state}
+use Rattle.heap_tree.proofs.ChangeLemmas.{all}
+use Rattle.write_barrier.specs.declared.sets.SetOf.{SetOf}
+use Rattle.write_barrier.specs.Stored.{content_at, content_of}
+use Rattle.inner_mark_gc.specs.Marks.{Marks}
+use Rattle.ledger_steps.specs.Accounts.{rested}
+use Rattle.ledger_steps.specs.Last.{Forking, ForksOn, Runs, Splits}
+use Rattle.core_relation.specs.Value.{Home, Noted, Value, sources}
+use Rattle.core_relation.specs.Begins.{AreRoots}
+use Rattle.core_relation.specs.Changes.{ForksHome, advanced, child_home}
+use Rattle.core_relation.specs.Fits.{part_for, with_home}
+use Rattle.core_relation.specs.RanCounts.{NodesFork, RanCounts}
+use Rattle.core_relation.specs.Since.{ForksNotes}
+use Rattle.core_relation.specs.Worker.{Fits as FitsValue}
+use Rattle.core_relation.proofs.whole.RanWhole.{ran_stands_for}
+use Rattle.core_relation.proofs.changes.With.{at_home, off_home}
+use Rattle.core_relation.proofs.parts.Workers.{ran_leaves}
+use Rattle.task_machine.specs.declared.part.Private.{Private}
+use Rattle.shared_value.specs.declared.rest.Rest.{Rest}
+use Rattle.shared_value.specs.Objects.{levels_of}
+use Rattle.shared_value.specs.World.{World, marks_at, accounts, begun_of, flat, home_in, home_of, node_of, noted_in, rest_at, totals_of, value_of}
+use Rattle.shared_value.specs.Measured.{AreMeasured, RestsAreMeasured}
+use Rattle.shared_value.specs.Stands.{HeapForm, IsWorld}
+use Rattle.shared_value.specs.Fits.{Fits, OthersFit, home_of_part, part_of}
+use Rattle.shared_value.specs.Entered.{refused}
+use Rattle.shared_value.proofs.EntryMade.{hand_is, held_apart, unheld_before}
+use Rattle.shared_value.proofs.MarkingEntryMade.{entered_marks, marked_fits, marked_world}
+use Rattle.shared_value.proofs.Levels.{level_is}
+use Rattle.shared_value.proofs.PartFitsMachine as link
+use Rattle.shared_value.proofs.BeforeTheEnd.{end_now}
+use Rattle.shared_value.proofs.TaskTaken.{item_there, made_by, node_by, node_off, put_there, worker_there}
+use Rattle.own_steps.specs.Alone.{IsShared, alone_event}
+use Rattle.own_steps.proofs.LastStepEntry as last
+use Rattle.own_steps.proofs.LastStepEntry.{last_event}
+use Rattle.child_tasks.specs.Forks.{ForksTo, HomesFork, IsAtFork, SetsFork, keeping, waiting_rest}
+use Rattle.child_tasks.proofs.NextStepForks as steps
+use Rattle.child_tasks.proofs.LastForkKinds.{forks}
+use Rattle.child_tasks.proofs.RootsListed.{roots_are}
+use Rattle.child_tasks.proofs.SetsNoted.{empty_form, keeping_kept, keeping_sources, noted_by, noted_of}
+
+abbrev left_of : Instr → ℕ
+left_of (Par g h) = g
+left_of _ = 0
+
+abbrev right_of : Instr → ℕ
+right_of (Par g h) = h
+right_of _ = 0
+
+none_left : (marks : List (Option Marks)) (t : ℕ) → marks_at (slice_set marks t None) t ≡ None
+none_left [] t = refl
+none_left (m ∷ marks) zero = refl
+none_left (m ∷ marks) (suc t) = none_left marks t
+
+module _ (w : World) (k : ℕ) (p : Private) (I : IsWorld w) (F : Fits w k p) (at_fork : IsAtFork w p) (free : refused w (alone_event k p) ≡ None) (left right number : ℕ) (B : ForksTo w p left right number) (shallow : depth_of w.tree p.task < 1000) where
+  abbrev t : ℕ
+  t = p.task
+
+  abbrev l : Ledger
+  l = accounts w
+
+  abbrev M : Ledger
+  M = steps.M w k p I F at_fork free
+
+  abbrev shared : IsShared w p
+  shared = steps.shared w k p I F at_fork free
+
+  abbrev free_last : refused w (last_event k p) ≡ None
+  free_last = steps.free_last w k p I F at_fork free
+
+  abbrev L : Ledger
+  L = last.L w k p I F shared free_last
+
+  abbrev v : Value
+  v = value_of w
+
+  abbrev h : Home
+  h = home_of_part p
+
+  abbrev S : Splits w.program w.settings l L t p.fresh
+  S = steps.S w k p I F at_fork free
+
+  abbrev a : ℕ
+  a = length M.machine.tasks
+
+  -- ---- THE MACHINE THEN
+  abbrev y : Task
+  y = record S.task { status = WaitingOf; top = onward S.task.top }
+
+  abbrev m' : MachineState
+  m' = record M.machine {
+    tasks = slice_set M.machine.tasks t y ++ child t (S.task.depth + 1) left S.task.top ∷ child t (S.task.depth + 1) right S.task.top ∷ [];
+    store = M.machine.store ++ [] ∷ [] ∷ [];
+    edges = M.machine.edges ++ edge (strand_of t S.task) (strand a 0) ∷ edge (strand_of t S.task) (strand (a + 1) 0) ∷ [];
+  }
+
+  machine_is : L.machine ≡ m'
+  machine_is =
+      let lt : S.task.depth < 1000 = let e = steps.depth_is w k p I F at_fork free in omega (arith, e, shallow) in
+      last.machine_then w k p I F shared free_last
+      ∙ (steps.forked_so w k p I F at_fork free left right number B ∙ cond-true (nat_lt S.task.depth depth_limit) m' _ (lt-ltb S.task.depth 1000 lt))
+
+  at_then : slice_get L.machine.tasks t ≡ Some y
+  at_then = ap (λ (m : MachineState). slice_get m.tasks t) machine_is ∙ grown_at M.machine.tasks t S.task y (child t (S.task.depth + 1) left S.task.top) (child t (S.task.depth + 1) right S.task.top) S.at.task
+
+  goes_then : L.machine.end ≡ None
+  goes_then = ap (λ (m : MachineState). m.end) machine_is ∙ last.mid_goes w k p I F shared free_last
+
+  Q : ForksOn M L t S.task S.line
+  Q =
+      forks w.program M L t S.task S.line (last.is_not_private w k p I F shared free_last) left right (steps.by w k p I F at_fork free left right number B) y at_then refl goes_then S.kind S.last
+
+  left_is : Q.left ≡ left
+  left_is = ap left_of (sym Q.by ∙ steps.by w k p I F at_fork free left right number B)
+
+  right_is : Q.right ≡ right
+  right_is = ap right_of (sym Q.by ∙ steps.by w k p I F at_fork free left right number B)
+
+  -- how the entry splits
+  abbrev E : Runs w.program w.settings l L t k p.fresh
+  E = record (last.runs_so w k p I F shared free_last) { splits = record S { kind = Forking; last = Q; apart = last.is_not_private w k p I F shared free_last; on = λ u. goes_then } }
+
+  abbrev own : FitsValue w.program w.settings (part_for w.settings t h p.fresh) v l
+  own = F.fits
+
+  -- ---- THE NUMBERS OF THE CHILDREN
+  pub made_is : a ≡ length w.tree
+  made_is = steps.then_long w k p I F at_fork free ∙ sym (steps.tree_long w I (steps.on w k p I F at_fork free))
+
+  home_is : a ≡ length w.homes
+  home_is = made_is ∙ sym I.made
+
+  set_is : a ≡ length w.sets
+  set_is = made_is ∙ sym I.noted
+
+  pub has_node : t < length w.tree
+  has_node = let n = steps.node_out w I (steps.on w k p I F at_fork free) k p F in got_within w.tree t n.0 n.1
+
+  abbrev vt : Value
+  vt = with_home v t h
+
+  here : vt.homes t ≡ h
+  here = at_home v t h
+
+  module _ (homes : List (Option Rest)) (sets : List SetOf) (H : HomesFork w.homes homes p left right) (N : SetsFork w.sets sets t) (marks : List (Option Marks)) (unmarked : marks ≡ slice_set w.marks t None) (j : Space Event) where
+    abbrev tree : List Node
+    tree = forked w.tree t
+
+    abbrev hands : List (Option ℕ)
+    hands = slice_set w.hands k None
+
+    abbrev all_steps : ℕ
+    all_steps = w.steps + suc p.fresh
+
+    abbrev pub w' : World
+    w' = entered_marks w (last_event k p) tree w.pool homes sets hands w.outputs all_steps w.end j.room marks
+
+    abbrev v' : Value
+    v' = value_of w'
+
+    noted_then : (u : ℕ) → noted_in (slice_get sets u) ≡ noted_of (content_at sets u)
+    noted_then u = noted_by sets u
+
+    noted_now : (u : ℕ) → noted_in (slice_get w.sets u) ≡ noted_of (content_at w.sets u)
+    noted_now u = noted_by w.sets u
+
+    left_set : content_at sets a ≡ Some (record { sources = []; kept = []; keeps = false })
+    left_set = ap (content_at sets) set_is ∙ N.left_set
+
+    right_set : content_at sets (a + 1) ≡ Some (record { sources = []; kept = []; keeps = false })
+    right_set = ap (λ n. content_at sets (n + 1)) set_is ∙ N.right_set
+
+    other_set : (u : ℕ) → (u ≡ t → ⊥) → (u ≡ a → ⊥) → (u ≡ a + 1 → ⊥) → content_at sets u ≡ content_at w.sets u
+    other_set u nt na nb = N.others u nt (λ e. na (e ∙ sym set_is)) (λ e. nb (e ∙ ap (λ n. n + 1) (sym set_is)))
+
+    same_noted : (u : ℕ) → (u ≡ t → ⊥) → (u ≡ a → ⊥) → (u ≡ a + 1 → ⊥) → noted_in (slice_get sets u) ≡ noted_in (slice_get w.sets u)
+    same_noted u nt na nb = noted_then u ∙ (ap noted_of (other_set u nt na nb) ∙ sym (noted_now u))
+
+    source_same : (u : ℕ) → (u ≡ a → ⊥) → (u ≡ a + 1 → ⊥) → sources v' u ≡ sources v u
+    source_same u na nb = elim (cases_eq u t) [
+      | inl e ↦
+          ap (sources v') e
+          ∙ (ap (λ (z : Noted). z.sources) (noted_then t) ∙ (ap (λ o. (noted_of o).sources) N.parent ∙ (keeping_sources (content_at w.sets t) ∙ (ap (λ (z : Noted). z.sources) (sym (noted_now t)) ∙ ap (sources v) (sym e)))))
+      | inr nt ↦ ap (λ (z : Noted). z.sources) (same_noted u nt na nb)
+    ]
+
+    -- a child sees what is immutable in its parent's home
+    begun_home : (g : ℕ) → record (child_home g h) { view = levels_of (view_below p.heap.chunks (Some p.view)) } ≡ child_home g h
+    begun_home g = ap (λ ls. let z : Home = record (child_home g h) { view = ls ∷ levels_of p.view } in z) (level_is p.heap.chunks)
+
+    forks_home : ForksHome vt v' t a (a + 1) Q.left Q.right
+    forks_home = record {
+      home = ap home_in H.parent ∙ (ap (λ o. let z : Home = record (home_of (waiting_rest p)) { begun = o } in z) (sym (ap begun_of (last.none w k p I F shared free_last))) ∙ ap (λ (z : Home). record z { frames = advanced z.frames }) (sym here));
+      left = ap v'.homes home_is ∙ (ap home_in H.left_home.2 ∙ (begun_home left ∙ ap₂ (λ g (z : Home). child_home g z) (sym left_is) (sym here)));
+      right = ap (λ n. v'.homes (n + 1)) home_is ∙ (ap home_in H.right_home.2 ∙ (begun_home right ∙ ap₂ (λ g (z : Home). child_home g z) (sym right_is) (sym here)));
+      others = λ u nt na nb. ap home_in (H.others u nt (λ e. na (e ∙ sym home_is)) (λ e. nb (e ∙ ap (λ n. n + 1) (sym home_is)))) ∙ sym (off_home v t h u nt);
+      owner = λ c. refl;
+      left_noted = ap (λ (z : Noted). z.sources) (noted_then a ∙ ap noted_of left_set);
+      right_noted = ap (λ (z : Noted). z.sources) (noted_then (a + 1) ∙ ap noted_of right_set);
+      sources = λ u na nb. source_same u na nb;
+    }
+
+    -- what is kept from now on
+    set_there : (s : SetOf) × (slice_get w.sets t ≡ Some s)
+    set_there = item_there w.sets t (subst (λ n. t < n) (sym I.noted) has_node)
+
+    keeps_now : (v'.noted t).keeps ≡ true
+    keeps_now = ap (λ (z : Noted). z.keeps) (noted_then t ∙ ap noted_of (N.parent ∙ ap (λ o. option_map keeping (option_map content_of o)) set_there.1))
+
+    forks_notes : ForksNotes vt v' t a (a + 1)
+    forks_notes = record {
+      keeps = keeps_now;
+      kept = ap (λ (z : Noted). z.kept) (noted_then t) ∙ (ap (λ o. (noted_of o).kept) N.parent ∙ keeping_kept (content_at w.sets t));
+      marked = ap (λ ms. marks_at ms t) unmarked ∙ none_left w.marks t;
+      left = ap (λ (z : Noted). z.keeps) (noted_then a ∙ ap noted_of left_set);
+      right = ap (λ (z : Noted). z.keeps) (noted_then (a + 1) ∙ ap noted_of right_set);
+      others = λ u nt na nb. let e = same_noted u nt na nb in record { keeps = ap (λ (z : Noted). z.keeps) e; kept = ap (λ (z : Noted). z.kept) e; marked = ap (λ ms. marks_at ms u) unmarked ∙ ap flat (got_other w.marks t u None nt) };
+    }
+
+    roots : (rs : List Addr) × AreRoots vt (rested M t) t rs
+    roots = roots_are vt (rested M t) t (link.W w k p I F (steps.on w k p I F at_fork free))
+
+    -- ---- THE TREE
+    abbrev old : List Node
+    old = with_state w.tree t Waiting
+
+    old_long : length old ≡ length w.tree
+    old_long = made_by w.tree t Waiting (slice_get w.tree t)
+
+    child_node : (i : ℕ) → slice_get tree (length w.tree + i) ≡ slice_get (child_of t ∷ child_of t ∷ []) i
+    child_node i = ap (λ n. slice_get tree (n + i)) (sym old_long) ∙ got_back old (child_of t ∷ child_of t ∷ []) i
+
+    node_front : (u : ℕ) → u < length w.tree → slice_get tree u ≡ slice_get old u
+    node_front u lt = got_front old (child_of t ∷ child_of t ∷ []) u (subst (λ n. u < n) (sym old_long) lt)
+
+    node_other : (u : ℕ) → (u ≡ t → ⊥) → (u ≡ a → ⊥) → (u ≡ a + 1 → ⊥) → option_map node_of (slice_get tree u) ≡ option_map node_of (slice_get w.tree u)
+    node_other u nt na nb = elim (cases_lt u (length w.tree)) [
+      | inl lt ↦ ap (option_map node_of) (node_front u lt) ∙ node_off w.tree t Waiting (slice_get w.tree t) u nt
+      | inr le ↦
+          let e = made_is in
+          let n = all w.tree t in
+          ap (option_map node_of) (got_past tree u (omega (arith, le, na, nb, e, n)) ∙ sym (got_past w.tree u le))
+    ]
+
+    nodes_fork : NodesFork (totals_of w) (totals_of w') t a (a + 1)
+    nodes_fork = record {
+      parent = ap (option_map node_of) (node_front t has_node) ∙ node_by w.tree t Waiting (slice_get w.tree t) refl;
+      left = ap (option_map node_of) (ap (slice_get tree) (let e : a ≡ length w.tree + 0 = omega (arith, made_is) in e) ∙ child_node 0);
+      right = ap (option_map node_of) (ap (slice_get tree) (let e : a + 1 ≡ length w.tree + 1 = omega (arith, made_is) in e) ∙ child_node 1);
+      others = node_other;
+    }
+
+    counts : RanCounts w.program (totals_of w) (totals_of w') M L t k p.fresh S.task S.line Forking Q
+    counts = record {
+      tree = nodes_fork;
+      hand = record { hand = ap flat (put_there w.hands k None (worker_there w (last_event k p) I free_last)); others = λ u ne. ap flat (got_other w.hands k u None ne) };
+      outputs = refl;
+      end = refl;
+      used = refl;
+      steps = refl;
+    }
+
+    heap_at : (u : ℕ) (r q : Rest) → rest_at homes u ≡ Some r → rest_at homes u ≡ Some q → HeapForm q.heap → HeapForm r.heap
+    heap_at u r q is that form = subst (λ (z : Rest). HeapForm z.heap) (same_Some q r (sym that ∙ is)) form
+
+    heaps_then : (u : ℕ) (r : Rest) → rest_at homes u ≡ Some r → HeapForm r.heap
+    heaps_then u r is = elim (cases_eq u t) [
+      | inl e ↦ heap_at t r (waiting_rest p) (ap (rest_at homes) (sym e) ∙ is) H.parent F.form
+      | inr nt ↦ elim (cases_eq u (length w.homes)) [
+        | inl e ↦ heap_at (length w.homes) r _ (ap (rest_at homes) (sym e) ∙ is) H.left_home.2 (empty_form H.left_home.0 H.left_home.1)
+        | inr na ↦ elim (cases_eq u (length w.homes + 1)) [
+          | inl e ↦ heap_at (length w.homes + 1) r _ (ap (rest_at homes) (sym e) ∙ is) H.right_home.2 (empty_form H.right_home.0 H.right_home.1)
+          | inr nb ↦ I.heaps u r (sym (H.others u nt na nb) ∙ is)
+        ]
+      ]
+    ]
+
+    measured_at : (u : ℕ) (r q : Rest) → rest_at homes u ≡ Some r → rest_at homes u ≡ Some q → AreMeasured w.pool u q.heap.chunks → AreMeasured w.pool u r.heap.chunks
+    measured_at u r q is that has = subst (λ (z : Rest). AreMeasured w.pool u z.heap.chunks) (same_Some q r (sym that ∙ is)) has
+
+    measured_then : RestsAreMeasured w.pool homes hands
+    measured_then u r is f = elim (cases_eq u t) [
+      | inl e ↦ measured_at u r (waiting_rest p) is (ap (rest_at homes) e ∙ H.parent) (subst (λ z. AreMeasured w.pool z p.heap.chunks) (sym e) F.measured.0)
+      | inr nt ↦ elim (cases_eq u (length w.homes)) [
+        | inl e ↦ measured_at u r _ is (ap (rest_at homes) e ∙ H.left_home.2) (λ c i. absurd i)
+        | inr na ↦ elim (cases_eq u (length w.homes + 1)) [
+          | inl e ↦ measured_at u r _ is (ap (rest_at homes) e ∙ H.right_home.2) (λ c i. absurd i)
+          | inr nb ↦ I.measured u r (sym (H.others u nt na nb) ∙ is) (unheld_before w.hands k None u f (λ h. nt (same_Some u t (sym h ∙ hand_is w k p I (steps.on w k p I F at_fork free) F))))
+        ]
+      ]
+    ]
+
+    pub forked_world : IsWorld w'
+    forked_world =
+        let n = all w.tree t in
+        marked_world w (last_event k p) I free_last tree w.pool homes sets hands w.outputs all_steps w.end j.room marks
+        (H.count ∙ (ap (λ n. n + 2) I.made ∙ sym n)) (N.count ∙ (ap (λ n. n + 2) I.noted ∙ sym n)) (length-set w.hands k None) refl
+        (ran_stands_for w.program w.settings w.journal.items I.form I.legal v v' (totals_of w) (totals_of w') k t p.fresh h free_last E I.stands own forks_home (roots.0, roots.1, forks_notes) counts)
+        heaps_then measured_then
+
+    pub forked_goes : (accounts w').end ≡ None
+    forked_goes = sym (end_now w' forked_world) ∙ (end_now w I ∙ steps.on w k p I F at_fork free)
+
+    -- THE PARTS OF OTHERS
+    pub forked_others : OthersFit w w' k
+    forked_others u r ne G =
+        marked_fits w (last_event k p) I free_last tree w.pool homes sets hands w.outputs all_steps w.end j.room marks forked_world u r r (ap flat (got_other w.hands k u None ne)) G refl refl refl G.form G.measured
+        (ran_leaves w.program w.settings v v' l L t k p.fresh h E own forks_home (part_of w.settings r) (held_apart w k u p r F G ne) G.fits)

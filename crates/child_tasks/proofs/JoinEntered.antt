@@ -1,0 +1,303 @@
+-- A child's last frame returns after its sibling's: both join their parent, which is ready again.
+use Rattle.std.proofs.Common.{◌≡◌, ℕ, ℤ, suc, ◌+◌, ◌++◌, arith, Option, Some, None, List, [], ◌∷◌, length-set, slice_get, map, slice_set, inl, inr, refl, ap, sym, subst, ◌∙◌}
+use Rattle.std.proofs.lemmas.Bool.{cases_eq}
+use Rattle.std.proofs.lemmas.Option.{same_Some}
+use Rattle.listed.proofs.Members.{got_other}
+use Rattle.listed.specs.Space.{Space}
+use Rattle.hh_model.specs.declared.data.Task.{Task}
+use Rattle.run_trace.specs.declared.entry.Kind.TheVariants.{Ran}
+use Rattle.run_trace.specs.Entry.{Event}
+use Rattle.run_ledger.specs.declared.data.Ledger.{Ledger}
+use Rattle.object_layout.specs.declared.word.Addr.{Addr}
+use Rattle.chunk_pool.specs.Chunks.{Chunks}
+use Rattle.alloc_path.specs.Heap.{Heap, merged, room_of, with_places}
+use Rattle.alloc_path.specs.View.{Level}
+use Rattle.task_frames.specs.Stack.{Stack}
+use Rattle.heap_tree.specs.declared.state.State.TheVariants.{Ended}
+use Rattle.heap_tree.specs.Node.{Node, state_of as state_in_tree, with_state}
+use Rattle.write_barrier.specs.declared.sets.SetOf.{SetOf}
+use Rattle.write_barrier.specs.Stored.{Content as NotedOf, content_at}
+use Rattle.fork_join.specs.Joined.{AreRelabelled, joined_nodes, with_results}
+use Rattle.ledger_steps.specs.Accounts.{rested}
+use Rattle.ledger_steps.specs.Last.{EndsLast, Joining, Runs, Splits}
+use Rattle.core_relation.specs.Value.{Home, Noted, Value, sources}
+use Rattle.core_relation.specs.Changes.{HasResult, JoinsHomes}
+use Rattle.core_relation.specs.Fits.{part_for, with_home}
+use Rattle.core_relation.specs.RanCounts.{NodesJoin, RanCounts}
+use Rattle.core_relation.specs.Since.{JoinsNotes}
+use Rattle.core_relation.specs.Stands.{Stands}
+use Rattle.core_relation.specs.Worker.{Fits as FitsValue}
+use Rattle.core_relation.proofs.whole.RanWhole.{ran_stands_for}
+use Rattle.core_relation.proofs.parts.Workers.{ran_leaves}
+use Rattle.task_machine.specs.declared.part.Private.{Private}
+use Rattle.shared_value.specs.declared.rest.Rest.{Rest}
+use Rattle.shared_value.specs.declared.rest.Work.{Work}
+use Rattle.shared_value.specs.declared.rest.Work.TheVariants.{Calls}
+use Rattle.shared_value.specs.World.{World, noted_in, accounts, flat, home_by, home_in, rest_at, source_of, totals_of, value_of}
+use Rattle.shared_value.specs.Stands.{HeapForm, IsWorld}
+use Rattle.shared_value.specs.Fits.{Fits, OthersFit, home_of_part, part_of}
+use Rattle.shared_value.specs.Entered.{refused}
+use Rattle.shared_value.proofs.EntryMade.{accounts_are, entered, entered_world, held_apart, part_fits}
+use Rattle.shared_value.proofs.BeforeTheEnd.{end_now}
+use Rattle.shared_value.proofs.TaskTaken.{put_there, worker_there}
+use Rattle.own_steps.specs.Alone.{alone_event}
+use Rattle.own_steps.proofs.LastStepEntry as last
+use Rattle.own_steps.proofs.LastStepEntry.{last_event}
+use Rattle.child_tasks.specs.ChildEnds.{EndsChild, IsAtEnd, running_parent}
+use Rattle.child_tasks.specs.Joins.{AreSides, HomesJoin, IsRestOf, SetsJoin, sources_at}
+use Rattle.child_tasks.proofs.ChildReturns as steps
+use Rattle.child_tasks.proofs.JoinUnits.{joined_measured, others_measured}
+use Rattle.child_tasks.proofs.SetsNoted.{empty_form, noted_by, noted_of}
+use Rattle.child_tasks.proofs.JoinHomes.{Merges, by_content, joins_homes}
+use Rattle.child_tasks.proofs.JoinTree.{joined_long, left_node, other_node, parent_node, right_node}
+use Rattle.child_tasks.proofs.MergedHeapForm.{merged_form}
+use Rattle.child_tasks.proofs.SiblingReturned as before
+use Rattle.child_tasks.proofs.JoinedHomes as both
+
+module _ (w : World) (k : ℕ) (p : Private) (I : IsWorld w) (F : Fits w k p) (at_end : IsAtEnd w p) (free : refused w (alone_event k p) ≡ None) (ended : state_in_tree w.tree (steps.other w k p I F at_end free) ≡ Some Ended) where
+  abbrev t : ℕ
+  t = p.task
+
+  abbrev M : Ledger
+  M = steps.M w k p I F at_end free
+
+  abbrev R : Ledger
+  R = rested M t
+
+  abbrev L : Ledger
+  L = last.L w k p I F (steps.shared w k p I F at_end free) (steps.free_last w k p I F at_end free)
+
+  abbrev v : Value
+  v = value_of w
+
+  abbrev h : Home
+  h = home_of_part p
+
+  abbrev vt : Value
+  vt = with_home v t h
+
+  abbrev x : Task
+  x = (steps.S w k p I F at_end free).task
+
+  abbrev pub q : ℕ
+  q = steps.parent w k p I F at_end free
+
+  abbrev pub s : ℕ
+  s = steps.other w k p I F at_end free
+
+  abbrev W : Stands vt R
+  W = before.W w k p I F at_end free ended
+
+  abbrev Q : EndsLast M L t x
+  Q = before.Q w k p I F at_end free ended
+
+  here : vt.homes t ≡ h
+  here = before.here w k p I F at_end free ended
+
+  off : (u : ℕ) → (u ≡ t → ⊥) → vt.homes u ≡ v.homes u
+  off u ne = before.off w k p I F at_end free ended u ne
+
+  abbrev l : Ledger
+  l = accounts w
+
+  abbrev free_last : refused w (last_event k p) ≡ None
+  free_last = steps.free_last w k p I F at_end free
+
+  abbrev S : Splits w.program w.settings l L t p.fresh
+  S = steps.S w k p I F at_end free
+
+  abbrev E : Runs w.program w.settings l L t k p.fresh
+  E = before.E w k p I F at_end free ended
+
+  abbrev own : FitsValue w.program w.settings (part_for w.settings t h p.fresh) v l
+  own = F.fits
+
+  module _ (above beside : Rest) (frames : Stack) (above_is : rest_at w.homes q ≡ Some above) (calls : above.work ≡ Calls frames) (beside_is : IsRestOf (rest_at w.homes s) beside) (c : ℕ) (lh rh : Heap) (al ar : ℤ × Option Addr) (side : AreSides p s beside c lh rh al ar) where
+    module _ (homes : List (Option Rest)) (sets : List SetOf) (pool : Chunks) (heap : Heap) (H : HomesJoin w.homes homes p q s (with_results frames al ar) heap above beside) (N : SetsJoin w.sets sets q c (c + 1) above.heap.chunks)
+        (relabelled : AreRelabelled w.pool pool (lh.chunks ++ rh.chunks) q) (heap_is : heap ≡ with_places (merged above.heap lh rh) heap.slots heap.spare) (room_is : room_of heap ≡ room_of above.heap) (j : Space Event) where
+      abbrev tree : List Node
+      tree = joined_nodes (with_state w.tree t Ended) q c (c + 1)
+
+      abbrev hands : List (Option ℕ)
+      hands = slice_set w.hands k None
+
+      abbrev all_steps : ℕ
+      all_steps = w.steps + suc p.fresh
+
+      abbrev w' : World
+      w' = entered w (last_event k p) tree pool homes sets hands w.outputs all_steps w.end j.room
+
+      abbrev v' : Value
+      v' = value_of w'
+
+      -- ---- WHAT IS NOTED
+      sources_was : (u : ℕ) → sources vt u ≡ map source_of (sources_at w.sets u)
+      sources_was u = ap (λ (z : Noted). z.sources) (noted_by w.sets u) ∙ by_content (content_at w.sets u)
+
+      set_then : (u : ℕ) (y : NotedOf) → content_at sets u ≡ Some y → noted_in (slice_get sets u) ≡ noted_of (Some y)
+      set_then u y e = noted_by sets u ∙ ap noted_of e
+
+      same_noted : (u : ℕ) → (u ≡ q → ⊥) → (u ≡ c → ⊥) → (u ≡ c + 1 → ⊥) → noted_in (slice_get sets u) ≡ noted_in (slice_get w.sets u)
+      same_noted u nq nc nd = noted_by sets u ∙ (ap noted_of (N.others u nq nc nd) ∙ sym (noted_by w.sets u))
+
+      notes : JoinsNotes vt v' q c (c + 1)
+      notes = record {
+        parent = ap (λ (z : Noted). z.keeps) (set_then q _ N.parent_set);
+        left = ap (λ (z : Noted). z.keeps) (set_then c _ N.left_set);
+        right = ap (λ (z : Noted). z.keeps) (set_then (c + 1) _ N.right_set);
+        others = λ u nq nc nd. let e = same_noted u nq nc nd in record { keeps = ap (λ (z : Noted). z.keeps) e; kept = ap (λ (z : Noted). z.kept) e; marked = refl };
+      }
+
+      -- ---- THE HOMES
+      abbrev HasBoth : ℕ → Heap → Type 0
+      HasBoth u g = (n : ℕ) × (z : Work) × (view : List Level) × (vt.homes u ≡ home_by g view n z) × (slots : ℕ) × (spare : ℕ) × (v'.homes u ≡ home_by (record { chunks = []; current = None; reserved = None; since = 0; slots = slots; spare = spare }) [] n z)
+
+      both_then : HasBoth c lh × HasBoth (c + 1) rh
+      both_then =
+          both.sides_of w k p I F at_end free ended above beside frames above_is calls beside_is c lh rh al ar side HasBoth (p.allocations, Calls p.frames, p.view, before.own_here w k p I F at_end free ended, H.own_home.0, H.own_home.1, ap home_in H.own_home.2)
+          (beside.allocations, beside.work, beside.view, (both.home_beside w k p I F at_end free ended above beside frames above_is calls beside_is c lh rh al ar side), H.other_home.0, H.other_home.1, ap home_in H.other_home.2)
+
+      merges : Merges vt v' w.pool pool q c (c + 1) al ar
+      merges = record {
+        own_heap = above.heap;
+        left_heap = lh;
+        right_heap = rh;
+        heap_then = heap;
+        own_view = above.view;
+        left_view = both_then.0.2;
+        right_view = both_then.1.2;
+        own_count = above.allocations;
+        left_count = both_then.0.0;
+        right_count = both_then.1.0;
+        frames = frames;
+        left_work = both_then.0.1;
+        right_work = both_then.1.1;
+        own_home = (both.home_above w k p I F at_end free ended above beside frames above_is calls beside_is c lh rh al ar side);
+        left_home = both_then.0.3;
+        right_home = both_then.1.3;
+        own_then = ap home_in H.parent_home;
+        left_then = (both_then.0.4, both_then.0.5, both_then.0.6);
+        right_then = (both_then.1.4, both_then.1.5, both_then.1.6);
+        heap_is = heap_is;
+        room_is = room_is;
+        small = (both.small w k p I F at_end free ended above beside frames above_is calls beside_is c lh rh al ar side);
+        others = λ u nq nc nd. let e = both.apart_of w k p I F at_end free ended above beside frames above_is calls beside_is c lh rh al ar side u nc nd in ap home_in (H.others u nq e.0 e.1) ∙ sym (off u e.0);
+        owner = λ n. refl;
+        owner_then = λ n. refl;
+        relabelled = relabelled;
+        own_sources = sources_at w.sets q;
+        left_sources = sources_at w.sets c;
+        right_sources = sources_at w.sets (c + 1);
+        own_noted = sources_was q;
+        left_noted = sources_was c;
+        right_noted = sources_was (c + 1);
+        own_noted_then = ap (λ (z : Noted). z.sources) (set_then q _ N.parent_set);
+        left_noted_then = ap (λ (z : Noted). z.sources) (set_then c _ N.left_set);
+        right_noted_then = ap (λ (z : Noted). z.sources) (set_then (c + 1) _ N.right_set);
+        others_noted = λ u nq nc nd. ap (λ (z : Noted). z.sources) (same_noted u nq nc nd);
+      }
+
+      joins_so : JoinsHomes vt v' Q.parent Q.left (Q.left + 1) al ar
+      joins_so =
+          subst (λ n. JoinsHomes vt v' Q.parent n (n + 1) al ar) (sym (both.left_is w k p I F at_end free ended above beside frames above_is calls beside_is c lh rh al ar side))
+          (subst (λ n. JoinsHomes vt v' n c (c + 1) al ar) (sym (before.parent_same w k p I F at_end free ended)) (joins_homes vt v' R W w.pool pool q c (c + 1) al ar (both.rests_q w k p I F at_end free ended above beside frames above_is calls beside_is c lh rh al ar side) (both.rests_c w k p I F at_end free ended above beside frames above_is calls beside_is c lh rh al ar side) (both.rests_d w k p I F at_end free ended above beside frames above_is calls beside_is c lh rh al ar side) merges))
+
+      notes_so : JoinsNotes vt v' Q.parent Q.left (Q.left + 1)
+      notes_so = subst (λ n. JoinsNotes vt v' Q.parent n (n + 1)) (sym (both.left_is w k p I F at_end free ended above beside frames above_is calls beside_is c lh rh al ar side)) (subst (λ n. JoinsNotes vt v' n c (c + 1)) (sym (before.parent_same w k p I F at_end free ended)) notes)
+
+      -- ---- THE TREE
+      q_c : q ≡ c → ⊥
+      q_c e = let lt = (both.q_low w k p I F at_end free ended above beside frames above_is calls beside_is c lh rh al ar side) in omega (arith, e, lt)
+
+      q_d : q ≡ c + 1 → ⊥
+      q_d e = let lt = (both.q_low w k p I F at_end free ended above beside frames above_is calls beside_is c lh rh al ar side) in omega (arith, e, lt)
+
+      c_d : c ≡ c + 1 → ⊥
+      c_d e = omega (arith, e)
+
+      nodes : NodesJoin (totals_of w) (totals_of w') q c (c + 1)
+      nodes = record {
+        parent = parent_node w.tree t q c (c + 1) (both.child_of_two w k p I F at_end free ended above beside frames above_is calls beside_is c lh rh al ar side) q_c q_d c_d;
+        left = left_node w.tree t q c (c + 1) (both.child_of_two w k p I F at_end free ended above beside frames above_is calls beside_is c lh rh al ar side) q_c q_d c_d;
+        right = right_node w.tree t q c (c + 1) (both.child_of_two w k p I F at_end free ended above beside frames above_is calls beside_is c lh rh al ar side) q_c q_d c_d;
+        others = other_node w.tree t q c (c + 1) (both.child_of_two w k p I F at_end free ended above beside frames above_is calls beside_is c lh rh al ar side) q_c q_d c_d;
+      }
+
+      nodes_so : NodesJoin (totals_of w) (totals_of w') Q.parent Q.left (Q.left + 1)
+      nodes_so = subst (λ n. NodesJoin (totals_of w) (totals_of w') Q.parent n (n + 1)) (sym (both.left_is w k p I F at_end free ended above beside frames above_is calls beside_is c lh rh al ar side)) (subst (λ n. NodesJoin (totals_of w) (totals_of w') n c (c + 1)) (sym (before.parent_same w k p I F at_end free ended)) nodes)
+
+      counts : RanCounts w.program (totals_of w) (totals_of w') M L t k p.fresh x S.line Joining Q
+      counts = record {
+        tree = nodes_so;
+        hand = record { hand = ap flat (put_there w.hands k None (worker_there w (last_event k p) I free_last)); others = λ u ne. ap flat (got_other w.hands k u None ne) };
+        outputs = refl;
+        end = refl;
+        used = relabelled.units;
+        steps = refl;
+      }
+
+      heap_form : HeapForm heap
+      heap_form = subst HeapForm (sym heap_is) (merged_form above.heap lh rh (both.above_form w k p I F at_end free ended above beside frames above_is calls beside_is c lh rh al ar side) (both.child_forms w k p I F at_end free ended above beside frames above_is calls beside_is c lh rh al ar side).0 (both.child_forms w k p I F at_end free ended above beside frames above_is calls beside_is c lh rh al ar side).1 (both.joined_apart w k p I F at_end free ended above beside frames above_is calls beside_is c lh rh al ar side) (both.left_none w k p I F at_end free ended above beside frames above_is calls beside_is c lh rh al ar side) (both.right_none w k p I F at_end free ended above beside frames above_is calls beside_is c lh rh al ar side) heap.slots heap.spare)
+
+      heap_at : (u : ℕ) (i z : Rest) → rest_at homes u ≡ Some i → rest_at homes u ≡ Some z → HeapForm z.heap → HeapForm i.heap
+      heap_at u i z is that form = subst (λ (z : Rest). HeapForm z.heap) (same_Some z i (sym that ∙ is)) form
+
+      heaps_then : (u : ℕ) (i : Rest) → rest_at homes u ≡ Some i → HeapForm i.heap
+      heaps_then u i is = elim (cases_eq u q) [
+        | inl e ↦ heap_at q i _ (ap (rest_at homes) (sym e) ∙ is) H.parent_home heap_form
+        | inr nq ↦ elim (cases_eq u t) [
+          | inl e ↦ heap_at t i _ (ap (rest_at homes) (sym e) ∙ is) H.own_home.2 (empty_form H.own_home.0 H.own_home.1)
+          | inr nt ↦ elim (cases_eq u s) [
+            | inl e ↦ heap_at s i _ (ap (rest_at homes) (sym e) ∙ is) H.other_home.2 (empty_form H.other_home.0 H.other_home.1)
+            | inr ns ↦ I.heaps u i (sym (H.others u nq nt ns) ∙ is)
+          ]
+        ]
+      ]
+
+      abbrev Made : Type 0
+      Made = (a : ℤ × Option Addr) × (b : ℤ × Option Addr) × JoinsHomes vt v' Q.parent Q.left (Q.left + 1) a b × HasResult vt R Q.left Q.left_result a × HasResult vt R (Q.left + 1) Q.right_result b
+
+      made : Made
+      made = (al, ar, joins_so, (both.results w k p I F at_end free ended above beside frames above_is calls beside_is c lh rh al ar side).0, (both.results w k p I F at_end free ended above beside frames above_is calls beside_is c lh rh al ar side).1)
+
+      joined_world : IsWorld w'
+      joined_world =
+          let n = joined_long w.tree t q c (c + 1) (both.child_of_two w k p I F at_end free ended above beside frames above_is calls beside_is c lh rh al ar side) q_c q_d c_d in
+          entered_world w (last_event k p) I free_last tree pool homes sets hands w.outputs all_steps w.end j.room (H.many ∙ (I.made ∙ sym n)) (N.many ∙ (I.noted ∙ sym n)) (length-set w.hands k None) relabelled.limit
+          (ran_stands_for w.program w.settings w.journal.items I.form I.legal v v' (totals_of w) (totals_of w') k t p.fresh h free_last E I.stands own made notes_so counts)
+          heaps_then (joined_measured w k p I F at_end free ended above beside frames above_is calls beside_is c lh rh al ar side homes pool heap H relabelled heap_is)
+
+      joined_goes : (accounts w').end ≡ None
+      joined_goes = sym (end_now w' joined_world) ∙ (end_now w I ∙ steps.on w k p I F at_end free)
+
+      joined_resumed : Some q ≡ running_parent (accounts w').machine.tasks t
+      joined_resumed =
+          sym (ap (λ (i : Ledger). running_parent i.machine.tasks t) (accounts_are w (last_event k p) I free_last tree pool homes sets hands w.outputs all_steps w.end j.room) ∙ (before.parent_then w k p I F at_end free ended))
+
+      -- THE PARTS OF OTHERS
+      joined_others : OthersFit w w' k
+      joined_others u i ne G =
+          part_fits w (last_event k p) I free_last tree pool homes sets hands w.outputs all_steps w.end j.room joined_world u i i (ap flat (got_other w.hands k u None ne)) G refl refl refl G.form (others_measured w k p I F at_end free ended above beside frames above_is calls beside_is c lh rh al ar side homes pool heap H relabelled heap_is u i ne G)
+          (ran_leaves w.program w.settings v v' l L t k p.fresh h E own made (part_of w.settings i) (held_apart w k u p i F G ne) G.fits)
+
+      -- ---- AS THE CALL HAS IT
+      more : suc p.fresh ≡ p.fresh + 1
+      more = omega arith
+
+      abbrev pub joined_alone : World
+      joined_alone = record w { tree = tree; pool = pool; homes = homes; sets = sets; hands = hands; steps = w.steps + (p.fresh + 1); journal = record { items = w.journal.items ++ alone_event k p ∷ []; room = j.room } }
+
+      joined_is : w' ≡ joined_alone
+      joined_is =
+          ap (λ n. let i : World = record w { tree = tree; pool = pool; homes = homes; sets = sets; hands = hands; steps = w.steps + n; journal = record { items = w.journal.items ++ record { worker = k; kind = Ran p.task n } ∷ []; room = j.room } } in i) more
+
+      pub alone_world : IsWorld joined_alone
+      alone_world = subst IsWorld joined_is joined_world
+
+      pub alone_joins : EndsChild w joined_alone k p (Some q)
+      alone_joins = record {
+        enters = record { journal = refl; program = refl; settings = refl; halted = refl };
+        goes = subst (λ (i : World). (accounts i).end ≡ None) joined_is joined_goes;
+        resumed = subst (λ (i : World). Some q ≡ running_parent (accounts i).machine.tasks t) joined_is joined_resumed;
+        others = subst (λ (i : World). OthersFit w i k) joined_is joined_others;
+      }

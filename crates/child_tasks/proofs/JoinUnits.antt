@@ -1,0 +1,138 @@
+-- A join: the pool has the chunks of each heap with their units still.
+use Rattle.std.proofs.Common.{◌≡◌, ℕ, ℤ, ◌+◌, ◌++◌, Option, Some, None, List, slice_set, option_map, inl, inr, refl, ap, sym, subst, ◌∙◌}
+use Rattle.std.proofs.lemmas.Bool.{cases_eq}
+use Rattle.std.proofs.lemmas.Option.{same_Some}
+use Rattle.listed.proofs.Members.{in_append_cases, in_append_left, in_append_right}
+use Rattle.run_ledger.specs.declared.data.Heap.{Heap as Account}
+use Rattle.run_ledger.specs.declared.data.Ledger.{Ledger}
+use Rattle.object_layout.specs.declared.word.Addr.{Addr}
+use Rattle.object_layout.specs.Content.{Content}
+use Rattle.chunk_pool.specs.declared.pool.Held.{Held}
+use Rattle.chunk_pool.specs.Chunks.{Chunks, held_at}
+use Rattle.alloc_path.specs.Heap.{Heap, merged, with_places}
+use Rattle.task_frames.specs.Stack.{Stack}
+use Rattle.heap_tree.specs.declared.state.State.TheVariants.{Ended}
+use Rattle.heap_tree.specs.Node.{state_of as state_in_tree}
+use Rattle.fork_join.specs.Joined.{AreRelabelled, with_results}
+use Rattle.ledger_steps.specs.Accounts.{Rests, rested}
+use Rattle.core_relation.specs.Value.{In}
+use Rattle.task_machine.specs.declared.part.Private.{Private}
+use Rattle.shared_value.specs.declared.rest.Rest.{Rest}
+use Rattle.shared_value.specs.declared.rest.Work.TheVariants.{Calls}
+use Rattle.shared_value.specs.World.{World, accounts, rest_at}
+use Rattle.shared_value.specs.Measured.{AreMeasured, IsMeasured, IsUnheld, KeepsUnits, RestsAreMeasured}
+use Rattle.shared_value.specs.Stands.{IsWorld}
+use Rattle.shared_value.specs.Fits.{Fits}
+use Rattle.shared_value.specs.Entered.{refused}
+use Rattle.shared_value.proofs.EntryMade.{hand_is, held_apart, unheld_at_rest, unheld_before}
+use Rattle.shared_value.proofs.PartFitsMachine as link
+use Rattle.shared_value.proofs.UnitsMeasured.{measured_both, measured_kept, part_kept, relabelled_keeps, relabelled_measured, relabelled_own}
+use Rattle.own_steps.specs.Alone.{alone_event}
+use Rattle.child_tasks.specs.ChildEnds.{IsAtEnd}
+use Rattle.child_tasks.specs.Joins.{AreSides, HomesJoin, IsRestOf}
+use Rattle.child_tasks.proofs.ChildReturns as steps
+use Rattle.child_tasks.proofs.JoinHomes.{has_in, in_has}
+use Rattle.child_tasks.proofs.JoinedHomes as both
+
+module _ (w : World) (k : ℕ) (p : Private) (I : IsWorld w) (F : Fits w k p) (at_end : IsAtEnd w p) (free : refused w (alone_event k p) ≡ None) (ended : state_in_tree w.tree (steps.other w k p I F at_end free) ≡ Some Ended) where
+  abbrev t : ℕ
+  t = p.task
+
+  abbrev q : ℕ
+  q = steps.parent w k p I F at_end free
+
+  abbrev s : ℕ
+  s = steps.other w k p I F at_end free
+
+  abbrev R : Ledger
+  R = rested (steps.M w k p I F at_end free) t
+
+  on : (accounts w).end ≡ None
+  on = steps.on w k p I F at_end free
+
+  -- no worker holds the others that join
+  unheld : (u : ℕ) → (u ≡ t → ⊥) → Rests R u → IsUnheld w.hands u
+  unheld u ne rests = unheld_at_rest w u I on (sym (ap (λ (z : Account). z.worker) ((link.alone w k p I F on).heaps u ne)) ∙ rests)
+
+  module _ (above beside : Rest) (frames : Stack) (above_is : rest_at w.homes q ≡ Some above) (calls : above.work ≡ Calls frames) (beside_is : IsRestOf (rest_at w.homes s) beside) (c : ℕ) (lh rh : Heap) (al ar : ℤ × Option Addr) (side : AreSides p s beside c lh rh al ar) where
+    rests_s : Rests R s
+    rests_s = by side
+      where
+        by : AreSides p s beside c lh rh al ar → Rests R s
+        by (inl m) = subst (Rests R) (sym m.1) (both.rests_d w k p I F at_end free ended above beside frames above_is calls beside_is c lh rh al ar side)
+        by (inr m) = subst (Rests R) (sym m.0) (both.rests_c w k p I F at_end free ended above beside frames above_is calls beside_is c lh rh al ar side)
+
+    unheld_s : IsUnheld w.hands s
+    unheld_s = unheld s (steps.other_apart w k p I F at_end free) rests_s
+
+    -- both are the two, and no other is
+    other_apart : (u : ℕ) → (u ≡ t → ⊥) → (u ≡ s → ⊥) → (u ≡ c → ⊥) × (u ≡ c + 1 → ⊥)
+    other_apart u nt ns = by side
+      where
+        by : AreSides p s beside c lh rh al ar → (u ≡ c → ⊥) × (u ≡ c + 1 → ⊥)
+        by (inl m) = ((λ e. nt (e ∙ sym m.0)), (λ e. ns (e ∙ sym m.1)))
+        by (inr m) = ((λ e. ns (e ∙ sym m.0)), (λ e. nt (e ∙ sym m.1)))
+
+    beside_measured : (o : Option Rest) → rest_at w.homes s ≡ o → IsRestOf o beside → AreMeasured w.pool s beside.heap.chunks
+    beside_measured None e r = subst (λ (z : Rest). AreMeasured w.pool s z.heap.chunks) (sym r.2) (λ x i. absurd i)
+    beside_measured (Some z) e r = subst (λ (z : Rest). AreMeasured w.pool s z.heap.chunks) (sym r) (I.measured s z e unheld_s)
+
+    both_measured : AreMeasured w.pool c lh.chunks × AreMeasured w.pool (c + 1) rh.chunks
+    both_measured =
+        both.sides_of w k p I F at_end free ended above beside frames above_is calls beside_is c lh rh al ar side (λ u g. AreMeasured w.pool u g.chunks)
+        F.measured.0 (beside_measured (rest_at w.homes s) refl beside_is)
+
+    above_measured : AreMeasured w.pool q above.heap.chunks
+    above_measured =
+        I.measured q above above_is
+        (unheld q (steps.parent_apart w k p I F at_end free) (both.rests_q w k p I F at_end free ended above beside frames above_is calls beside_is c lh rh al ar side))
+
+    module _ (homes : List (Option Rest)) (pool : Chunks) (heap : Heap) (H : HomesJoin w.homes homes p q s (with_results frames al ar) heap above beside) (relabelled : AreRelabelled w.pool pool (lh.chunks ++ rh.chunks) q)
+        (heap_is : heap ≡ with_places (merged above.heap lh rh) heap.slots heap.spare) where
+      -- what is of neither child stays
+      owner_of_one : (u n units v : ℕ) (cs : List Content) (x : Content) → In cs x → x.number ≡ n → AreMeasured w.pool v cs → held_at w.pool n ≡ Some (record { owner = u; units = units }) → u ≡ v
+      owner_of_one u n units v cs x i e M h = same_Some u v (ap (option_map (λ (z : Held). z.owner)) (sym h ∙ (ap (held_at w.pool) (sym e) ∙ M x i)))
+
+      units_stay : (u : ℕ) → (u ≡ c → ⊥) → (u ≡ c + 1 → ⊥) → KeepsUnits w.pool pool u
+      units_stay u nc nd =
+          relabelled_keeps w.pool pool (lh.chunks ++ rh.chunks) q relabelled u (λ n units h has.
+          let x = has_in (lh.chunks ++ rh.chunks) n has in
+          elim (in_append_cases lh.chunks rh.chunks x.0 x.1) [
+            | inl i ↦ nc (owner_of_one u n units c lh.chunks x.0 i x.2 both_measured.0 h)
+            | inr i ↦ nd (owner_of_one u n units (c + 1) rh.chunks x.0 i x.2 both_measured.1 h)
+          ])
+
+      -- and what both have is the parent's
+      heap_measured : AreMeasured pool q heap.chunks
+      heap_measured =
+          subst (λ (g : Heap). AreMeasured pool q g.chunks) (sym heap_is)
+          (measured_both pool q lh.chunks (rh.chunks ++ above.heap.chunks)
+          (relabelled_measured w.pool pool (lh.chunks ++ rh.chunks) q relabelled c lh.chunks (λ x i. in_has (lh.chunks ++ rh.chunks) x (in_append_left lh.chunks rh.chunks x i)) both_measured.0)
+          (measured_both pool q rh.chunks above.heap.chunks
+          (relabelled_measured w.pool pool (lh.chunks ++ rh.chunks) q relabelled (c + 1) rh.chunks (λ x i. in_has (lh.chunks ++ rh.chunks) x (in_append_right lh.chunks rh.chunks x i)) both_measured.1)
+          (measured_kept w.pool pool q above.heap.chunks (relabelled_own w.pool pool (lh.chunks ++ rh.chunks) q relabelled) above_measured)))
+
+      -- THE HEAPS THEN
+      measured_at : (u : ℕ) (i z : Rest) → rest_at homes u ≡ Some i → rest_at homes u ≡ Some z → AreMeasured pool u z.heap.chunks → AreMeasured pool u i.heap.chunks
+      measured_at u i z is that M = subst (λ (z : Rest). AreMeasured pool u z.heap.chunks) (same_Some z i (sym that ∙ is)) M
+
+      pub joined_measured : RestsAreMeasured pool homes (slice_set w.hands k None)
+      joined_measured u i is none = elim (cases_eq u q) [
+        | inl e ↦ measured_at u i _ is (ap (rest_at homes) e ∙ H.parent_home) (subst (λ z. AreMeasured pool z heap.chunks) (sym e) heap_measured)
+        | inr nq ↦ elim (cases_eq u t) [
+          | inl e ↦ measured_at u i _ is (ap (rest_at homes) e ∙ H.own_home.2) (λ x j. absurd j)
+          | inr nt ↦ elim (cases_eq u s) [
+            | inl e ↦ measured_at u i _ is (ap (rest_at homes) e ∙ H.other_home.2) (λ x j. absurd j)
+            | inr ns ↦
+                let apart = other_apart u nt ns in
+                measured_kept w.pool pool u i.heap.chunks (units_stay u apart.0 apart.1)
+                (I.measured u i (sym (H.others u nq nt ns) ∙ is) (unheld_before w.hands k None u none (λ h. nt (same_Some u t (sym h ∙ hand_is w k p I on F)))))
+          ]
+        ]
+      ]
+
+      -- THE PARTS OF OTHERS
+      pub others_measured : (u : ℕ) (i : Private) → (u ≡ k → ⊥) → Fits w u i → IsMeasured pool i
+      others_measured u i ne G =
+          let apart = other_apart i.task (λ e. held_apart w k u p i F G ne (sym e)) (λ e. unheld_s u (hand_is w u i I on G ∙ ap (λ n. Some n) e)) in
+          part_kept w.pool pool i (units_stay i.task apart.0 apart.1) G.measured

@@ -1,0 +1,269 @@
+-- A join: the homes that it merges.
+use Rattle.std.proofs.Common.{◌≡◌, ◌⊎◌, ℕ, ℤ, ◌+◌, ◌<◌, ◌^◌, ◌++◌, ◌||◌, arith, Bool, true, false, Option, Some, None, List, map, slice_get, inl, inr, refl, ap, sym, subst, ◌∙◌}
+use Rattle.std.specs.Prelude.{IsSome}
+use Rattle.std.proofs.lemmas.Bool.{cases_Bool}
+use Rattle.std.proofs.lemmas.Option.{same_Some}
+use Rattle.hh_model.specs.declared.data.Name.{Name}
+use Rattle.hh_model.specs.declared.data.State.{State as MachineState}
+use Rattle.hh_model.specs.declared.data.Task.{Task}
+use Rattle.hh_model.specs.Step.{kept_by, result_of}
+use Rattle.run_ledger.specs.declared.data.Ledger.{Ledger}
+use Rattle.run_ledger.specs.Heaps.{heap_of}
+use Rattle.object_layout.specs.declared.word.Addr.{Addr}
+use Rattle.object_layout.specs.Chunks.{AreApart, has_chunk}
+use Rattle.object_layout.proofs.Owning.{apart_together, has_append}
+use Rattle.chunk_pool.specs.Chunks.{held_at}
+use Rattle.alloc_path.specs.Heap.{Heap}
+use Rattle.alloc_path.specs.View.{Level}
+use Rattle.task_frames.specs.Stack.{Stack}
+use Rattle.heap_tree.specs.declared.state.State.TheVariants.{Ended}
+use Rattle.heap_tree.specs.Node.{state_of as state_in_tree}
+use Rattle.fork_join.specs.Joined.{AreInUse}
+use Rattle.ledger_steps.specs.Accounts.{Rests, rested}
+use Rattle.ledger_steps.specs.Last.{EndsLast, Splits}
+use Rattle.core_relation.specs.Value.{Chunk, Home, In, Value}
+use Rattle.core_relation.specs.Changes.{HasResult}
+use Rattle.core_relation.specs.Fits.{with_home}
+use Rattle.core_relation.specs.Stands.{Stands}
+use Rattle.core_relation.proofs.objects.Members.{in_map}
+use Rattle.task_machine.specs.declared.part.Private.{Private}
+use Rattle.task_machine.specs.Accounts.{AreReserved}
+use Rattle.shared_value.specs.declared.rest.Rest.{Rest}
+use Rattle.shared_value.specs.declared.rest.Work.{Work}
+use Rattle.shared_value.specs.declared.rest.Work.TheVariants.{Calls, Result}
+use Rattle.shared_value.specs.Objects.{chunk_of}
+use Rattle.shared_value.specs.World.{World, accounts, frame_of, home_by, home_in, home_of, rest_at, value_of}
+use Rattle.shared_value.specs.Stands.{HeapForm, IsWorld}
+use Rattle.shared_value.specs.Fits.{Fits, home_of_part}
+use Rattle.shared_value.specs.Entered.{refused}
+use Rattle.own_steps.specs.Alone.{alone_event}
+use Rattle.own_steps.proofs.LastStepEntry as last
+use Rattle.own_steps.proofs.LastStepEntry.{last_event}
+use Rattle.child_tasks.specs.ChildEnds.{IsAtEnd}
+use Rattle.child_tasks.specs.Joins.{AreSides, IsRestOf, part_result, work_result}
+use Rattle.child_tasks.proofs.ChildReturns as steps
+use Rattle.child_tasks.proofs.SetsNoted.{empty_form}
+use Rattle.child_tasks.proofs.JoinHomes.{by_chunks, has_in, in_has, owner_held}
+use Rattle.child_tasks.proofs.JoinTree.{all_in, kept_is}
+use Rattle.child_tasks.proofs.MergedHeapForm.{none_reserved}
+use Rattle.child_tasks.proofs.SiblingReturned as before
+
+module _ (w : World) (k : ℕ) (p : Private) (I : IsWorld w) (F : Fits w k p) (at_end : IsAtEnd w p) (free : refused w (alone_event k p) ≡ None) (ended : state_in_tree w.tree (steps.other w k p I F at_end free) ≡ Some Ended) where
+  abbrev t : ℕ
+  t = p.task
+
+  abbrev M : Ledger
+  M = steps.M w k p I F at_end free
+
+  abbrev R : Ledger
+  R = rested M t
+
+  abbrev L : Ledger
+  L = last.L w k p I F (steps.shared w k p I F at_end free) (steps.free_last w k p I F at_end free)
+
+  abbrev v : Value
+  v = value_of w
+
+  abbrev h : Home
+  h = home_of_part p
+
+  abbrev vt : Value
+  vt = with_home v t h
+
+  abbrev x : Task
+  x = (steps.S w k p I F at_end free).task
+
+  abbrev S : Splits w.program w.settings (accounts w) L t p.fresh
+  S = steps.S w k p I F at_end free
+
+  abbrev pub q : ℕ
+  q = steps.parent w k p I F at_end free
+
+  abbrev pub s : ℕ
+  s = steps.other w k p I F at_end free
+
+  abbrev W : Stands vt R
+  W = before.W w k p I F at_end free ended
+
+  abbrev Q : EndsLast M L t x
+  Q = before.Q w k p I F at_end free ended
+
+  here : vt.homes t ≡ h
+  here = before.here w k p I F at_end free ended
+
+  off : (u : ℕ) → (u ≡ t → ⊥) → vt.homes u ≡ v.homes u
+  off u ne = before.off w k p I F at_end free ended u ne
+
+  abbrev pub HasHome : ℕ → Heap → Type 0
+  HasHome u g = (n : ℕ) × (z : Work) × (view : List Level) × (vt.homes u ≡ home_by g view n z)
+
+  owner_at : (u : ℕ) (g : Heap) → HasHome u g → Rests R u → (n : ℕ) → has_chunk g.chunks n ≡ true → v.owner n ≡ Some u
+  owner_at u g e rests n has =
+      let y = has_in g.chunks n has in
+      ap v.owner (sym y.2) ∙ (W.homes u rests).owned (chunk_of y.0) (subst (λ (ks : List Chunk). In ks (chunk_of y.0)) (sym (ap (λ (i : Home). i.chunks) e.3 ∙ by_chunks g e.2 e.0 e.1)) (in_map chunk_of g.chunks y.0 y.1))
+
+  -- no two heaps have a chunk of one number
+  heaps_apart : (u z : ℕ) (a b : Heap) → HasHome u a → HasHome z b → Rests R u → Rests R z → (u ≡ z → ⊥) → (n : ℕ) → has_chunk a.chunks n ≡ true → has_chunk b.chunks n ≡ false
+  heaps_apart u z a b ea eb ru rz ne n has = elim (cases_Bool (has_chunk b.chunks n)) [
+    | inl there ↦ absurd (ne (same_Some u z (sym (owner_at u a ea ru n has) ∙ owner_at z b eb rz n there)))
+    | inr out ↦ out
+  ]
+
+  by_result : (g : Heap) (view : List Level) (n : ℕ) (z : Work) → (home_by g view n z).result ≡ work_result z
+  by_result g view n (Calls f) = refl
+  by_result g view n (Result i a) = refl
+
+  module _ (above beside : Rest) (frames : Stack) (above_is : rest_at w.homes q ≡ Some above) (calls : above.work ≡ Calls frames) (beside_is : IsRestOf (rest_at w.homes s) beside) (c : ℕ) (lh rh : Heap) (al ar : ℤ × Option Addr) (side : AreSides p s beside c lh rh al ar) where
+    pub home_above : vt.homes q ≡ home_by above.heap above.view above.allocations (Calls frames)
+    home_above = off q (steps.parent_apart w k p I F at_end free) ∙ (ap home_in above_is ∙ ap (home_by above.heap above.view above.allocations) calls)
+
+    beside_home : (o : Option Rest) → IsRestOf o beside → home_in o ≡ home_of beside
+    beside_home None e = ap home_of (sym e.2)
+    beside_home (Some z) e = ap home_of (sym e)
+
+    pub home_beside : vt.homes s ≡ home_by beside.heap beside.view beside.allocations beside.work
+    home_beside = off s (steps.other_apart w k p I F at_end free) ∙ beside_home (rest_at w.homes s) beside_is
+
+    beside_form : (o : Option Rest) → rest_at w.homes s ≡ o → IsRestOf o beside → HeapForm beside.heap
+    beside_form None f e = subst (λ (z : Rest). HeapForm z.heap) (sym e.2) (empty_form e.0 e.1)
+    beside_form (Some z) f e = subst (λ (z : Rest). HeapForm z.heap) (sym e) (I.heaps s z f)
+
+    other_form : HeapForm beside.heap
+    other_form = beside_form (rest_at w.homes s) refl beside_is
+
+    pub above_form : HeapForm above.heap
+    above_form = I.heaps q above above_is
+
+    pub left_is : Q.left ≡ c
+    left_is = by (before.which w k p I F at_end free ended) side
+      where
+        by : (before.Which w k p I F at_end free ended) → AreSides p s beside c lh rh al ar → Q.left ≡ c
+        by (inl z) (inl m) = sym z.0 ∙ m.0
+        by (inl z) (inr m) = let a = z.0 in let b = z.1 in let e = m.0 in let f = m.1 in absurd (omega (arith, a, b, e, f))
+        by (inr z) (inl m) = let a = z.0 in let b = z.1 in let e = m.0 in let f = m.1 in absurd (omega (arith, a, b, e, f))
+        by (inr z) (inr m) = sym z.1 ∙ m.0
+
+    own_has : (o : ℤ × Option Name) → o ≡ result_of x.top → HasResult vt R t o (part_result p)
+    own_has o e = inr (record {
+      task = x;
+      is = ap (λ (m : MachineState). slice_get m.tasks t) (before.machine_rests w k p I F at_end free ended) ∙ S.at.task;
+      runs = S.at.runs;
+      hands = e;
+      frame = frame_of p.frames.top;
+      below = map frame_of p.frames.below;
+      frames = ap (λ (i : Home). i.frames) here;
+      result = refl;
+    })
+
+    other_has : (o : ℤ × Option Name) → kept_by (slice_get M.machine.tasks s) ≡ Some o → HasResult vt R s o (work_result beside.work)
+    other_has o e =
+        let z = kept_is (slice_get M.machine.tasks s) o e in
+        inl (record {
+          task = z.0;
+          is = ap (λ (m : MachineState). slice_get m.tasks s) (before.machine_rests w k p I F at_end free ended) ∙ z.1;
+          ended = z.2;
+          result = ap (λ (i : Home). i.result) home_beside ∙ by_result beside.heap beside.view beside.allocations beside.work;
+        })
+
+    pub results : HasResult vt R Q.left Q.left_result al × HasResult vt R (Q.left + 1) Q.right_result ar
+    results = by (before.which w k p I F at_end free ended) side
+      where
+        by : (before.Which w k p I F at_end free ended) → AreSides p s beside c lh rh al ar → HasResult vt R Q.left Q.left_result al × HasResult vt R (Q.left + 1) Q.right_result ar
+        by (inl z) (inl m) = (
+          subst (λ u. HasResult vt R u Q.left_result al) z.0 (subst (λ a. HasResult vt R t Q.left_result a) (sym m.4) (own_has Q.left_result z.2)),
+          subst (λ u. HasResult vt R u Q.right_result ar) z.1 (subst (λ a. HasResult vt R s Q.right_result a) (sym m.5) (other_has Q.right_result z.3)),
+        )
+        by (inl z) (inr m) = let a = z.0 in let b = z.1 in let e = m.0 in let f = m.1 in absurd (omega (arith, a, b, e, f))
+        by (inr z) (inl m) = let a = z.0 in let b = z.1 in let e = m.0 in let f = m.1 in absurd (omega (arith, a, b, e, f))
+        by (inr z) (inr m) = (
+          subst (λ u. HasResult vt R u Q.left_result al) z.1 (subst (λ a. HasResult vt R s Q.left_result a) (sym m.4) (other_has Q.left_result z.3)),
+          subst (λ u. HasResult vt R u Q.right_result ar) z.0 (subst (λ a. HasResult vt R t Q.right_result a) (sym m.5) (own_has Q.right_result z.2)),
+        )
+
+    pub rests_q : Rests R q
+    rests_q = subst (Rests R) (before.parent_same w k p I F at_end free ended) Q.can.rests
+
+    pub rests_c : Rests R c
+    rests_c = subst (Rests R) left_is Q.can.left_rests
+
+    pub rests_d : Rests R (c + 1)
+    rests_d = subst (λ n. Rests R (n + 1)) left_is Q.can.right_rests
+
+    -- the parent's number is the lowest
+    pub q_low : q < c
+    q_low = let a = (steps.kept_tree w k p I F at_end free).low Q.left Q.parent (before.left_par w k p I F at_end free ended) in omega (arith, a, (before.parent_same w k p I F at_end free ended), left_is)
+
+    own_home : HasHome t p.heap
+    own_home = (p.allocations, Calls p.frames, p.view, before.own_here w k p I F at_end free ended)
+
+    other_home : HasHome s beside.heap
+    other_home = (beside.allocations, beside.work, beside.view, home_beside)
+
+    above_has : HasHome q above.heap
+    above_has = (above.allocations, Calls frames, above.view, home_above)
+
+    -- what is so of both is so of the left one and of the right one
+    pub sides_of : (P : ℕ → Heap → Type 0) → P t p.heap → P s beside.heap → P c lh × P (c + 1) rh
+    sides_of P a b = by side
+      where
+        by : AreSides p s beside c lh rh al ar → P c lh × P (c + 1) rh
+        by (inl m) = (subst (λ u. P u lh) m.0 (subst (P t) (sym m.2) a), subst (λ u. P u rh) m.1 (subst (P s) (sym m.3) b))
+        by (inr m) = (subst (λ u. P u lh) m.0 (subst (P s) (sym m.2) b), subst (λ u. P u rh) m.1 (subst (P t) (sym m.3) a))
+
+    child_homes : HasHome c lh × HasHome (c + 1) rh
+    child_homes = sides_of HasHome own_home other_home
+
+    pub child_forms : HeapForm lh × HeapForm rh
+    child_forms = sides_of (λ u g. HeapForm g) F.form other_form
+
+    pub left_none : lh.reserved ≡ None
+    left_none =
+        none_reserved lh child_forms.0.shaped.reserved
+        (subst (AreReserved lh.chunks lh.reserved) (ap (λ u. (heap_of R u).reserved) (sym left_is) ∙ Q.can.left_spares) (before.counted_home w k p I F at_end free ended c child_homes.0.0 lh child_homes.0.2 child_homes.0.1 child_homes.0.3 rests_c child_forms.0).reserved)
+
+    pub right_none : rh.reserved ≡ None
+    right_none =
+        none_reserved rh child_forms.1.shaped.reserved
+        (subst (AreReserved rh.chunks rh.reserved) (ap (λ u. (heap_of R (u + 1)).reserved) (sym left_is) ∙ Q.can.right_spares) (before.counted_home w k p I F at_end free ended (c + 1) child_homes.1.0 rh child_homes.1.2 child_homes.1.1 child_homes.1.3 rests_d child_forms.1).reserved)
+
+    pub small : above.heap.since + (lh.since + rh.since) < 2 ^ 64
+    small =
+        let a : above.heap.since ≡ (heap_of R q).since = before.since_home w k p I F at_end free ended q above.allocations above.heap above.view (Calls frames) home_above rests_q in
+        let b : lh.since ≡ (heap_of R c).since = before.since_home w k p I F at_end free ended c child_homes.0.0 lh child_homes.0.2 child_homes.0.1 child_homes.0.3 rests_c in
+        let e : rh.since ≡ (heap_of R (c + 1)).since = before.since_home w k p I F at_end free ended (c + 1) child_homes.1.0 rh child_homes.1.2 child_homes.1.1 child_homes.1.3 rests_d in
+        omega (arith, a, b, e, before.since_low w k p I F at_end free ended q, before.since_low w k p I F at_end free ended c, before.since_low w k p I F at_end free ended (c + 1))
+
+    -- the merged chunks have numbers of their own
+    pub joined_apart : AreApart (lh.chunks ++ (rh.chunks ++ above.heap.chunks))
+    joined_apart =
+        apart_together lh.chunks (rh.chunks ++ above.heap.chunks) child_forms.0.shaped.apart
+        (apart_together rh.chunks above.heap.chunks child_forms.1.shaped.apart above_form.shaped.apart (heaps_apart (c + 1) q rh above.heap child_homes.1 above_has rests_d rests_q (λ e. let lt = q_low in omega (arith, e, lt))))
+        (λ n has. has_append rh.chunks above.heap.chunks n ∙ neither (has_chunk rh.chunks n) (has_chunk above.heap.chunks n)
+        (heaps_apart c (c + 1) lh rh child_homes.0 child_homes.1 rests_c rests_d (λ e. omega (arith, e)) n has)
+        (heaps_apart c q lh above.heap child_homes.0 above_has rests_c rests_q (λ e. let lt = q_low in omega (arith, e, lt)) n has))
+      where
+        neither : (a b : Bool) → a ≡ false → b ≡ false → (a || b) ≡ false
+        neither true b e f = e
+        neither false b e f = f
+
+    -- and are in use
+    pub left_used : AreInUse w.pool lh.chunks
+    left_used = all_in (λ y. IsSome (held_at w.pool y.number)) lh.chunks (λ y i. owner_held w.pool y.number c (owner_at c lh child_homes.0 rests_c y.number (in_has lh.chunks y i)))
+
+    pub right_used : AreInUse w.pool rh.chunks
+    right_used = all_in (λ y. IsSome (held_at w.pool y.number)) rh.chunks (λ y i. owner_held w.pool y.number (c + 1) (owner_at (c + 1) rh child_homes.1 rests_d y.number (in_has rh.chunks y i)))
+
+    pub child_of_two : (t ≡ c) ⊎ (t ≡ c + 1)
+    child_of_two = by side
+      where
+        by : AreSides p s beside c lh rh al ar → (t ≡ c) ⊎ (t ≡ c + 1)
+        by (inl m) = inl m.0
+        by (inr m) = inr m.1
+
+    -- of no other task
+    pub apart_of : (u : ℕ) → (u ≡ c → ⊥) → (u ≡ c + 1 → ⊥) → (u ≡ t → ⊥) × (u ≡ s → ⊥)
+    apart_of u nc nd = by side
+      where
+        by : AreSides p s beside c lh rh al ar → (u ≡ t → ⊥) × (u ≡ s → ⊥)
+        by (inl m) = ((λ e. nc (e ∙ m.0)), (λ e. nd (e ∙ m.1)))
+        by (inr m) = ((λ e. nd (e ∙ m.1)), (λ e. nc (e ∙ m.0)))

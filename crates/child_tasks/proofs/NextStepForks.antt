@@ -1,0 +1,238 @@
+-- A part whose next step is a fork: what is known before it is entered.
+use Rattle.std.proofs.Common.{◌≡◌, ℕ, suc, ◌<◌, ◌≤◌, ◌^◌, ◌&&◌, arith, not, nat_lt, Bool, true, false, Option, Some, None, length, slice_get, option_map, is_none, is_some, inl, inr, refl, ap, ap₂, sym, subst, ◌∙◌}
+use Rattle.std.proofs.lemmas.Bool.{cases_eq, cond-false, ltb-true}
+use Rattle.std.proofs.lemmas.Option.{same_Some}
+use Rattle.hh_lang.specs.declared.instr.Instr.{Instr}
+use Rattle.hh_lang.specs.declared.instr.Instr.TheVariants.{Par}
+use Rattle.hh_lang.specs.declared.program.Line.{Line}
+use Rattle.hh_model.specs.declared.data.End.TheVariants.{Trapped}
+use Rattle.hh_model.specs.declared.data.State.{State as MachineState}
+use Rattle.hh_model.specs.declared.data.Task.{Task}
+use Rattle.hh_model.specs.declared.data.Trap.TheVariants.{Depth}
+use Rattle.hh_model.specs.Effect.{effect}
+use Rattle.hh_model.specs.Step.{depth_limit, ended_by, fetched, follow, forked as forked_machine, parent_of, parents, setting, step}
+use Rattle.hh_model.specs.Tree.{AreLow}
+use Rattle.run_ledger.specs.declared.data.Ledger.{Ledger}
+use Rattle.run_ledger.specs.Heaps.{heap_of}
+use Rattle.run_ledger.specs.Steps.{is_open, is_private_by, is_private_line, task_steps}
+use Rattle.run_ledger.proofs.Bounds.{ran_tells}
+use Rattle.run_ledger.proofs.Counted.{journals_are_counted}
+use Rattle.heap_tree.specs.declared.state.State.{State}
+use Rattle.heap_tree.specs.declared.state.State.TheVariants.{Ready, Out, Waiting, Ended, Joined}
+use Rattle.heap_tree.specs.Node.{Node, depth_of, parent_in, parent_of as parent_in_tree, state_of as state_in_tree}
+use Rattle.ledger_steps.specs.Last.{Splits}
+use Rattle.core_relation.specs.Whole.{Node as SeenNode, StandsFor, state_by}
+use Rattle.core_relation.specs.Whole.{Out as IsOut}
+use Rattle.task_machine.specs.declared.part.Private.{Private}
+use Rattle.task_machine.specs.Fits.{FitsNow as FitsMachine}
+use Rattle.task_machine.specs.Place.{Places}
+use Rattle.task_machine.proofs.Agreement.{same_line}
+use Rattle.shared_value.specs.declared.next.Ending.TheVariants.{Traps}
+use Rattle.shared_value.specs.Entered.{refused}
+use Rattle.shared_value.specs.Fits.{Fits}
+use Rattle.shared_value.specs.Links.{above_of}
+use Rattle.shared_value.specs.Next.{next_line}
+use Rattle.shared_value.specs.Stands.{IsWorld}
+use Rattle.shared_value.specs.World.{World, accounts, node_of, state_of, totals_of, value_of}
+use Rattle.shared_value.proofs.PartFitsMachine as link
+use Rattle.shared_value.proofs.BeforeTheEnd.{stands_now}
+use Rattle.shared_value.proofs.StepsEntered.{status}
+use Rattle.shared_value.proofs.StepAccounts.{After}
+use Rattle.shared_value.proofs.TaskTaken.{told}
+use Rattle.shared_value.proofs.SameLength.{same_length}
+use Rattle.own_steps.specs.Alone.{IsShared, Tells, alone_event, machine_after}
+use Rattle.own_steps.proofs.AloneEntries.{last_free, runs_on}
+use Rattle.own_steps.proofs.TaskDepths.{AreDeep, deep_in, run_deep}
+use Rattle.own_steps.proofs.RunDone.{some_of}
+use Rattle.own_steps.proofs.LastStepEntry as last
+use Rattle.own_steps.proofs.LastSteps.{fits_machine, machine_same}
+use Rattle.child_tasks.specs.Forks.{ForksTo, IsAtFork, is_fork, is_fork_by, is_par}
+
+-- ---- A FORK ISN'T PRIVATE
+
+par_open : (x : Task) (i : Instr) (b : Bool) → is_par i ≡ true → (not (is_open x i) && b) ≡ false
+par_open x (Par g h) b e = refl
+par_open x _ b e = absurd cc
+
+pub par_is : (i : Instr) → is_par i ≡ true → (g : ℕ) × (h : ℕ) × (i ≡ Par g h)
+par_is (Par g h) e = (g, h, refl)
+par_is _ e = absurd cc
+
+module _ (w : World) (p : Private) where
+  abbrev m : MachineState
+  m = machine_after w p
+
+  by_line : (x : Task) (o : Option Line) → is_fork o ≡ true → is_private_line w.program m p.task x o ≡ false
+  by_line x None h = refl
+  by_line x (Some line) h = par_open x line.instr _ h
+
+  by_task : (o : Option Task) → is_fork_by w.program o ≡ true → is_private_by w.program m p.task o ≡ false
+  by_task None h = refl
+  by_task (Some x) h = by_line x (fetched w.program x.top) h
+
+  pub fork_shared : IsAtFork w p → IsShared w p
+  fork_shared at = record { last = by_task (slice_get m.tasks p.task) at.forks; few = at.few }
+
+-- ---- THE TREE AND THE TASKS
+
+abbrev seen_parent : Option SeenNode → Option ℕ
+seen_parent None = None
+seen_parent (Some n) = n.parent
+
+node_parent : (o : Option Node) → parent_in o ≡ seen_parent (option_map node_of o)
+node_parent None = refl
+node_parent (Some n) = refl
+
+task_parent : (w : Option ℕ) (o : Option Task) → seen_parent (option_map (told w) o) ≡ parent_of o
+task_parent w None = refl
+task_parent w (Some x) = refl
+
+some_map : {A B : Type 0} (f : A → B) (o : Option A) → is_some (option_map f o) ≡ is_some o
+some_map f None = refl
+some_map f (Some x) = refl
+
+out_is : (s : State) → state_of s ≡ IsOut → s ≡ Out
+out_is Out e = refl
+out_is Ready e = absurd cc
+out_is Waiting e = absurd cc
+out_is Ended e = absurd cc
+out_is Joined e = absurd cc
+
+module _ (w : World) (I : IsWorld w) (on : (accounts w).end ≡ None) where
+  abbrev S0 : StandsFor (value_of w) (totals_of w) (accounts w)
+  S0 = stands_now w I on
+
+  pub tree_parents : (u : ℕ) → parent_in_tree w.tree u ≡ parents (accounts w).machine.tasks u
+  tree_parents u = node_parent (slice_get w.tree u) ∙ (ap seen_parent (S0.totals.node u) ∙ task_parent (heap_of (accounts w) u).worker (slice_get (accounts w).machine.tasks u))
+
+  -- as many tasks as nodes
+  pub tree_long : length w.tree ≡ length (accounts w).machine.tasks
+  tree_long =
+      same_length w.tree (accounts w).machine.tasks
+      (λ u. sym (some_map node_of (slice_get w.tree u)) ∙ (ap is_some (S0.totals.node u) ∙ some_map (told (heap_of (accounts w) u).worker) (slice_get (accounts w).machine.tasks u)))
+
+  -- the task of a part is out
+  module _ (k : ℕ) (p : Private) (F : Fits w k p) where
+    pub node_out : (n : Node) × (slice_get w.tree p.task ≡ Some n) × (n.state ≡ Out)
+    node_out =
+        let is : option_map node_of (slice_get w.tree p.task) ≡ Some (told (heap_of (accounts w) p.task).worker F.fits.task) = S0.totals.node p.task ∙ ap (option_map (told (heap_of (accounts w) p.task).worker)) F.fits.is in
+        let n = some_of node_of (slice_get w.tree p.task) _ is in
+        let state : state_of n.0.state ≡ IsOut =
+        ap (λ (z : SeenNode). z.state) n.2 ∙ ap₂ state_by (status w k p I F on) F.held in
+        (n.0, n.1, out_is n.0.state state)
+
+    pub tree_out : state_in_tree w.tree p.task ≡ Some Out
+    tree_out = ap (option_map (λ (n : Node). n.state)) node_out.1 ∙ ap Some node_out.2
+
+-- ---- THE NEXT STEP
+
+module _ (w : World) (k : ℕ) (p : Private) (I : IsWorld w) (F : Fits w k p) (at_fork : IsAtFork w p) (free : refused w (alone_event k p) ≡ None) where
+  abbrev pub shared : IsShared w p
+  shared = fork_shared w p at_fork
+
+  pub on : (accounts w).end ≡ None
+  on = runs_on w k p I F shared free
+
+  abbrev pub free_last : refused w (last.last_event k p) ≡ None
+  free_last = last_free w k p I F shared free
+
+  abbrev pub t : ℕ
+  t = p.task
+
+  abbrev pub l : Ledger
+  l = accounts w
+
+  abbrev pub M : Ledger
+  M = task_steps w.program l t p.fresh
+
+  abbrev above : Places
+  above = above_of (value_of w) l t
+
+  abbrev G : FitsMachine w.program p M.machine above
+  G = fits_machine w k p I F shared on
+
+  fork_at : is_fork_by w.program (Some G.task) ≡ true
+  fork_at = ap (is_fork_by w.program) (sym G.is) ∙ (ap (λ (m : MachineState). is_fork_by w.program (slice_get m.tasks t)) (sym (machine_same w k p I F shared on)) ∙ at_fork.forks)
+
+  line_at : (line : Line) → next_line w.program p ≡ Some line → fetched w.program G.task.top ≡ Some line
+  line_at line e = sym (same_line w.program p M.machine above G) ∙ e
+
+  pub is_par_line : (line : Line) → next_line w.program p ≡ Some line → is_par line.instr ≡ true
+  is_par_line line e = ap is_fork (sym (line_at line e)) ∙ fork_at
+
+  pub forks_to : (line : Line) (left right : ℕ) → next_line w.program p ≡ Some line → line.instr ≡ Par left right → ForksTo w p left right line.number
+  forks_to line left right e by = record { task = G.task; line = line; is = G.is; next = line_at line e; number_is = refl; by = by }
+
+  -- the tree is that of the machine then
+  abbrev A : After l M t F.fits.task
+  A = link.A w k p I F on
+
+  then_parents : (u : ℕ) → parents M.machine.tasks u ≡ parents l.machine.tasks u
+  then_parents u = elim (cases_eq u t) [
+    | inl q ↦ ap (parents M.machine.tasks) q ∙ (ap parent_of A.is ∙ (A.parent ∙ (ap parent_of (sym F.fits.is) ∙ ap (parents l.machine.tasks) (sym q))))
+    | inr ne ↦ ap parent_of (A.others u ne)
+  ]
+
+  pub then_long : length M.machine.tasks ≡ length l.machine.tasks
+  then_long = same_length M.machine.tasks l.machine.tasks each
+    where
+      each : (u : ℕ) → is_some (slice_get M.machine.tasks u) ≡ is_some (slice_get l.machine.tasks u)
+      each u = elim (cases_eq u t) [
+        | inl q ↦ ap (λ z. is_some (slice_get M.machine.tasks z)) q ∙ (ap is_some A.is ∙ (ap is_some (sym F.fits.is) ∙ ap (λ z. is_some (slice_get l.machine.tasks z)) (sym q)))
+        | inr ne ↦ ap is_some (A.others u ne)
+      ]
+
+  abbrev pub S : Splits w.program w.settings l (last.L w k p I F shared free_last) t p.fresh
+  S = last.S w k p I F shared free_last
+
+  low : AreLow (parents M.machine.tasks)
+  low = (last.knows_mid w k p I F shared free_last).sound.kept.tree.low
+
+  deep : AreDeep M.machine.tasks
+  deep = let r = G.reached in subst (λ (m : MachineState). AreDeep m.tasks) (sym r.2) (run_deep w.program r.0 r.1)
+
+  pub depth_is : depth_of w.tree t ≡ S.task.depth
+  depth_is = deep_in M.machine.tasks low deep (parent_in_tree w.tree) (λ u. tree_parents w I on u ∙ sym (then_parents u)) t S.task S.at.task
+
+  -- fewer than 2^31 tasks
+  pub few_tasks : length w.tree < 2 ^ 31
+  few_tasks =
+      let a = ran_tells w.program w.settings l k t (suc p.fresh) (ap is_none free_last) in
+      let c = (journals_are_counted w.program w.settings w.journal.items).counts.made in
+      let d = I.limits.fuel.1 in
+      omega (arith, a.2, c, d, tree_long w I on)
+
+  module _ (left right number : ℕ) (B : ForksTo w p left right number) where
+    same_task : B.task ≡ S.task
+    same_task = same_Some B.task S.task (sym B.is ∙ S.at.task)
+
+    same_line_then : B.line ≡ S.line
+    same_line_then = same_Some B.line S.line (sym B.next ∙ (ap (λ (x : Task). fetched w.program x.top) same_task ∙ S.at.next))
+
+    pub by : S.line.instr ≡ Par left right
+    by = ap (λ (z : Line). z.instr) (sym same_line_then) ∙ B.by
+
+    pub number_is : S.line.number ≡ number
+    number_is = ap (λ (z : Line). z.number) (sym same_line_then) ∙ B.number_is
+
+    pub forked_so : step w.program M.machine t ≡ forked_machine M.machine t S.task left right S.line.number
+    forked_so =
+        last.taken w k p I F shared free_last
+        ∙ ap (λ (i : Instr). follow M.machine t S.task S.line.number (effect (setting M.machine t S.task) S.task.top M.machine.store i)) by
+
+    -- too deep it is a trap
+    pub deep_traps : 1000 ≤ depth_of w.tree t → Tells w p (Traps Depth) number
+    deep_traps le =
+        let not : nat_lt S.task.depth depth_limit ≡ false = too_deep (nat_lt S.task.depth depth_limit) refl in
+        record {
+          task = S.task;
+          line = S.line;
+          is = S.at.task;
+          next = S.at.next;
+          number_is = number_is;
+          says = forked_so ∙ cond-false (nat_lt S.task.depth depth_limit) _ (ended_by M.machine (Trapped Depth t S.line.number)) not;
+        }
+      where
+        too_deep : (b : Bool) → nat_lt S.task.depth depth_limit ≡ b → nat_lt S.task.depth depth_limit ≡ false
+        too_deep false e = e
+        too_deep true e = let lt : S.task.depth < 1000 = ltb-true S.task.depth 1000 e in absurd (omega (arith, lt, le, depth_is))

@@ -1,0 +1,121 @@
+-- The roots of a heap can be listed: each remembered field holds one or none.
+use Rattle.std.proofs.Common.{◌≡◌, ◌↔◌, ℕ, Option, Some, None, List, [], ◌∷◌, slice_get, inl, inr, refl, ap, sym, subst, ◌∙◌}
+use Rattle.std.proofs.lemmas.Bool.{cases_eq}
+use Rattle.std.proofs.lemmas.Option.{same_Some}
+use Rattle.run_ledger.specs.declared.data.Ledger.{Ledger}
+use Rattle.object_layout.specs.declared.word.Addr.{Addr}
+use Rattle.ledger_steps.specs.Accounts.{Rests, own}
+use Rattle.core_relation.specs.Value.{In, Seen, Source, Value, objects, sources}
+use Rattle.core_relation.specs.Begins.{AreRoots}
+use Rattle.core_relation.specs.Stands.{IsSource, Stands}
+use Rattle.core_relation.proofs.objects.Members.{in_chunk}
+
+-- this remembered field holds the root
+pub record RootBy (v : Value) (l : Ledger) (t : ℕ) (s : Source) (a : Addr) : Type 0 where
+  pub home : ℕ
+  pub object : Seen
+  pub rests : Rests l home
+  pub there : In (objects v home) object
+  pub at : object.at ≡ s.object
+  pub holds : slice_get object.refs s.field ≡ Some (Some a)
+  pub into : v.owner a.chunk ≡ Some t
+
+abbrev pub OneRoot : Value → Ledger → ℕ → Source → Type 0
+OneRoot v l t s = (o : Option Addr) × ((a : Addr) → (o ≡ Some a) ↔ RootBy v l t s a)
+
+abbrev pub RootsOf : Value → Ledger → ℕ → List Source → Type 0
+RootsOf v l t ss = (roots : List Addr) × ((a : Addr) → In roots a ↔ ((s : Source) × In ss s × RootBy v l t s a))
+
+none_some : {A B : Type 0} {x : A} → ◌≡◌ {A = Option A} None (Some x) → B
+none_some e = absurd cc
+
+module _ (v : Value) (l : Ledger) (t : ℕ) (V : Stands v l) where
+  owned : (u : ℕ) (o : Seen) → Rests l u → In (objects v u) o → v.owner o.at.chunk ≡ Some u
+  owned u o r i = let k = in_chunk (v.homes u).chunks o i in ap v.owner ((V.homes u r).inside k.0 o k.1 k.2) ∙ (V.homes u r).owned k.0 k.1
+
+  module _ (s : Source) (K : IsSource v l t s) where
+    abbrev u : ℕ
+    u = own l K.name
+
+    abbrev q : Seen
+    q = (K.place.here K.rests).0
+
+    q_there : In (objects v u) q
+    q_there = (K.place.here K.rests).1
+
+    q_at : q.at ≡ s.object
+    q_at = (K.place.here K.rests).2.at
+
+    -- no other object lies there
+    only : (a : Addr) (R : RootBy v l t s a) → R.object ≡ q
+    only a R =
+        let home : R.home ≡ u = same_Some R.home u (sym (owned R.home R.object R.rests R.there) ∙ (ap (λ (b : Addr). v.owner b.chunk) R.at ∙ K.place.chunk)) in
+        (V.homes u K.rests).once R.object q (subst (λ z. In (objects v z) R.object) home R.there) q_there (R.at ∙ sym q_at)
+
+    held : (a : Addr) → RootBy v l t s a → slice_get q.refs s.field ≡ Some (Some a)
+    held a R = ap (λ (z : Seen). slice_get z.refs s.field) (sym (only a R)) ∙ R.holds
+
+    none : ((a : Addr) → RootBy v l t s a → ⊥) → OneRoot v l t s
+    none never = (None, λ a. ((λ e. none_some e), (λ R. absurd (never a R))))
+
+    by_owner : (a : Addr) → slice_get q.refs s.field ≡ Some (Some a) → (o : Option ℕ) → v.owner a.chunk ≡ o → OneRoot v l t s
+    by_owner a e None f = none (λ b R. let same : a ≡ b = same_Some a b (same_Some (Some a) (Some b) (sym e ∙ held b R)) in none_some (sym f ∙ (ap (λ (z : Addr). v.owner z.chunk) same ∙ R.into)))
+    by_owner a e (Some z) f = elim (cases_eq z t) [
+      | inl y ↦ (
+        Some a,
+        λ b. (
+          (λ g. let same : a ≡ b = same_Some a b g in record { home = u; object = q; rests = K.rests; there = q_there; at = q_at; holds = e ∙ ap (λ (z : Addr). Some (Some z)) same; into = ap (λ (z : Addr). v.owner z.chunk) (sym same) ∙ (f ∙ ap Some y) }),
+          (λ R. same_Some (Some a) (Some b) (sym e ∙ held b R)),
+        ),
+      )
+      | inr ne ↦ none (λ b R.
+          let same : a ≡ b = same_Some a b (same_Some (Some a) (Some b) (sym e ∙ held b R)) in
+          ne (same_Some z t (sym f ∙ (ap (λ (z : Addr). v.owner z.chunk) same ∙ R.into))))
+    ]
+
+    by_field : (f : Option (Option Addr)) → slice_get q.refs s.field ≡ f → OneRoot v l t s
+    by_field None e = none (λ a R. none_some (sym e ∙ held a R))
+    by_field (Some None) e = none (λ a R. none_some (same_Some None (Some a) (sym e ∙ held a R)))
+    by_field (Some (Some a)) e = by_owner a e (v.owner a.chunk) refl
+
+    pub one_root : OneRoot v l t s
+    one_root = by_field (slice_get q.refs s.field) refl
+
+  add : (s : Source) (ss : List Source) (o : Option Addr) → ((a : Addr) → (o ≡ Some a) ↔ RootBy v l t s a) → RootsOf v l t ss → RootsOf v l t (s ∷ ss)
+  add s ss None one r = (
+    r.0,
+    λ a. (
+      (λ i. let f = (r.1 a).0 i in (f.0, inr f.1, f.2)),
+      (λ f. elim f.1 [
+        | inl e ↦ none_some ((one a).1 (subst (λ (z : Source). RootBy v l t z a) (sym e) f.2))
+        | inr i ↦ (r.1 a).1 (f.0, i, f.2)
+      ]),
+    ),
+  )
+  add s ss (Some b) one r = (
+    b ∷ r.0,
+    λ a. (
+      (λ i. elim i [
+        | inl e ↦ (s, inl refl, (one a).0 (ap Some e))
+        | inr j ↦ let f = (r.1 a).0 j in (f.0, inr f.1, f.2)
+      ]),
+      (λ f. elim f.1 [
+        | inl e ↦ inl (same_Some b a ((one a).1 (subst (λ (z : Source). RootBy v l t z a) (sym e) f.2)))
+        | inr i ↦ inr ((r.1 a).1 (f.0, i, f.2))
+      ]),
+    ),
+  )
+
+  roots_of : (ss : List Source) → ((s : Source) → In ss s → IsSource v l t s) → RootsOf v l t ss
+  roots_of [] each = ([], λ a. ((λ i. absurd i), (λ f. absurd f.1)))
+  roots_of (s ∷ ss) each = let o = one_root s (each s (inl refl)) in add s ss o.0 o.1 (roots_of ss (λ z i. each z (inr i)))
+
+  pub roots_are : (roots : List Addr) × AreRoots v l t roots
+  roots_are =
+      let r = roots_of (sources v t) (λ s i. V.sources t s i) in (
+        r.0,
+        λ a. (
+          (λ i. let f = (r.1 a).0 i in let R : RootBy v l t f.0 a = f.2 in record { source = f.0; home = R.home; object = R.object; rests = R.rests; noted = f.1; there = R.there; at = R.at; holds = R.holds; into = R.into }),
+          (λ R. (r.1 a).1 (R.source, R.noted, record { home = R.home; object = R.object; rests = R.rests; there = R.there; at = R.at; holds = R.holds; into = R.into })),
+        ),
+      )

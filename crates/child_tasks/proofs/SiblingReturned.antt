@@ -1,0 +1,271 @@
+-- A child's last frame returns after its sibling's: what is known of the accounts then.
+use Rattle.std.proofs.Common.{◌≡◌, ◌⊎◌, ℕ, ℤ, suc, ◌+◌, ◌-◌, ◌*◌, ◌≤◌, is_none, arith, Bool, true, false, cond, Option, Some, None, List, map, slice_get, slice_set, inl, inr, refl, ap, sym, subst, ◌∙◌, if◌then◌else◌}
+use Rattle.std.proofs.lemmas.Bool.{cases_eq}
+use Rattle.std.proofs.lemmas.Option.{same_Some}
+use Rattle.listed.proofs.Members.{got_other, got_same}
+use Rattle.hh_model.specs.declared.data.Name.{Name}
+use Rattle.hh_model.specs.declared.data.State.{State as MachineState}
+use Rattle.hh_model.specs.declared.data.Status.TheVariants.{Waiting as WaitingOf, Ended as EndedOf}
+use Rattle.hh_model.specs.declared.data.Task.{Task}
+use Rattle.hh_model.specs.Step.{child_ended_by, is_joined, is_left, is_running, is_waiting, join_of, joined_task, kept_by, or_same, parents, result_of, resumed}
+use Rattle.run_ledger.specs.declared.data.Ledger.{Ledger}
+use Rattle.run_ledger.specs.Heaps.{heap_of, let_go, or_fresh}
+use Rattle.run_ledger.specs.Space.{CountsFew}
+use Rattle.run_ledger.proofs.Bounds.{ran_tells, task_steps_steps}
+use Rattle.run_ledger.proofs.Since.{since_is_few}
+use Rattle.alloc_path.specs.Heap.{Heap}
+use Rattle.alloc_path.specs.View.{Level}
+use Rattle.heap_tree.specs.declared.state.State.TheVariants.{Ended}
+use Rattle.heap_tree.specs.Node.{state_of as state_in_tree}
+use Rattle.ledger_steps.specs.Accounts.{Rests, rested}
+use Rattle.ledger_steps.specs.Last.{EndsLast, Joining, Runs, Splits}
+use Rattle.ledger_steps.proofs.Ahead.{with_machine, with_off}
+use Rattle.ledger_steps.proofs.Rested.{rested_view}
+use Rattle.core_relation.specs.Value.{Chunk, Home, Value}
+use Rattle.core_relation.specs.Fits.{part_for, with_home}
+use Rattle.core_relation.specs.Layout.{reserved_chunks, reserved_units}
+use Rattle.core_relation.specs.Reads.{TaskIsRead}
+use Rattle.core_relation.specs.Stands.{HasNames, HomeStands, Place, Stands}
+use Rattle.core_relation.specs.Worker.{Fits as FitsValue}
+use Rattle.core_relation.proofs.changes.With.{at_home, off_home}
+use Rattle.task_machine.specs.declared.part.Private.{Private}
+use Rattle.task_machine.specs.Accounts.{IsCounted}
+use Rattle.shared_value.specs.declared.rest.Work.{Work}
+use Rattle.shared_value.specs.declared.rest.Work.TheVariants.{Calls}
+use Rattle.shared_value.specs.World.{World, accounts, begun_of, home_by, rest_at, value_of}
+use Rattle.shared_value.specs.Stands.{HeapForm, IsWorld}
+use Rattle.shared_value.specs.Fits.{Fits, home_of_part}
+use Rattle.shared_value.specs.Entered.{refused}
+use Rattle.shared_value.proofs.HeapCounts.{counted_from}
+use Rattle.shared_value.proofs.PartFitsMachine as link
+use Rattle.own_steps.specs.Alone.{IsShared, alone_event}
+use Rattle.own_steps.proofs.LastStepEntry as last
+use Rattle.own_steps.proofs.LastStepEntry.{last_event}
+use Rattle.child_tasks.specs.ChildEnds.{IsAtEnd, running_parent, where_running}
+use Rattle.child_tasks.proofs.ChildReturns as steps
+use Rattle.child_tasks.proofs.JoinHomes.{by_chunks, by_since}
+use Rattle.child_tasks.proofs.JoinTree.{HasCalls, IsOver, by_room, kept_is, waiting_calls, waiting_is, waits_is}
+use Rattle.child_tasks.proofs.LastReturnKinds.{joins}
+
+module _ (w : World) (k : ℕ) (p : Private) (I : IsWorld w) (F : Fits w k p) (at_end : IsAtEnd w p) (free : refused w (alone_event k p) ≡ None) (ended : state_in_tree w.tree (steps.other w k p I F at_end free) ≡ Some Ended) where
+  abbrev pub t : ℕ
+  t = p.task
+
+  abbrev pub l : Ledger
+  l = accounts w
+
+  abbrev pub M : Ledger
+  M = steps.M w k p I F at_end free
+
+  abbrev pub R : Ledger
+  R = rested M t
+
+  abbrev pub shared : IsShared w p
+  shared = steps.shared w k p I F at_end free
+
+  abbrev pub free_last : refused w (last_event k p) ≡ None
+  free_last = steps.free_last w k p I F at_end free
+
+  abbrev pub L : Ledger
+  L = last.L w k p I F shared free_last
+
+  abbrev pub v : Value
+  v = value_of w
+
+  abbrev pub h : Home
+  h = home_of_part p
+
+  abbrev pub vt : Value
+  vt = with_home v t h
+
+  abbrev pub S : Splits w.program w.settings l L t p.fresh
+  S = steps.S w k p I F at_end free
+
+  abbrev pub x : Task
+  x = S.task
+
+  abbrev pub q : ℕ
+  q = steps.parent w k p I F at_end free
+
+  abbrev pub s : ℕ
+  s = steps.other w k p I F at_end free
+
+  -- ---- THE MACHINE THEN
+  pub other_kept : (r : ℤ × Option Name) × (kept_by (slice_get M.machine.tasks s) ≡ Some r)
+  other_kept = steps.other_ended w k p I F at_end free ended
+
+  other_task : (y : Task) × (slice_get M.machine.tasks s ≡ Some y) × (y.status ≡ EndedOf other_kept.0.0 other_kept.0.1)
+  other_task = kept_is (slice_get M.machine.tasks s) other_kept.0 other_kept.1
+
+  above_task : (y : Task) × (slice_get M.machine.tasks q ≡ Some y)
+  above_task = waits_is (slice_get M.machine.tasks q) (steps.parent_waits w k p I F at_end free)
+
+  abbrev y : Task
+  y = other_task.0
+
+  abbrev xp : Task
+  xp = above_task.0
+
+  abbrev r : ℤ × Option Name
+  r = other_kept.0
+
+  abbrev joined_to : Bool → MachineState
+  joined_to b = cond b (join_of M.machine q xp t x y (result_of x.top) r) (join_of M.machine q xp (t - 1) y x r (result_of x.top))
+
+  machine_is : L.machine ≡ joined_to (is_left t)
+  machine_is =
+      last.machine_then w k p I F shared free_last
+      ∙ (steps.step_is w k p I F at_end free
+      ∙ (ap (child_ended_by M.machine t x q (result_of x.top)) other_kept.1
+      ∙ (ap (λ (o : Option Task). or_same M.machine o (λ above. or_same M.machine (slice_get M.machine.tasks s) (λ z. cond (is_left t) (join_of M.machine q above t x z (result_of x.top) r) (join_of M.machine q above (t - 1) z x r (result_of x.top))))) above_task.1
+      ∙ ap (λ (o : Option Task). or_same M.machine o (λ z. cond (is_left t) (join_of M.machine q xp t x z (result_of x.top) r) (join_of M.machine q xp (t - 1) z x r (result_of x.top)))) other_task.1)))
+
+  over_by : (b : Bool) → IsOver (joined_to b) t
+  over_by true = record {
+    task = joined_task x;
+    is = got_other (slice_set (slice_set M.machine.tasks t (joined_task x)) (t + 1) (joined_task y)) q t (resumed xp (result_of x.top) r) (λ e. steps.parent_apart w k p I F at_end free (sym e))
+        ∙ (got_other (slice_set M.machine.tasks t (joined_task x)) (t + 1) t (joined_task y) (λ e. omega (arith, e)) ∙ got_same M.machine.tasks t x (joined_task x) S.at.task);
+    over = refl;
+    end = last.mid_goes w k p I F shared free_last;
+  }
+  over_by false =
+      let low = steps.parent_low w k p I F at_end free in
+      let back : t - 1 + 1 ≡ t = omega (arith, low) in
+      let there : slice_get (slice_set M.machine.tasks (t - 1) (joined_task y)) (t - 1 + 1) ≡ Some x =
+      got_other M.machine.tasks (t - 1) (t - 1 + 1) (joined_task y) (λ e. omega (arith, e)) ∙ (ap (slice_get M.machine.tasks) back ∙ S.at.task) in
+      let put : slice_get (slice_set (slice_set M.machine.tasks (t - 1) (joined_task y)) (t - 1 + 1) (joined_task x)) t ≡ Some (joined_task x) =
+      ap (slice_get (slice_set (slice_set M.machine.tasks (t - 1) (joined_task y)) (t - 1 + 1) (joined_task x))) (sym back) ∙ got_same (slice_set M.machine.tasks (t - 1) (joined_task y)) (t - 1 + 1) x (joined_task x) there in
+      record {
+        task = joined_task x;
+        is = got_other (slice_set (slice_set M.machine.tasks (t - 1) (joined_task y)) (t - 1 + 1) (joined_task x)) q t (resumed xp r (result_of x.top)) (λ e. steps.parent_apart w k p I F at_end free (sym e)) ∙ put;
+        over = refl;
+        end = last.mid_goes w k p I F shared free_last;
+      }
+
+  pub over_then : IsOver L.machine t
+  over_then = subst (λ (m : MachineState). IsOver m t) (sym machine_is) (over_by (is_left t))
+
+  pub Q : EndsLast M L t x
+  Q = joins w.program M L t x S.line (last.is_not_private w k p I F shared free_last) (steps.says w k p I F at_end free).0 over_then.task over_then.is over_then.end over_then.over S.kind S.last
+
+  -- how the entry splits
+  abbrev pub E : Runs w.program w.settings l L t k p.fresh
+  E = record (last.runs_so w k p I F shared free_last) { splits = record S { kind = Joining; last = Q; apart = last.is_not_private w k p I F shared free_last; on = λ u. over_then.end } }
+
+  abbrev pub own : FitsValue w.program w.settings (part_for w.settings t h p.fresh) v l
+  own = F.fits
+
+  -- ---- WHO JOINS
+  pub machine_rests : R.machine ≡ M.machine
+  machine_rests = with_machine M t let_go
+
+  pub left_par : parents M.machine.tasks Q.left ≡ Some Q.parent
+  left_par = ap (λ (m : MachineState). parents m.tasks Q.left) (sym machine_rests) ∙ Q.can.left
+
+  right_par : parents M.machine.tasks (Q.left + 1) ≡ Some Q.parent
+  right_par = ap (λ (m : MachineState). parents m.tasks (Q.left + 1)) (sym machine_rests) ∙ Q.can.right
+
+  left_live : is_joined (slice_get M.machine.tasks Q.left) ≡ false
+  left_live = ap (λ (m : MachineState). is_joined (slice_get m.tasks Q.left)) (sym machine_rests) ∙ Q.can.left_live
+
+  right_live : is_joined (slice_get M.machine.tasks (Q.left + 1)) ≡ false
+  right_live = ap (λ (m : MachineState). is_joined (slice_get m.tasks (Q.left + 1))) (sym machine_rests) ∙ Q.can.right_live
+
+  -- which of the two the task is
+  abbrev pub Which : Type 0
+  Which =
+      ((t ≡ Q.left) × (s ≡ Q.left + 1) × (Q.left_result ≡ result_of x.top) × (kept_by (slice_get M.machine.tasks s) ≡ Some Q.right_result))
+      ⊎ ((t ≡ Q.left + 1) × (s ≡ Q.left) × (Q.right_result ≡ result_of x.top) × (kept_by (slice_get M.machine.tasks s) ≡ Some Q.left_result))
+
+  sibling_is : (u : ℕ) → parents M.machine.tasks u ≡ Some Q.parent → parents M.machine.tasks t ≡ Some Q.parent → is_joined (slice_get M.machine.tasks u) ≡ false → (u ≡ t → ⊥) → s ≡ u
+  sibling_is u pu pt live ne = elim ((steps.kept_tree w k p I F at_end free).brothers t u Q.parent pt pu (steps.live_mid w k p I F at_end free) live) [
+    | inl e ↦ absurd (ne e)
+    | inr e ↦ sym e
+  ]
+
+  pub which : Which
+  which = by Q.results
+    where
+      by : ((t ≡ Q.left) × (Q.left_result ≡ result_of x.top) × (kept_by (slice_get M.machine.tasks (Q.left + 1)) ≡ Some Q.right_result))
+          ⊎ ((t ≡ Q.left + 1) × (Q.right_result ≡ result_of x.top) × (kept_by (slice_get M.machine.tasks Q.left) ≡ Some Q.left_result)) → Which
+      by (inl z) =
+          let e : s ≡ Q.left + 1 = sibling_is (Q.left + 1) right_par (ap (parents M.machine.tasks) z.0 ∙ left_par) right_live (λ f. omega (arith, f, z.0)) in
+          inl (z.0, e, z.1, ap (λ u. kept_by (slice_get M.machine.tasks u)) e ∙ z.2)
+      by (inr z) =
+          let e : s ≡ Q.left = sibling_is Q.left left_par (ap (parents M.machine.tasks) z.0 ∙ right_par) left_live (λ f. omega (arith, f, z.0)) in
+          inr (z.0, e, z.1, ap (λ u. kept_by (slice_get M.machine.tasks u)) e ∙ z.2)
+
+  pub parent_same : Q.parent ≡ q
+  parent_same = by which
+    where
+      mid : parents M.machine.tasks t ≡ Some q
+      mid = steps.par_mid w k p I F at_end free
+
+      by : Which → Q.parent ≡ q
+      by (inl z) = same_Some Q.parent q (sym left_par ∙ (ap (parents M.machine.tasks) (sym z.0) ∙ mid))
+      by (inr z) = same_Some Q.parent q (sym right_par ∙ (ap (parents M.machine.tasks) (sym z.0) ∙ mid))
+
+  -- the parent runs again
+  pub parent_then : running_parent L.machine.tasks t ≡ Some q
+  parent_then =
+      let par : parents L.machine.tasks t ≡ Some q = Q.parents t ∙ steps.par_mid w k p I F at_end free in
+      let is : slice_get L.machine.tasks q ≡ Some (resumed Q.above Q.left_result Q.right_result) = ap (slice_get L.machine.tasks) (sym parent_same) ∙ Q.joins.resumed in
+      ap (where_running L.machine.tasks) par ∙ ap (λ b. if b then Some q else None) (ap is_running is)
+
+  -- ---- THE ACCOUNTS AT REST
+  pub W : Stands vt R
+  W = link.W w k p I F (steps.on w k p I F at_end free)
+
+  -- the words that a heap counts
+  pub since_low : (u : ℕ) → (heap_of R u).since ≤ 1000034 * 1000000256
+  since_low u =
+      let few : CountsFew w.settings M = (since_is_few w.program w.settings w.journal.items I.form I.legal).1 t p.fresh (E.knows.sound, E.collects) in
+      let a = ran_tells w.program w.settings l k t (suc p.fresh) (ap is_none free_last) in
+      let more : M.steps ≡ l.steps + p.fresh = task_steps_steps w.program p.fresh l t in
+      let fuel = I.limits.fuel.1 in
+      let fresh : p.fresh ≤ 256 = at_end.few in
+      let b : M.steps ≤ 1000000256 = omega (arith, more, a.2, fuel, fresh) in
+      let c : (heap_of M u).since ≤ 1000034 * M.steps = few.below u in
+      let e : (heap_of R u).since ≡ (heap_of M u).since = elim (cases_eq u t) [
+        | inl e ↦ ap (λ i. (heap_of R i).since) e ∙ (rested_view (λ i. i.since) (λ i. refl) M t ∙ ap (λ i. (heap_of M i).since) (sym e))
+        | inr ne ↦ ap (λ o. (or_fresh o).since) (with_off M t u let_go ne)
+      ] in
+      omega (arith, b, c, e)
+
+  pub here : vt.homes t ≡ h
+  here = at_home v t h
+
+  -- it is amid no collection
+  pub own_here : vt.homes t ≡ home_by p.heap p.view p.allocations (Calls p.frames)
+  own_here = here ∙ ap (λ o. let z : Home = record (home_by p.heap p.view p.allocations (Calls p.frames)) { begun = o } in z) (ap begun_of (last.none w k p I F shared free_last))
+
+  pub off : (u : ℕ) → (u ≡ t → ⊥) → vt.homes u ≡ v.homes u
+  off u ne = off_home v t h u ne
+
+  -- a heap is counted as its account says
+  pub counted_home : (u n : ℕ) (g : Heap) (view : List Level) (z : Work) → vt.homes u ≡ home_by g view n z → Rests R u → HeapForm g → IsCounted g (heap_of R u)
+  counted_home u n g view z e rests form =
+      let H : HomeStands vt R u = W.homes u rests in
+      counted_from g (heap_of R u) form
+      (subst (λ ks. HasNames ks (heap_of R u)) (ap (λ (i : Home). i.chunks) e ∙ by_chunks g view n z) H.names)
+      (sym (by_room g view n z) ∙ (ap (λ (i : Home). i.room) (sym e) ∙ H.room))
+      (sym (by_since g view n z) ∙ (ap (λ (i : Home). i.since) (sym e) ∙ H.since))
+      (subst (λ (ks : List Chunk). map (λ (c : Chunk). c.units) (reserved_chunks ks) ≡ reserved_units (heap_of R u).reserved) (ap (λ (i : Home). i.chunks) e ∙ by_chunks g view n z) H.laid.reserved)
+
+  pub since_home : (u n : ℕ) (g : Heap) (view : List Level) (z : Work) → vt.homes u ≡ home_by g view n z → Rests R u → g.since ≡ (heap_of R u).since
+  since_home u n g view z e rests = sym (by_since g view n z) ∙ (ap (λ (i : Home). i.since) (sym e) ∙ (W.homes u rests).since)
+
+  -- the parent's frames are in the value
+  pub rests_parent : Rests R q
+  rests_parent = subst (Rests R) parent_same Q.can.rests
+
+  above_status : xp.status ≡ WaitingOf
+  above_status = waiting_is xp (ap is_waiting (sym above_task.1) ∙ steps.parent_waits w k p I F at_end free)
+
+  pub waiting_parent : (y : Task) × (slice_get l.machine.tasks q ≡ Some y) × (y.status ≡ WaitingOf)
+  waiting_parent = (xp, sym (steps.same_then w k p I F at_end free q (steps.parent_apart w k p I F at_end free)) ∙ above_task.1, above_status)
+
+  pub parent_calls : HasCalls (rest_at w.homes q)
+  parent_calls =
+      let held : TaskIsRead (Place vt R) (vt.homes q) xp = W.tasks q xp rests_parent (ap (λ (m : MachineState). slice_get m.tasks q) machine_rests ∙ above_task.1) in
+      waiting_calls (Place vt R) (rest_at w.homes q) xp above_status (subst (λ (i : Home). TaskIsRead (Place vt R) i xp) (off q (steps.parent_apart w k p I F at_end free)) held)

@@ -1,0 +1,112 @@
+-- The two children of a fork, the left one and the right one, and what is taken of a task's home and set.
+use Rattle.std.proofs.Common.{◌≡◌, ℕ, ◌+◌, ◌-◌, ◌%◌, ◌<◌, arith, Bool, true, false, Option, Some, None, length, option_map, inl, inr, refl, ap, sym, ◌∙◌, eq-eqb}
+use Rattle.std.specs.Prelude.{IfSome}
+use Rattle.std.proofs.lemmas.Bool.{cond-false, cond-true, eqb-false}
+use Rattle.std.proofs.lemmas.Option.{same_Some}
+use Rattle.hh_model.specs.declared.data.Status.TheVariants.{Waiting as WaitingOf}
+use Rattle.hh_model.specs.declared.data.Task.{Task}
+use Rattle.heap_tree.specs.declared.state.State.{State}
+use Rattle.heap_tree.specs.declared.state.State.TheVariants.{Ended, Waiting, Ready, Out, Joined}
+use Rattle.heap_tree.specs.Node.{Node}
+use Rattle.heap_tree.specs.Pairs.{is_left, sibling}
+use Rattle.remembered_set.specs.Sources.{Notes}
+use Rattle.write_barrier.specs.declared.sets.SetOf.{SetOf}
+use Rattle.write_barrier.specs.Stored.{content_of}
+use Rattle.fork_join.specs.declared.sides.EndedChild.{EndedChild}
+use Rattle.core_relation.specs.Whole.{Node as SeenNode, Waits}
+use Rattle.task_machine.specs.declared.part.Private.{Private}
+use Rattle.shared_value.specs.declared.rest.Rest.{Rest}
+use Rattle.shared_value.specs.World.{node_of, state_of}
+use Rattle.shared_value.proofs.TaskTaken.{told}
+use Rattle.child_tasks.specs.Joins.{AreSides, IsRestOf, chunk_count, left_of, other_child, own_child, right_of, sources_by}
+
+-- ---- A TASK THAT WAITS, in the tree
+
+waits_state : (s : State) → state_of s ≡ Waits → s ≡ Waiting
+waits_state Waiting e = refl
+waits_state Ready e = absurd cc
+waits_state Out e = absurd cc
+waits_state Ended e = absurd cc
+waits_state Joined e = absurd cc
+
+none_some : {A B : Type 0} {x : A} → ◌≡◌ {A = Option A} None (Some x) → B
+none_some e = absurd cc
+
+pub waits_in : (wk : Option ℕ) (n : Option Node) (x : Task) → x.status ≡ WaitingOf → option_map node_of n ≡ Some (told wk x) → option_map (λ (i : Node). i.state) n ≡ Some Waiting
+waits_in wk None x e h = none_some h
+waits_in wk (Some n) x e h =
+    ap Some (waits_state n.state (ap (λ (z : SeenNode). z.state) (same_Some (node_of n) (told wk x) h) ∙ ap (λ s. (told wk (record x { status = s })).state) e))
+
+-- ---- SIDES
+
+module _ (p : Private) (beside : Rest) (own_notes other_notes : Notes) (low : 0 < p.task) where
+  abbrev t : ℕ
+  t = p.task
+
+  abbrev s : ℕ
+  s = sibling t
+
+  abbrev own : EndedChild
+  own = own_child p own_notes
+
+  abbrev oth : EndedChild
+  oth = other_child s beside other_notes
+
+  abbrev Sided : Bool → Type 0
+  Sided b = AreSides p s beside (left_of b own oth).side.task (left_of b own oth).side.heap (right_of b own oth).side.heap (left_of b own oth).result (right_of b own oth).result
+
+  sided : (b : Bool) → is_left t ≡ b → Sided b
+  sided true e = let f : s ≡ t + 1 = cond-true (is_left t) (t + 1) (t - 1) e in inl (refl, f, refl, refl, refl, refl)
+  sided false e =
+      let f : s ≡ t - 1 = cond-false (is_left t) (t + 1) (t - 1) e in
+      let g : t ≡ s + 1 = omega (arith, f, low) in
+      inr (refl, g, refl, refl, refl, refl)
+
+  pub sides : Sided (is_left t)
+  sides = sided (is_left t) refl
+
+  next_by : (b : Bool) → is_left t ≡ b → (right_of b own oth).side.task ≡ (left_of b own oth).side.task + 1
+  next_by true e = cond-true (is_left t) (t + 1) (t - 1) e
+  next_by false e = let f : s ≡ t - 1 = cond-false (is_left t) (t + 1) (t - 1) e in let g : t ≡ s + 1 = omega (arith, f, low) in g
+
+  pub right_next : (right_of (is_left t) own oth).side.task ≡ (left_of (is_left t) own oth).side.task + 1
+  right_next = next_by (is_left t) refl
+
+  -- the left child's number is odd, and the right one is its sibling
+  odd_by : (b : Bool) → is_left t ≡ b → (is_left (left_of b own oth).side.task ≡ true) × ((right_of b own oth).side.task ≡ sibling (left_of b own oth).side.task)
+  odd_by true e = (e, refl)
+  odd_by false e =
+      let f : s ≡ t - 1 = cond-false (is_left t) (t + 1) (t - 1) e in
+      let even : t % 2 ≡ 1 → ⊥ = eqb-false (t % 2) 1 e in
+      let odd : s % 2 ≡ 1 = omega (arith, f, even, low) in
+      let left : is_left s ≡ true = eq-eqb (s % 2) 1 odd in
+      let g : t ≡ s + 1 = omega (arith, f, low) in
+      (left, g ∙ sym (cond-true (is_left s) (s + 1) (s - 1) left))
+
+  pub in_pairs : (is_left (left_of (is_left t) own oth).side.task ≡ true) × ((right_of (is_left t) own oth).side.task ≡ sibling (left_of (is_left t) own oth).side.task)
+  in_pairs = odd_by (is_left t) refl
+
+  -- what is so of both is so of each
+  pub each : (P : EndedChild → Type 0) → P own → P oth → P (left_of (is_left t) own oth) × P (right_of (is_left t) own oth)
+  each P a b = by (is_left t)
+    where
+      by : (b : Bool) → P (left_of b own oth) × P (right_of b own oth)
+      by true = (a, b)
+      by false = (b, a)
+
+  -- counts of both together
+  both_by : (f : EndedChild → ℕ) (b : Bool) → f (left_of b own oth) + f (right_of b own oth) ≡ f own + f oth
+  both_by f true = refl
+  both_by f false = omega arith
+
+  pub both : (f : EndedChild → ℕ) → f (left_of (is_left t) own oth) + f (right_of (is_left t) own oth) ≡ f own + f oth
+  both f = both_by f (is_left t)
+
+pub count_of : (o : Option Rest) (r : Rest) → IsRestOf o r → length r.heap.chunks ≡ chunk_count o
+count_of None r e = ap (λ (z : Rest). length z.heap.chunks) e.2
+count_of (Some x) r e = ap (λ (z : Rest). length z.heap.chunks) e
+
+-- what is taken of a set is what it has
+pub taken_sources : (o : Option SetOf) (n : Notes) (s : SetOf) → o ≡ Some s → IfSome o (λ s. n ≡ s.remembered) → n.sources ≡ sources_by (option_map content_of o)
+taken_sources None n s e h = none_some e
+taken_sources (Some z) n s e h = ap (λ (i : Notes). i.sources) h

@@ -1,0 +1,89 @@
+-- A private step of a task whose home isn't in the value: the value stands for the accounts after it too.
+use Rattle.std.proofs.Common.{◌≡◌, ℕ, false, Some, length, slice_get, inl, inr, refl, ap, sym, subst, ◌∙◌}
+use Rattle.std.proofs.lemmas.Bool.{both_ways}
+use Rattle.object_layout.specs.declared.word.Addr.{Addr}
+use Rattle.hh_model.specs.declared.data.Name.{Name}
+use Rattle.hh_model.specs.Effect.{row_of}
+use Rattle.hh_model.specs.Step.{is_waiting, is_on_path}
+use Rattle.run_ledger.specs.declared.data.Heap.{Heap}
+use Rattle.run_ledger.specs.declared.data.Ledger.{Ledger}
+use Rattle.run_ledger.specs.Heaps.{heap_of}
+use Rattle.run_ledger.specs.Sound.{SoundLedger}
+use Rattle.core_relation.specs.Value.{Seen, Home, Value, In, objects, objects_in, sources, Lies}
+use Rattle.ledger_steps.specs.Accounts.{own, Rests, StepsAlone}
+use Rattle.core_relation.specs.Layout.{AreLaidOut}
+use Rattle.core_relation.specs.Stands.{Place, HasNames, HomeStands, Stands}
+use Rattle.core_relation.proofs.objects.Carry.{object_kept, task_kept}
+use Rattle.core_relation.proofs.objects.Members.{object_held}
+
+-- a home's objects are those of its task
+pub home_own : (v : Value) (l : Ledger) → SoundLedger l → (t : ℕ) → HomeStands v l t → (o : Seen) → In (objects v t) o → own l o.name ≡ t
+home_own v l S t H o i = (S.owners t o.name (object_held (v.homes t).chunks (heap_of l t) H.names o i)).1
+
+-- what a home's account says stays with it
+pub home_kept : (v v' : Value) (l l' : Ledger) (t : ℕ) → v'.homes t ≡ v.homes t → ((k : ℕ) → v.owner k ≡ Some t → v'.owner k ≡ Some t) → heap_of l' t ≡ heap_of l t → length (row_of (slice_get l'.machine.store t)) ≡ length (row_of (slice_get l.machine.store t))
+    → HomeStands v l t → HomeStands v' l' t
+home_kept v v' l l' t eh ow el er H = record {
+  names = subst (λ (h : Home). HasNames h.chunks (heap_of l' t)) (sym eh) (subst (HasNames (v.homes t).chunks) (sym el) H.names);
+  room = ap (λ (h : Home). h.room) eh ∙ (H.room ∙ sym (ap (λ (h : Heap). h.room) el));
+  since = ap (λ (h : Home). h.since) eh ∙ (H.since ∙ sym (ap (λ (h : Heap). h.since) el));
+  count = ap (λ (h : Home). h.count) eh ∙ (H.count ∙ sym er);
+  owned = λ k i. ow k.number (H.owned k (subst (λ (h : Home). In h.chunks k) eh i));
+  inside = λ k o i j. H.inside k o (subst (λ (h : Home). In h.chunks k) eh i) j;
+  once = λ o p i j e. H.once o p (subst (λ (h : Home). In (objects_in h.chunks) o) eh i) (subst (λ (h : Home). In (objects_in h.chunks) p) eh j) e;
+  named = λ o p i j e. H.named o p (subst (λ (h : Home). In (objects_in h.chunks) o) eh i) (subst (λ (h : Home). In (objects_in h.chunks) p) eh j) e;
+  laid = subst (λ (h : Home). AreLaidOut h.chunks (heap_of l' t).reserved) (sym eh) (subst (λ (h : Heap). AreLaidOut (v.homes t).chunks h.reserved) (sym el) H.laid);
+}
+
+module _ (v : Value) (l l' : Ledger) (t w : ℕ) (S : SoundLedger l) (V : Stands v l) (A : StepsAlone l l' t)
+    (out : (heap_of l t).worker ≡ Some w) (out' : (heap_of l' t).worker ≡ Some w) (runs : is_waiting (slice_get l.machine.tasks t) ≡ false) where
+  other : (u : ℕ) → Rests l' u → u ≡ t → ⊥
+  other u r e = let e' : (heap_of l' u).worker ≡ Some w = ap (λ k. (heap_of l' k).worker) e ∙ out' in absurd cc
+
+  rest : (u : ℕ) → Rests l' u → Rests l u
+  rest u r = ap (λ (h : Heap). h.worker) (sym (A.heaps u (other u r))) ∙ r
+
+  place : (n : Name) (a : Addr) → Place v l n a → Place v l' n a
+  place n a p =
+      let e : own l' n ≡ own l n = A.tree.owners n.task in
+      record {
+        chunk = p.chunk ∙ ap Some (sym e);
+        here = λ r. subst (λ u. Lies (v.homes u).chunks n a) (sym e) (p.here (rest (own l n) (subst (Rests l') e r)));
+      }
+
+  pub steps_alone : Stands v l'
+  steps_alone = record {
+    views = λ u r j z o up ne rz i. V.views u (rest u r) (sym (A.tree.joins u) ∙ j) z o (sym (A.tree.paths z u) ∙ up) ne (rest z rz) i;
+    gives = λ u z r j up ne w rz. V.gives u z (rest u r) (sym (A.tree.joins u) ∙ j) (sym (A.tree.paths z u) ∙ up) ne (sym (A.tree.waits z) ∙ w) (rest z rz);
+    made = λ k u e. A.tree.made u ∙ V.made k u e;
+    homes = λ u r. home_kept v v l l' u refl (λ k e. e) (A.heaps u (other u r)) (A.rows u (other u r)) (V.homes u (rest u r));
+    contents = λ u o r i.
+        let c = V.contents u o (rest u r) i in
+        let ne : own l o.name ≡ t → ⊥ = λ e. other u r (sym (home_own v l S u (V.homes u (rest u r)) o i) ∙ e) in
+        (c.0, A.store o.name ne ∙ c.1, object_kept (Place v l) (Place v l') o c.0 (λ n j. place n) c.2);
+    tasks = λ u x r is. task_kept (Place v l) (Place v l') (v.homes u) x (λ n j. place n) (V.tasks u x (rest u r) (sym (A.tasks u (other u r)) ∙ is));
+    remembered = λ u o x i n r j is at.
+        let ne : own l o.name ≡ t → ⊥ = λ e. other u r (sym (home_own v l S u (V.homes u (rest u r)) o j) ∙ e) in
+        elim (V.remembered u o x i n (rest u r) j (sym (A.store o.name ne) ∙ is) at) [
+          | inl h ↦ inl (ap (λ k. is_on_path l'.machine.tasks k u) (A.tree.owners n.task) ∙ (A.tree.paths (own l n) u ∙ h))
+          | inr s ↦ inr (subst (λ k. In (sources v k) (record { object = o.at; field = i })) (sym (A.tree.owners n.task)) s)
+        ];
+    sources = λ u s i.
+        let k = V.sources u s i in
+        let e : own l' k.name ≡ own l k.name = A.tree.owners k.name.task in
+        let ne : own l k.name ≡ t → ⊥ = λ e. both_ways (is_waiting (slice_get l.machine.tasks t)) runs (ap (λ z. is_waiting (slice_get l.machine.tasks z)) (sym e) ∙ k.waits) in
+        record {
+          name = k.name;
+          object = k.object;
+          mutable = k.mutable;
+          is = A.store k.name ne ∙ k.is;
+          place = place k.name s.object k.place;
+          field = k.field;
+          waits = ap (λ z. is_waiting (slice_get l'.machine.tasks z)) e ∙ (A.tree.waits (own l k.name) ∙ k.waits);
+          rests = ap (λ z. (heap_of l' z).worker) e ∙ (ap (λ (h : Heap). h.worker) (A.heaps (own l k.name) ne) ∙ k.rests);
+          above = ap (λ z. is_on_path l'.machine.tasks z u) e ∙ (A.tree.paths (own l k.name) u ∙ k.above);
+          below = λ z. k.below (sym e ∙ z);
+          live = A.tree.joins u ∙ k.live;
+          kept = subst (λ z. In (heap_of l' z).snapshot k.name) (sym e) (subst (λ (h : Heap). In h.snapshot k.name) (sym (A.heaps (own l k.name) ne)) k.kept);
+        };
+  }

@@ -1,0 +1,221 @@
+-- The end of a leaf collection: the survivors of a running task lie at new addresses, and each reference to one is led there.
+use Rattle.std.proofs.Common.{is_some, ◌≡◌, ℕ, ◌+◌, arith, true, false, Option, Some, None, List, ◌∷◌, slice_get, ◌⊎◌, inl, inr, refl, ap, sym, subst, ◌∙◌, is_some}
+use Rattle.std.proofs.lemmas.Bool.{cases_eq, both_ways}
+use Rattle.std.proofs.lemmas.Option.{same_Some}
+use Rattle.listed.proofs.Members.{got_in}
+use Rattle.object_layout.specs.declared.word.Addr.{Addr}
+use Rattle.hh_model.specs.declared.data.Name.{Name}
+use Rattle.hh_model.specs.declared.data.Object.{Object}
+use Rattle.hh_model.specs.declared.data.Task.{Task}
+use Rattle.hh_model.specs.declared.data.State.{State}
+use Rattle.hh_model.specs.Effect.{object_at}
+use Rattle.hh_model.specs.Names.{held_by, task_names}
+use Rattle.hh_model.specs.Step.{is_waiting, is_joined, is_on_path, parents}
+use Rattle.hh_model.proofs.Paths.{path_itself}
+use Rattle.run_ledger.specs.declared.data.Heap.{Heap}
+use Rattle.run_ledger.specs.declared.data.Ledger.{Ledger}
+use Rattle.run_ledger.specs.Heaps.{heap_of, or_fresh}
+use Rattle.run_ledger.specs.Sound.{SoundLedger, Spares, survivors_at, collecting}
+use Rattle.core_relation.specs.Value.{Seen, Source, Home, Value, In, objects, objects_in, sources, Lies, led_object, rewritten, rewritten_home}
+use Rattle.core_relation.specs.Reads.{IsRead, FramesAreRead, HoldsRead, TaskIsRead}
+use Rattle.ledger_steps.specs.Accounts.{own, Rests, ChangesHeap}
+use Rattle.core_relation.specs.Stands.{Place, HomeStands, IsSource, Stands}
+use Rattle.core_relation.specs.Changes.{Moves}
+use Rattle.core_relation.specs.Frames.{Collects}
+use Rattle.core_relation.proofs.changes.Same.{own_same, path_same, store_same, source_same}
+use Rattle.core_relation.proofs.objects.Carry.{Led, task_kept, same_holding, all_led, frames_led, all_rewritten}
+use Rattle.core_relation.proofs.objects.Members.{in_chunk}
+use Rattle.core_relation.proofs.changes.Alone.{home_own}
+use Rattle.core_relation.proofs.changes.Sweep.{refers, is_kept, Live, live_task, live_ref}
+use Rattle.core_relation.proofs.objects.LaidOut.{rewritten_words}
+use Rattle.core_relation.proofs.objects.Mapped.{from_mapped, lies_mapped, home_mapped}
+use Rattle.ledger_steps.proofs.Tree.{own_live, leaf_alone, holder_live}
+use Rattle.core_relation.proofs.changes.Shown.{collection_shown, noted_mutable}
+use Rattle.core_relation.proofs.changes.Giving.{gives_kept}
+
+survivors_is : (o : Option Heap) → survivors_at o ≡ (or_fresh o).survivors
+survivors_is None = refl
+survivors_is (Some h) = refl
+
+collecting_is : (o : Option Heap) → is_some (or_fresh o).begun ≡ true → collecting o ≡ true
+collecting_is None e = e
+collecting_is (Some h) e = e
+
+module _ (v v' : Value) (l l' : Ledger) (t : ℕ) (x : Task) (f : Addr → Addr) (S : SoundLedger l) (V : Stands v l) (B : Collects l t x)
+    (L : ChangesHeap l l' t) (C : Moves v v' l l' t (heap_of l t).survivors f) where
+  abbrev survivors : List Name
+  survivors = (heap_of l t).survivors
+
+  spares : Spares l.machine.tasks l.machine.store l.heaps t survivors
+  spares = subst (Spares l.machine.tasks l.machine.store l.heaps t) (survivors_is (slice_get l.heaps t)) (S.collects t (collecting_is (slice_get l.heaps t) B.begun))
+
+  idle : is_waiting (slice_get l.machine.tasks t) ≡ false
+  idle = ap is_waiting B.task ∙ ap (λ s. is_waiting (Some (record x { status = s }))) B.runs
+
+  worker_same : (u : ℕ) → (heap_of l' u).worker ≡ (heap_of l u).worker
+  worker_same u = elim (cases_eq u t) [
+    | inl e ↦ ap (λ z. (heap_of l' z).worker) e ∙ (L.worker ∙ ap (λ z. (heap_of l z).worker) (sym e))
+    | inr ne ↦ ap (λ (h : Heap). h.worker) (L.others u ne)
+  ]
+
+  rest : (u : ℕ) → Rests l' u → Rests l u
+  rest u r = sym (worker_same u) ∙ r
+
+  -- a survivor of t lies where its address is led
+  moved : (n : Name) (a : Addr) → own l n ≡ t → Live l t S survivors spares n → Place v l n a → Place v' l' n (f a)
+  moved n a e g p =
+      let q : Lies (v.homes t).chunks n a = subst (λ u. Lies (v.homes u).chunks n a) e (p.here (subst (Rests l) (sym e) B.rests)) in
+      let i : In (objects v' t) (led_object f q.0) = C.kept q.0 q.1 (subst (In survivors) (sym q.2.name) (g e)) in
+      let q' : Lies (v'.homes t).chunks n (f a) = (led_object f q.0, i, record { name = q.2.name; at = ap f q.2.at }) in
+      let k = in_chunk (v'.homes t).chunks (led_object f q.0) i in
+      let at : (f a).chunk ≡ k.0.number = ap (λ (b : Addr). (f b).chunk) (sym q.2.at) ∙ C.home.inside k.0 (led_object f q.0) k.1 k.2 in
+      let e' : own l' n ≡ t = own_same l l' L.machine n ∙ e in
+      record {
+        chunk = ap v'.owner at ∙ (C.home.owned k.0 k.1 ∙ ap Some (sym e'));
+        here = λ r. subst (λ u. Lies (v'.homes u).chunks n (f a)) (sym e') q';
+      }
+
+  -- all else lies where it lay, and its address is led nowhere else
+  still : (n : Name) (a : Addr) → (own l n ≡ t → ⊥) → Place v l n a → Place v' l' n a × (f a ≡ a)
+  still n a ne p = (
+    record {
+      chunk = C.owners a.chunk (own l n) ne p.chunk ∙ ap Some (sym (own_same l l' L.machine n));
+      here = λ r.
+          let q : Lies (v.homes (own l n)).chunks n a = p.here (rest (own l n) (subst (Rests l') (own_same l l' L.machine n) r)) in
+          subst (λ u. Lies (v'.homes u).chunks n a) (sym (own_same l l' L.machine n))
+          (subst (λ (h : Home). Lies h.chunks n a) (sym (C.others (own l n) ne)) (lies_mapped (rewritten f (sources v t)) (λ o. refl) (λ o. refl) (v.homes (own l n)).chunks n a q));
+    },
+    C.same a (own l n) ne p.chunk,
+  )
+
+  led_place : (n : Name) (a : Addr) → Live l t S survivors spares n → Place v l n a → Place v' l' n (f a)
+  led_place n a g p = elim (cases_eq (own l n) t) [
+    | inl e ↦ moved n a e g p
+    | inr ne ↦ let q = still n a ne p in subst (Place v' l' n) (sym q.1) q.0
+  ]
+
+  home : (u : ℕ) → Rests l' u → HomeStands v' l' u
+  home u r = elim (cases_eq u t) [
+    | inl e ↦ subst (HomeStands v' l') (sym e) C.home
+    | inr ne ↦ home_mapped (rewritten f (sources v t)) (λ o. refl) (λ o. refl) v v' l l' u (C.others u ne) (λ k. C.owners k u ne) (L.others u ne) (ap (λ (m : State). slice_get m.store u) L.machine) (rewritten_words f (sources v t)) (V.homes u (rest u r))
+  ]
+
+  -- what stands in another home, before the rewriting
+  was : (u : ℕ) (o : Seen) → (u ≡ t → ⊥) → In (objects v' u) o → (q : Seen) × In (objects v u) q × (rewritten f (sources v t) q ≡ o)
+  was u o ne i = from_mapped (rewritten f (sources v t)) (λ o. refl) (λ o. refl) (v.homes u).chunks o (subst (λ (h : Home). In (objects_in h.chunks) o) (C.others u ne) i)
+
+  -- a field of another's object: what it names is no object of t, or it is remembered
+  field : (u : ℕ) (o : Seen) (y : Object) → (u ≡ t → ⊥) → Rests l u → In (objects v u) o → object_at l.machine.store o.name ≡ Some y → (j : ℕ) (n : Name) → slice_get y.refs j ≡ Some (Some n) → Led (Place v l) (Place v' l') f (sources v t) o.at j n
+  field u o y ne r i is j n at =
+      elim (cases_eq (own l n) t) [
+        | inr other ↦ inr (λ a p. still n a other p)
+        | inl e ↦ inl (
+          elim (V.remembered u o y j n r i is at) [
+            | inl h ↦
+                let mine : own l o.name ≡ u = home_own v l S u (V.homes u r) o i in
+                let live : is_joined (slice_get l.machine.tasks u) ≡ false = ap (λ z. is_joined (slice_get l.machine.tasks z)) (sym mine) ∙ own_live l S o.name in
+                absurd (ne (sym (leaf_alone l S t u idle live (ap (λ z. is_on_path l.machine.tasks z u) (sym e) ∙ h))))
+            | inr s ↦ subst (λ z. In (sources v z) (record { object = o.at; field = j })) e s
+          ],
+          λ a p. moved n a e (live_ref l t S survivors spares o.name n y is (is_kept v l u (V.homes u r) o i) (λ e'. absurd (ne (sym (home_own v l S u (V.homes u r) o i) ∙ e'))) (got_in y.refs j (Some n) at)) p,
+        )
+      ]
+
+  content : (u : ℕ) (o : Seen) → Rests l' u → In (objects v' u) o → (y : Object) × (object_at l'.machine.store o.name ≡ Some y) × IsRead (Place v' l') o y
+  content u o r i = elim (cases_eq u t) [
+    | inl e ↦
+        let q = C.only o (subst (λ z. In (objects v' z) o) e i) in
+        let c = V.contents t q.0 B.rests q.1 in
+        subst (λ (z : Seen). (y : Object) × (object_at l'.machine.store z.name ≡ Some y) × IsRead (Place v' l') z y) (sym q.3) (
+          c.0,
+          store_same l l' L.machine q.0.name ∙ c.1,
+          record {
+            mutable = c.2.mutable;
+            ints = c.2.ints;
+            refs = all_led (Place v l) (Place v' l') f q.0.refs c.0.refs (λ n j a. led_place n a (live_ref l t S survivors spares q.0.name n c.0 c.1 (is_kept v l t (V.homes t B.rests) q.0 q.1) (λ e. q.2) j)) c.2.refs;
+          },
+        )
+    | inr ne ↦
+        let q = was u o ne i in
+        let c = V.contents u q.0 (rest u r) q.1 in
+        subst (λ (z : Seen). (y : Object) × (object_at l'.machine.store z.name ≡ Some y) × IsRead (Place v' l') z y) q.2 (
+          c.0,
+          store_same l l' L.machine q.0.name ∙ c.1,
+          record {
+            mutable = c.2.mutable;
+            ints = c.2.ints;
+            refs = all_rewritten (Place v l) (Place v' l') f (sources v t) q.0.at 0 q.0.refs c.0.refs (λ j n at. subst (λ z. Led (Place v l) (Place v' l') f (sources v t) q.0.at z n) (let z : j ≡ 0 + j = omega arith in z) (field u q.0 c.0 ne (rest u r) q.1 c.1 j n at)) c.2.refs;
+          },
+        )
+  ]
+
+  own_task : TaskIsRead (Place v l) (v.homes t) x → ((n : Name) → In (task_names x) n → (a : Addr) → Place v l n a → Place v' l' n (f a)) → TaskIsRead (Place v' l') (v'.homes t) x
+  own_task k g =
+      subst (HoldsRead (Place v' l') (v'.homes t) x) (sym B.runs)
+      (subst (λ fs. FramesAreRead (Place v' l') fs (x.top ∷ x.below)) (sym C.frames)
+      (frames_led (Place v l) (Place v' l') f (v.homes t).frames (x.top ∷ x.below)
+      (λ n i. g n (subst (λ s. In (held_by s (x.top ∷ x.below)) n) (sym B.runs) i))
+      (subst (HoldsRead (Place v l) (v.homes t) x) B.runs k)))
+
+  task : (u : ℕ) (y : Task) → Rests l' u → slice_get l'.machine.tasks u ≡ Some y → TaskIsRead (Place v' l') (v'.homes u) y
+  task u y r is =
+      let is' : slice_get l.machine.tasks u ≡ Some y = sym (ap (λ (m : State). slice_get m.tasks u) L.machine) ∙ is in
+      elim (cases_eq u t) [
+        | inl e ↦
+            let same : x ≡ y = same_Some x y (sym B.task ∙ (ap (slice_get l.machine.tasks) (sym e) ∙ is')) in
+            subst (λ (z : Task). TaskIsRead (Place v' l') (v'.homes u) z) same
+            (subst (λ z. TaskIsRead (Place v' l') (v'.homes z) x) (sym e)
+            (own_task (V.tasks t x B.rests B.task) (λ n i a. led_place n a (live_task l t S survivors spares t x n B.task i))))
+        | inr ne ↦
+            subst (λ (h : Home). TaskIsRead (Place v' l') h y) (sym (C.others u ne))
+            (same_holding (Place v' l') (v.homes u) (rewritten_home f (sources v t) (v.homes u)) y refl refl
+            (task_kept (Place v l) (Place v' l') (v.homes u) y
+            (λ n i a p. (still n a (λ e. ne (sym (leaf_alone l S t u idle (holder_live l S u y n is' i) (ap (λ z. is_on_path l.machine.tasks z u) (sym e) ∙ (S.apart.of_task u y n is' i).1)))) p).0)
+            (V.tasks u y (rest u r) is')))
+      ]
+
+  up : (n : Name) → is_on_path l.machine.tasks (own l n) t ≡ true → is_on_path l'.machine.tasks (own l' n) t ≡ true
+  up n h = ap (λ k. is_on_path l'.machine.tasks k t) (own_same l l' L.machine n) ∙ (path_same l l' L.machine (own l n) t ∙ h)
+
+  -- a running task's objects refer up or inside
+  own_up : (o : Seen) (y : Object) (n : Name) → own l o.name ≡ t → object_at l.machine.store o.name ≡ Some y → In y.refs (Some n) → is_on_path l.machine.tasks (own l n) t ≡ true
+  own_up o y n e is i = elim (S.apart.of_object o.name n (refers l.machine.store o.name n y is i)).2 [
+    | inl h ↦
+        let q : t ≡ own l n = leaf_alone l S t (own l n) idle (own_live l S n) (ap (λ z. is_on_path l.machine.tasks z (own l n)) (sym e) ∙ h) in
+        ap (λ z. is_on_path l.machine.tasks z t) (sym q) ∙ path_itself (parents l.machine.tasks) S.kept.tree.low t
+    | inr h ↦ ap (is_on_path l.machine.tasks (own l n)) (sym e) ∙ h
+  ]
+
+  remember : (u : ℕ) (o : Seen) (y : Object) (i : ℕ) (n : Name) → Rests l' u → In (objects v' u) o → object_at l'.machine.store o.name ≡ Some y → slice_get y.refs i ≡ Some (Some n)
+      → (is_on_path l'.machine.tasks (own l' n) u ≡ true) ⊎ In (sources v' (own l' n)) (record { object = o.at; field = i })
+  remember u o y i n r j is at =
+      let is' : object_at l.machine.store o.name ≡ Some y = sym (store_same l l' L.machine o.name) ∙ is in
+      elim (cases_eq u t) [
+        | inl e ↦
+            let q = C.only o (subst (λ z. In (objects v' z) o) e j) in
+            let mine : own l o.name ≡ t = ap (λ (z : Seen). own l z.name) q.3 ∙ home_own v l S t (V.homes t B.rests) q.0 q.1 in
+            inl (subst (λ z. is_on_path l'.machine.tasks (own l' n) z ≡ true) (sym e) (up n (own_up o y n mine is' (got_in y.refs i (Some n) at))))
+        | inr ne ↦
+            let q = was u o ne j in
+            let is'' : object_at l.machine.store q.0.name ≡ Some y = ap (λ (z : Seen). object_at l.machine.store z.name) q.2 ∙ is' in
+            elim (V.remembered u q.0 y i n (rest u r) q.1 is'' at) [
+              | inl h ↦ inl (ap (λ k. is_on_path l'.machine.tasks k u) (own_same l l' L.machine n) ∙ (path_same l l' L.machine (own l n) u ∙ h))
+              | inr s ↦
+                  inr (subst (λ (z : Seen). In (sources v' (own l' n)) (record { object = z.at; field = i })) q.2
+                  (subst (λ k. In (sources v' k) (record { object = q.0.at; field = i })) (sym (own_same l l' L.machine n))
+                  (subst (λ ss. In ss (record { object = q.0.at; field = i })) (sym (C.sources (own l n))) s)))
+            ]
+      ]
+
+  source : (u : ℕ) (s : Source) → In (sources v' u) s → IsSource v' l' u s
+  source u s i =
+      let k = V.sources u s (subst (λ ss. In ss s) (C.sources u) i) in
+      let ne : own l k.name ≡ t → ⊥ = λ e. both_ways (is_waiting (slice_get l.machine.tasks t)) idle (ap (λ z. is_waiting (slice_get l.machine.tasks z)) (sym e) ∙ k.waits) in
+      source_same l l' L.machine v v' u s k (still k.name s.object ne k.place).0 (worker_same (own l k.name))
+      (subst (λ (h : Heap). In h.snapshot k.name) (sym (L.others (own l k.name) ne)) k.kept)
+
+  view_same : (z : ℕ) → (v'.homes z).view ≡ (v.homes z).view
+  view_same z = elim (cases_eq z t) [ inl e ↦ ap (λ k. (v'.homes k).view) e ∙ (C.view ∙ ap (λ k. (v.homes k).view) (sym e)) | inr ne ↦ ap (λ (h : Home). h.view) (C.others z ne) ]
+
+  pub collected : Stands v' l'
+  collected = record { made = λ k u e. ap (λ (m : State). is_some (slice_get m.tasks u)) L.machine ∙ V.made k u (C.owned k u e); homes = home; contents = content; tasks = task; remembered = remember; sources = source; gives = λ z u r j up ne w ru. gives_kept v v' u z (view_same z) (view_same u) (λ k o. C.owned k u o) (V.gives z u (rest z r) (sym (ap (λ (m : State). is_joined (slice_get m.tasks z)) L.machine) ∙ j) (sym (path_same l l' L.machine u z) ∙ up) ne (sym (ap (λ (m : State). is_waiting (slice_get m.tasks u)) L.machine) ∙ w) (rest u ru)); views = λ z r j. collection_shown v v' l l' t (heap_of l t).survivors f S V.views C idle (λ u o s i q k e. noted_mutable v l t u o s V i q k e) view_same (λ u y. path_same l l' L.machine u y) rest z (rest z r) (sym (ap (λ (m : State). is_joined (slice_get m.tasks z)) L.machine) ∙ j) }

@@ -1,0 +1,82 @@
+-- A store of a number, into an object of the task or of one above it.
+use Rattle.std.proofs.Common.{◌≡◌, ℕ, ◌+◌, pos, Bool, true, false, unwrap_or, Some, List, ◌∷◌, slice_get, slice_set, ◌⊎◌, inl, inr, refl, ap, ap₂, sym, subst, ◌∙◌}
+use Rattle.std.proofs.lemmas.Bool.{cases_eq}
+use Rattle.std.proofs.lemmas.Option.{same_Some}
+use Rattle.object_layout.specs.declared.word.Addr.{Addr}
+use Rattle.hh_model.specs.declared.data.Name.{Name}
+use Rattle.hh_model.specs.declared.data.Object.{Object}
+use Rattle.hh_model.specs.declared.data.Task.{Task}
+use Rattle.hh_model.specs.Effect.{object_at, ref_in, int_in, onward}
+use Rattle.hh_model.specs.Names.{task_names}
+use Rattle.hh_model.specs.Step.{is_waiting, is_joined, is_on_path}
+use Rattle.hh_model.proofs.Carried.{at_in}
+use Rattle.hh_model.proofs.Steps.{names_run, in_registers}
+use Rattle.run_ledger.specs.declared.data.Ledger.{Ledger}
+use Rattle.run_ledger.specs.Heaps.{heap_of}
+use Rattle.run_ledger.specs.Sound.{SoundLedger}
+use Rattle.core_relation.specs.Value.{Frame, Value, In, sources, Lies}
+use Rattle.core_relation.specs.Reads.{Reads, FramesAreRead, HoldsRead, TaskIsRead}
+use Rattle.ledger_steps.specs.Accounts.{own, Rests}
+use Rattle.core_relation.specs.Stands.{Place, Stands}
+use Rattle.ledger_steps.specs.Kinds.{StoresNumber}
+use Rattle.core_relation.specs.Changes.{StoresNumberAt, with_number, number, register}
+use Rattle.core_relation.proofs.objects.Carry.{field_of}
+use Rattle.ledger_steps.proofs.Tree.{leaf_alone}
+use Rattle.core_relation.proofs.changes.Write.{written}
+
+module _ (v v' : Value) (l l' : Ledger) (t : ℕ) (x : Task) (n : Name) (y : Object) (o w i : ℕ) (f : Frame) (fs : List Frame) (a : Addr) (S : SoundLedger l) (V : Stands v l) (rests : Rests l t)
+    (L : StoresNumber l l' t x n y o w i) (C : StoresNumberAt v v' t f fs a w i) (at_a : register f o ≡ Some a) where
+  frames : FramesAreRead (Place v l) (f ∷ fs) (x.top ∷ x.below)
+  frames = subst (λ zs. FramesAreRead (Place v l) zs (x.top ∷ x.below)) C.frames (subst (HoldsRead (Place v l) (v.homes t) x) L.runs (V.tasks t x rests L.task))
+
+  pub holds : (j : ℕ) (m : Name) → ref_in x.top j ≡ Some m → In (task_names x) m
+  holds j m e = names_run x m L.runs (in_registers (x.top ∷ x.below) x.top m (inl refl) (at_in x.top.refs j m e))
+
+  pub place : Place v l n a
+  place = subst (λ z. Reads (Place v l) z (Some n)) at_a (subst (Reads (Place v l) (register f o)) L.object (field_of (Place v l) f.refs x.top.refs o frames.0.refs))
+
+  pub rests_n : Rests l (own l n)
+  rests_n = elim (cases_eq (own l n) t) [
+    | inl e ↦ ap (λ z. (heap_of l z).worker) e ∙ rests
+    | inr ne ↦ L.waits (own l n) (on_way ne)
+  ]
+    where
+      on_way : (own l n ≡ t → ⊥) → is_waiting (slice_get l.machine.tasks (own l n)) ≡ true
+      on_way ne = by (is_waiting (slice_get l.machine.tasks (own l n))) refl
+        where
+          live : is_joined (slice_get l.machine.tasks t) ≡ false
+          live = ap is_joined L.task ∙ ap (λ s. is_joined (Some (record x { status = s }))) L.runs
+
+          by : (b : Bool) → is_waiting (slice_get l.machine.tasks (own l n)) ≡ b → b ≡ true
+          by true e = refl
+          by false e = absurd (ne (leaf_alone l S (own l n) t e live (S.apart.of_task t x n L.task (holds o n L.object)).1))
+
+  abbrev y' : Object
+  y' = record y { ints = slice_set y.ints i (int_in x.top w) }
+
+  minds : (j : ℕ) (r : Name) → slice_get y.refs j ≡ Some (Some r) → (is_on_path l.machine.tasks (own l r) (own l n) ≡ true) ⊎ In (sources v' (own l r)) (record { object = a; field = j })
+  minds j r e = elim (at_old (place.here rests_n)) [ inl p ↦ inl p | inr s ↦ inr (C.writes.noted (own l r) (record { object = a; field = j }) s) ]
+    where
+      at_old : Lies (v.homes (own l n)).chunks n a → (is_on_path l.machine.tasks (own l r) (own l n) ≡ true) ⊎ In (sources v (own l r)) (record { object = a; field = j })
+      at_old q =
+          subst (λ (c : Addr). (is_on_path l.machine.tasks (own l r) (own l n) ≡ true) ⊎ In (sources v (own l r)) (record { object = c; field = j })) q.2.at
+          (V.remembered (own l n) q.0 y j r rests_n q.1 (ap (object_at l.machine.store) q.2.name ∙ L.writes.was) e)
+
+  task : (z : Task) → Rests l t → slice_get l'.machine.tasks t ≡ Some z → TaskIsRead (Place v l) (v'.homes t) z
+  task z r e =
+      subst (λ (k : Task). TaskIsRead (Place v l) (v'.homes t) k) (same_Some (record x { top = onward x.top }) z (sym L.goes ∙ e))
+      (subst (HoldsRead (Place v l) (v'.homes t) (record x { top = onward x.top })) (sym L.runs)
+      (subst (λ gs. FramesAreRead (Place v l) gs (onward x.top ∷ x.below)) (sym C.goes)
+      (record { function = frames.0.function; next = ap (λ k. k + 1) frames.0.next; ints = frames.0.ints; refs = frames.0.refs }, frames.1)))
+
+  pub numbered : Stands v' l'
+  numbered = written v v' l l' t n a y y' (with_number i (number f w)) S V L.writes C.writes (record {
+    place = place;
+    rests = rests_n;
+    mutable = L.mutable;
+    still = L.mutable;
+    reads = λ q k. record { mutable = k.mutable; refs = k.refs; ints = ap₂ (λ zs z. slice_set zs i z) k.ints (ap (λ zs. unwrap_or (slice_get zs w) (pos 0)) frames.0.ints) };
+    minds = minds;
+    sources = λ u s k. V.sources u s (C.only u s k);
+    task = task;
+  })

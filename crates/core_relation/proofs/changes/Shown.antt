@@ -1,0 +1,279 @@
+-- What the views of tasks show of the heaps above them, through each kind of change.
+use Rattle.std.proofs.Common.{◌≡◌, ℕ, ℤ, ◌==◌, ◌&&◌, suc, Bool, true, false, not, cond, is_some, Option, Some, None, List, [], ◌∷◌, map, filter, slice_get, ◌⊎◌, inl, inr, refl, ap, ap₂, sym, subst, ◌∙◌}
+use Rattle.std.specs.List.{AllByRecursion, IsDistinct, list_any}
+use Rattle.std.proofs.lemmas.Bool.{cases_eq, both_ways, and_from, and_parts, eq-eqb, eqb-true, cond-true, cond-false, false_from_ne_true}
+use Rattle.std.proofs.lemmas.Option.{same_Some}
+use Rattle.listed.proofs.Members.{in_from_any}
+use Rattle.object_layout.specs.declared.word.Addr.{Addr}
+use Rattle.hh_model.specs.declared.data.Task.{Task}
+use Rattle.hh_model.specs.declared.data.Status.TheVariants.{Running}
+use Rattle.hh_model.specs.Step.{is_joined, is_on_path, is_waiting}
+use Rattle.hh_model.specs.declared.data.Name.{Name}
+use Rattle.hh_model.specs.declared.data.Object.{Object}
+use Rattle.hh_model.specs.Effect.{object_at}
+use Rattle.run_ledger.specs.declared.data.Heap.{Heap}
+use Rattle.run_ledger.specs.declared.data.Ledger.{Ledger}
+use Rattle.run_ledger.specs.Heaps.{heap_of}
+use Rattle.run_ledger.specs.Sound.{SoundLedger}
+use Rattle.core_relation.specs.Value.{Seen, Chunk, Source, Home, Value, In, objects, objects_in, sources, led, is_source, rewritten_refs, rewritten, is_at, put_at, frozen_chunk, frozen_chunks, chunk_of, seen_at, seen_in, shown_at, as_shown}
+use Rattle.core_relation.specs.Layout.{AreLaidOut}
+use Rattle.ledger_steps.specs.Accounts.{own, Rests}
+use Rattle.core_relation.specs.Stands.{HomeStands, IsShown, Stands}
+use Rattle.ledger_steps.specs.Kinds.{ForksTask, JoinsTasks, CanJoin}
+use Rattle.core_relation.specs.Changes.{ForksHome, advanced, JoinsHomes, KeepsJust, Moves, WritesAt}
+use Rattle.ledger_steps.proofs.Tree.{leaf_alone}
+use Rattle.core_relation.proofs.objects.Members.{in_map, in_chunk, in_objects}
+use Rattle.core_relation.proofs.objects.Mapped.{from_mapped}
+
+-- which object lies there
+pub at_is : (a : Addr) (o : Seen) → is_at a o ≡ true → o.at ≡ a
+at_is a o e =
+    let p = and_parts (o.at.chunk == a.chunk) (o.at.offset == a.offset) e in
+    let c : o.at.chunk ≡ a.chunk = eqb-true o.at.chunk a.chunk p.0 in
+    let f : o.at.offset ≡ a.offset = eqb-true o.at.offset a.offset p.1 in
+    λ i. record { chunk = c i; offset = f i }
+
+pub is_at_it : (a : Addr) (o : Seen) → o.at ≡ a → is_at a o ≡ true
+is_at_it a o e =
+    and_from (o.at.chunk == a.chunk) (o.at.offset == a.offset) (eq-eqb o.at.chunk a.chunk (ap (λ (b : Addr). b.chunk) e)) (eq-eqb o.at.offset a.offset (ap (λ (b : Addr). b.offset) e))
+
+abbrev AreShown : Value → Ledger → Type 0
+AreShown v l = (t : ℕ) → Rests l t → is_joined (slice_get l.machine.tasks t) ≡ false → IsShown v l t
+
+-- THE LEVEL OF A HOME
+
+all_at : (P : ℕ → Type 0) (xs : List ℕ) (x : ℕ) → AllByRecursion P xs → In xs x → P x
+all_at P [] x a i = absurd i
+all_at P (y ∷ ys) x a (inl e) = subst P e a.0
+all_at P (y ∷ ys) x a (inr i) = all_at P ys x a.1 i
+
+found : (ks : List Chunk) (k : Chunk) → IsDistinct (λ a b. a == b) (map (λ (z : Chunk). z.number) ks) → In ks k → chunk_of (frozen_chunks ks) k.number ≡ Some (frozen_chunk k)
+unfolding IsDistinct
+found [] k D i = absurd i
+found (j ∷ js) k D (inl e) =
+    subst (λ (z : Chunk). chunk_of (frozen_chunks (j ∷ js)) z.number ≡ Some (frozen_chunk z)) e
+    (cond-true (j.number == j.number) (Some (frozen_chunk j)) (chunk_of (frozen_chunks js) j.number) (eq-eqb j.number j.number refl))
+found (j ∷ js) k D (inr i) =
+    cond-false (j.number == k.number) (Some (frozen_chunk j)) (chunk_of (frozen_chunks js) k.number)
+    (all_at (λ y. j.number == y ≡ false) (map (λ (z : Chunk). z.number) js) k.number D.0 (in_map (λ (z : Chunk). z.number) js k i)) ∙ found js k D.1 i
+
+none_found : (ks : List Chunk) (n : ℕ) → ((k : Chunk) → In ks k → k.number ≡ n → ⊥) → chunk_of (frozen_chunks ks) n ≡ None
+none_found [] n off = refl
+none_found (j ∷ js) n off =
+    cond-false (j.number == n) (Some (frozen_chunk j)) (chunk_of (frozen_chunks js) n) (false_from_ne_true (j.number == n) (λ e. off j (inl refl) (eqb-true j.number n e)))
+    ∙ none_found js n (λ k i. off k (inr i))
+
+module _ (o : Seen) where
+  abbrev Once : List Seen → Type 0
+  Once os = (p : Seen) → In os p → p.at ≡ o.at → p ≡ o
+
+  abbrev kept : List Seen → List Seen
+  kept os = filter (λ p. not p.mutable) os
+
+  none_seen : (os : List Seen) → Once os → o.mutable ≡ true → seen_at (kept os) o.at ≡ None
+  none_seen [] once m = refl
+  none_seen (p ∷ ps) once m = by (none_seen ps (λ q i. once q (inr i)) m) p.mutable refl
+    where
+      by : seen_at (kept ps) o.at ≡ None → (b : Bool) → p.mutable ≡ b → seen_at (cond (not p.mutable) (p ∷ kept ps) (kept ps)) o.at ≡ None
+      by more true e = ap (λ z. seen_at z o.at) (cond-false (not p.mutable) (p ∷ kept ps) (kept ps) (ap not e)) ∙ more
+      by more false e =
+          ap (λ z. seen_at z o.at) (cond-true (not p.mutable) (p ∷ kept ps) (kept ps) (ap not e))
+          ∙ (cond-false (is_at o.at p) (Some p) (seen_at (kept ps) o.at) (false_from_ne_true (is_at o.at p) (λ h.
+          both_ways p.mutable e (ap (λ (q : Seen). q.mutable) (once p (inl refl) (at_is o.at p h)) ∙ m))) ∙ more)
+
+  one_seen : (os : List Seen) → Once os → In os o → o.mutable ≡ false → seen_at (kept os) o.at ≡ Some o
+  one_seen [] once i m = absurd i
+  one_seen (p ∷ ps) once i m = by (λ j. one_seen ps (λ q k. once q (inr k)) j m) p.mutable refl
+    where
+      by : (In ps o → seen_at (kept ps) o.at ≡ Some o) → (b : Bool) → p.mutable ≡ b → seen_at (cond (not p.mutable) (p ∷ kept ps) (kept ps)) o.at ≡ Some o
+      by more true e =
+          ap (λ z. seen_at z o.at) (cond-false (not p.mutable) (p ∷ kept ps) (kept ps) (ap not e)) ∙ elim i [
+            | inl f ↦ absurd (both_ways p.mutable (ap (λ (q : Seen). q.mutable) f ∙ m) e)
+            | inr j ↦ more j
+          ]
+      by more false e = ap (λ z. seen_at z o.at) (cond-true (not p.mutable) (p ∷ kept ps) (kept ps) (ap not e)) ∙ here (is_at o.at p) refl
+        where
+          here : (b : Bool) → is_at o.at p ≡ b → cond (is_at o.at p) (Some p) (seen_at (kept ps) o.at) ≡ Some o
+          here true h = cond-true (is_at o.at p) (Some p) (seen_at (kept ps) o.at) h ∙ ap Some (once p (inl refl) (at_is o.at p h))
+          here false h = cond-false (is_at o.at p) (Some p) (seen_at (kept ps) o.at) h ∙ elim i [
+            | inl f ↦ absurd (both_ways (is_at o.at p) h (is_at_it o.at p (ap (λ (q : Seen). q.at) f)))
+            | inr j ↦ more j
+          ]
+
+  as_kept : (os : List Seen) → Once os → In os o → seen_at (kept os) o.at ≡ as_shown o
+  as_kept os once i = by o.mutable refl
+    where
+      by : (b : Bool) → o.mutable ≡ b → seen_at (kept os) o.at ≡ as_shown o
+      by true e = none_seen os once e ∙ sym (cond-true o.mutable None (Some o) e)
+      by false e = one_seen os once i e ∙ sym (cond-false o.mutable None (Some o) e)
+
+-- the level of a home shows each of its objects
+level_shows : (v : Value) (l : Ledger) (t : ℕ) (o : Seen) (below : List (List Chunk)) → HomeStands v l t → In (objects v t) o → shown_at (frozen_chunks (v.homes t).chunks ∷ below) o.at ≡ as_shown o
+level_shows v l t o below H i =
+    let c = in_chunk (v.homes t).chunks o i in
+    let at = H.inside c.0 o c.1 c.2 in
+    ap (λ z. seen_in z o.at (shown_at below o.at)) (ap (chunk_of (frozen_chunks (v.homes t).chunks)) at ∙ found (v.homes t).chunks c.0 H.laid.numbers c.1)
+    ∙ as_kept o c.0.objects (λ p j e. H.once p o (in_objects (v.homes t).chunks c.0 p c.1 j) i e) c.2
+
+-- and no object of another's
+level_passes : (v : Value) (l : Ledger) (t u : ℕ) (o : Seen) (below : List (List Chunk)) → HomeStands v l t → HomeStands v l u → (u ≡ t → ⊥) → In (objects v u) o → shown_at (frozen_chunks (v.homes t).chunks ∷ below) o.at ≡ shown_at below o.at
+level_passes v l t u o below H K ne i =
+    let c = in_chunk (v.homes u).chunks o i in
+    ap (λ z. seen_in z o.at (shown_at below o.at)) (none_found (v.homes t).chunks o.at.chunk (λ k j e.
+    ne (same_Some u t (sym (K.owned c.0 c.1) ∙ (ap v.owner (sym (K.inside c.0 o c.1 c.2) ∙ sym e) ∙ H.owned k j)))))
+
+-- A FORK
+module _ (v v' : Value) (l l' : Ledger) (t a b g h : ℕ) (x : Task) (V : Stands v l) (T : AreShown v l) (rests : Rests l t)
+    (live : is_joined (slice_get l.machine.tasks t) ≡ false) (F : ForksTask l l' t a b g h x) (C : ForksHome v v' t a b g h)
+    (same : (z : ℕ) → (z ≡ a → ⊥) → (z ≡ b → ⊥) → (v'.homes z).view ≡ (v.homes z).view) where
+  -- an object of any home was there before, and its task is none of the children
+  none_new : (z : ℕ) (o : Seen) → (z ≡ a) ⊎ (z ≡ b) → In (objects v' z) o → ⊥
+  none_new z o (inl e) i = subst (λ (k : Home). In (objects_in k.chunks) o) (ap v'.homes e ∙ C.left) i
+  none_new z o (inr e) i = subst (λ (k : Home). In (objects_in k.chunks) o) (ap v'.homes e ∙ C.right) i
+
+  was : (u : ℕ) (o : Seen) → Rests l' u → In (objects v' u) o → Rests l u × In (objects v u) o
+  was u o r i = elim (cases_eq u t) [
+    | inl e ↦ (ap (λ k. (heap_of l k).worker) e ∙ rests, subst (λ (k : Home). In (objects_in k.chunks) o) (ap v'.homes e ∙ (C.home ∙ ap (λ (k : Home). record k { frames = advanced (v.homes t).frames }) (sym (ap v.homes e)))) i)
+    | inr nt ↦
+        let na : u ≡ a → ⊥ = λ e. none_new u o (inl e) i in
+        let nb : u ≡ b → ⊥ = λ e. none_new u o (inr e) i in
+        (ap (λ (z : Heap). z.worker) (sym (F.heaps u nt na nb)) ∙ r, subst (λ (k : Home). In (objects_in k.chunks) o) (C.others u nt na nb) i)
+  ]
+
+  -- a child
+  child_shown : (z : ℕ) → ((u : ℕ) → is_on_path l'.machine.tasks u z ≡ true → (u ≡ z) ⊎ (is_on_path l.machine.tasks u t ≡ true)) → (v'.homes z).view ≡ frozen_chunks (v.homes t).chunks ∷ (v.homes t).view → IsShown v' l' z
+  child_shown z above new u o up ne r i =
+      let w = was u o r i in
+      ap (λ s. shown_at s o.at) new ∙ elim (above u up) [
+        | inl e ↦ absurd (ne e)
+        | inr p ↦ elim (cases_eq u t) [
+          | inl e ↦ level_shows v l t o (v.homes t).view (V.homes t rests) (subst (λ k. In (objects v k) o) e w.1)
+          | inr nt ↦ level_passes v l t u o (v.homes t).view (V.homes t rests) (V.homes u w.0) nt w.1 ∙ T t rests live u o p nt w.0 w.1
+        ]
+      ]
+
+  pub left_shown : (v'.homes a).view ≡ frozen_chunks (v.homes t).chunks ∷ (v.homes t).view → IsShown v' l' a
+  left_shown new = child_shown a F.above_left new
+
+  pub right_shown : (v'.homes b).view ≡ frozen_chunks (v.homes t).chunks ∷ (v.homes t).view → IsShown v' l' b
+  right_shown new = child_shown b F.above_right new
+
+  -- any other
+  pub rest_shown : (z : ℕ) → (z ≡ a → ⊥) → (z ≡ b → ⊥) → Rests l z → is_joined (slice_get l.machine.tasks z) ≡ false → IsShown v' l' z
+  rest_shown z na nb rz lz u o up ne r i =
+      let w = was u o r i in
+      ap (λ s. shown_at s o.at) (same z na nb) ∙ T z rz lz u o (sym (F.paths u z na nb) ∙ up) ne w.0 w.1
+
+-- A JOIN: the parent runs on, so it stands above nobody else that is live
+module _ (v v' : Value) (l l' : Ledger) (p c d : ℕ) (x : Task) (rl rr : ℤ × Option Name) (al ar : ℤ × Option Addr) (nobody : (z : ℕ) → is_joined (slice_get l.machine.tasks z) ≡ false → is_on_path l.machine.tasks p z ≡ true → (z ≡ p → ⊥) × (z ≡ c → ⊥) × (z ≡ d → ⊥) → ⊥) (T : AreShown v l) (J : JoinsTasks l l' p c d x rl rr) (C : JoinsHomes v v' p c d al ar)
+    (K : CanJoin l p c d x) (z : ℕ) (same : (v'.homes z).view ≡ (v.homes z).view) where
+  pub join_shown : Rests l z → is_joined (slice_get l.machine.tasks z) ≡ false → is_joined (slice_get l'.machine.tasks z) ≡ false → IsShown v' l' z
+  join_shown rz lz lz' u o up ne r i = elim (cases_eq u p) [
+    | inl e ↦
+        let gone : (k : ℕ) → is_joined (slice_get l'.machine.tasks k) ≡ true → z ≡ k → ⊥ = λ k g f. both_ways (is_joined (slice_get l'.machine.tasks z)) lz' (ap (λ y. is_joined (slice_get l'.machine.tasks y)) f ∙ g) in
+        absurd (nobody z lz (ap (λ y. is_on_path l.machine.tasks y z) (sym e) ∙ (sym (J.paths u z) ∙ up)) ((λ f. ne (e ∙ sym f)), gone c J.left, gone d J.right))
+    | inr np ↦ elim (cases_eq u c) [
+      | inl e ↦ absurd (subst (λ (k : Home). In (objects_in k.chunks) o) (ap v'.homes e ∙ C.left) i)
+      | inr nc ↦ elim (cases_eq u d) [
+        | inl e ↦ absurd (subst (λ (k : Home). In (objects_in k.chunks) o) (ap v'.homes e ∙ C.right) i)
+        | inr nd ↦
+            ap (λ s. shown_at s o.at) same
+            ∙ T z rz lz u o (sym (J.paths u z) ∙ up) ne (ap (λ (k : Heap). k.worker) (sym (J.heaps u np nc nd)) ∙ r) (subst (λ (k : Home). In (objects_in k.chunks) o) (C.others u np nc nd) i)
+      ]
+    ]
+  ]
+
+-- A WRITE: what is written is mutable, and stays so
+module _ (v v' : Value) (l l' : Ledger) (t : ℕ) (a : Addr) (f : Seen → Seen) (T : AreShown v l) (C : WritesAt v v' t a f)
+    (kind : (o : Seen) → (f o).mutable ≡ o.mutable) (written : (u : ℕ) (o : Seen) → In (objects v u) o → Rests l u → o.at ≡ a → o.mutable ≡ true)
+    (same : (z : ℕ) → (v'.homes z).view ≡ (v.homes z).view) (paths : (u z : ℕ) → is_on_path l'.machine.tasks u z ≡ is_on_path l.machine.tasks u z) (rests : (u : ℕ) → Rests l' u → Rests l u) where
+  one_name : (o : Seen) → (put_at a f o).name ≡ o.name
+  one_name o = by (is_at a o)
+    where
+      by : (b : Bool) → (cond b (f o) o).name ≡ o.name
+      by true = C.same_name o
+      by false = refl
+
+  one_at : (o : Seen) → (put_at a f o).at ≡ o.at
+  one_at o = by (is_at a o)
+    where
+      by : (b : Bool) → (cond b (f o) o).at ≡ o.at
+      by true = C.same_at o
+      by false = refl
+
+  one_shown : (s : Option Seen) (u : ℕ) (q : Seen) → Rests l u → In (objects v u) q → s ≡ as_shown q → s ≡ as_shown (put_at a f q)
+  one_shown s u q r i e = by (is_at a q) refl
+    where
+      by : (b : Bool) → is_at a q ≡ b → s ≡ as_shown (put_at a f q)
+      by true h =
+          let m : q.mutable ≡ true = written u q i r (at_is a q h) in
+          e ∙ (cond-true q.mutable None (Some q) m ∙ sym (ap as_shown (cond-true (is_at a q) (f q) q h) ∙ cond-true (f q).mutable None (Some (f q)) (kind q ∙ m)))
+      by false h = e ∙ sym (ap as_shown (cond-false (is_at a q) (f q) q h))
+
+  pub write_shown : (z : ℕ) → Rests l z → is_joined (slice_get l.machine.tasks z) ≡ false → IsShown v' l' z
+  write_shown z rz lz u o up ne r i =
+      let w = from_mapped (put_at a f) one_name one_at (v.homes u).chunks o (subst (λ ks. In (objects_in ks) o) (C.chunks u) i) in
+      let at : o.at ≡ w.0.at = ap (λ (q : Seen). q.at) (sym w.2) ∙ one_at w.0 in
+      ap₂ (λ s b. shown_at s b) (same z) at ∙ subst (λ (q : Seen). shown_at (v.homes z).view w.0.at ≡ as_shown q) w.2
+      (one_shown (shown_at (v.homes z).view w.0.at) u w.0 (rests u r) w.1 (T z rz lz u w.0 (sym (paths u z) ∙ up) ne (rests u r) w.1))
+
+-- A SWEEP: objects only go
+module _ (v v' : Value) (l l' : Ledger) (t : ℕ) (names : List Name) (T : AreShown v l) (C : KeepsJust v v' l l' t names)
+    (same : (z : ℕ) → (v'.homes z).view ≡ (v.homes z).view) (paths : (u z : ℕ) → is_on_path l'.machine.tasks u z ≡ is_on_path l.machine.tasks u z) (rests : (u : ℕ) → Rests l' u → Rests l u) where
+  pub sweep_shown : (z : ℕ) → Rests l z → is_joined (slice_get l.machine.tasks z) ≡ false → IsShown v' l' z
+  sweep_shown z rz lz u o up ne r i = ap (λ s. shown_at s o.at) (same z) ∙ T z rz lz u o (sym (paths u z) ∙ up) ne (rests u r) (elim (cases_eq u t) [
+    | inl e ↦ subst (λ k. In (objects v k) o) (sym e) (C.only o (subst (λ k. In (objects v' k) o) e i)).0
+    | inr nt ↦ subst (λ (k : Home). In (objects_in k.chunks) o) (C.others u nt) i
+  ])
+
+-- THE END OF A LEAF COLLECTION: t runs, so it stands above nobody else that is live; what is remembered is mutable
+module _ (f : Addr → Addr) (ss : List Source) where
+  refs_left : (a : Addr) (i : ℕ) (rs : List (Option Addr)) → ((s : Source) → In ss s → s.object ≡ a → ⊥) → rewritten_refs f ss a i rs ≡ rs
+  refs_left a i [] none = refl
+  refs_left a i (r ∷ rs) none =
+      let out : list_any (is_source a i) ss ≡ false = false_from_ne_true (list_any (is_source a i) ss) (λ e.
+      let q = in_from_any (is_source a i) ss e in
+      let p = and_parts (q.0.object.chunk == a.chunk) ((q.0.object.offset == a.offset) && (q.0.field == i)) q.2 in
+      let p' = and_parts (q.0.object.offset == a.offset) (q.0.field == i) p.1 in
+      let c : q.0.object.chunk ≡ a.chunk = eqb-true q.0.object.chunk a.chunk p.0 in
+      let o : q.0.object.offset ≡ a.offset = eqb-true q.0.object.offset a.offset p'.0 in
+      none q.0 q.1 (λ j. record { chunk = c j; offset = o j })) in
+      ap₂ (λ x xs. x ∷ xs) (cond-false (list_any (is_source a i) ss) (led f r) r out) (refs_left a (suc i) rs none)
+
+-- what is remembered is mutable
+pub noted_mutable : (v : Value) (l : Ledger) (t u : ℕ) (o : Seen) (s : Source) → Stands v l → In (objects v u) o → Rests l u → In (sources v t) s → s.object ≡ o.at → o.mutable ≡ true
+noted_mutable v l t u o s V i r j e =
+    let k = V.sources t s j in
+    let q = k.place.here k.rests in
+    let c = in_chunk (v.homes u).chunks o i in
+    let H = V.homes u r in
+    let mine : own l k.name ≡ u = same_Some (own l k.name) u (sym k.place.chunk ∙ (ap (λ (b : Addr). v.owner b.chunk) e ∙ (ap v.owner (H.inside c.0 o c.1 c.2) ∙ H.owned c.0 c.1))) in
+    let same : q.0 ≡ o = H.once q.0 o (subst (λ z. In (objects v z) q.0) mine q.1) i (q.2.at ∙ e) in
+    let x = V.contents u o r i in
+    let is : k.object ≡ x.0 = same_Some k.object x.0 (sym k.is ∙ (ap (object_at l.machine.store) (sym q.2.name ∙ ap (λ (z : Seen). z.name) same) ∙ x.1)) in
+    x.2.mutable ∙ (ap (λ (z : Object). z.mutable) (sym is) ∙ k.mutable)
+
+module _ (v v' : Value) (l l' : Ledger) (t : ℕ) (names : List Name) (f : Addr → Addr) (S : SoundLedger l) (T : AreShown v l) (C : Moves v v' l l' t names f) (idle : is_waiting (slice_get l.machine.tasks t) ≡ false)
+    (noted : (u : ℕ) (o : Seen) (s : Source) → In (objects v u) o → Rests l u → In (sources v t) s → s.object ≡ o.at → o.mutable ≡ true)
+    (same : (z : ℕ) → (v'.homes z).view ≡ (v.homes z).view) (paths : (u z : ℕ) → is_on_path l'.machine.tasks u z ≡ is_on_path l.machine.tasks u z) (rests : (u : ℕ) → Rests l' u → Rests l u) where
+  abbrev ss : List Source
+  ss = sources v t
+
+  one_led : (s : Option Seen) (u : ℕ) (q : Seen) → Rests l u → In (objects v u) q → s ≡ as_shown q → s ≡ as_shown (rewritten f ss q)
+  one_led s u q r i e = by q.mutable refl
+    where
+      by : (b : Bool) → q.mutable ≡ b → s ≡ as_shown (rewritten f ss q)
+      by true m = e ∙ (cond-true q.mutable None (Some q) m ∙ sym (cond-true q.mutable None (Some (rewritten f ss q)) m))
+      by false m = e ∙ ap (λ rs. as_shown (record q { refs = rs })) (sym (refs_left f ss q.at 0 q.refs (λ z j h. both_ways q.mutable m (noted u q z i r j h))))
+
+  pub collection_shown : (z : ℕ) → Rests l z → is_joined (slice_get l.machine.tasks z) ≡ false → IsShown v' l' z
+  collection_shown z rz lz u o up ne r i =
+      let up' : is_on_path l.machine.tasks u z ≡ true = sym (paths u z) ∙ up in
+      elim (cases_eq u t) [
+        | inl e ↦ absurd (ne (leaf_alone l S u z (ap (λ k. is_waiting (slice_get l.machine.tasks k)) e ∙ idle) lz up'))
+        | inr nt ↦
+            let w = from_mapped (rewritten f ss) (λ q. refl) (λ q. refl) (v.homes u).chunks o (subst (λ (k : Home). In (objects_in k.chunks) o) (C.others u nt) i) in
+            let at : o.at ≡ w.0.at = ap (λ (q : Seen). q.at) (sym w.2) in
+            ap₂ (λ s b. shown_at s b) (same z) at ∙ subst (λ (q : Seen). shown_at (v.homes z).view w.0.at ≡ as_shown q) w.2
+            (one_led (shown_at (v.homes z).view w.0.at) u w.0 (rests u r) w.1 (T z rz lz u w.0 up' ne (rests u r) w.1))
+      ]

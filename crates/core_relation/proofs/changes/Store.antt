@@ -1,0 +1,173 @@
+-- A store of a reference, into an object of the task or of one above it: the write barrier's work.
+use Rattle.std.proofs.Common.{◌≡◌, ℕ, ℤ, ◌+◌, Bool, true, false, Option, Some, None, List, ◌∷◌, slice_get, slice_set, ◌⊎◌, inl, inr, refl, ap, sym, subst, ◌∙◌}
+use Rattle.std.proofs.lemmas.Bool.{cases_eq, both_ways}
+use Rattle.std.proofs.lemmas.Option.{same_Some}
+use Rattle.listed.proofs.Members.{got_cases}
+use Rattle.object_layout.specs.declared.word.Addr.{Addr}
+use Rattle.hh_model.specs.declared.data.Name.{Name}
+use Rattle.hh_model.specs.declared.data.Frame.{Frame as ModelFrame}
+use Rattle.hh_model.specs.declared.data.Object.{Object}
+use Rattle.hh_model.specs.declared.data.Task.{Task}
+use Rattle.hh_model.specs.Effect.{object_at, ref_in}
+use Rattle.hh_model.specs.Names.{task_names}
+use Rattle.hh_model.specs.Step.{is_waiting, is_joined, is_on_path, parents}
+use Rattle.hh_model.proofs.Carried.{at_in}
+use Rattle.hh_model.proofs.Paths.{on_one_path, path_itself}
+use Rattle.hh_model.proofs.Steps.{names_run, in_registers}
+use Rattle.run_ledger.specs.declared.data.Ledger.{Ledger}
+use Rattle.run_ledger.specs.Heaps.{heap_of}
+use Rattle.run_ledger.specs.Sound.{SoundLedger, InHeaps}
+use Rattle.core_relation.specs.Value.{Frame, Source, Value, In, sources, Lies}
+use Rattle.core_relation.specs.Reads.{Reads, FrameIsRead, FramesAreRead, HoldsRead, TaskIsRead}
+use Rattle.ledger_steps.specs.Accounts.{own, Rests}
+use Rattle.core_relation.specs.Stands.{Place, IsSource, Stands}
+use Rattle.ledger_steps.specs.Kinds.{StoresOne, onward_with}
+use Rattle.core_relation.specs.Changes.{StoresAt, with_field, register, gone_on}
+use Rattle.core_relation.proofs.objects.Carry.{all_set, field_of}
+use Rattle.core_relation.proofs.changes.Sweep.{snapshot_is}
+use Rattle.ledger_steps.proofs.Tree.{own_live, leaf_alone}
+use Rattle.core_relation.proofs.changes.Write.{written}
+
+-- of two names that a running task holds, where the owner of the one isn't on the path of the other's: the other's owner stands
+-- above it and waits, and its sweep keeps the other
+module _ (l : Ledger) (S : SoundLedger l) (t : ℕ) (x : Task) (is : slice_get l.machine.tasks t ≡ Some x) (n r : Name) (holds_n : In (task_names x) n) (holds_r : In (task_names x) r) (off : is_on_path l.machine.tasks (own l r) (own l n) ≡ false) where
+  pub above : is_on_path l.machine.tasks (own l n) (own l r) ≡ true
+  above = elim (on_one_path (parents l.machine.tasks) S.kept.tree.low (own l n) (own l r) t (S.apart.of_task t x n is holds_n).1 (S.apart.of_task t x r is holds_r).1) [
+    | inl h ↦ h
+    | inr h ↦ absurd (both_ways (is_on_path l.machine.tasks (own l r) (own l n)) off h)
+  ]
+
+  pub apart : own l n ≡ own l r → ⊥
+  apart e = both_ways (is_on_path l.machine.tasks (own l r) (own l n)) off (ap (is_on_path l.machine.tasks (own l r)) e ∙ path_itself (parents l.machine.tasks) S.kept.tree.low (own l r))
+
+  pub waits : is_waiting (slice_get l.machine.tasks (own l n)) ≡ true
+  waits = by (is_waiting (slice_get l.machine.tasks (own l n))) refl
+    where
+      by : (b : Bool) → is_waiting (slice_get l.machine.tasks (own l n)) ≡ b → b ≡ true
+      by true e = refl
+      by false e = absurd (apart (leaf_alone l S (own l n) (own l r) e (own_live l S r) above))
+
+  pub kept : In (heap_of l (own l n)).snapshot n
+  kept =
+      let k = (S.waits (own l n) waits).of_task t x n is holds_n in
+      let o : own l n ≡ k.0.0 = (S.owners k.0.0 n k.0.1).1 in
+      subst (λ ns. In ns n) (snapshot_is (slice_get l.heaps (own l n))) (k.1 (subst (λ u. InHeaps l.heaps u n) (sym o) k.0.1))
+
+-- a frame that goes on is read as before, but for the register that is set
+pub goes_on : (at : Name → Addr → Type 0) (c : Option (ℕ × ℤ)) (f : Frame) (z : ModelFrame) → FrameIsRead at f z → FrameIsRead at (gone_on c f) (onward_with c z)
+goes_on at None f z R = record { function = R.function; next = ap (λ k. k + 1) R.next; ints = R.ints; refs = R.refs }
+goes_on at (Some c) f z R = record { function = R.function; next = ap (λ k. k + 1) R.next; ints = ap (λ ns. slice_set ns c.0 c.1) R.ints; refs = R.refs }
+
+module _ (v v' : Value) (l l' : Ledger) (t : ℕ) (x : Task) (n : Name) (y : Object) (o w i : ℕ) (c : Option (ℕ × ℤ)) (f : Frame) (fs : List Frame) (a : Addr) (S : SoundLedger l) (V : Stands v l) (rests : Rests l t)
+    (L : StoresOne l l' t x n y o w i c) (C : StoresAt v v' l t f fs a w i c) (at_a : register f o ≡ Some a) where
+  frames : FramesAreRead (Place v l) (f ∷ fs) (x.top ∷ x.below)
+  frames = subst (λ zs. FramesAreRead (Place v l) zs (x.top ∷ x.below)) C.frames (subst (HoldsRead (Place v l) (v.homes t) x) L.runs (V.tasks t x rests L.task))
+
+  pub holds : (j : ℕ) (m : Name) → ref_in x.top j ≡ Some m → In (task_names x) m
+  holds j m e = names_run x m L.runs (in_registers (x.top ∷ x.below) x.top m (inl refl) (at_in x.top.refs j m e))
+
+  -- a register is read through the map
+  reads : (j : ℕ) → Reads (Place v l) (register f j) (ref_in x.top j)
+  reads j = field_of (Place v l) f.refs x.top.refs j frames.0.refs
+
+  pub place : Place v l n a
+  place = subst (λ z. Reads (Place v l) z (Some n)) at_a (subst (Reads (Place v l) (register f o)) L.object (reads o))
+
+  -- what the register w holds
+  value : (r : Name) → ref_in x.top w ≡ Some r → (b : Addr) × (register f w ≡ Some b) × Place v l r b
+  value r e = by (register f w) refl (subst (Reads (Place v l) (register f w)) e (reads w))
+    where
+      by : (z : Option Addr) → register f w ≡ z → Reads (Place v l) z (Some r) → (b : Addr) × (register f w ≡ Some b) × Place v l r b
+      by None h k = absurd k
+      by (Some b) h k = (b, h, k)
+
+  -- and the name of what lies at an address that it holds
+  named : (b : Addr) → register f w ≡ Some b → (r : Name) × (ref_in x.top w ≡ Some r) × Place v l r b
+  named b e = by (ref_in x.top w) refl (subst (λ z. Reads (Place v l) z (ref_in x.top w)) e (reads w))
+    where
+      by : (z : Option Name) → ref_in x.top w ≡ z → Reads (Place v l) (Some b) z → (r : Name) × (ref_in x.top w ≡ Some r) × Place v l r b
+      by None h k = absurd k
+      by (Some r) h k = (r, h, k)
+
+  abbrev y' : Object
+  y' = record y { refs = slice_set y.refs i (ref_in x.top w) }
+
+  pub rests_n : Rests l (own l n)
+  rests_n = elim (cases_eq (own l n) t) [
+    | inl e ↦ ap (λ z. (heap_of l z).worker) e ∙ rests
+    | inr ne ↦ L.waits (own l n) (on_way ne)
+  ]
+    where
+      on_way : (own l n ≡ t → ⊥) → is_waiting (slice_get l.machine.tasks (own l n)) ≡ true
+      on_way ne = by (is_waiting (slice_get l.machine.tasks (own l n))) refl
+        where
+          live : is_joined (slice_get l.machine.tasks t) ≡ false
+          live = ap is_joined L.task ∙ ap (λ s. is_joined (Some (record x { status = s }))) L.runs
+
+          by : (b : Bool) → is_waiting (slice_get l.machine.tasks (own l n)) ≡ b → b ≡ true
+          by true e = refl
+          by false e = absurd (ne (leaf_alone l S (own l n) t e live (S.apart.of_task t x n L.task (holds o n L.object)).1))
+
+  minds : (j : ℕ) (r : Name) → slice_get y'.refs j ≡ Some (Some r) → (is_on_path l.machine.tasks (own l r) (own l n) ≡ true) ⊎ In (sources v' (own l r)) (record { object = a; field = j })
+  minds j r e = elim (got_cases y.refs i j (ref_in x.top w) (Some r) e) [
+    | inl h ↦ by (is_on_path l.machine.tasks (own l r) (own l n)) refl (value r (sym h.1)) h.0
+    | inr old ↦ elim (at_old old (place.here rests_n)) [ inl p ↦ inl p | inr s ↦ inr (C.writes.noted (own l r) (record { object = a; field = j }) s) ]
+  ]
+    where
+      by : (b : Bool) → is_on_path l.machine.tasks (own l r) (own l n) ≡ b → (c : Addr) × (register f w ≡ Some c) × Place v l r c → j ≡ i → (is_on_path l.machine.tasks (own l r) (own l n) ≡ true) ⊎ In (sources v' (own l r)) (record { object = a; field = j })
+      by true h q k = inl h
+      by false h q k = inr (subst (λ z. In (sources v' (own l r)) (record { object = a; field = z })) (sym k) (C.down q.0 (own l n) (own l r) q.1 place.chunk q.2.chunk h))
+
+      at_old : slice_get y.refs j ≡ Some (Some r) → Lies (v.homes (own l n)).chunks n a → (is_on_path l.machine.tasks (own l r) (own l n) ≡ true) ⊎ In (sources v (own l r)) (record { object = a; field = j })
+      at_old old q =
+          subst (λ (c : Addr). (is_on_path l.machine.tasks (own l r) (own l n) ≡ true) ⊎ In (sources v (own l r)) (record { object = c; field = j })) q.2.at
+          (V.remembered (own l n) q.0 y j r rests_n q.1 (ap (object_at l.machine.store) q.2.name ∙ L.writes.was) old)
+
+  source : (u : ℕ) (s : Source) → In (sources v' u) s → IsSource v l u s
+  source u s k = elim (C.only u s k) [
+    | inl old ↦ V.sources u s old
+    | inr new ↦ noted u s new.0 new.1 new.2 new.3 new.4 new.5 new.6
+  ]
+    where
+      noted : (u : ℕ) (s : Source) (b : Addr) (c : ℕ) → register f w ≡ Some b → v.owner b.chunk ≡ Some u → v.owner a.chunk ≡ Some c → is_on_path l.machine.tasks u c ≡ false → s ≡ record { object = a; field = i } → IsSource v l u s
+      noted u s b c e eb ea off es =
+          let m = named b e in
+          let mine : own l m.0 ≡ u = same_Some (own l m.0) u (sym m.2.chunk ∙ eb) in
+          let theirs : own l n ≡ c = same_Some (own l n) c (sym place.chunk ∙ ea) in
+          let off' : is_on_path l.machine.tasks (own l m.0) (own l n) ≡ false = ap (λ z. is_on_path l.machine.tasks z (own l n)) mine ∙ (ap (is_on_path l.machine.tasks u) theirs ∙ off) in
+          let hn = holds o n L.object in
+          let hr = holds w m.0 m.1 in
+          subst (λ z. IsSource v l z s) mine (subst (IsSource v l (own l m.0)) (sym es) (record {
+            name = n;
+            object = y;
+            mutable = L.mutable;
+            is = L.writes.was;
+            place = place;
+            field = L.field;
+            waits = waits l S t x L.task n m.0 hn hr off';
+            rests = rests_n;
+            above = above l S t x L.task n m.0 hn hr off';
+            below = apart l S t x L.task n m.0 hn hr off';
+            live = own_live l S m.0;
+            kept = kept l S t x L.task n m.0 hn hr off';
+          }))
+
+  task : (z : Task) → Rests l t → slice_get l'.machine.tasks t ≡ Some z → TaskIsRead (Place v l) (v'.homes t) z
+  task z r e =
+      let z' : Task = record x { top = onward_with c x.top } in
+      subst (λ (k : Task). TaskIsRead (Place v l) (v'.homes t) k) (same_Some z' z (sym L.goes ∙ e))
+      (subst (HoldsRead (Place v l) (v'.homes t) z') (sym L.runs)
+      (subst (λ gs. FramesAreRead (Place v l) gs (onward_with c x.top ∷ x.below)) (sym C.goes)
+      (goes_on (Place v l) c f x.top frames.0, frames.1)))
+
+  pub stored : Stands v' l'
+  stored = written v v' l l' t n a y y' (with_field i (register f w)) S V L.writes C.writes (record {
+    place = place;
+    rests = rests_n;
+    mutable = L.mutable;
+    still = L.mutable;
+    reads = λ q k. record { mutable = k.mutable; ints = k.ints; refs = all_set (Place v l) q.refs y.refs i (register f w) (ref_in x.top w) k.refs (reads w) };
+    minds = minds;
+    sources = source;
+    task = task;
+  })

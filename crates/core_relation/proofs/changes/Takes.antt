@@ -1,0 +1,99 @@
+-- A task is taken, and private steps are entered: the value stands, and the part fits.
+use Rattle.std.proofs.Common.{◌≡◌, ℕ, arith, false, Some, None, length, slice_get, inl, inr, refl, ap, sym, ◌∙◌}
+use Rattle.std.proofs.lemmas.Bool.{cases_eq}
+use Rattle.hh_lang.specs.Form.{ProgramText}
+use Rattle.run_trace.specs.Settings.{Limits}
+use Rattle.hh_model.specs.declared.data.State.{State}
+use Rattle.hh_model.specs.Effect.{row_of}
+use Rattle.hh_model.specs.Step.{is_waiting}
+use Rattle.run_ledger.specs.declared.data.Heap.{Heap}
+use Rattle.run_ledger.specs.declared.data.Ledger.{Ledger}
+use Rattle.run_ledger.specs.Heaps.{heap_of, or_fresh, with_heap, let_go}
+use Rattle.run_ledger.specs.Steps.{task_steps}
+use Rattle.core_relation.specs.Value.{Home, Value, objects_in}
+use Rattle.ledger_steps.specs.Accounts.{Rests, rested}
+use Rattle.core_relation.specs.Stands.{Stands}
+use Rattle.core_relation.specs.Fits.{Part, FitsAt, with_home, part_for}
+use Rattle.ledger_steps.proofs.Ahead.{heap_then, with_at, with_off, with_machine}
+use Rattle.core_relation.proofs.changes.Alone.{home_kept}
+use Rattle.ledger_steps.proofs.Entries.{took_takes}
+use Rattle.core_relation.proofs.changes.Release.{released}
+use Rattle.core_relation.proofs.changes.Renew.{renewed}
+use Rattle.core_relation.proofs.changes.With.{at_home, off_home}
+
+-- TAKEN
+
+module _ (p : ProgramText) (s : Limits) (v : Value) (l : Ledger) (t w : ℕ) (h : Heap) (is : slice_get l.heaps t ≡ Some h) (V : Stands v l) (rests : Rests l t) (idle : is_waiting (slice_get l.machine.tasks t) ≡ false) where
+  abbrev l' : Ledger
+  l' = with_heap l t (λ h. record h { worker = Some w })
+
+  abbrev back : Ledger
+  back = rested l' t
+
+  free : h.worker ≡ None
+  free = sym (ap (λ o. (or_fresh o).worker) is) ∙ rests
+
+  -- let go of again, the account is as it was
+  heap_back : (u : ℕ) → heap_of back u ≡ heap_of l u
+  heap_back u = elim (cases_eq u t) [
+    | inl e ↦
+        ap (heap_of back) e
+        ∙ (ap or_fresh (with_at l' t let_go ∙ (ap (heap_then let_go) (with_at l t (λ h. record h { worker = Some w }) ∙ ap (heap_then (λ h. record h { worker = Some w })) is)))
+        ∙ (ap (λ z. record h { worker = z }) (sym free) ∙ (ap or_fresh (sym is) ∙ ap (heap_of l) (sym e))))
+    | inr ne ↦ ap or_fresh (with_off l' t u let_go ne ∙ with_off l t u (λ h. record h { worker = Some w }) ne)
+  ]
+
+  machine_back : back.machine ≡ l.machine
+  machine_back = with_machine l' t let_go ∙ with_machine l t (λ h. record h { worker = Some w })
+
+  abbrev q : Part
+  q = part_for s t (v.homes t) 0
+
+  same_home : (u : ℕ) → (with_home v t (v.homes t)).homes u ≡ v.homes u
+  same_home u = elim (cases_eq u t) [
+    | inl e ↦ ap (with_home v t (v.homes t)).homes e ∙ (at_home v t (v.homes t) ∙ ap v.homes (sym e))
+    | inr ne ↦ off_home v t (v.homes t) u ne
+  ]
+
+  pub took_stands : Stands v l'
+  took_stands = released v v l l' t w V idle (took_takes l t w h is) (record { homes = λ u ne. refl; owner = λ k. refl; sources = λ u. refl })
+
+  pub took_fits : FitsAt p s q v l'
+  took_fits = record {
+    worker = w;
+    out = (took_takes l t w h is).worker;
+    few = omega arith;
+    private = tt;
+    stands = renewed v (with_home v t (v.homes t)) l back V
+        (record { machine = machine_back; worker = λ u. ap (λ (z : Heap). z.worker) (heap_back u); snapshot = λ u. ap (λ (z : Heap). z.snapshot) (heap_back u) })
+        (record {
+          home = λ u r. home_kept v (with_home v t (v.homes t)) l back u (same_home u) (λ k e. e) (heap_back u) (ap (λ (m : State). length (row_of (slice_get m.store u))) machine_back) (V.homes u (ap (λ (z : Heap). z.worker) (sym (heap_back u)) ∙ r));
+          objects = λ u. ap (λ (z : Home). objects_in z.chunks) (same_home u);
+          chunks = λ u e. ap (λ (z : Home). length z.chunks) (same_home u);
+          frames = λ u. ap (λ (z : Home). z.frames) (same_home u);
+          result = λ u. ap (λ (z : Home). z.result) (same_home u);
+          view = λ u. ap (λ (z : Home). z.view) (same_home u);
+          owner = λ k u e. e;
+          taken = λ k u e. inl e;
+          begun = λ u e. ap (λ (z : Home). z.begun) (same_home u);
+          sources = λ u. refl;
+        });
+  }
+
+-- PRIVATE STEPS ARE ENTERED: the part's steps are no longer fresh
+module _ (p : ProgramText) (s : Limits) (q : Part) (v : Value) (l : Ledger) (w : ℕ) (F : FitsAt p s q v l) (out : (heap_of (task_steps p l q.task q.fresh) q.task).worker ≡ Some w) where
+  abbrev then_ : Ledger
+  then_ = task_steps p l q.task q.fresh
+
+  abbrev entered : Part
+  entered = record q { fresh = 0 }
+
+  pub ran_fits : FitsAt p s entered v then_
+  ran_fits = record { worker = w; out = out; few = omega arith; private = tt; stands = F.stands }
+
+  -- and the value stands without it
+  pub ran_stands : is_waiting (slice_get then_.machine.tasks q.task) ≡ false → Stands v then_
+  ran_stands idle =
+      released (with_home v q.task q.home) v (rested then_ q.task) then_ q.task w F.stands (ap (λ (m : State). is_waiting (slice_get m.tasks q.task)) (with_machine then_ q.task let_go) ∙ idle)
+      (record { machine = sym (with_machine then_ q.task let_go); worker = out; heaps = λ u ne. ap or_fresh (sym (with_off then_ q.task u let_go ne)) })
+      (record { homes = λ u ne. sym (off_home v q.task q.home u ne); owner = λ k. refl; sources = λ u. refl })

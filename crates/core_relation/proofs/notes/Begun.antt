@@ -1,0 +1,42 @@
+-- A collection that has begun stands: when it begins, and past what others enter.
+use Rattle.std.proofs.Common.{◌≡◌, ℕ, true, Some, slice_get, ap, sym, subst, ◌∙◌}
+use Rattle.hh_model.specs.declared.data.Status.TheVariants.{Running}
+use Rattle.hh_model.specs.declared.data.Task.{Task}
+use Rattle.hh_model.specs.Step.{is_waiting}
+use Rattle.run_ledger.specs.declared.data.Heap.{Heap}
+use Rattle.run_ledger.specs.declared.data.Ledger.{Ledger}
+use Rattle.run_ledger.specs.Heaps.{heap_of}
+use Rattle.run_ledger.specs.Sound.{SoundLedger}
+use Rattle.core_relation.specs.Value.{Begun, Home, Value, In, objects_in}
+use Rattle.ledger_steps.specs.Accounts.{Rests}
+use Rattle.core_relation.specs.Stands.{Stands}
+use Rattle.core_relation.specs.Begins.{IsReachedAt, AreRoots}
+use Rattle.core_relation.specs.Whole.{BegunStands, Begins}
+use Rattle.core_relation.proofs.notes.Roots.{reached_both}
+
+pub begins : (v v' : Value) (l l' : Ledger) (t : ℕ) (x : Task) (b : Begun) → SoundLedger l → Stands v l → slice_get l.machine.tasks t ≡ Some x → x.status ≡ Running → Rests l t → ((u : ℕ) → is_waiting (slice_get l.machine.tasks u) ≡ true → Rests l u)
+    → AreRoots v l t b.roots → Begins v v' l l' t b → BegunStands v' l' t b
+begins v v' l l' t x b S V is runs rests at_rest R B = record {
+  few = ap (λ (h : Heap). h.begun) B.heap;
+  once = B.once;
+  owned = B.owned;
+  apart = λ k c i j. B.apart k c i (subst (λ (h : Home). In h.chunks c) B.home j);
+  survivors = λ o i.
+      let r = reached_both v l t x b.roots S V is runs rests at_rest R o (subst (λ (h : Home). In (objects_in h.chunks) o) B.home i) in (
+        (λ w. subst (λ (h : Heap). In h.survivors o.name) (sym B.heap) (r.0 (subst (λ (h : Home). IsReachedAt h b.roots o.at) B.home w))),
+        (λ w. subst (λ (h : Home). IsReachedAt h b.roots o.at) (sym B.home) (r.1 (subst (λ (h : Heap). In h.survivors o.name) B.heap w))),
+      );
+}
+
+pub begun_stays : (v v' : Value) (l l' : Ledger) (t : ℕ) (b : Begun) → v'.homes t ≡ v.homes t → ((k : ℕ) → v.owner k ≡ Some t → v'.owner k ≡ Some t) → heap_of l' t ≡ heap_of l t → BegunStands v l t b → BegunStands v' l' t b
+begun_stays v v' l l' t b home owner heap B = record {
+  few = ap (λ (h : Heap). h.begun) heap ∙ B.few;
+  once = B.once;
+  owned = λ k i. owner k (B.owned k i);
+  apart = λ k c i j. B.apart k c i (subst (λ (h : Home). In h.chunks c) home j);
+  survivors = λ o i.
+      let r = B.survivors o (subst (λ (h : Home). In (objects_in h.chunks) o) home i) in (
+        (λ w. subst (λ (h : Heap). In h.survivors o.name) (sym heap) (r.0 (subst (λ (h : Home). IsReachedAt h b.roots o.at) home w))),
+        (λ w. subst (λ (h : Home). IsReachedAt h b.roots o.at) (sym home) (r.1 (subst (λ (h : Heap). In h.survivors o.name) heap w))),
+      );
+}

@@ -1,0 +1,298 @@
+-- What is noted of a waiting heap stands on, whatever is entered.
+use Rattle.std.proofs.Common.{◌≡◌, ℕ, ℤ, suc, Bool, true, false, cond, Option, Some, None, List, [], ◌∷◌, ◌++◌, ◌⊎◌, length, slice_get, inl, inr, refl, ap, ap₂, sym, subst, ◌∙◌}
+use Rattle.std.specs.List.{list_any}
+use Rattle.std.specs.Prelude.{◌&&◌, not}
+use Rattle.std.proofs.lemmas.Bool.{both_ways}
+use Rattle.std.proofs.lemmas.Option.{same_Some}
+use Rattle.object_layout.specs.declared.word.Addr.{Addr}
+use Rattle.hh_model.specs.declared.data.Name.{Name}
+use Rattle.hh_model.specs.declared.data.Object.{Object}
+use Rattle.hh_model.specs.declared.data.Task.{Task}
+use Rattle.hh_model.specs.declared.data.Status.TheVariants.{Running}
+use Rattle.hh_model.specs.Effect.{object_at}
+use Rattle.hh_model.specs.Names.{task_names}
+use Rattle.hh_model.specs.Step.{is_waiting}
+use Rattle.listed.proofs.Members.{got_in}
+use Rattle.run_ledger.specs.declared.data.Heap.{Heap}
+use Rattle.run_ledger.specs.declared.data.Ledger.{Ledger}
+use Rattle.run_ledger.specs.Heaps.{heap_of, heap_at, within}
+use Rattle.run_ledger.specs.Sound.{SoundLedger, InHeaps, names_of, snapshot_at}
+use Rattle.inner_mark_gc.specs.Marks.{Marks}
+use Rattle.listed.proofs.Members.{in_append_right}
+use Rattle.core_relation.specs.Value.{Chunk, Seen, Source, Frame, Home, Value, In, objects, objects_in, sources, led, is_source, rewritten, rewritten_refs, rewritten_home, is_at, mapped_chunk, put_at}
+use Rattle.ledger_steps.specs.Accounts.{own, Rests}
+use Rattle.core_relation.specs.Stands.{Place, Stands}
+use Rattle.core_relation.specs.Begins.{IsReachedAt, AreRoots}
+use Rattle.core_relation.specs.Marking.{GoesOn, MarkedBy}
+use Rattle.core_relation.specs.Since.{Since, Keeps, kept, NotedAt, SameNotes, NoNotes, StaysWhole}
+use Rattle.core_relation.specs.Changes.{Moves, ForksHome, WritesAt, StoresAt, with_field, with_number, register}
+use Rattle.ledger_steps.specs.Kinds.{ForksTask, StoresOne}
+use Rattle.core_relation.proofs.objects.Mapped.{count_mapped, from_mapped, length_map, to_mapped}
+use Rattle.core_relation.proofs.notes.MarksGoOn.{goes_on}
+use Rattle.core_relation.proofs.objects.Members.{object_held}
+use Rattle.core_relation.proofs.notes.Roots.{name_at}
+use Rattle.core_relation.proofs.notes.Snapshot.{since_fork, since_write, write_stays}
+use Rattle.core_relation.proofs.changes.Sweep.{snapshot_is, refers}
+use Rattle.core_relation.proofs.changes.Store as store
+
+-- WHAT IS MARKED stays so, where its objects do
+
+pub marks_carry : (v v' : Value) (l l' : Ledger) (t : ℕ) (o o' : Option Marks) → o' ≡ o → (heap_of l' t).marked ≡ (heap_of l t).marked
+    → ((q : Seen) → In (objects v t) q → In (heap_of l t).snapshot q.name → (z : Seen) × In (objects v' t) z × (z.at ≡ q.at) × In (heap_of l' t).snapshot z.name)
+    → ((m : Marks) → GoesOn v t (heap_of l t).snapshot m → GoesOn v' t (heap_of l' t).snapshot m) → MarkedBy v l t o → MarkedBy v' l' t o'
+marks_carry v v' l l' t o o' same account stay further M = subst (MarkedBy v' l' t) (sym same) (by o M)
+  where
+    by : (o : Option Marks) → MarkedBy v l t o → MarkedBy v' l' t o
+    by None M = account ∙ M
+    by (Some m) M = (
+      record {
+        count = account ∙ M.0.count;
+        once = M.0.once;
+        each = λ a i. (let q = M.0.each a i in let z = stay q.0 q.1 q.3 in (z.0, z.1, z.2 ∙ q.2, z.3));
+      },
+      further m M.1,
+    )
+
+-- WHERE ITS OBJECTS STAY
+
+append_nil : (xs : List Addr) → xs ++ [] ≡ xs
+append_nil [] = refl
+append_nil (x ∷ xs) = ap (λ ys. x ∷ ys) (append_nil xs)
+
+module _ (v v' : Value) (l l' : Ledger) (t : ℕ) (N : SameNotes v v' l l' t) where
+  since_stays : StaysWhole v v' t → Since v l t → Since v' l' t
+  since_stays S H = record {
+    home = H.home;
+    roots = H.roots;
+    registers = λ f j. let g = H.registers f j in (g.0, subst (λ fs. In fs g.0) (sym N.frames) g.1, g.2);
+    rooted = λ b j. elim (H.rooted b j) [ inl r ↦ inl (N.rooted b r) | inr k ↦ inr (subst (λ bs. In bs b) (sym N.kept) k) ];
+    there = λ o i. (let q = H.there o i in let z = S.there q.0 q.1 in (z.0, z.1, z.2 ∙ q.2, z.3 ∙ q.3));
+    were = λ q i. (let z = S.were q i in let o = H.were z.0 z.1 in (o.0, o.1, z.2 ∙ o.2, z.3 ∙ o.3));
+    snapshot = λ q i.
+        let z = S.were q i in
+        let r = H.snapshot z.0 z.1 in (
+          (λ w. subst (λ ns. In ns q.name) (sym N.snapshot) (subst (In (heap_of l t).snapshot) (sym z.3) (r.0 (subst (IsReachedAt H.home H.roots) z.2 w)))),
+          (λ w. subst (IsReachedAt H.home H.roots) (sym z.2) (r.1 (subst (In (heap_of l t).snapshot) z.3 (subst (λ ns. In ns q.name) N.snapshot w)))),
+        );
+    overwritten = λ o q b i j e k c.
+        let z = S.were q j in
+        let mine : v.owner b.chunk ≡ Some t = N.none_new b.chunk c in
+        elim (H.overwritten o z.0 b i z.1 (sym z.2 ∙ e) k mine) [
+          | inl r ↦ inl (z.4 b mine r)
+          | inr r ↦ inr (subst (λ bs. In bs b) (sym N.kept) r)
+        ];
+    each = λ b j.
+        let r = H.each b (subst (λ bs. In bs b) N.kept j) in
+        let z = S.there r.0 r.1 in
+        (z.0, z.1, z.2 ∙ r.2, subst (λ ns. In ns z.0.name) (sym N.snapshot) (subst (In (heap_of l t).snapshot) (sym z.3) r.3));
+  }
+
+  keeps_same : NotedAt v l t → (v'.noted t).keeps ≡ (is_waiting (slice_get l'.machine.tasks t) && not (heap_of l' t).swept)
+  keeps_same H = N.keeps ∙ (H.keeps ∙ ap₂ (λ a b. a && not b) (sym N.waits) (sym N.swept))
+
+  pub notes_with : StaysWhole v v' t → ((v'.noted t).keeps ≡ true → MarkedBy v' l' t (v'.noted t).marked) → NotedAt v l t → NotedAt v' l' t
+  notes_with S M H = record { keeps = keeps_same H; since = λ e. since_stays S (H.since (sym N.keeps ∙ e)); marks = M }
+
+  -- a marking can go on
+  still_goes : StaysWhole v v' t → (m : Marks) → GoesOn v t (heap_of l t).snapshot m → GoesOn v' t (heap_of l' t).snapshot m
+  still_goes S m G =
+      subst (λ ns. GoesOn v' t ns m) (sym N.snapshot)
+      (goes_on v v' t (heap_of l t).snapshot m [] (N.kept ∙ sym (append_nil (kept v t))) S.there (λ q i. let o = S.were q i in (o.0, o.1, o.2, o.3, λ a c r. inl (o.4 a c r))) N.none_new S.count S.chunks (λ b i. absurd i) G)
+
+  pub notes_stay : (v'.noted t).marked ≡ (v.noted t).marked → (heap_of l' t).marked ≡ (heap_of l t).marked → StaysWhole v v' t → NotedAt v l t → NotedAt v' l' t
+  notes_stay marked account S H = notes_with S (λ e.
+      marks_carry v v' l l' t (v.noted t).marked (v'.noted t).marked marked account
+      (λ q i j. let z = S.there q i in (z.0, z.1, z.2, subst (λ ns. In ns z.0.name) (sym N.snapshot) (subst (In (heap_of l t).snapshot) (sym z.3) j))) (still_goes S) (H.marks (sym N.keeps ∙ e))) H
+
+pub same_whole : (v v' : Value) (t : ℕ) → objects v' t ≡ objects v t → length (v'.homes t).chunks ≡ length (v.homes t).chunks → StaysWhole v v' t
+same_whole v v' t e chunks = record {
+  count = ap (λ (os : List Seen). length os) e;
+  chunks = chunks;
+  there = λ o i. (o, subst (λ os. In os o) (sym e) i, refl, refl);
+  were = λ q i. (q, subst (λ os. In os q) e i, refl, refl, λ b c j. j);
+}
+
+-- the end of another task's collection rewrites what points into that task's heap alone
+rewritten_keeps : (f : Addr → Addr) (ss : List Source) (a : Addr) (i : ℕ) (rs : List (Option Addr)) (b : Addr) → f b ≡ b → In rs (Some b) → In (rewritten_refs f ss a i rs) (Some b)
+rewritten_keeps f ss a i [] b e j = j
+rewritten_keeps f ss a i (r ∷ rs) b e (inl g) = inl (by (list_any (is_source a i) ss))
+  where
+    by : (c : Bool) → cond c (led f r) r ≡ Some b
+    by true = ap (led f) g ∙ ap Some e
+    by false = g
+rewritten_keeps f ss a i (r ∷ rs) b e (inr j) = inr (rewritten_keeps f ss a (suc i) rs b e j)
+
+pub moves_whole : (v v' : Value) (l l' : Ledger) (u t : ℕ) (names : List Name) (f : Addr → Addr) → (t ≡ u → ⊥) → Moves v v' l l' u names f → StaysWhole v v' t
+moves_whole v v' l l' u t names f ne M =
+    let e : v'.homes t ≡ rewritten_home f (sources v u) (v.homes t) = M.others t ne in
+    record {
+      count = ap (λ (h : Home). length (objects_in h.chunks)) e ∙ count_mapped (rewritten f (sources v u)) (λ o. refl) (λ o. refl) (v.homes t).chunks;
+      chunks = ap (λ (h : Home). length h.chunks) e ∙ length_map (mapped_chunk (rewritten f (sources v u))) (v.homes t).chunks;
+      there = λ o i. (rewritten f (sources v u) o, subst (λ (h : Home). In (objects_in h.chunks) (rewritten f (sources v u) o)) (sym e) (to_mapped (rewritten f (sources v u)) (λ o. refl) (λ o. refl) (v.homes t).chunks o i), refl, refl);
+      were = λ q i.
+          let z = from_mapped (rewritten f (sources v u)) (λ o. refl) (λ o. refl) (v.homes t).chunks q (subst (λ (h : Home). In (objects_in h.chunks) q) e i) in (
+            z.0,
+            z.1,
+            ap (λ (o : Seen). o.at) (sym z.2),
+            ap (λ (o : Seen). o.name) (sym z.2),
+            λ b c j. subst (λ (o : Seen). In o.refs (Some b)) z.2 (rewritten_keeps f (sources v u) z.0.at 0 z.0.refs b (M.same b t ne c) j),
+          );
+    }
+
+-- so does a store of a number
+pub numbers_whole : (v v' : Value) (w : ℕ) (a : Addr) (i : ℕ) (k : ℤ) (t : ℕ) → WritesAt v v' w a (with_number i k) → StaysWhole v v' t
+numbers_whole v v' w a i k t C = record {
+  count = ap (λ ks. length (objects_in ks)) (C.chunks t) ∙ count_mapped one one_name one_at (v.homes t).chunks;
+  chunks = ap (λ (ks : List Chunk). length ks) (C.chunks t) ∙ length_map (mapped_chunk one) (v.homes t).chunks;
+  there = λ o j. (one o, subst (λ ks. In (objects_in ks) (one o)) (sym (C.chunks t)) (to_mapped one one_name one_at (v.homes t).chunks o j), one_at o, one_name o);
+  were = λ q j.
+      let z = from_mapped one one_name one_at (v.homes t).chunks q (subst (λ ks. In (objects_in ks) q) (C.chunks t) j) in (
+        z.0,
+        z.1,
+        ap (λ (o : Seen). o.at) (sym z.2) ∙ one_at z.0,
+        ap (λ (o : Seen). o.name) (sym z.2) ∙ one_name z.0,
+        λ b c r. subst (λ (o : Seen). In o.refs (Some b)) z.2 (subst (λ rs. In rs (Some b)) (sym (one_refs z.0)) r),
+      );
+}
+  where
+    one : Seen → Seen
+    one q = put_at a (with_number i k) q
+
+    one_name : (q : Seen) → (put_at a (with_number i k) q).name ≡ q.name
+    one_name q = by (is_at a q)
+      where
+        by : (b : Bool) → (cond b (with_number i k q) q).name ≡ q.name
+        by true = refl
+        by false = refl
+
+    one_at : (q : Seen) → (put_at a (with_number i k) q).at ≡ q.at
+    one_at q = by (is_at a q)
+      where
+        by : (b : Bool) → (cond b (with_number i k q) q).at ≡ q.at
+        by true = refl
+        by false = refl
+
+    one_refs : (q : Seen) → (put_at a (with_number i k) q).refs ≡ q.refs
+    one_refs q = by (is_at a q)
+      where
+        by : (b : Bool) → (cond b (with_number i k q) q).refs ≡ q.refs
+        by true = refl
+        by false = refl
+
+-- in any store each object stays where it lies
+pub writes_stay : (v v' : Value) (w : ℕ) (a : Addr) (f : Seen → Seen) (t : ℕ) → WritesAt v v' w a f → (q : Seen) → In (objects v t) q → (z : Seen) × In (objects v' t) z × (z.at ≡ q.at) × (z.name ≡ q.name)
+writes_stay v v' w a f t C q j = (put_at a f q, subst (λ ks. In (objects_in ks) (put_at a f q)) (sym (C.chunks t)) (to_mapped (put_at a f) one_name one_at (v.homes t).chunks q j), one_at q, one_name q)
+  where
+    one_name : (o : Seen) → (put_at a f o).name ≡ o.name
+    one_name o = by (is_at a o)
+      where
+        by : (b : Bool) → (cond b (f o) o).name ≡ o.name
+        by true = C.same_name o
+        by false = refl
+
+    one_at : (o : Seen) → (put_at a f o).at ≡ o.at
+    one_at o = by (is_at a o)
+      where
+        by : (b : Bool) → (cond b (f o) o).at ≡ o.at
+        by true = C.same_at o
+        by false = refl
+
+-- NOTHING IS NOTED
+
+pub no_notes : (v' : Value) (l' : Ledger) (t : ℕ) → NoNotes v' l' t → NotedAt v' l' t
+no_notes v' l' t N = record { keeps = N.keeps ∙ sym N.needless; since = λ e. absurd (both_ways (v'.noted t).keeps N.keeps e); marks = λ e. absurd (both_ways (v'.noted t).keeps N.keeps e) }
+
+-- A FORK
+
+pub fork_notes : (v v' : Value) (l l' : Ledger) (t a b g h : ℕ) (x : Task) (roots : List Addr) → SoundLedger l → Stands v l → x.status ≡ Running → Rests l t → ((u : ℕ) → is_waiting (slice_get l.machine.tasks u) ≡ true → Rests l u)
+    → (F : ForksTask l l' t a b g h x) → ForksHome v v' t a b g h → AreRoots v l t roots → F.names ≡ within l t → kept v' t ≡ [] → (v'.noted t).marked ≡ None → (v'.noted t).keeps ≡ true → NotedAt v' l' t
+fork_notes v v' l l' t a b g h x roots S V runs rests at_rest F C R names none unmarked keeps = record {
+  keeps = keeps ∙ sym (ap₂ (λ a b. a && not b) (ap is_waiting F.waits) (ap (λ (z : Heap). z.swept) F.heap));
+  since = λ e. since_fork v v' l l' t a b g h x roots S V runs rests at_rest F C R (λ n. ((λ i. subst (λ ns. In ns n) (sym names) i), (λ i. subst (λ ns. In ns n) names i))) none;
+  marks = λ e. subst (MarkedBy v' l' t) (sym unmarked) (ap (λ (z : Heap). z.marked) F.heap);
+}
+
+-- A STORE OF A REFERENCE: what it overwrites is of the snapshot
+
+module _ (v v' : Value) (l l' : Ledger) (t : ℕ) (x : Task) (n : Name) (y : Object) (o w i : ℕ) (c : Option (ℕ × ℤ)) (f : Frame) (fs : List Frame) (a : Addr) (S : SoundLedger l) (V : Stands v l) (rests : Rests l t)
+    (L : StoresOne l l' t x n y o w i c) (C : StoresAt v v' l t f fs a w i c) (at_a : register f o ≡ Some a) (u : ℕ) (wait : is_waiting (slice_get l.machine.tasks u) ≡ true) where
+  place : Place v l n a
+  place = store.place v v' l l' t x n y o w i c f fs a S V rests L C at_a
+
+  rests_n : Rests l (own l n)
+  rests_n = store.rests_n v v' l l' t x n y o w i c f fs a S V rests L C at_a
+
+  holds : In (task_names x) n
+  holds = store.holds v v' l l' t x n y o w i c f fs a S V rests L C at_a o n L.object
+
+  -- who writes doesn't wait
+  apart : u ≡ t → ⊥
+  apart e = both_ways (is_waiting (slice_get l.machine.tasks u)) (ap (λ z. is_waiting (slice_get l.machine.tasks z)) e ∙ (ap is_waiting L.task ∙ ap (λ s. is_waiting (Some (record x { status = s }))) L.runs)) wait
+
+  of_snapshot : (z : ℕ) (q : Seen) (b : Addr) → v.owner a.chunk ≡ Some z → In (objects v z) q → q.at ≡ a → slice_get q.refs i ≡ Some (Some b) → v.owner b.chunk ≡ Some u → (k : Seen) × In (objects v u) k × (k.at ≡ b) × In (heap_of l u).snapshot k.name
+  of_snapshot z q b oz j e g ob =
+      let mine : own l n ≡ z = same_Some (own l n) z (sym place.chunk ∙ oz) in
+      let p = place.here rests_n in
+      let j' : In (objects v (own l n)) q = subst (λ k. In (objects v k) q) (sym mine) j in
+      let same : q ≡ p.0 = (V.homes (own l n) rests_n).once q p.0 j' p.1 (e ∙ sym p.2.at) in
+      let c = V.contents (own l n) q rests_n j' in
+      let is : c.0 ≡ y = same_Some c.0 y (sym c.1 ∙ (ap (object_at l.machine.store) (ap (λ (k : Seen). k.name) same ∙ p.2.name) ∙ L.writes.was)) in
+      let r = name_at (Place v l) q.refs c.0.refs i b c.2.refs g in
+      let theirs : own l r.0 ≡ u = same_Some (own l r.0) u (sym r.2.chunk ∙ ob) in
+      let k = r.2.here (subst (Rests l) (sym theirs) (L.waits u wait)) in
+      let k' : In (objects v u) k.0 = subst (λ m. In (objects v m) k.0) theirs k.1 in
+      let held : In (names_of (heap_at l u)) k.0.name = object_held (v.homes u).chunks (heap_of l u) (V.homes u (L.waits u wait)).names k.0 k' in
+      let P = (S.waits u wait).of_object n r.0 ((S.waits u wait).of_task t x n L.task holds) (refers l.machine.store n r.0 y L.writes.was (subst (λ (m : Object). In m.refs (Some r.0)) is (got_in c.0.refs i (Some r.0) r.1))) in
+      (k.0, k', k.2.at, subst (λ ns. In ns k.0.name) (snapshot_is (slice_get l.heaps u)) (subst (In (snapshot_at (slice_get l.heaps u))) (sym k.2.name) (P.1 (subst (InHeaps l.heaps u) k.2.name held))))
+
+  abbrev one : Seen → Seen
+  one q = put_at a (with_field i (register f w)) q
+
+  one_name : (q : Seen) → (one q).name ≡ q.name
+  one_name q = by (is_at a q)
+    where
+      by : (b : Bool) → (cond b (with_field i (register f w) q) q).name ≡ q.name
+      by true = refl
+      by false = refl
+
+  one_at : (q : Seen) → (one q).at ≡ q.at
+  one_at q = by (is_at a q)
+    where
+      by : (b : Bool) → (cond b (with_field i (register f w) q) q).at ≡ q.at
+      by true = refl
+      by false = refl
+
+  -- a marking can go on
+  store_goes : Since v' l' u → Keeps v v' u a i → (m : Marks) → GoesOn v u (heap_of l u).snapshot m → GoesOn v' u (heap_of l' u).snapshot m
+  store_goes H' K m G =
+      let back : (q : Seen) → In (objects v' u) q → (o : Seen) × In (objects v u) o × (one o ≡ q) = λ q j. from_mapped one one_name one_at (v.homes u).chunks q (subst (λ ks. In (objects_in ks) q) (C.writes.chunks u) j) in
+      let same : (heap_of l' u).snapshot ≡ (heap_of l u).snapshot = ap (λ (g : Heap). g.snapshot) (L.writes.heaps u) in
+      subst (λ ns. GoesOn v' u ns m) (sym same)
+      (goes_on v v' u (heap_of l u).snapshot m K.more K.grows (λ o j. writes_stay v v' t a _ u C.writes o j)
+      (λ q j. let o = back q j in (
+        o.0,
+        o.1,
+        ap (λ (z : Seen). z.at) (sym o.2) ∙ one_at o.0,
+        ap (λ (z : Seen). z.name) (sym o.2) ∙ one_name o.0,
+        λ b c r. subst (λ (z : Seen). In z.refs (Some b) ⊎ In (kept v' u) b) o.2 (write_stays v v' l u i a (register f w) V (L.waits u wait) K o.0 b o.1 r c),
+      ))
+      (λ k g. sym (C.writes.owner k) ∙ g) (ap (λ ks. length (objects_in ks)) (C.writes.chunks u) ∙ count_mapped one one_name one_at (v.homes u).chunks) (ap (λ (ks : List Chunk). length ks) (C.writes.chunks u) ∙ length_map (mapped_chunk one) (v.homes u).chunks)
+      (λ b j.
+      let q = H'.each b (subst (λ ks. In ks b) (sym K.grows) (in_append_right (kept v u) K.more b j)) in
+      let o = back q.0 q.1 in (
+        o.0,
+        o.1,
+        sym (one_at o.0) ∙ (ap (λ (z : Seen). z.at) o.2 ∙ q.2),
+        subst (In (heap_of l u).snapshot) (ap (λ (z : Seen). z.name) (sym o.2) ∙ one_name o.0) (subst (λ ns. In ns q.0.name) same q.3),
+      ))
+      G)
+
+  pub store_notes : (v'.noted u).keeps ≡ (v.noted u).keeps → (heap_of l' u).swept ≡ (heap_of l u).swept → Keeps v v' u a i → NotedAt v l u → NotedAt v' l' u
+  store_notes keeps swept K H = record {
+    keeps = keeps ∙ (H.keeps ∙ ap₂ (λ a b. a && not b) (sym (L.writes.tree.waits u)) (sym swept));
+    since = λ e. since_write v v' l l' u t i n y _ a (register f w) V (L.waits u wait) (C.writes.frames u apart) (H.since (sym keeps ∙ e)) L.writes C.writes K of_snapshot;
+    marks = λ e.
+        marks_carry v v' l l' u (v.noted u).marked (v'.noted u).marked K.marked (ap (λ (z : Heap). z.marked) (L.writes.heaps u))
+        (λ q j m. let z = writes_stay v v' t a _ u C.writes q j in (z.0, z.1, z.2, subst (λ (g : Heap). In g.snapshot z.0.name) (sym (L.writes.heaps u)) (subst (In (heap_of l u).snapshot) (sym z.3) m)))
+        (store_goes (since_write v v' l l' u t i n y _ a (register f w) V (L.waits u wait) (C.writes.frames u apart) (H.since (sym keeps ∙ e)) L.writes C.writes K of_snapshot) K) (H.marks (sym keeps ∙ e));
+  }

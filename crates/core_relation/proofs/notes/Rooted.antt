@@ -1,0 +1,77 @@
+-- The roots of a waiting heap stay, whatever is entered, or what they were was kept.
+use Rattle.std.proofs.Common.{◌≡◌, ℕ, zero, suc, ◌+◌, Bool, true, false, cond, Option, Some, None, List, [], ◌∷◌, slice_get, inl, inr, refl, ap, sym, subst, ◌∙◌}
+use Rattle.std.specs.List.{list_any}
+use Rattle.std.proofs.lemmas.Bool.{both_ways}
+use Rattle.std.proofs.lemmas.Option.{same_Some}
+use Rattle.object_layout.specs.declared.word.Addr.{Addr}
+use Rattle.hh_model.specs.Step.{is_waiting}
+use Rattle.run_ledger.specs.declared.data.Ledger.{Ledger}
+use Rattle.run_ledger.specs.Heaps.{heap_of}
+use Rattle.core_relation.specs.Value.{Frame, Seen, Source, Value, In, objects, objects_in, sources, led, is_source, rewritten_refs}
+use Rattle.ledger_steps.specs.Accounts.{own, Rests}
+use Rattle.core_relation.specs.Stands.{Stands}
+use Rattle.core_relation.specs.Begins.{IsRoot}
+use Rattle.core_relation.specs.Changes.{advanced}
+use Rattle.core_relation.proofs.objects.Members.{in_chunk}
+
+-- THE HOME OF A ROOT
+
+-- an object lies in a chunk of its home's task
+pub lies_in : (v : Value) (l : Ledger) → Stands v l → (z : ℕ) (q : Seen) → Rests l z → In (objects v z) q → v.owner q.at.chunk ≡ Some z
+lies_in v l V z q r i =
+    let k = in_chunk (v.homes z).chunks q i in
+    ap v.owner ((V.homes z r).inside k.0 q k.1 k.2) ∙ (V.homes z r).owned k.0 k.1
+
+pub root_owner : (v : Value) (l : Ledger) (V : Stands v l) (u : ℕ) (b : Addr) (r : IsRoot v l u b) → own l (V.sources u r.source r.noted).name ≡ r.home
+root_owner v l V u b r =
+    let s = V.sources u r.source r.noted in
+    same_Some (own l s.name) r.home (sym s.place.chunk ∙ (ap (λ (a : Addr). v.owner a.chunk) (sym r.at) ∙ lies_in v l V r.home r.object r.rests r.there))
+
+-- it waits
+pub root_waits : (v : Value) (l : Ledger) → Stands v l → (u : ℕ) (b : Addr) → (r : IsRoot v l u b) → is_waiting (slice_get l.machine.tasks r.home) ≡ true
+root_waits v l V u b r = ap (λ z. is_waiting (slice_get l.machine.tasks z)) (sym (root_owner v l V u b r)) ∙ (V.sources u r.source r.noted).waits
+
+pub root_apart : (v : Value) (l : Ledger) → Stands v l → (t : ℕ) → is_waiting (slice_get l.machine.tasks t) ≡ false → (u : ℕ) (b : Addr) (r : IsRoot v l u b) → r.home ≡ t → ⊥
+root_apart v l V t idle u b r e = both_ways (is_waiting (slice_get l.machine.tasks t)) idle (ap (λ z. is_waiting (slice_get l.machine.tasks z)) (sym e) ∙ root_waits v l V u b r)
+
+-- and its snapshot has the object
+pub root_kept : (v : Value) (l : Ledger) → Stands v l → (u : ℕ) (b : Addr) → (r : IsRoot v l u b) → In (heap_of l r.home).snapshot r.object.name
+root_kept v l V u b r =
+    let s = V.sources u r.source r.noted in
+    let own_home = root_owner v l V u b r in
+    let p = s.place.here s.rests in
+    let p' : In (objects v r.home) p.0 = subst (λ z. In (objects v z) p.0) own_home p.1 in
+    let same : r.object ≡ p.0 = (V.homes r.home r.rests).once r.object p.0 r.there p' (r.at ∙ sym p.2.at) in
+    let name : s.name ≡ r.object.name = sym p.2.name ∙ ap (λ (o : Seen). o.name) (sym same) in
+    subst (In (heap_of l r.home).snapshot) name (subst (λ z. In (heap_of l z).snapshot s.name) own_home s.kept)
+
+-- A ROOT STAYS where its object does, with the field
+module _ (v v' : Value) (l l' : Ledger) (u : ℕ) (noted : (s : Source) → In (sources v u) s → In (sources v' u) s) (into : (k : ℕ) → v.owner k ≡ Some u → v'.owner k ≡ Some u) where
+  pub root_by : (b : Addr) (r : IsRoot v l u b) → Rests l' r.home → (q : Seen) → In (objects v' r.home) q → q.at ≡ r.object.at → slice_get q.refs r.source.field ≡ Some (Some b) → IsRoot v' l' u b
+  root_by b r rests q i at holds = record { source = r.source; home = r.home; object = q; rests = rests; noted = noted r.source r.noted; there = i; at = at ∙ r.at; holds = holds; into = into b.chunk r.into }
+
+  pub root_same : (b : Addr) (r : IsRoot v l u b) → Rests l' r.home → objects v' r.home ≡ objects v r.home → IsRoot v' l' u b
+  root_same b r rests same = root_by b r rests r.object (subst (λ os. In os r.object) (sym same) r.there) refl r.holds
+
+-- where sources are the same list
+pub noted_by : (v v' : Value) (u : ℕ) → sources v' u ≡ sources v u → (s : Source) → In (sources v u) s → In (sources v' u) s
+noted_by v v' u e s i = subst (λ ss. In ss s) (sym e) i
+
+-- the end of another task's collection leads what points into that task's heap alone
+pub rewritten_at : (f : Addr → Addr) (ss : List Source) (a : Addr) (i : ℕ) (rs : List (Option Addr)) (k : ℕ) (b : Addr) → f b ≡ b → slice_get rs k ≡ Some (Some b) → slice_get (rewritten_refs f ss a i rs) k ≡ Some (Some b)
+rewritten_at f ss a i [] k b e g = g
+rewritten_at f ss a i (r ∷ rs) zero b e g = by (list_any (is_source a i) ss)
+  where
+    here : r ≡ Some b
+    here = same_Some r (Some b) g
+
+    by : (c : Bool) → ◌≡◌ {A = Option (Option Addr)} (Some (cond c (led f r) r)) (Some (Some b))
+    by true = ap Some (ap (led f) here ∙ ap Some e)
+    by false = g
+rewritten_at f ss a i (r ∷ rs) (suc k) b e g = rewritten_at f ss a (suc i) rs k b e g
+
+-- a frame that goes on has its references
+pub in_advanced : (fs : List Frame) (f : Frame) → In fs f → (g : Frame) × In (advanced fs) g × (g.refs ≡ f.refs)
+in_advanced [] f i = absurd i
+in_advanced (h ∷ fs) f (inl e) = (record h { next = h.next + 1 }, inl refl, ap (λ (x : Frame). x.refs) e)
+in_advanced (h ∷ fs) f (inr i) = (f, inr i, refl)

@@ -1,0 +1,221 @@
+-- What the shared value tells of forks and markings, before the run's end.
+use Rattle.std.proofs.Common.{◌≡◌, ℕ, ◌<◌, ◌≤◌, ◌&&◌, not, Bool, true, false, Option, Some, None, length, option_map, slice_get, inl, inr, refl, ap, sym, subst, ◌∙◌, ◌-◌, ◌^◌, arith, is_some, is_none, nat_le, ap₂}
+use Rattle.std.proofs.lemmas.Bool.{false≢true, both_ways, and_parts, cases_lt, le-leb}
+use Rattle.std.proofs.lemmas.Option.{same_Some}
+use Rattle.hh_model.specs.declared.data.Status.{Status}
+use Rattle.hh_model.specs.declared.data.Status.TheVariants.{Running, Waiting, Ended, Joined}
+use Rattle.hh_model.specs.declared.data.State.{State as Machine}
+use Rattle.hh_model.specs.declared.data.Task.{Task}
+use Rattle.hh_model.specs.Step.{is_joined, is_over, is_waiting, joined, parent_of as parent_in_machine, parents}
+use Rattle.hh_model.specs.Tree.{waiting}
+use Rattle.run_trace.specs.Settings.{field_limit}
+use Rattle.run_trace.specs.Entry.{Event}
+use Rattle.run_ledger.specs.declared.data.Ledger.{Ledger}
+use Rattle.run_ledger.specs.declared.data.Refused.{Refused}
+use Rattle.run_ledger.specs.declared.data.Refused.TheVariants.{NotMarking, NotWaiting, Swept}
+use Rattle.run_ledger.specs.Entries.{after, refused_unless}
+use Rattle.run_ledger.specs.Heaps.{heap_of, words_in}
+use Rattle.run_ledger.specs.Journals.{ledger_of, tasks_of}
+use Rattle.run_ledger.specs.Sound.{SoundLedger}
+use Rattle.run_ledger.proofs.Machine.{machine_is_run}
+use Rattle.run_ledger.proofs.Journals.{legal_sound}
+use Rattle.alloc_path.specs.Heap.{counted}
+use Rattle.heap_tree.specs.declared.state.State.{State}
+use Rattle.heap_tree.specs.declared.state.State.TheVariants.{Ready, Out, Waiting as Waits', Ended as Ended', Joined as Joined'}
+use Rattle.heap_tree.specs.Node.{Node, parent_in, parent_of, state_of as state_in}
+use Rattle.core_relation.specs.Whole.{Node as SeenNode, StandsFor, State as SeenState, state_by}
+use Rattle.core_relation.specs.Whole.{Ready as IsReady, Out as IsOut, Waits, HasEnded, HasJoined}
+use Rattle.shared_value.specs.Causes.{or_else}
+use Rattle.shared_value.specs.Entered.{Enters}
+use Rattle.shared_value.specs.Stands.{IsWorld}
+use Rattle.shared_value.specs.World.{World, accounts, marks_at, node_of, noted_in, state_of, totals_of, value_of}
+use Rattle.shared_value.proofs.JournalGoesOn.{accounts_then}
+use Rattle.shared_value.proofs.BeforeTheEnd.{stands_now}
+use Rattle.heap_marking.specs.declared.pace.Fork.{Fork}
+use Rattle.heap_marking.specs.MarkCauses.{is_state_waiting, marking_cause, waiting_cause}
+use Rattle.heap_marking.specs.Pace.{IsForkIn, IsForkOf, KeepsPace, PacesStay, is_going, is_live_child, is_parent, is_state_joined, is_to_begin}
+use Rattle.heap_marking.proofs.ForksStay.{entry_moves}
+use Rattle.heap_marking.proofs.MarkCauses.{marked_by, waits_by}
+use Rattle.heap_marking.proofs.PaceKeeps.{child_from, child_tells, fork_from, keeps_moves, lives_below}
+use Rattle.heap_marking.proofs.StepsKeepForks.{runs_have_live}
+
+-- WHO HAS JOINED
+seen_joined : SeenState → Bool
+seen_joined IsReady = false
+seen_joined IsOut = false
+seen_joined Waits = false
+seen_joined HasEnded = false
+seen_joined HasJoined = true
+
+by_state : (a : State) → is_state_joined (Some a) ≡ seen_joined (state_of a)
+unfolding seen_joined
+by_state Ready = refl
+by_state Out = refl
+by_state Waits' = refl
+by_state Ended' = refl
+by_state Joined' = refl
+
+by_status : (s : Status) (o : Option ℕ) → seen_joined (state_by s o) ≡ is_over s
+unfolding seen_joined
+by_status Running None = refl
+by_status Running (Some w) = refl
+by_status Waiting o = refl
+by_status (Ended n r) o = refl
+by_status Joined o = refl
+
+abbrev told : Option ℕ → Task → SeenNode
+told o x = record { parent = x.parent; state = state_by x.status o }
+
+joined_by : (n : Option Node) (x : Option Task) (o : Option ℕ) → option_map node_of n ≡ option_map (told o) x → is_state_joined (option_map (λ m. m.state) n) ≡ is_joined x
+joined_by None None o e = refl
+joined_by None (Some x) o e = absurd cc
+joined_by (Some m) None o e = absurd cc
+joined_by (Some m) (Some x) o e = by_state m.state ∙ (ap (λ y. seen_joined y.state) (same_Some (node_of m) (told o x) e) ∙ by_status x.status o)
+
+parent_by : (n : Option Node) (x : Option Task) (o : Option ℕ) → option_map node_of n ≡ option_map (told o) x → parent_in n ≡ parent_in_machine x
+parent_by None None o e = refl
+parent_by None (Some x) o e = absurd cc
+parent_by (Some m) None o e = absurd cc
+parent_by (Some m) (Some x) o e = ap (λ y. y.parent) (same_Some (node_of m) (told o x) e)
+
+free_by : (a k s : Bool) → k ≡ (a && not s) → is_none (refused_unless a NotWaiting (refused_unless k Swept None)) ≡ (a && not s)
+free_by false k s e = refl
+free_by true k s e = is_free k ∙ e
+  where
+    is_free : (k : Bool) → is_none (refused_unless k Swept None) ≡ k
+    is_free true = refl
+    is_free false = refl
+
+none_is : (o : Option Refused) → is_none o ≡ true → o ≡ None
+none_is None h = refl
+none_is (Some c) h = absurd (false≢true h)
+
+counted_le : (a n : ℕ) → a < 2 ^ 32 → nat_le a (counted n) ≡ nat_le a n
+counted_le a n few = elim (cases_lt n (2 ^ 64 - 1)) [
+  | inl lt ↦ ap (nat_le a) (let q : counted n ≡ n = omega (arith, lt) in q)
+  | inr ge ↦ le-leb a (counted n) (omega (arith, ge, few)) ∙ sym (le-leb a n (omega (arith, few, ge)))
+]
+
+module _ (w : World) (I : IsWorld w) (on : (accounts w).end ≡ None) where
+  abbrev l : Ledger
+  l = accounts w
+
+  S : StandsFor (value_of w) (totals_of w) l
+  S = stands_now w I on
+
+  pub joined_is : (t : ℕ) → is_state_joined (state_in w.tree t) ≡ joined l.machine.tasks t
+  joined_is t = joined_by (slice_get w.tree t) (slice_get l.machine.tasks t) (heap_of l t).worker (S.totals.node t)
+
+  pub parent_is : (t : ℕ) → parent_of w.tree t ≡ parents l.machine.tasks t
+  parent_is t = parent_by (slice_get w.tree t) (slice_get l.machine.tasks t) (heap_of l t).worker (S.totals.node t)
+
+  pub waiting_is : (t : ℕ) → is_state_waiting (state_in w.tree t) ≡ is_waiting (slice_get l.machine.tasks t)
+  waiting_is t = waits_by (slice_get w.tree t) (slice_get l.machine.tasks t) (heap_of l t).worker (S.totals.node t)
+
+  keeps_is : (t : ℕ) → (noted_in (slice_get w.sets t)).keeps ≡ (is_waiting (slice_get l.machine.tasks t) && not (heap_of l t).swept)
+  keeps_is t = S.keeps t
+
+  marked_is : (t : ℕ) → (noted_in (slice_get w.sets t)).keeps ≡ true → is_some (heap_of l t).marked ≡ is_some (marks_at w.marks t)
+  marked_is t k = marked_by (value_of w) l t (marks_at w.marks t) (S.marks t k)
+
+  pub free_is : (t : ℕ) → is_none (waiting_cause w t) ≡ (is_waiting (slice_get l.machine.tasks t) && not (heap_of l t).swept)
+  free_is t =
+      ap (λ a. is_none (refused_unless a NotWaiting (refused_unless (noted_in (slice_get w.sets t)).keeps Swept None))) (waiting_is t)
+      ∙ free_by (is_waiting (slice_get l.machine.tasks t)) (noted_in (slice_get w.sets t)).keeps (heap_of l t).swept (keeps_is t)
+
+  -- THE MARKING after a fork
+  pub joined_stops : (f : Fork) → joined l.machine.tasks f.left ≡ true → is_going l f ≡ false
+  joined_stops f j = ap (λ b. not b && (is_waiting (slice_get l.machine.tasks f.task) && not (heap_of l f.task).swept)) j
+
+  pub goes_free : (f : Fork) → joined l.machine.tasks f.left ≡ false → is_going l f ≡ is_none (waiting_cause w f.task)
+  goes_free f j = ap (λ b. not b && (is_waiting (slice_get l.machine.tasks f.task) && not (heap_of l f.task).swept)) j ∙ sym (free_is f.task)
+
+  going_parts : (f : Fork) → is_going l f ≡ true → (not (joined l.machine.tasks f.left) ≡ true) × ((is_waiting (slice_get l.machine.tasks f.task) && not (heap_of l f.task).swept) ≡ true)
+  going_parts f on = and_parts (not (joined l.machine.tasks f.left)) (is_waiting (slice_get l.machine.tasks f.task) && not (heap_of l f.task).swept) on
+
+  pub going_free : (f : Fork) → is_going l f ≡ true → waiting_cause w f.task ≡ None
+  going_free f on = none_is (waiting_cause w f.task) (free_is f.task ∙ (going_parts f on).1)
+
+  going_keeps : (f : Fork) → is_going l f ≡ true → (noted_in (slice_get w.sets f.task)).keeps ≡ true
+  going_keeps f on = keeps_is f.task ∙ (going_parts f on).1
+
+  -- that goes on
+  pub marked_free : (f : Fork) → is_going l f ≡ true → is_some (heap_of l f.task).marked ≡ true → marking_cause w f.task ≡ None
+  marked_free f on m =
+      ap (λ o. or_else o (refused_unless (is_some (marks_at w.marks f.task)) NotMarking None)) (going_free f on)
+      ∙ ap (λ b. refused_unless b NotMarking None) (sym (marked_is f.task (going_keeps f on)) ∙ m)
+
+  -- that is to begin
+  stops_by : (j a s m n : Bool) → (not j && (a && not s)) ≡ false → (not j && (a && ((m && not s) && n))) ≡ false
+  stops_by true a s m n e = refl
+  stops_by false false s m n e = refl
+  stops_by false true false m n e = absurd (false≢true (sym e))
+  stops_by false true true false n e = refl
+  stops_by false true true true n e = refl
+
+  pub begin_stops : (f : Fork) → is_going l f ≡ false → is_to_begin w.settings l f ≡ false
+  begin_stops f off = stops_by (joined l.machine.tasks f.left) (is_waiting (slice_get l.machine.tasks f.task)) (heap_of l f.task).swept (is_none (heap_of l f.task).marked) (nat_le w.settings.inner (words_in l.machine (heap_of l f.task))) off
+
+  begins_by : (j a s m n : Bool) → (not j && (a && not s)) ≡ true → (not j && (a && ((m && not s) && n))) ≡ (m && n)
+  begins_by true a s m n e = absurd (false≢true e)
+  begins_by false false s m n e = absurd (false≢true e)
+  begins_by false true true m n e = absurd (false≢true e)
+  begins_by false true false true n e = refl
+  begins_by false true false false n e = refl
+
+  not_some : (o : Option ℕ) → is_none o ≡ not (is_some o)
+  not_some None = refl
+  not_some (Some k) = refl
+
+  begins_with : (f : Fork) → is_going l f ≡ true → is_to_begin w.settings l f ≡ (not (is_some (marks_at w.marks f.task)) && nat_le w.settings.inner (words_in l.machine (heap_of l f.task)))
+  begins_with f on =
+      begins_by (joined l.machine.tasks f.left) (is_waiting (slice_get l.machine.tasks f.task)) (heap_of l f.task).swept (is_none (heap_of l f.task).marked) (nat_le w.settings.inner (words_in l.machine (heap_of l f.task))) on
+      ∙ ap (λ b. b && nat_le w.settings.inner (words_in l.machine (heap_of l f.task))) (not_some (heap_of l f.task).marked ∙ ap not (marked_is f.task (going_keeps f on)))
+
+  pub begin_marked : (f : Fork) → is_going l f ≡ true → is_some (marks_at w.marks f.task) ≡ true → is_to_begin w.settings l f ≡ false
+  begin_marked f on m = begins_with f on ∙ ap (λ b. not b && nat_le w.settings.inner (words_in l.machine (heap_of l f.task))) m
+
+  pub begin_words : (f : Fork) → is_going l f ≡ true → is_some (marks_at w.marks f.task) ≡ false → is_to_begin w.settings l f ≡ nat_le w.settings.inner (words_in l.machine (heap_of l f.task))
+  begin_words f on m = begins_with f on ∙ ap (λ b. not b && nat_le w.settings.inner (words_in l.machine (heap_of l f.task))) m
+
+  -- as 64 bits count the words
+  pub begin_counted : (f : Fork) → is_going l f ≡ true → is_some (marks_at w.marks f.task) ≡ false → is_to_begin w.settings l f ≡ nat_le w.settings.inner (counted (words_in l.machine (heap_of l f.task)))
+  begin_counted f on m = begin_words f on m ∙ sym (counted_le w.settings.inner (words_in l.machine (heap_of l f.task)) (let h = I.limits.inner.1 in omega (arith, h)))
+
+  -- THE FORK on which a task waits
+  child_is : (t c : ℕ) → is_live_child w.tree t c ≡ lives_below l.machine.tasks t c
+  child_is t c = ap₂ (λ o j. is_parent o t && not j) (parent_is c) (joined_is c)
+
+  known : SoundLedger l
+  known = legal_sound w.program w.settings w.journal.items I.legal
+
+  live_waits : (t c : ℕ) → lives_below l.machine.tasks t c ≡ true → IsForkOf l t (Some (record { task = t; left = c })) (slice_get l.machine.tasks t)
+  live_waits t c h = let q = child_tells l.machine.tasks t c h in fork_from l t c q.0 q.1 (known.kept.tree.waits c t q.0 q.1)
+
+  has_live : (t : ℕ) → is_waiting (slice_get l.machine.tasks t) ≡ true → (c : ℕ) × (lives_below l.machine.tasks t c ≡ true)
+  has_live t q =
+      let c = subst (λ (m : Machine). waiting m.tasks t ≡ true → (c : ℕ) × (parents m.tasks c ≡ Some t) × (joined m.tasks c ≡ false)) (sym (machine_is_run w.program w.settings w.journal.items))
+      (runs_have_live w.program (field_limit w.settings.version) (tasks_of w.journal.items) t) q in
+      (c.0, child_from l.machine.tasks t c.0 c.1 c.2)
+
+  false_or : (b : Bool) → (b ≡ true → ⊥) → b ≡ false
+  false_or true h = absurd (h refl)
+  false_or false h = refl
+
+  pub fork_is : (t : ℕ) (o : Option Fork) → IsForkIn w.tree t o → IsForkOf l t o (slice_get l.machine.tasks t)
+  fork_is t None none =
+      false_or (is_waiting (slice_get l.machine.tasks t))
+      (λ q. let c = has_live t q in both_ways (lives_below l.machine.tasks t c.0) (sym (child_is t c.0) ∙ none (waiting_is t ∙ q) c.0) c.1)
+  fork_is t (Some f) h = subst (λ u. IsForkOf l t (Some (record { task = u; left = f.left })) (slice_get l.machine.tasks t)) (sym h.0) (live_waits t f.left (sym (child_is t f.left) ∙ h.1))
+
+-- THE LAW
+pub entered_accounts : (w w' : World) (e : Event) → Enters w w' e → accounts w' ≡ after w.program w.settings (accounts w) e
+entered_accounts w w' e E =
+    ap (λ p. ledger_of p w'.settings w'.journal.items) E.program
+    ∙ (ap (λ s. ledger_of w.program s w'.journal.items) E.settings
+    ∙ (ap (λ j. ledger_of w.program w.settings j) E.journal ∙ accounts_then w.program w.settings w.journal.items e))
+
+pub paces_stay : PacesStay
+paces_stay w w' e q x I E free K =
+    subst (λ l. KeepsPace l q x) (sym (entered_accounts w w' e E))
+    (keeps_moves (accounts w) (after w.program w.settings (accounts w) e) (entry_moves w.program w.settings (accounts w) e (legal_sound w.program w.settings w.journal.items I.legal) free) q x K)

@@ -1,0 +1,61 @@
+-- The heap of a task, as its home stands: each reference into it leads to an object.
+use Rattle.std.proofs.Common.{◌≡◌, ℕ, ◌<◌, true, Option, Some, None, List, All, is_some, length, nat_lt, refl, ap, sym, subst, ◌∙◌}
+use Rattle.std.proofs.lemmas.Bool.{cond-true, lt-ltb}
+use Rattle.std.proofs.lemmas.Option.{same_Some}
+use Rattle.hh_model.specs.declared.data.Name.{Name}
+use Rattle.run_ledger.specs.declared.data.Ledger.{Ledger}
+use Rattle.object_layout.specs.declared.word.Addr.{Addr}
+use Rattle.object_layout.specs.declared.word.Birth.{Birth}
+use Rattle.object_layout.specs.Cell.{Born, Hole, IsBorn, Mark, Moved}
+use Rattle.object_layout.specs.Chunks.{AreApart, cell_of, has_chunk, place_of}
+use Rattle.object_layout.specs.Content.{Content}
+use Rattle.object_layout.specs.Graph.{IsClosed, IsHeld, IsSound}
+use Rattle.leaf_copy_gc.proofs.ListLemmas.{all_from}
+use Rattle.ledger_steps.specs.Accounts.{Rests, own}
+use Rattle.core_relation.specs.Value.{Chunk, In, Seen, Value, objects, objects_in}
+use Rattle.core_relation.specs.Stands.{Place, Stands}
+use Rattle.core_relation.proofs.objects.Members.{in_map}
+use Rattle.core_relation.proofs.notes.Roots.{index_of, name_at}
+use Rattle.shared_value.specs.Objects.{AreNear, chunk_of, chunks_of, seen}
+use Rattle.shared_value.proofs.CellsRead.{object_seen, seen_object}
+use Rattle.shared_value.proofs.RootsHeld.{chunk_in}
+
+-- what is held is read
+pub held_seen : (ks : List Content) (a : Addr) → IsHeld ks a → (o : Seen) × In (objects_in (chunks_of ks)) o × (o.at ≡ a) × ((cell_of ks a).refs ≡ o.refs)
+held_seen ks a h = by (cell_of ks a).mark refl h
+  where
+    by : (m : Mark) → (cell_of ks a).mark ≡ m → IsBorn m → (o : Seen) × In (objects_in (chunks_of ks)) o × (o.at ≡ a) × ((cell_of ks a).refs ≡ o.refs)
+    by (Born b) e o = (seen a.chunk a.offset b (cell_of ks a), object_seen ks a b e, refl, refl)
+    by (Moved to) e o = absurd o
+    by Hole e o = absurd o
+
+-- what is read is held, with the references that are read
+pub seen_held : (ks : List Content) → AreApart ks → (o : Seen) → In (objects_in (chunks_of ks)) o → IsHeld ks o.at × ((cell_of ks o.at).refs ≡ o.refs)
+seen_held ks apart o i = let y = seen_object ks o apart i in (subst IsBorn (sym y.mark) tt, sym (ap (λ (z : Seen). z.refs) y.is))
+
+module _ (v : Value) (l : Ledger) (V : Stands v l) (t : ℕ) (rests : Rests l t) (ks : List Content) (home : (v.homes t).chunks ≡ chunks_of ks) (apart : AreApart ks) (near : AreNear ks) where
+  -- where a name is read
+  pub sound_at : (n : Name) (a : Addr) → Place v l n a → IsSound ks (Some a)
+  sound_at n a P inside =
+      let there : has_chunk ks a.chunk ≡ true = ap is_some (cond-true (nat_lt (place_of ks a.chunk) (length ks)) (Some (place_of ks a.chunk)) None (lt-ltb (place_of ks a.chunk) (length ks) inside)) in
+      let k = chunk_in ks a.chunk there in
+      let mine : v.owner a.chunk ≡ Some t = ap v.owner (sym k.2) ∙ (V.homes t rests).owned (chunk_of k.0) (subst (λ (cs : List Chunk). In cs (chunk_of k.0)) (sym home) (in_map chunk_of ks k.0 k.1)) in
+      let o : own l n ≡ t = same_Some (own l n) t (sym P.chunk ∙ mine) in
+      let lies = P.here (subst (Rests l) (sym o) rests) in
+      let here : In (objects v t) lies.0 = subst (λ u. In (objects v u) lies.0) o lies.1 in
+      let i : In (objects_in (chunks_of ks)) lies.0 = subst (λ (cs : List Chunk). In (objects_in cs) lies.0) home here in (
+        subst (IsHeld ks) lies.2.at (seen_held ks apart lies.0 i).0,
+        subst (λ (z : Addr). z.offset < 1024) lies.2.at (near lies.0 i),
+      )
+
+  pub closed : IsClosed ks
+  closed b held = all_from (IsSound ks) (cell_of ks b).refs one
+    where
+      one : (r : Option Addr) → In (cell_of ks b).refs r → IsSound ks r
+      one None i = tt
+      one (Some a) i =
+          let o = held_seen ks b held in
+          let c = V.contents t o.0 rests (subst (λ (cs : List Chunk). In (objects_in cs) o.0) (sym home) o.1) in
+          let j = index_of o.0.refs (Some a) (subst (λ (rs : List (Option Addr)). In rs (Some a)) o.3 i) in
+          let n = name_at (Place v l) o.0.refs c.0.refs j.0 a c.2.refs j.1 in
+          sound_at n.0 a n.2

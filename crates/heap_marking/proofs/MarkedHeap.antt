@@ -1,0 +1,124 @@
+-- What is there of a heap that is being marked.
+use Rattle.std.proofs.Common.{◌≡◌, ◌==◌, ◌↔◌, ℕ, ◌<◌, Bool, true, false, IsTrue, Option, Some, None, List, is_some, length, slice_get, refl, sym, subst}
+use Rattle.std.proofs.lemmas.Bool.{eq-eqb, eqb-true}
+use Rattle.listed.proofs.Members.{got_within}
+use Rattle.hh_model.specs.Step.{is_waiting}
+use Rattle.run_ledger.specs.declared.data.Ledger.{Ledger}
+use Rattle.run_ledger.specs.declared.data.Refused.{Refused}
+use Rattle.run_ledger.specs.declared.data.Refused.TheVariants.{NotMarking}
+use Rattle.run_ledger.specs.Entries.{refused_unless}
+use Rattle.run_ledger.specs.Heaps.{heap_of, left_in}
+use Rattle.write_barrier.specs.declared.sets.SetOf.{SetOf}
+use Rattle.inner_mark_gc.specs.Marks.{IsAllMarked, IsMarking, Marks}
+use Rattle.inner_mark_gc.specs.Snapshot.{Fork, IsSince}
+use Rattle.core_relation.specs.Marking.{MarkedBy}
+use Rattle.core_relation.specs.Since.{kept}
+use Rattle.core_relation.specs.Value.{Value}
+use Rattle.core_relation.specs.Whole.{StandsFor}
+use Rattle.shared_value.specs.declared.rest.Rest.{Rest}
+use Rattle.shared_value.specs.Causes.{or_else}
+use Rattle.shared_value.specs.World.{World, accounts, flat, marks_at, noted_in, rest_at, totals_of, value_of}
+use Rattle.shared_value.specs.Stands.{IsWorld}
+use Rattle.shared_value.proofs.BeforeTheEnd.{stands_now}
+use Rattle.heap_marking.specs.MarkCauses.{marking_cause, waiting_cause}
+use Rattle.heap_marking.specs.Marking.{Further}
+use Rattle.heap_marking.specs.MarkStand.{MarksStand}
+use Rattle.heap_marking.proofs.MarkingGoesOn.{marks_go_further}
+use Rattle.heap_marking.proofs.WaitingHome as homes
+use Rattle.heap_marking.proofs.WaitingHome.{some_of}
+
+-- no cause is given
+or_none : (o : Option Refused) (b : Bool) → or_else o (refused_unless b NotMarking None) ≡ None → (o ≡ None) × (b ≡ true)
+or_none (Some c) b e = absurd cc
+or_none None false e = absurd cc
+or_none None true e = (refl, refl)
+
+module _ (w : World) (I : IsWorld w) (on : (accounts w).end ≡ None) (t : ℕ) (free : marking_cause w t ≡ None) where
+  abbrev l : Ledger
+  l = accounts w
+
+  abbrev v : Value
+  v = value_of w
+
+  S : StandsFor v (totals_of w) l
+  S = stands_now w I on
+
+  tells : (waiting_cause w t ≡ None) × (is_some (marks_at w.marks t) ≡ true)
+  tells = or_none (waiting_cause w t) (is_some (marks_at w.marks t)) free
+
+  pub wait : is_waiting (slice_get l.machine.tasks t) ≡ true
+  wait = homes.wait w I on t tells.0
+
+  pub keeps : ((value_of w).noted t).keeps ≡ true
+  keeps = homes.keeps w I on t tells.0
+
+  pub rest : (r : Rest) × (rest_at w.homes t ≡ Some r)
+  rest = homes.rest w I on t tells.0
+
+  pub marks : (m : Marks) × (marks_at w.marks t ≡ Some m)
+  marks = some_of (marks_at w.marks t) tells.1
+
+  pub never_gone : rest_at w.homes t ≡ None → ⊥
+  never_gone = homes.never_gone w I on t tells.0
+
+  pub never_unmarked : marks_at w.marks t ≡ None → ⊥
+  never_unmarked none = by (marks_at w.marks t) none tells.1
+    where
+      by : (o : Option Marks) → o ≡ None → is_some o ≡ true → ⊥
+      by None e h = absurd cc
+      by (Some x) e h = absurd cc
+
+  pub homes_within : t < length w.homes
+  homes_within = homes.within w I on t tells.0
+
+  pub sets_within : t < length w.sets
+  sets_within = within w.sets keeps
+    where
+      within : (ss : List SetOf) → (noted_in (slice_get ss t)).keeps ≡ true → t < length ss
+      within ss h = by (slice_get ss t) refl h
+        where
+          by : (o : Option SetOf) → slice_get ss t ≡ o → (noted_in o).keeps ≡ true → t < length ss
+          by None e h = absurd cc
+          by (Some x) e h = got_within ss t x e
+
+  pub marks_within : t < length w.marks
+  marks_within = within w.marks (tells.1)
+    where
+      within : (ms : List (Option Marks)) → is_some (marks_at ms t) ≡ true → t < length ms
+      within ms h = by (slice_get ms t) refl h
+        where
+          by : (o : Option (Option Marks)) → slice_get ms t ≡ o → is_some (flat o) ≡ true → t < length ms
+          by None e h = absurd cc
+          by (Some o) e h = got_within ms t o e
+
+  module _ (r : Rest) (m : Marks) (there : rest_at w.homes t ≡ Some r) (at : marks_at w.marks t ≡ Some m) where
+    M : MarkedBy v l t (Some m)
+    M = subst (MarkedBy v l t) at (S.marks t keeps)
+
+    pub further : Further w t r m
+    further = marks_go_further w t r m I on there wait keeps M.1
+
+    ready_by : (b : Bool) (n : ℕ) → (IsTrue b ↔ (n ≡ 0)) → b ≡ (n == 0)
+    ready_by true n e = sym (eq-eqb n 0 (e.0 refl))
+    ready_by false n e = not_eq (n == 0) (λ q. no (e.1 (eqb-true n 0 q)))
+      where
+        no : IsTrue false → ⊥
+        no q = absurd cc
+
+        not_eq : (c : Bool) → (c ≡ true → ⊥) → false ≡ c
+        not_eq true f = absurd (f refl)
+        not_eq false f = refl
+
+    -- nothing is left where all is marked
+    pub left_by : (b : Bool) → ((f : Fork) → IsSince f (kept v t) r.heap.chunks → IsMarking f (kept v t) m → IsTrue b ↔ IsAllMarked f (kept v t) m) → b ≡ (left_in (heap_of l t) == 0)
+    left_by b ready =
+        let F : Further w t r m = further in
+        let R = ready F.fork F.since F.marks in
+        let L = F.left M.0 in
+        ready_by b (left_in (heap_of l t)) ((λ h. L.0 (R.0 h)), (λ z. R.1 (L.1 z)))
+
+pub marks_stand : MarksStand
+marks_stand w t I on free =
+    let r = rest w I on t free in
+    let m = marks w I on t free in
+    record { wait = wait w I on t free; keeps = keeps w I on t free; rest = r.0; there = r.1; marks = m.0; at = m.1; further = further w I on t free r.0 m.0 r.1 m.1; left = left_by w I on t free r.0 m.0 r.1 m.1 }

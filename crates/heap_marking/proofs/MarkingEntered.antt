@@ -1,0 +1,209 @@
+-- An entry that marks a heap further: the shared value that it leaves, and the parts.
+use Rattle.std.proofs.Common.{◌≡◌, ℕ, zero, suc, ◌+◌, min, Bool, true, false, Option, Some, None, List, [], ◌∷◌, Contains, length, slice_get, take, inl, inr, refl, ap, sym, subst, ◌∙◌}
+use Rattle.std.specs.List.{AllByRecursion, IsDistinct}
+use Rattle.std.specs.Prelude.{◌==◌}
+use Rattle.std.proofs.lemmas.Bool.{and_parts, cases_eq, eqb-true}
+use Rattle.listed.proofs.Members.{contains_from_in, in_from_contains}
+use Rattle.walks.proofs.Reached.{reached_within}
+use Rattle.hh_model.specs.declared.data.State.{State}
+use Rattle.hh_model.specs.Effect.{row_of}
+use Rattle.run_trace.specs.declared.entry.Kind.TheVariants.{Took, Ran, Chunk, Begin, End, PutOff, Mark, More, Sweep, Fuel}
+use Rattle.run_trace.specs.Entry.{Event}
+use Rattle.run_ledger.specs.declared.data.Heap.{Heap}
+use Rattle.run_ledger.specs.declared.data.Ledger.{Ledger}
+use Rattle.run_ledger.specs.Heaps.{heap_of, left_in, marked_in, or_fresh, with_heap}
+use Rattle.run_ledger.specs.Entries.{after}
+use Rattle.object_layout.specs.declared.word.Addr.{Addr}
+use Rattle.object_layout.specs.Chunks.{same_address}
+use Rattle.object_layout.specs.Graph.{IsHeld, Leads}
+use Rattle.object_layout.proofs.Distinct.{distinct_take}
+use Rattle.inner_mark_gc.specs.Marks.{Marks, marked_of}
+use Rattle.inner_mark_gc.specs.Snapshot.{IsInSnapshot, Starts}
+use Rattle.inner_mark_gc.proofs.Marked.{in_take}
+use Rattle.ledger_steps.proofs.Ahead.{heap_then, with_at, with_machine, with_off}
+use Rattle.ledger_steps.specs.Accounts.{Rests}
+use Rattle.core_relation.specs.Value.{In, Seen, Value, objects}
+use Rattle.core_relation.specs.Changes.{SameObjects}
+use Rattle.core_relation.specs.Counts.{CountsGo, IsMarked, IsQuiet}
+use Rattle.core_relation.specs.Marking.{GoesOn, MarkedBy}
+use Rattle.core_relation.specs.Since.{MarksOn, NotesStay, kept}
+use Rattle.core_relation.specs.Layout.{AreLaidOut}
+use Rattle.core_relation.specs.Stands.{HasNames, HomeStands}
+use Rattle.core_relation.proofs.changes.Alone.{home_kept}
+use Rattle.core_relation.specs.Whole.{StandsFor}
+use Rattle.core_relation.specs.Worker.{IsBy}
+use Rattle.core_relation.proofs.whole.EntriesWhole.{quiet_stands_for}
+use Rattle.core_relation.proofs.parts.WorkersPast.{quiet_leaves}
+use Rattle.shared_value.specs.World.{World, accounts, marks_at, totals_of, value_of}
+use Rattle.shared_value.specs.Stands.{IsWorld}
+use Rattle.shared_value.specs.Fits.{AllFit, part_of}
+use Rattle.shared_value.specs.Entered.{refused}
+use Rattle.shared_value.proofs.EntryMade.{entry_on}
+use Rattle.shared_value.proofs.MarkingEntryMade.{entered_marks, marked_fits, marked_world}
+use Rattle.shared_value.proofs.BeforeTheEnd.{stands_now}
+use Rattle.heap_marking.specs.Marking.{MarksEnter}
+
+-- a home whose account has another count of marks alone
+home_marked : (v v' : Value) (l L : Ledger) (t : ℕ) (o : Option ℕ) → v'.homes t ≡ v.homes t → ((k : ℕ) → v.owner k ≡ Some t → v'.owner k ≡ Some t) → L.machine ≡ l.machine → heap_of L t ≡ record (heap_of l t) { marked = o } → HomeStands v l t → HomeStands v' L t
+home_marked v v' l L t o homes owner machine heap H =
+    let before : HomeStands v' l t = home_kept v v' l l t homes owner refl refl H in
+    record {
+      names = subst (HasNames (v'.homes t).chunks) (sym heap) (record { small = before.names.small; large = before.names.large });
+      room = before.room ∙ sym (ap (λ (h : Heap). h.room) heap);
+      since = before.since ∙ sym (ap (λ (h : Heap). h.since) heap);
+      count = before.count ∙ ap (λ (m : State). length (row_of (slice_get m.store t))) (sym machine);
+      owned = before.owned;
+      inside = before.inside;
+      once = before.once;
+      named = before.named;
+      laid = subst (λ (h : Heap). AreLaidOut (v'.homes t).chunks h.reserved) (sym heap) before.laid;
+    }
+
+module _ (w : World) (e : Event) (I : IsWorld w) (free : refused w e ≡ None) (quiet : IsQuiet e.kind) (t : ℕ) (m : Marks) (marks : List (Option Marks)) (room : ℕ)
+    (at_t : marks_at marks t ≡ Some m) (off_t : (u : ℕ) → (u ≡ t → ⊥) → marks_at marks u ≡ marks_at w.marks u) (only : (u : ℕ) → IsMarked e.kind u → u ≡ t) (is_marked : IsMarked e.kind t) (by_none : (u : ℕ) → IsBy e.kind u → ⊥) where
+  abbrev pub l : Ledger
+  l = accounts w
+
+  abbrev pub L : Ledger
+  L = after w.program w.settings l e
+
+  abbrev pub w' : World
+  w' = entered_marks w e w.tree w.pool w.homes w.sets w.hands w.outputs w.steps w.end room marks
+
+  abbrev v : Value
+  v = value_of w
+
+  abbrev v' : Value
+  v' = value_of w'
+
+  module _ (machine : L.machine ≡ l.machine) (heap_t : heap_of L t ≡ record (heap_of l t) { marked = Some (length (marked_of m)) }) (heaps : (u : ℕ) → (u ≡ t → ⊥) → heap_of L u ≡ heap_of l u)
+      (counts : CountsGo w.program w.settings l (totals_of w) (totals_of w') e.worker e.kind) (G : GoesOn v t (heap_of l t).snapshot m) where
+    S0 : StandsFor v (totals_of w) l
+    S0 = stands_now w I (entry_on w e free)
+
+    worker_same : (u : ℕ) → (heap_of L u).worker ≡ (heap_of l u).worker
+    worker_same u = elim (cases_eq u t) [
+      | inl q ↦ ap (λ z. (heap_of L z).worker) q ∙ (ap (λ (h : Heap). h.worker) heap_t ∙ ap (λ z. (heap_of l z).worker) (sym q))
+      | inr ne ↦ ap (λ (h : Heap). h.worker) (heaps u ne)
+    ]
+
+    home_at : (u : ℕ) → Rests L u → HomeStands v' L u
+    home_at u r =
+        let H : HomeStands v l u = S0.homes.homes u (sym (worker_same u) ∙ r) in
+        elim (cases_eq u t) [
+          | inl q ↦ subst (HomeStands v' L) (sym q) (home_marked v v' l L t (Some (length (marked_of m))) refl (λ k o. o) machine heap_t (subst (HomeStands v l) q H))
+          | inr ne ↦ home_kept v v' l L u refl (λ k o. o) (heaps u ne) (ap (λ (z : State). length (row_of (slice_get z.store u))) machine) H
+        ]
+
+    same : SameObjects v v' l L
+    same = record {
+      home = home_at;
+      objects = λ u. refl;
+      chunks = λ u h. refl;
+      frames = λ u. refl;
+      result = λ u. refl;
+      view = λ u. refl;
+      owner = λ k u o. o;
+      taken = λ k u o. inl o;
+      begun = λ u h. refl;
+      sources = λ u. refl;
+    }
+
+    notes : (u : ℕ) → (IsMarked e.kind u → ⊥) → NotesStay v v' u
+    notes u none = record { keeps = refl; kept = refl; marked = off_t u (λ q. none (subst (IsMarked e.kind) (sym q) is_marked)) }
+
+    -- what is marked is of the snapshot
+    goes_then : GoesOn v' t (heap_of L t).snapshot m
+    goes_then =
+        subst (λ ns. GoesOn v' t ns m) (sym (ap (λ (h : Heap). h.snapshot) heap_t))
+        (record {
+          fork = G.fork;
+          marks = G.marks;
+          there = G.there;
+          were = G.were;
+          overwritten = G.overwritten;
+          snapshot = G.snapshot;
+          once = G.once;
+          marked = G.marked;
+          followed = G.followed;
+          slots = G.slots;
+          spare = G.spare;
+          places = G.places;
+        })
+
+    each_marked : (a : Addr) → In (marked_of m) a → (q : Seen) × In (objects v' t) q × (q.at ≡ a) × In (heap_of L t).snapshot q.name
+    each_marked a i =
+        let found : Contains m.found a = contains_from_in m.found a (in_take m.marked m.found a i) in
+        let reached = G.marks.each a found in
+        let held : IsHeld G.fork.heap a = reached_within (Starts G.fork (kept v t)) (Leads G.fork.heap) (IsHeld G.fork.heap) (λ x s. s.0) (λ b x h d. d.1) a reached in
+        let o = G.were a held in
+        (o.0, o.1, o.2, subst (λ (h : Heap). In h.snapshot o.0.name) (sym heap_t) ((G.snapshot o.0 o.1).0 (subst (λ b. IsInSnapshot G.fork (kept v t) b) (sym o.2) reached)))
+
+    marked_now : MarkedBy v' L t (Some m)
+    marked_now = (
+      record { count = ap (λ (h : Heap). h.marked) heap_t; once = distinct_take m.marked m.found G.once; each = each_marked },
+      goes_then,
+    )
+
+    marks_on : (u : ℕ) → IsMarked e.kind u → MarksOn v v' L u
+    marks_on u k = record { keeps = refl; kept = refl; marks = subst (λ z. MarkedBy v' L z (marks_at marks z)) (sym (only u k)) (subst (MarkedBy v' L t) (sym at_t) marked_now) }
+
+    pub marking_world : IsWorld w'
+    marking_world =
+        marked_world w e I free w.tree w.pool w.homes w.sets w.hands w.outputs w.steps w.end room marks I.made I.noted refl refl
+        (quiet_stands_for w.program w.settings w.journal.items I.form I.legal v v' (totals_of w) (totals_of w') e free quiet I.stands same notes marks_on counts)
+        I.heaps I.measured
+
+    -- every part that fits fits
+    pub marking_fits : AllFit w w'
+    marking_fits u q F =
+        marked_fits w e I free w.tree w.pool w.homes w.sets w.hands w.outputs w.steps w.end room marks marking_world u q q refl F refl refl refl F.form F.measured
+        (quiet_leaves w.program w.settings w.journal.items I.legal v v' e free quiet same (part_of w.settings q) (by_none q.task) F.fits)
+
+-- THE LAW
+heap_by : (l : Ledger) (t n : ℕ) (f : Heap → Heap) → ((h : Heap) → f h ≡ record h { marked = (f h).marked }) → (heap_of (with_heap l t f) t).marked ≡ Some n → heap_of (with_heap l t f) t ≡ record (heap_of l t) { marked = Some n }
+heap_by l t n f alone count = by (slice_get l.heaps t) refl
+  where
+    none_some : {A : Type 0} → ◌≡◌ {A = Option ℕ} None (Some n) → A
+    none_some q = absurd cc
+
+    by : (o : Option Heap) → slice_get l.heaps t ≡ o → heap_of (with_heap l t f) t ≡ record (heap_of l t) { marked = Some n }
+    by None e = none_some (sym (ap (λ z. (or_fresh z).marked) (with_at l t f ∙ ap (heap_then f) e)) ∙ count)
+    by (Some h) e =
+        let is : heap_of (with_heap l t f) t ≡ f h = ap or_fresh (with_at l t f ∙ ap (heap_then f) e) in
+        let then_ : (f h).marked ≡ Some n = ap (λ (z : Heap). z.marked) (sym is) ∙ count in
+        is ∙ (alone h ∙ (ap (λ o. let z : Heap = record h { marked = o } in z) then_ ∙ ap (λ z. let y : Heap = record (or_fresh z) { marked = Some n } in y) (sym e)))
+
+pub marks_enter : MarksEnter
+marks_enter w k (Mark u) t m marks room I free just at off count G =
+    let e : Event = record { worker = k; kind = Mark u } in
+    let l : Ledger = accounts w in
+    let f : Heap → Heap = λ h. record h { marked = Some 0 } in
+    let only : (z : ℕ) → IsMarked e.kind z → z ≡ t = λ z q. sym q ∙ just in
+    let heaps : (z : ℕ) → (z ≡ t → ⊥) → heap_of (with_heap l u f) z ≡ heap_of l z = λ z ne. ap or_fresh (with_off l u z f (λ q. ne (q ∙ just))) in
+    let heap_t : heap_of (with_heap l u f) t ≡ record (heap_of l t) { marked = Some (length (marked_of m)) } =
+    subst (λ z. heap_of (with_heap l u f) z ≡ record (heap_of l z) { marked = Some (length (marked_of m)) }) just (heap_by l u (length (marked_of m)) f (λ h. refl) (ap (λ z. (heap_of (with_heap l u f) z).marked) just ∙ count)) in
+    let counts : CountsGo w.program w.settings l (totals_of w) (totals_of w) k (Mark u) = (record { node = λ z. refl; hand = λ z. refl; steps = refl; outputs = refl }, refl, refl) in (
+      marking_world w e I free tt t m marks room at off only just (λ z q. q) (with_machine l u f) heap_t heaps counts G,
+      marking_fits w e I free tt t m marks room at off only just (λ z q. q) (with_machine l u f) heap_t heaps counts G,
+    )
+marks_enter w k (More u n) t m marks room I free just at off count G =
+    let e : Event = record { worker = k; kind = More u n } in
+    let l : Ledger = accounts w in
+    let f : Heap → Heap = λ h. record h { marked = Some (marked_in h + min n (left_in h)) } in
+    let only : (z : ℕ) → IsMarked e.kind z → z ≡ t = λ z q. sym q ∙ just in
+    let heaps : (z : ℕ) → (z ≡ t → ⊥) → heap_of (with_heap l u f) z ≡ heap_of l z = λ z ne. ap or_fresh (with_off l u z f (λ q. ne (q ∙ just))) in
+    let heap_t : heap_of (with_heap l u f) t ≡ record (heap_of l t) { marked = Some (length (marked_of m)) } =
+    subst (λ z. heap_of (with_heap l u f) z ≡ record (heap_of l z) { marked = Some (length (marked_of m)) }) just (heap_by l u (length (marked_of m)) f (λ h. refl) (ap (λ z. (heap_of (with_heap l u f) z).marked) just ∙ count)) in
+    let counts : CountsGo w.program w.settings l (totals_of w) (totals_of w) k (More u n) = (record { node = λ z. refl; hand = λ z. refl; steps = refl; outputs = refl }, refl, refl) in (
+      marking_world w e I free tt t m marks room at off only just (λ z q. q) (with_machine l u f) heap_t heaps counts G,
+      marking_fits w e I free tt t m marks room at off only just (λ z q. q) (with_machine l u f) heap_t heaps counts G,
+    )
+marks_enter w k (Took u) t m marks room I free just at off count G = absurd just
+marks_enter w k (Ran u n) t m marks room I free just at off count G = absurd just
+marks_enter w k (Chunk u) t m marks room I free just at off count G = absurd just
+marks_enter w k (Begin u) t m marks room I free just at off count G = absurd just
+marks_enter w k (End u a b c) t m marks room I free just at off count G = absurd just
+marks_enter w k (PutOff u) t m marks room I free just at off count G = absurd just
+marks_enter w k (Sweep u n) t m marks room I free just at off count G = absurd just
+marks_enter w k Fuel t m marks room I free just at off count G = absurd just

@@ -1,0 +1,164 @@
+-- A marking that can go on marks more: what it asks of the heap, and that it can go on then.
+use Rattle.std.proofs.Common.{◌≡◌, ◌⊎◌, ◌↔◌, ℕ, ◌+◌, ◌<◌, ◌≤◌, true, Option, Some, None, List, [], ◌∷◌, All, Contains, is_some, length, nat_lt, slice_get, inl, inr, refl, ap, sym, subst, ◌∙◌}
+use Rattle.std.proofs.lemmas.Bool.{false≢true}
+use Rattle.std.proofs.lemmas.List.Elements.{All-cons, All-nil}
+use Rattle.listed.proofs.Members.{contains_from_in, in_from_contains}
+use Rattle.walks.proofs.Reached.{reached_more, reached_within}
+use Rattle.hh_model.specs.declared.data.Task.{Task}
+use Rattle.hh_model.specs.Step.{is_waiting}
+use Rattle.run_ledger.specs.declared.data.Ledger.{Ledger}
+use Rattle.run_ledger.specs.Heaps.{heap_of, held_in, left_in}
+use Rattle.run_ledger.proofs.History.{snapshots_are_held}
+use Rattle.run_ledger.proofs.Journals.{legal_sound}
+use Rattle.object_layout.specs.declared.word.Addr.{Addr}
+use Rattle.object_layout.specs.Chunks.{cell_of, object_count}
+use Rattle.object_layout.specs.Content.{Content}
+use Rattle.object_layout.specs.Graph.{IsClosed, IsHeld, Leads}
+use Rattle.inner_mark_gc.specs.Marks.{IsAllMarked, IsMarking, IsOf, Marks, marked_of}
+use Rattle.inner_mark_gc.specs.Snapshot.{Fork, IsInSnapshot, IsSince, Starts}
+use Rattle.ledger_steps.specs.Accounts.{Rests}
+use Rattle.core_relation.specs.Value.{In, Seen, Value, objects, objects_in}
+use Rattle.core_relation.specs.Begins.{LeadsAt}
+use Rattle.core_relation.specs.Marking.{GoesOn, MarksStand}
+use Rattle.core_relation.proofs.notes.MarksAll.{marks_are_all}
+use Rattle.core_relation.specs.Now.{IsReachedNow, StartsNow}
+use Rattle.core_relation.specs.Since.{kept}
+use Rattle.core_relation.specs.Whole.{StandsFor}
+use Rattle.core_relation.proofs.notes.Rooted.{lies_in}
+use Rattle.core_relation.proofs.notes.SnapshotNow.{snapshot_now}
+use Rattle.shared_value.specs.declared.rest.Rest.{Rest}
+use Rattle.shared_value.specs.World.{World, accounts, rest_at, totals_of, value_of}
+use Rattle.shared_value.specs.Stands.{HeapForm, IsWorld}
+use Rattle.shared_value.proofs.ObjectCounts.{objects_counted}
+use Rattle.shared_value.proofs.BeforeTheEnd.{stands_now}
+use Rattle.heap_marking.specs.Marking.{MarksGoFurther}
+use Rattle.heap_marking.proofs.HeapClosed.{closed as is_closed}
+use Rattle.heap_marking.proofs.MarkBegun as begun
+
+all_in : {A : Type 0} (P : A → Type 0) (xs : List A) → ((x : A) → In xs x → P x) → All P xs
+all_in P [] f = All-nil P
+all_in P (x ∷ xs) f = All-cons P x xs (f x (inl refl)) (all_in P xs (λ y i. f y (inr i)))
+
+module _ (w : World) (I : IsWorld w) (on : (accounts w).end ≡ None) (t : ℕ) (r : Rest) (there : rest_at w.homes t ≡ Some r) (wait : is_waiting (slice_get (accounts w).machine.tasks t) ≡ true) (keeps : ((value_of w).noted t).keeps ≡ true)
+    (m : Marks) (G : GoesOn (value_of w) t (heap_of (accounts w) t).snapshot m) where
+  abbrev l : Ledger
+  l = accounts w
+
+  abbrev v : Value
+  v = value_of w
+
+  abbrev ks : List Content
+  ks = r.heap.chunks
+
+  stands : StandsFor v (totals_of w) l
+  stands = stands_now w I on
+
+  form : HeapForm r.heap
+  form = I.heaps t r there
+
+  task : (x : Task) × (slice_get l.machine.tasks t ≡ Some x)
+  task = by (slice_get l.machine.tasks t) refl wait
+    where
+      by : (o : Option Task) → slice_get l.machine.tasks t ≡ o → is_waiting o ≡ true → (x : Task) × (slice_get l.machine.tasks t ≡ Some x)
+      by None e h = absurd (false≢true h)
+      by (Some x) e h = (x, e)
+
+  now : (q : Seen) → In (objects v t) q → IsReachedNow v l t q.at ↔ In (heap_of l t).snapshot q.name
+  now = snapshot_now v l t task.0 (legal_sound w.program w.settings w.journal.items I.legal) stands.homes task.1 wait (begun.rests w I on t r there wait keeps) (stands.since t keeps)
+
+  reached_held : (a : Addr) → IsInSnapshot G.fork (kept v t) a → IsHeld G.fork.heap a
+  reached_held a g = reached_within (Starts G.fork (kept v t)) (Leads G.fork.heap) (IsHeld G.fork.heap) (λ x s. s.0) (λ b x h d. d.1) a g
+
+  written : (b a : Addr) → IsInSnapshot G.fork (kept v t) b → Leads ks b a → IsInSnapshot G.fork (kept v t) a
+  written b a g d =
+      let o = G.were b (reached_held b g) in
+      let q = begun.seen_at w I on t r there wait keeps a d.1 in
+      let name = (G.snapshot o.0 o.1).0 (subst (IsInSnapshot G.fork (kept v t)) (sym o.2) g) in
+      let from : IsReachedNow v l t b = subst (IsReachedNow v l t) o.2 ((now o.0 o.1).1 name) in
+      let refs : (cell_of ks b).refs ≡ o.0.refs = ap (λ x. (cell_of ks x).refs) (sym o.2) ∙ begun.refs_are w I on t r there wait keeps o.0 o.1 in
+      let to : IsReachedNow v l t a = reached_more (StartsNow v l t) (LeadsAt (v.homes t)) b a from (o.0, q.0, (o.1, o.2), subst (λ rs. In rs (Some a)) refs (in_from_contains (cell_of ks b).refs (Some a) d.2), (q.1, q.2)) in
+      subst (IsInSnapshot G.fork (kept v t)) q.2 ((G.snapshot q.0 q.1).1 ((now q.0 q.1).0 (subst (IsReachedNow v l t) (sym q.2) to)))
+
+  overwritten : (b a : Addr) → Leads G.fork.heap b a → Leads ks b a ⊎ Contains (kept v t) a
+  overwritten b a d =
+      let o = G.were b d.0 in
+      let q = G.were a d.1 in
+      let from : IsHeld ks b = subst (IsHeld ks) o.2 (begun.is_held w I on t r there wait keeps o.0 o.1) in
+      let to : IsHeld ks a = subst (IsHeld ks) q.2 (begun.is_held w I on t r there wait keeps q.0 q.1) in
+      let mine : v.owner a.chunk ≡ Some t = ap (λ (z : Addr). v.owner z.chunk) (sym q.2) ∙ lies_in v l stands.homes t q.0 (begun.rests w I on t r there wait keeps) q.1 in
+      let refs : (cell_of ks b).refs ≡ o.0.refs = ap (λ x. (cell_of ks x).refs) (sym o.2) ∙ begun.refs_are w I on t r there wait keeps o.0 o.1 in
+      elim (G.overwritten o.0 a o.1 mine (subst (λ z. Leads G.fork.heap z a) (sym o.2) d)) [
+        | inl i ↦ inl (from, to, contains_from_in (cell_of ks b).refs (Some a) (subst (λ rs. In rs (Some a)) (sym refs) i))
+        | inr k ↦ inr (contains_from_in (kept v t) a k)
+      ]
+
+  pub is_since : IsSince G.fork (kept v t) ks
+  is_since = record {
+    objects = λ a. (
+      (λ h. let o = G.were a h in subst (IsHeld ks) o.2 (begun.is_held w I on t r there wait keeps o.0 o.1)),
+      (λ h. let o = begun.seen_at w I on t r there wait keeps a h in subst (IsHeld G.fork.heap) o.2 (G.there o.0 o.1)),
+    );
+    written = written;
+    overwritten = overwritten;
+  }
+
+  -- what was marked further can go on
+  pub goes_further : (m' : Marks) → IsOf ks (kept v t) m' → ((f : Fork) → IsSince f (kept v t) ks → IsMarking f (kept v t) m → IsMarking f (kept v t) m') → GoesOn v t (heap_of l t).snapshot m'
+  goes_further m' own marks =
+      let count : object_count ks ≡ length (objects v t) = objects_counted ks form.tidy ∙ ap (λ cs. length (objects_in cs)) (sym (begun.home_is w I on t r there wait keeps)) in
+      let chunks : length ks ≡ length (v.homes t).chunks = sym (begun.length_chunks ks) ∙ ap (λ cs. length cs) (sym (begun.home_is w I on t r there wait keeps)) in
+      record {
+        fork = G.fork;
+        marks = marks G.fork is_since G.marks;
+        there = G.there;
+        were = G.were;
+        overwritten = G.overwritten;
+        snapshot = G.snapshot;
+        once = own.room.once;
+        marked = own.marked;
+        followed = own.followed;
+        slots = subst (λ n. n < length m'.found + m'.slots) count own.room.slots;
+        spare = subst (λ n. n < length m'.found + m'.spare) count own.room.spare;
+        places = subst (λ n. n ≤ m'.places) chunks own.room.places;
+      }
+
+  -- WHAT IT ASKS: what it has found lies in the heap
+  pub own : IsOf ks (kept v t) m
+  own =
+      let count : object_count ks ≡ length (objects v t) = objects_counted ks form.tidy ∙ ap (λ cs. length (objects_in cs)) (sym (begun.home_is w I on t r there wait keeps)) in
+      let chunks : length ks ≡ length (v.homes t).chunks = sym (begun.length_chunks ks) ∙ ap (λ cs. length cs) (sym (begun.home_is w I on t r there wait keeps)) in
+      record {
+        room = record {
+          each = λ a c. (is_since.objects a).0 (reached_held a (G.marks.each a c));
+          once = G.once;
+          slots = subst (λ n. n < length m.found + m.slots) (sym count) G.slots;
+          spare = subst (λ n. n < length m.found + m.spare) (sym count) G.spare;
+          places = subst (λ n. n ≤ m.places) (sym chunks) G.places;
+        };
+        marked = G.marked;
+        followed = G.followed;
+      }
+
+  -- what was kept is there
+  pub kept_held : All (IsHeld ks) (kept v t)
+  kept_held = all_in (IsHeld ks) (kept v t) (λ b i. let o = (stands.since t keeps).each b i in subst (IsHeld ks) o.2 (begun.is_held w I on t r there wait keeps o.0 o.1))
+
+  -- and each reference into a chunk of the heap leads to an object
+  pub closed : IsClosed ks
+  closed = is_closed v l stands.homes t (begun.rests w I on t r there wait keeps) ks (begun.home_is w I on t r there wait keeps) form.shaped.apart form.near
+
+  -- WHEN NOTHING IS LEFT
+  pub left_is : MarksStand v l t (marked_of m) → IsAllMarked G.fork (kept v t) m ↔ (left_in (heap_of l t) ≡ 0)
+  left_is M =
+      let S = snapshots_are_held w.program w.settings w.journal.items t I.legal wait in
+      let all = marks_are_all v l t (marked_of m) stands.homes (begun.rests w I on t r there wait keeps) S.once
+      (λ n i. in_from_contains (held_in (heap_of l t)) n (S.held n (contains_from_in (heap_of l t).snapshot n i))) M in (
+        (λ a. all.1 (λ q i n. in_from_contains (marked_of m) q.at (a q.at ((G.snapshot q i).1 n)))),
+        (λ e a g.
+            let o = G.were a (reached_held a g) in
+            let n = (G.snapshot o.0 o.1).0 (subst (IsInSnapshot G.fork (kept v t)) (sym o.2) g) in
+            contains_from_in (marked_of m) a (subst (In (marked_of m)) o.2 (all.0 e o.0 o.1 n))),
+      )
+
+pub marks_go_further : MarksGoFurther
+marks_go_further w t r m I on there wait keeps G = record { fork = G.fork; since = is_since w I on t r there wait keeps m G; marks = G.marks; kept = kept_held w I on t r there wait keeps m G; closed = closed w I on t r there wait keeps m G; left = left_is w I on t r there wait keeps m G; own = own w I on t r there wait keeps m G; further = goes_further w I on t r there wait keeps m G }

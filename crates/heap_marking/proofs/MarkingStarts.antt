@@ -1,0 +1,189 @@
+-- Where the marking of a waiting heap begins, as its words tell it, is where it begins by the accounts.
+use Rattle.std.proofs.Common.{◌≡◌, ◌↔◌, ℕ, true, All, Option, Some, None, List, [], ◌∷◌, map, slice_get, inl, inr, refl, ap, sym, subst, ◌∙◌}
+use Rattle.std.specs.List.{flat_map}
+use Rattle.listed.proofs.Members.{in_append_cases, in_append_left, in_append_right, in_flat}
+use Rattle.hh_model.specs.declared.data.Status.{Status}
+use Rattle.hh_model.specs.declared.data.Status.TheVariants.{Running, Waiting, Ended, Joined}
+use Rattle.hh_model.specs.declared.data.Task.{Task}
+use Rattle.hh_model.specs.declared.data.Name.{Name}
+use Rattle.hh_model.specs.Step.{is_waiting, waits}
+use Rattle.run_ledger.specs.declared.data.Ledger.{Ledger}
+use Rattle.object_layout.specs.declared.word.Addr.{Addr}
+use Rattle.object_layout.specs.Chunks.{has_chunk}
+use Rattle.object_layout.specs.Content.{Content}
+use Rattle.object_layout.specs.Graph.{IsHeld}
+use Rattle.task_frames.specs.Stack.{frames_of as stacked}
+use Rattle.remembered_set.specs.declared.remembered.Source.{Source}
+use Rattle.remembered_set.specs.Moved.{AreFields, into, targets_of}
+use Rattle.leaf_copy_gc.specs.Survivors.{references_in}
+use Rattle.inner_mark_gc.proofs.Finding.{all_from}
+use Rattle.ledger_steps.specs.Accounts.{Rests}
+use Rattle.ledger_steps.proofs.Split.{legal_idle}
+use Rattle.core_relation.specs.Begins.{AreRoots, IsAt}
+use Rattle.core_relation.specs.Reads.{FramesAreRead, HoldsRead}
+use Rattle.core_relation.specs.Stands.{Place, Stands}
+use Rattle.core_relation.specs.Value.{Frame, Home, In, Seen, Value, objects, objects_in, sources}
+use Rattle.core_relation.proofs.objects.Members.{from_flat, in_chunk, in_map, map_in}
+use Rattle.core_relation.proofs.whole.Past.{waiting_stops}
+use Rattle.core_relation.proofs.notes.Roots.{frame_name}
+use Rattle.shared_value.specs.declared.rest.Rest.{Rest}
+use Rattle.shared_value.specs.declared.rest.Work.{Work}
+use Rattle.shared_value.specs.declared.rest.Work.TheVariants.{Calls, Result}
+use Rattle.shared_value.specs.Objects.{chunks_of}
+use Rattle.shared_value.specs.RestingHeaps.{refs_in}
+use Rattle.shared_value.specs.Roots.{heaps_of, sources_of}
+use Rattle.shared_value.specs.World.{World, accounts, frame_of, frames_of, home_by, home_in, home_of, rest_at, source_of, value_of}
+use Rattle.shared_value.specs.Stands.{IsWorld}
+use Rattle.shared_value.proofs.BeforeTheEnd.{stands_now}
+use Rattle.shared_value.proofs.RootsHeld as held
+use Rattle.shared_value.proofs.RootsHeld.{into_tells, into_there}
+use Rattle.shared_value.proofs.RootsByAccounts.{home_chunks, noted_sources, read_at_rest}
+use Rattle.heap_marking.specs.Marking.{IsStart}
+use Rattle.heap_marking.specs.Starts.{registers_of, starts_by, starts_in, starts_of}
+use Rattle.heap_marking.proofs.MarkBegun as begun
+
+-- REGISTERS: the references of frames, as they are called and as they are seen
+abbrev seen_frames : Work → List Frame
+seen_frames (Calls s) = frames_of s
+seen_frames (Result k r) = []
+
+home_frames : (r : Rest) → (home_of r).frames ≡ seen_frames r.work
+home_frames r = by r.work
+  where
+    by : (x : Work) → (home_by r.heap r.view r.allocations x).frames ≡ seen_frames x
+    by (Calls s) = refl
+    by (Result k n) = refl
+
+registers_tell : (x : Work) (o : Option Addr) → In (registers_of x) o → (f : Frame) × In (seen_frames x) f × In f.refs o
+registers_tell (Calls s) o i =
+    let f = from_flat references_in (stacked s) o i in
+    elim (in_append_cases s.below (s.top ∷ []) f.0 f.1) [
+      | inl j ↦ (frame_of f.0, inr (in_map frame_of s.below f.0 j), f.2)
+      | inr j ↦ elim j [ inl e ↦ (frame_of f.0, inl (ap frame_of e), f.2) | inr k ↦ absurd k ]
+    ]
+registers_tell (Result k r) o i = absurd i
+
+registers_there : (x : Work) (f : Frame) (o : Option Addr) → In (seen_frames x) f → In f.refs o → In (registers_of x) o
+registers_there (Calls s) f o (inl e) j = in_flat references_in (stacked s) s.top o (in_append_right s.below (s.top ∷ []) s.top (inl refl)) (subst (λ (z : Frame). In z.refs o) (sym e) j)
+registers_there (Calls s) f o (inr i) j =
+    let g = map_in frame_of s.below f i in
+    in_flat references_in (stacked s) g.0 o (in_append_left s.below (s.top ∷ []) g.0 g.1) (subst (λ (z : Frame). In z.refs o) (sym g.2) j)
+registers_there (Result k r) f o i j = absurd i
+
+frames_read : (at : Name → Addr → Type 0) (h : Home) (x : Task) (s : Status) → waits s ≡ true → HoldsRead at h x s → FramesAreRead at h.frames (x.top ∷ x.below)
+frames_read at h x Running e k = k
+frames_read at h x Waiting e k = k
+frames_read at h x (Ended n r) e k = absurd cc
+frames_read at h x Joined e k = absurd cc
+
+-- A TASK THAT WAITS, with its rest
+module _ (w : World) (I : IsWorld w) (on : (accounts w).end ≡ None) (t : ℕ) (r : Rest) (there : rest_at w.homes t ≡ Some r) (wait : is_waiting (slice_get (accounts w).machine.tasks t) ≡ true) where
+  abbrev l : Ledger
+  l = accounts w
+
+  abbrev v : Value
+  v = value_of w
+
+  abbrev ks : List Content
+  ks = r.heap.chunks
+
+  abbrev ss : List Source
+  ss = sources_of (slice_get w.sets t)
+
+  W : Stands v l
+  W = (stands_now w I on).homes
+
+  rests : Rests l t
+  rests = legal_idle w.program w.settings w.journal.items I.legal on t (waiting_stops (slice_get l.machine.tasks t) wait)
+
+  here : (v.homes t).chunks ≡ chunks_of ks
+  here = ap (λ o. (home_in o).chunks) there ∙ home_chunks r
+
+  frames_are : (v.homes t).frames ≡ seen_frames r.work
+  frames_are = ap (λ o. (home_in o).frames) there ∙ home_frames r
+
+  sources_are : sources v t ≡ map source_of ss
+  sources_are = noted_sources (slice_get w.sets t)
+
+  read : (u : ℕ) → (u ≡ t → ⊥) → Rests l u → (o : Seen) → In (objects v u) o → refs_in (heaps_of w) o.at ≡ o.refs
+  read u ne q o i =
+      let c = in_chunk (v.homes u).chunks o i in
+      read_at_rest w u I o i (ap v.owner ((W.homes u q).inside c.0 o c.1 c.2) ∙ (W.homes u q).owned c.0 c.1)
+
+  -- its remembered fields are fields
+  pub fields_there : AreFields refs_in (heaps_of w) ss
+  fields_there = held.are_fields v l t W rests ks here ss sources_are (heaps_of w) read
+
+  roots_are : AreRoots v l t (targets_of refs_in (heaps_of w) ks ss)
+  roots_are = held.are_roots v l t W rests ks here ss sources_are (heaps_of w) read
+
+  task : (x : Task) × (slice_get l.machine.tasks t ≡ Some x)
+  task = by (slice_get l.machine.tasks t) refl wait
+    where
+      by : (o : Option Task) → slice_get l.machine.tasks t ≡ o → is_waiting o ≡ true → (x : Task) × (slice_get l.machine.tasks t ≡ Some x)
+      by None e h = absurd cc
+      by (Some x) e h = (x, e)
+
+  registers_read : FramesAreRead (Place v l) (v.homes t).frames (task.0.top ∷ task.0.below)
+  registers_read = frames_read (Place v l) (v.homes t) task.0 task.0.status (ap is_waiting (sym task.1) ∙ wait) (W.tasks t task.0 rests task.1)
+
+  -- an object of the heap lies where a register leads into it
+  at_register : (f : Frame) (a : Addr) → In (v.homes t).frames f → In f.refs (Some a) → has_chunk ks a.chunk ≡ true → (q : Seen) × IsAt (v.homes t) a q
+  at_register f a i j h =
+      let n = frame_name (Place v l) (v.homes t).frames (task.0.top ∷ task.0.below) f a registers_read i j in
+      let q = held.lies_here v l t W rests ks here ss sources_are (heaps_of w) read n.0 a n.2 (held.own_chunk v l t W rests ks here ss sources_are (heaps_of w) read a.chunk h) in
+      (q.0, (subst (λ cs. In (objects_in cs) q.0) (sym here) q.1, q.2))
+
+  abbrev starts : List Addr
+  starts = starts_in (heaps_of w) ss r
+
+  abbrev own : List Addr
+  own = flat_map (into ks) (registers_of r.work)
+
+  abbrev roots : List Addr
+  roots = targets_of refs_in (heaps_of w) ks ss
+
+  register_to : (a : Addr) → In own a → IsStart v l t a
+  register_to a i =
+      let o = from_flat (into ks) (registers_of r.work) a i in
+      let b = into_tells ks o.0 a o.2 in
+      let f = registers_tell r.work (Some a) (subst (In (registers_of r.work)) b.0 o.1) in
+      let j : In (v.homes t).frames f.0 = subst (λ fs. In fs f.0) (sym frames_are) f.1 in
+      let q = at_register f.0 a j f.2 b.1 in
+      inl (q.0, q.1, (f.0, j, f.2))
+
+  register_from : (a : Addr) (o : Seen) → IsAt (v.homes t) a o → (f : Frame) → In (v.homes t).frames f → In f.refs (Some a) → In own a
+  register_from a o at f i j =
+      let h : has_chunk ks a.chunk ≡ true =
+      ap (λ (z : Addr). has_chunk ks z.chunk) (sym at.1) ∙ held.object_chunk v l t W rests ks here ss sources_are (heaps_of w) read o (subst (λ cs. In (objects_in cs) o) here at.0) in
+      in_flat (into ks) (registers_of r.work) (Some a) a (registers_there r.work f (Some a) (subst (λ fs. In fs f) frames_are i) j) (into_there ks (Some a) a refl h)
+
+  starts_by_rest : starts_of w t ≡ starts
+  starts_by_rest = ap (starts_by (heaps_of w) ss) there
+
+  -- WHERE THE MARKING BEGINS
+  pub starts_are : (a : Addr) → In (starts_of w t) a ↔ IsStart v l t a
+  starts_are a = (to, from)
+    where
+      to : In (starts_of w t) a → IsStart v l t a
+      to i = elim (in_append_cases roots own a (subst (λ xs. In xs a) starts_by_rest i)) [ inl j ↦ inr ((roots_are a).0 j) | inr j ↦ register_to a j ]
+
+      back : IsStart v l t a → In starts a
+      back (inl s) = in_append_right roots own a (register_from a s.0 s.1 s.2.0 s.2.1 s.2.2)
+      back (inr R) = in_append_left roots own a ((roots_are a).1 R)
+
+      from : IsStart v l t a → In (starts_of w t) a
+      from s = subst (λ xs. In xs a) (sym starts_by_rest) (back s)
+
+  -- an object of the heap lies there
+  pub starts_held : ((value_of w).noted t).keeps ≡ true → All (IsHeld ks) (starts_of w t)
+  starts_held keeps = all_from (IsHeld ks) (starts_of w t) (λ a i. held_one a (held_by_start a ((starts_are a).0 i)))
+    where
+      held_by_start : (a : Addr) → IsStart v l t a → (o : Seen) × IsAt (v.homes t) a o
+      held_by_start a (inl s) = (s.0, s.1)
+      held_by_start a (inr R) =
+          let q = held.root_here v l t W rests ks here ss sources_are (heaps_of w) read a ((roots_are a).1 R) in
+          (q.0, (subst (λ cs. In (objects_in cs) q.0) (sym here) q.1, q.2))
+
+      held_one : (a : Addr) → (o : Seen) × IsAt (v.homes t) a o → IsHeld ks a
+      held_one a q = subst (IsHeld ks) q.1.1 (begun.is_held w I on t r there wait keeps q.0 q.1.0)

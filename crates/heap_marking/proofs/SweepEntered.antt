@@ -1,0 +1,247 @@
+-- A sweep is entered: the shared value that it leaves, and the parts.
+use Rattle.std.proofs.Common.{◌≡◌, ℕ, ◌-◌, ◌<◌, ◌==◌, ◌++◌, arith, Bool, true, false, Option, Some, None, is_none, List, [], ◌∷◌, length, length-set, map, option_map, slice_get, slice_set, inl, inr, refl, ap, ap₂, sym, subst, ◌∙◌}
+use Rattle.std.specs.Prelude.{◌≢◌, IsSome}
+use Rattle.std.proofs.lemmas.Bool.{cases_eq, eqb-true}
+use Rattle.std.proofs.lemmas.Option.{same_Some}
+use Rattle.listed.specs.Space.{Space}
+use Rattle.listed.proofs.Members.{got_other, got_same, got_within}
+use Rattle.run_trace.specs.declared.entry.Kind.TheVariants.{Sweep}
+use Rattle.run_trace.specs.Entry.{Event}
+use Rattle.run_ledger.specs.declared.data.Ledger.{Ledger}
+use Rattle.run_ledger.specs.declared.data.Refused.{Refused}
+use Rattle.run_ledger.specs.declared.data.Refused.TheVariants.{Count, Left}
+use Rattle.run_ledger.specs.Entries.{refused_unless}
+use Rattle.run_ledger.specs.Heaps.{heap_of, left_in, marked_in, sweep_number, swept_heap, with_heap}
+use Rattle.run_ledger.proofs.Journals.{entry_tells}
+use Rattle.object_layout.specs.Content.{Content}
+use Rattle.chunk_pool.specs.Chunks.{Chunks, held_at}
+use Rattle.write_barrier.specs.declared.sets.SetOf.{SetOf}
+use Rattle.write_barrier.specs.Stored.{Content as SetContent, content_at, content_of}
+use Rattle.inner_mark_gc.specs.Marks.{Marks, marked_of}
+use Rattle.inner_mark_gc.specs.Swept.{AreGiven, gone_of}
+use Rattle.inner_mark_gc.proofs.Finding.{all_from}
+use Rattle.ledger_steps.proofs.Ahead.{with_machine}
+use Rattle.core_relation.specs.Changes.{KeepsJust}
+use Rattle.core_relation.specs.Counts.{CountsGo}
+use Rattle.core_relation.specs.Since.{OthersNotes}
+use Rattle.core_relation.specs.Value.{Home, Value, sources}
+use Rattle.core_relation.specs.Whole.{StandsForAll}
+use Rattle.core_relation.proofs.whole.EntriesWhole.{sweeps_stand_for}
+use Rattle.core_relation.proofs.parts.WorkersPast.{sweeps_leave}
+use Rattle.task_machine.specs.declared.part.Private.{Private}
+use Rattle.shared_value.specs.declared.rest.Rest.{Rest}
+use Rattle.shared_value.specs.Causes.{or_else}
+use Rattle.shared_value.specs.Entered.{refused}
+use Rattle.shared_value.specs.Fits.{AllFit, Fits, part_of}
+use Rattle.shared_value.specs.Measured.{AreMeasured, KeepsUnits, RestsAreMeasured}
+use Rattle.shared_value.specs.Stands.{HeapForm, IsWorld}
+use Rattle.shared_value.specs.World.{World, accounts, flat, home_in, marks_at, noted_in, rest_at, source_of, totals_of, value_of}
+use Rattle.shared_value.proofs.EntryMade.{entry_on}
+use Rattle.shared_value.proofs.MarkingEntryMade.{entered_marks, marked_fits, marked_world}
+use Rattle.shared_value.proofs.UnitsMeasured.{given_keeps, measured_kept, part_kept}
+use Rattle.heap_marking.specs.MarkCauses.{marking_cause}
+use Rattle.heap_marking.specs.Sweeping.{CanSweep, SweepsHome, forgotten}
+use Rattle.heap_marking.proofs.MarkCauses.{marks_refuse}
+use Rattle.heap_marking.proofs.SweptHome as home
+use Rattle.heap_marking.proofs.SweptStart as start
+use Rattle.heap_marking.proofs.SweptUnits.{sweep_is}
+
+-- WHAT THE ENTRY TELLS
+pub record SweepTells (w : World) (t given : ℕ) : Type 0 where
+  pub cause : marking_cause w t ≡ None
+  pub none_left : left_in (heap_of (accounts w) t) ≡ 0
+  pub number : given ≡ sweep_number (accounts w).machine (heap_of (accounts w) t)
+
+pub sweep_tells : (w : World) (k t given : ℕ) → IsWorld w → refused w (record { worker = k; kind = Sweep t given }) ≡ None → SweepTells w t given
+sweep_tells w k t given I free =
+    let e : Event = record { worker = k; kind = Sweep t given } in
+    let on = entry_on w e free in
+    let told = ap is_none (sym ((marks_refuse w k t I on).sweep given)) ∙ (entry_tells w.program w.settings (accounts w) e (ap is_none free)).2 in
+    by (marking_cause w t) refl (left_in (heap_of (accounts w) t) == 0) refl (given == sweep_number (accounts w).machine (heap_of (accounts w) t)) refl (Left (marked_in (heap_of (accounts w) t))) (Count given (sweep_number (accounts w).machine (heap_of (accounts w) t))) told
+  where
+    by : (c : Option Refused) → marking_cause w t ≡ c → (b : Bool) → (left_in (heap_of (accounts w) t) == 0) ≡ b → (d : Bool) → (given == sweep_number (accounts w).machine (heap_of (accounts w) t)) ≡ d
+        → (x y : Refused) → is_none (or_else c (refused_unless b x (refused_unless d y None))) ≡ true → SweepTells w t given
+    by (Some c) ec b eb d ed x y h = absurd cc
+    by None ec false eb d ed x y h = absurd cc
+    by None ec true eb false ed x y h = absurd cc
+    by None ec true eb true ed x y h = record { cause = ec; none_left = eqb-true (left_in (heap_of (accounts w) t)) 0 eb; number = eqb-true given (sweep_number (accounts w).machine (heap_of (accounts w) t)) ed }
+
+-- WHAT IS NOTED
+noted_by : (o o' : Option SetOf) → option_map content_of o' ≡ option_map forgotten (option_map content_of o) → ((noted_in o').sources ≡ (noted_in o).sources) × ((noted_in o').keeps ≡ false)
+noted_by None None e = (refl, refl)
+noted_by None (Some s) e = absurd cc
+noted_by (Some s) None e = absurd cc
+noted_by (Some s) (Some s') e =
+    let same : content_of s' ≡ forgotten (content_of s) = same_Some (content_of s') (forgotten (content_of s)) e in (
+      ap (λ (c : SetContent). map source_of c.sources) same,
+      ap (λ (c : SetContent). c.keeps) same,
+    )
+
+is_there : {A : Type 0} (o : Option A) (x : A) → o ≡ Some x → IsSome o
+is_there (Some y) x q = refl
+is_there None x q = absurd cc
+
+flat_some : {A : Type 0} (o : Option (Option A)) (x : A) → flat o ≡ Some x → o ≡ Some (Some x)
+flat_some None x e = absurd cc
+flat_some (Some None) x e = absurd cc
+flat_some (Some (Some y)) x e = ap Some e
+
+module _ (w : World) (k t given : ℕ) (I : IsWorld w) (free : refused w (record { worker = k; kind = Sweep t given }) ≡ None) where
+  abbrev e : Event
+  e = record { worker = k; kind = Sweep t given }
+
+  pub on : (accounts w).end ≡ None
+  on = entry_on w e free
+
+  pub T : SweepTells w t given
+  T = sweep_tells w k t given I free
+
+  abbrev l : Ledger
+  l = accounts w
+
+  abbrev v : Value
+  v = value_of w
+
+  abbrev L : Ledger
+  L = with_heap l t swept_heap
+
+  abbrev pub r : Rest
+  r = (start.Z w I on t T.cause).rest
+
+  abbrev pub m : Marks
+  m = (start.Z w I on t T.cause).marks
+
+  pub there : rest_at w.homes t ≡ Some r
+  there = (start.Z w I on t T.cause).there
+
+  pub marked : marks_at w.marks t ≡ Some m
+  marked = (start.Z w I on t T.cause).at
+
+  -- it can be swept
+  pub can : CanSweep r.heap m w.pool
+  can = record {
+    done = start.done w I on t T.cause T.none_left;
+    room = (start.Z w I on t T.cause).further.own.room;
+    in_use = all_from (λ (c : Content). IsSome (held_at w.pool c.number)) r.heap.chunks (λ c i. is_there (held_at w.pool c.number) _ (home.measured_was w I on t T.cause T.none_left c i));
+  }
+
+  pub has_home : IsSome (rest_at w.homes t)
+  has_home = is_there (rest_at w.homes t) r there
+
+  pub has_marking : IsSome (marks_at w.marks t)
+  has_marking = is_there (marks_at w.marks t) m marked
+
+  pub can_all : (x : Rest) (y : Marks) → rest_at w.homes t ≡ Some x → marks_at w.marks t ≡ Some y → CanSweep x.heap y w.pool
+  can_all x y is at = subst (λ (z : Rest). CanSweep z.heap y w.pool) (same_Some r x (sym there ∙ is)) (subst (λ (z : Marks). CanSweep r.heap z w.pool) (same_Some m y (sym marked ∙ at)) can)
+
+  pub has_set : t < length w.sets
+  has_set =
+      let within : t < length w.homes = got_within w.homes t (Some r) (flat_some (slice_get w.homes t) r there) in
+      let made : length w.homes ≡ length w.tree = I.made in
+      let noted : length w.sets ≡ length w.tree = I.noted in
+      omega (arith, within, made, noted)
+
+  module _ (pool : Chunks) (G : AreGiven w.pool pool (gone_of r.heap (marked_of m))) (slots spare : ℕ) (sets : List SetOf) (many : length sets ≡ length w.sets) (kept_none : content_at sets t ≡ option_map forgotten (content_at w.sets t))
+      (others : (u : ℕ) → u ≢ t → slice_get sets u ≡ slice_get w.sets u) (room : ℕ) where
+    abbrev rest' : Rest
+    rest' = home.rest' w I on t T.cause T.none_left pool G slots spare
+
+    abbrev pub homes : List (Option Rest)
+    homes = slice_set w.homes t (Some rest')
+
+    abbrev pub marks : List (Option Marks)
+    marks = slice_set w.marks t None
+
+    abbrev pub w' : World
+    w' = entered_marks w e w.tree pool homes sets w.hands w.outputs w.steps w.end room marks
+
+    abbrev v' : Value
+    v' = value_of w'
+
+    rest_then : rest_at homes t ≡ Some rest'
+    rest_then = ap flat (got_same w.homes t (Some r) (Some rest') (flat_some (slice_get w.homes t) r there))
+
+    rest_off : (u : ℕ) → (u ≡ t → ⊥) → rest_at homes u ≡ rest_at w.homes u
+    rest_off u ne = ap flat (got_other w.homes t u (Some rest') ne)
+
+    noted : ((noted_in (slice_get sets t)).sources ≡ (noted_in (slice_get w.sets t)).sources) × ((noted_in (slice_get sets t)).keeps ≡ false)
+    noted = noted_by (slice_get w.sets t) (slice_get sets t) kept_none
+
+    sources_same : (u : ℕ) → sources v' u ≡ sources v u
+    sources_same u = elim (cases_eq u t) [
+      | inl q ↦ ap (λ z. (noted_in (slice_get sets z)).sources) q ∙ (noted.0 ∙ ap (λ z. (noted_in (slice_get w.sets z)).sources) (sym q))
+      | inr ne ↦ ap (λ o. (noted_in o).sources) (others u ne)
+    ]
+
+    keeps : KeepsJust v v' l L t (heap_of l t).snapshot
+    keeps = home.keeps_just w I on t T.cause T.none_left pool G slots spare v' L (ap home_in rest_then) refl (home.there_by l t (length (marked_of m)) (start.M w I on t T.cause).0.count) (with_machine l t swept_heap)
+        (λ u ne. ap home_in (rest_off u ne)) sources_same
+
+    notes : OthersNotes v v' t
+    notes = record {
+      none = noted.1;
+      others = λ u ne. record { keeps = ap (λ o. (noted_in o).keeps) (others u ne); kept = ap (λ o. (noted_in o).kept) (others u ne); marked = ap flat (got_other w.marks t u None ne) };
+    }
+
+    counts : CountsGo w.program w.settings l (totals_of w) (totals_of w') k (Sweep t given)
+    counts = (
+      record { node = λ u. refl; hand = λ u. refl; steps = refl; outputs = refl },
+      (let g = G.units in let c = home.units_go w I on t T.cause T.none_left in let s = sweep_is w I on t T.cause T.none_left in let n = T.number in omega (arith, g, c, s, n)),
+      refl,
+    )
+
+    stands : StandsForAll v' (totals_of w') L
+    stands = sweeps_stand_for w.program w.settings w.journal.items I.form I.legal v v' (totals_of w) (totals_of w') k t given free I.stands keeps notes (ap (λ (h : Home). h.begun) (ap home_in rest_then) ∙ home.idle_home rest') counts
+
+    heaps : (u : ℕ) (x : Rest) → rest_at homes u ≡ Some x → HeapForm x.heap
+    heaps u x is = elim (cases_eq u t) [
+      | inl q ↦
+          let same : rest' ≡ x = same_Some rest' x (sym rest_then ∙ (ap (rest_at homes) (sym q) ∙ is)) in
+          subst (λ (z : Rest). HeapForm z.heap) same (home.form_then w I on t T.cause T.none_left pool G slots spare)
+      | inr ne ↦ I.heaps u x (sym (rest_off u ne) ∙ is)
+    ]
+
+    keeps_units : (u : ℕ) → (u ≡ t → ⊥) → KeepsUnits w.pool pool u
+    keeps_units u ne = given_keeps w.pool pool (gone_of r.heap (marked_of m)) t u G (home.owned_gone w I on t T.cause T.none_left) ne
+
+    measured : RestsAreMeasured pool homes w.hands
+    measured u x is none = elim (cases_eq u t) [
+      | inl q ↦
+          let same : rest' ≡ x = same_Some rest' x (sym rest_then ∙ (ap (rest_at homes) (sym q) ∙ is)) in
+          subst (λ z. AreMeasured pool z x.heap.chunks) (sym q) (subst (λ (z : Rest). AreMeasured pool t z.heap.chunks) same (home.measured_then w I on t T.cause T.none_left pool G slots spare))
+      | inr ne ↦ measured_kept w.pool pool u x.heap.chunks (keeps_units u ne) (I.measured u x (sym (rest_off u ne) ∙ is) none)
+    ]
+
+    pub swept_world : IsWorld w'
+    swept_world =
+        marked_world w e I free w.tree pool homes sets w.hands w.outputs w.steps w.end room marks (length-set w.homes t (Some rest') ∙ I.made) (many ∙ I.noted) refl G.limit stands heaps measured
+
+    -- a task that a worker holds is another one
+    apart : (u : ℕ) (q : Private) → Fits w u q → q.task ≡ t → ⊥
+    apart u q F s = none_some (sym (start.rests w I on t T.cause) ∙ (ap (λ z. (heap_of l z).worker) (sym s) ∙ F.held))
+      where
+        none_some : ◌≡◌ {A = Option ℕ} None (Some u) → ⊥
+        none_some q = absurd cc
+
+    pub swept_fits : AllFit w w'
+    swept_fits u q F =
+        marked_fits w e I free w.tree pool homes sets w.hands w.outputs w.steps w.end room marks swept_world u q q refl F refl refl refl F.form (part_kept w.pool pool q (keeps_units q.task (apart u q F)) F.measured)
+        (sweeps_leave w.program w.settings w.journal.items I.legal v v' k t given free keeps (part_of w.settings q) F.fits)
+
+  -- AS THE CALL HAS IT
+  module _ (hs : List (Option Rest)) (pool : Chunks) (S : SweepsHome w.homes hs w.pool pool t r m) (ms : List (Option Marks)) (cleared : ms ≡ slice_set w.marks t None)
+      (sets : List SetOf) (many : length sets ≡ length w.sets) (kept_none : content_at sets t ≡ option_map forgotten (content_at w.sets t)) (others : (u : ℕ) → u ≢ t → slice_get sets u ≡ slice_get w.sets u)
+      (j : Space Event) (made : j ≡ record { items = w.journal.items ++ e ∷ []; room = w.journal.room - 1 }) where
+    abbrev pub entered_so : World
+    entered_so = record w { pool = pool; homes = hs; sets = sets; marks = ms; journal = j }
+
+    so : entered_so ≡ w' pool S.given S.slots S.spare sets many kept_none others (w.journal.room - 1)
+    so =
+        ap (λ x. record w { pool = pool; homes = x; sets = sets; marks = ms; journal = j }) S.homes
+        ∙ ap₂ (λ x y. record w { pool = pool; homes = homes pool S.given S.slots S.spare sets many kept_none others (w.journal.room - 1); sets = sets; marks = x; journal = y }) cleared made
+
+    pub world_so : IsWorld entered_so
+    world_so = subst IsWorld (sym so) (swept_world pool S.given S.slots S.spare sets many kept_none others (w.journal.room - 1))
+
+    pub fits_so : AllFit w entered_so
+    fits_so = subst (AllFit w) (sym so) (swept_fits pool S.given S.slots S.spare sets many kept_none others (w.journal.room - 1))

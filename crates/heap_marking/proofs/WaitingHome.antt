@@ -1,0 +1,89 @@
+-- What is there of a task that waits and whose heap wasn't swept since its fork.
+use Rattle.std.proofs.Common.{◌≡◌, ℕ, ◌<◌, true, false, Bool, Option, Some, None, List, length, is_some, option_map, slice_get, refl, ap, sym, subst, ◌∙◌}
+use Rattle.listed.proofs.Members.{got_within}
+use Rattle.hh_model.specs.declared.data.Status.{Status}
+use Rattle.hh_model.specs.declared.data.Status.TheVariants.{Running, Waiting, Ended, Joined}
+use Rattle.hh_model.specs.declared.data.Task.{Task}
+use Rattle.hh_model.specs.Step.{is_waiting, waits}
+use Rattle.run_ledger.specs.declared.data.Ledger.{Ledger}
+use Rattle.run_ledger.specs.declared.data.Refused.TheVariants.{NotWaiting, Swept}
+use Rattle.run_ledger.specs.Entries.{refused_unless}
+use Rattle.run_ledger.specs.Heaps.{heap_of}
+use Rattle.ledger_steps.proofs.Split.{legal_idle}
+use Rattle.core_relation.specs.Reads.{HoldsRead}
+use Rattle.core_relation.specs.Stands.{Place}
+use Rattle.core_relation.specs.Value.{Value}
+use Rattle.core_relation.specs.Whole.{StandsFor}
+use Rattle.core_relation.proofs.whole.Past.{waiting_stops}
+use Rattle.shared_value.specs.declared.rest.Rest.{Rest}
+use Rattle.shared_value.specs.World.{World, accounts, flat, home_in, no_home, noted_in, rest_at, totals_of, value_of}
+use Rattle.shared_value.specs.Stands.{IsWorld}
+use Rattle.shared_value.proofs.BeforeTheEnd.{stands_now}
+use Rattle.heap_marking.specs.MarkCauses.{is_state_waiting, waiting_cause}
+use Rattle.heap_marking.proofs.MarkCauses.{waits_by}
+
+-- no cause is given
+causes_by : (a k : Bool) → refused_unless a NotWaiting (refused_unless k Swept None) ≡ None → (a ≡ true) × (k ≡ true)
+causes_by false k e = absurd cc
+causes_by true false e = absurd cc
+causes_by true true e = (refl, refl)
+
+pub some_of : {A : Type 0} (o : Option A) → is_some o ≡ true → (x : A) × (o ≡ Some x)
+some_of None h = absurd cc
+some_of (Some x) h = (x, refl)
+
+module _ (w : World) (I : IsWorld w) (on : (accounts w).end ≡ None) (t : ℕ) (free : waiting_cause w t ≡ None) where
+  abbrev l : Ledger
+  l = accounts w
+
+  abbrev v : Value
+  v = value_of w
+
+  S : StandsFor v (totals_of w) l
+  S = stands_now w I on
+
+  tells : (is_state_waiting (option_map (λ m. m.state) (slice_get w.tree t)) ≡ true) × ((noted_in (slice_get w.sets t)).keeps ≡ true)
+  tells = causes_by (is_state_waiting (option_map (λ m. m.state) (slice_get w.tree t))) (noted_in (slice_get w.sets t)).keeps free
+
+  pub wait : is_waiting (slice_get l.machine.tasks t) ≡ true
+  wait = sym (waits_by (slice_get w.tree t) (slice_get l.machine.tasks t) (heap_of l t).worker (S.totals.node t)) ∙ tells.0
+
+  pub keeps : ((value_of w).noted t).keeps ≡ true
+  keeps = tells.1
+
+  -- its home is there
+  home_there : (x : Task) → slice_get l.machine.tasks t ≡ Some x → (o : Option Rest) → rest_at w.homes t ≡ o → is_some o ≡ true
+  home_there x is (Some r) e = refl
+  home_there x is None e = absurd (by x.status (ap is_waiting (sym is) ∙ wait) (subst (λ z. HoldsRead (Place v l) (home_in z) x x.status) e (S.homes.tasks t x (legal_idle w.program w.settings w.journal.items I.legal on t (waiting_stops (slice_get l.machine.tasks t) wait)) is)))
+    where
+      by : (s : Status) → waits s ≡ true → HoldsRead (Place v l) no_home x s → ⊥
+      by Running h r = r
+      by Waiting h r = r
+      by (Ended k n) h r = absurd cc
+      by Joined h r = absurd cc
+
+  pub task : (x : Task) × (slice_get l.machine.tasks t ≡ Some x)
+  task = by (slice_get l.machine.tasks t) refl wait
+    where
+      by : (o : Option Task) → slice_get l.machine.tasks t ≡ o → is_waiting o ≡ true → (x : Task) × (slice_get l.machine.tasks t ≡ Some x)
+      by None e h = absurd cc
+      by (Some x) e h = (x, e)
+
+  pub rest : (r : Rest) × (rest_at w.homes t ≡ Some r)
+  rest = some_of (rest_at w.homes t) (home_there task.0 task.1 (rest_at w.homes t) refl)
+
+  pub never_gone : rest_at w.homes t ≡ None → ⊥
+  never_gone none = none_some (sym none ∙ rest.1)
+    where
+      none_some : {x : Rest} → ◌≡◌ {A = Option Rest} None (Some x) → ⊥
+      none_some e = absurd cc
+
+  pub within : t < length w.homes
+  within = by w.homes rest.1
+    where
+      by : (hs : List (Option Rest)) → rest_at hs t ≡ Some rest.0 → t < length hs
+      by hs e = at (slice_get hs t) refl e
+        where
+          at : (o : Option (Option Rest)) → slice_get hs t ≡ o → flat o ≡ Some rest.0 → t < length hs
+          at None q f = absurd cc
+          at (Some o) q f = got_within hs t o q

@@ -1,0 +1,208 @@
+-- The remembered fields of a heap in order.
+use Rattle.std.proofs.Common.{◌≡◌, ℕ, suc, ◌+◌, ◌*◌, ◌^◌, ◌<◌, ◌≤◌, ◌==◌, ◌&&◌, ◌||◌, ◌⊎◌, arith, Bool, true, false, cond, Option, Some, None, List, [], ◌∷◌, ◌++◌, length, map, get_or, nat_lt, nat_eq, slice_get, inl, inr, refl, ap, sym, subst, ◌∙◌}
+use Rattle.std.specs.declared.cmp.Ordering.TheVariants.{Less, Equal, Greater}
+use Rattle.std.specs.List.{AllByRecursion, IsDistinct, list_any}
+use Rattle.std.specs.List.Sorted.{IsPermutation, IsSortedWithin}
+use Rattle.std.specs.Ordering.{nat_cmp, ordering_then, is_lt}
+use Rattle.std.specs.Prelude.{Contains}
+use Rattle.std.proofs.lemmas.Bool.{cases_eq, false≢true}
+use Rattle.std.proofs.lemmas.Option.{slice_get_past}
+use Rattle.std.proofs.lemmas.List.Sorted.{Contains-permutation, IsPermutation-sym}
+use Rattle.std.proofs.lemmas.Map.Keys.{IsDistinct-IsPermutation, IsDistinct-cons, IsDistinct-head, IsDistinct-tail}
+use Rattle.listed.proofs.Members.{In, any_from_in, contains_from_in, in_from_contains}
+use Rattle.object_layout.specs.declared.word.Addr.{Addr}
+use Rattle.object_layout.specs.Layout.{word_of_ref}
+use Rattle.remembered_set.specs.declared.remembered.Source.{Source}
+use Rattle.remembered_set.specs.Sources.{StandOnce, has_source, same_source}
+use Rattle.write_barrier.specs.declared.sets.SetOf.{SetOf}
+use Rattle.ledger_steps.specs.Accounts.{own}
+use Rattle.core_relation.specs.Value.{In as HasItem, Seen, Source as SeenSource, objects_in, sources}
+use Rattle.core_relation.specs.Whole.{handed}
+use Rattle.shared_value.specs.declared.rest.Rest.{Rest}
+use Rattle.shared_value.specs.Stands.{IsWorld}
+use Rattle.shared_value.specs.World.{World, accounts, home_in, noted_in, rest_at, source_of, value_of}
+use Rattle.shared_value.proofs.FieldsLed.{home_chunks}
+use Rattle.heap_reading.specs.declared.noted.Field.{Field}
+use Rattle.heap_reading.specs.Image.{AreAll, FieldBefore, IsNoted, Rises, field_of}
+
+-- THE TEST
+is_field : Field → Field → Bool
+is_field f g = (f.object == g.object) && (f.field == g.field)
+
+flips : (f g : Field) → is_field f g ≡ is_field g f
+unfolding is_field
+flips f g = grind arith
+
+is_itself : (f : Field) → is_field f f ≡ true
+unfolding is_field
+is_itself f = grind arith
+
+same_fields : (f g : Field) → f.object ≡ g.object → f.field ≡ g.field → f ≡ g
+same_fields f g e k = λ i. record { object = e i; field = k i }
+
+same_from : (f g : Field) → is_field f g ≡ true → f ≡ g
+unfolding is_field
+same_from f g h = same_fields f g (grind arith) (grind arith)
+
+by_all : {A : Type 0} (P : A → Type 0) (xs : List A) (x : A) → AllByRecursion P xs → In xs x → P x
+by_all P (y ∷ ys) x all (inl e) = subst P e all.0
+by_all P (y ∷ ys) x all (inr i) = by_all P ys x all.1 i
+by_all P [] x all i = absurd i
+
+-- FIELDS THAT DIFFER
+abbrev one : Source → Field
+one s = field_of (source_of s)
+
+in_map : {A B : Type 0} (f : A → B) (xs : List A) (x : A) → In xs x → In (map f xs) (f x)
+in_map f (y ∷ ys) x (inl e) = inl (ap f e)
+in_map f (y ∷ ys) x (inr i) = inr (in_map f ys x i)
+in_map f [] x i = absurd i
+
+map_in : {A B : Type 0} (f : A → B) (xs : List A) (y : B) → In (map f xs) y → (x : A) × In xs x × (y ≡ f x)
+map_in f (x ∷ xs) y (inl e) = (x, inl refl, sym e)
+map_in f (x ∷ xs) y (inr i) = let r = map_in f xs y i in (r.0, inr r.1, r.2)
+map_in f [] y i = absurd i
+
+same_itself : (s : Source) → same_source s s ≡ true
+same_itself s = grind arith
+
+module _ (ss : List Source) (apart : (s t : Source) → In ss s → In ss t → one s ≡ one t → s ≡ t) where
+  unlike : (s : Source) (ts : List Source) → In ss s → ((t : Source) → In ts t → In ss t) → has_source ts s ≡ false → AllByRecursion (λ y. is_field (one s) y ≡ false) (map one ts)
+  unlike s [] here all off = tt
+  unlike s (t ∷ ts) here all off = (by (is_field (one s) (one t)) refl, unlike s ts here (λ u i. all u (inr i)) (rest (same_source s t) (list_any (same_source s) ts) off))
+    where
+      rest : (b c : Bool) → (b || c) ≡ false → c ≡ false
+      rest true c e = absurd (false≢true (sym e))
+      rest false c e = e
+
+      by : (b : Bool) → is_field (one s) (one t) ≡ b → b ≡ false
+      by false e = refl
+      by true e =
+          let same : s ≡ t = apart s t here (all t (inl refl)) (same_from (one s) (one t) e) in
+          absurd (false≢true (sym off ∙ any_from_in (same_source s) (t ∷ ts) t (inl refl) (subst (λ z. same_source s z ≡ true) same (same_itself s))))
+
+  distinct : (ts : List Source) → ((t : Source) → In ts t → In ss t) → StandOnce ts → IsDistinct is_field (map one ts)
+  unfolding IsDistinct
+  distinct [] all once = tt
+  distinct (t ∷ ts) all once = (unlike t ts (all t (inl refl)) (λ u i. all u (inr i)) once.0, distinct ts (λ u i. all u (inr i)) once.1)
+
+-- IN ORDER
+abbrev Below : Field → Field → Type 0
+Below a b = (a.object < b.object) ⊎ ((a.object ≡ b.object) × (a.field ≤ b.field))
+
+below_trans : (a b c : Field) → Below a b → Below b c → Below a c
+below_trans a b c (inl h) (inl k) = inl (omega arith)
+below_trans a b c (inl h) (inr k) = inl (let e = k.0 in omega arith)
+below_trans a b c (inr h) (inl k) = inl (let e = h.0 in omega arith)
+below_trans a b c (inr h) (inr k) = inr (h.0 ∙ k.0, (let x = h.1 in let y = k.1 in omega arith))
+
+abbrev cmp_lt : Field → Field → Bool
+cmp_lt a b = is_lt (ordering_then (nat_cmp a.object b.object) (nat_cmp a.field b.field))
+
+below_by : (a b : Field) (p q r last : Bool) → nat_lt b.object a.object ≡ p → nat_eq b.object a.object ≡ q → nat_lt b.field a.field ≡ r
+    → is_lt (ordering_then (cond p Less (cond q Equal Greater)) (cond r Less (cond last Equal Greater))) ≡ false → Below a b
+below_by a b true q r last lt eq less h = absurd (false≢true (sym h))
+below_by a b false false r last lt eq less h = inl (grind arith)
+below_by a b false true true last lt eq less h = absurd (false≢true (sym h))
+below_by a b false true false last lt eq less h = inr (grind arith, grind arith)
+
+below_from : (a b : Field) → cmp_lt b a ≡ false → Below a b
+below_from a b h = below_by a b (nat_lt b.object a.object) (nat_eq b.object a.object) (nat_lt b.field a.field) (nat_eq b.field a.field) refl refl refl h
+
+up_more : (n m : Field) (ns : List Field) → Rises Below (m ∷ ns) → Below n m → (x : Field) → In (m ∷ ns) x → Below n x
+up_more n m ns rest next x (inl e) = subst (Below n) e next
+up_more n m ns rest next x (inr i) = below_trans n m x next (rest.0 x i)
+
+up_from : (ns : List Field) → IsSortedWithin cmp_lt ns 0 (length ns) → Rises Below ns
+up_from [] s = tt
+up_from (n ∷ []) s = ((λ m i. absurd i), tt)
+up_from (n ∷ m ∷ ns) s =
+    let rest : Rises Below (m ∷ ns) = up_from (m ∷ ns) (λ k d low high. up_one k d (s (suc k) d (omega arith) (omega arith))) in
+    (up_more n m ns rest (below_from n m (s 0 n (omega arith) (omega arith))), rest)
+  where
+    up_one : (k : ℕ) (d : Field) → cmp_lt (get_or (n ∷ m ∷ ns) (suc k + 1) d) (get_or (m ∷ ns) k d) ≡ false → cmp_lt (get_or (m ∷ ns) (k + 1) d) (get_or (m ∷ ns) k d) ≡ false
+    up_one k d h = let e : suc k + 1 ≡ suc (k + 1) = omega arith in subst (λ j. cmp_lt (get_or (n ∷ m ∷ ns) j d) (get_or (m ∷ ns) k d) ≡ false) e h
+
+before_from : (f g : Field) → Below f g → is_field f g ≡ false → FieldBefore f g
+before_from f g (inl lt) off = inl lt
+before_from f g (inr h) off = elim (cases_eq f.field g.field) [
+  | inl e ↦ absurd (false≢true (sym off ∙ subst (λ z. is_field f z ≡ true) (same_fields f g h.0 e) (is_itself f)))
+  | inr ne ↦ inr (h.0, (let le = h.1 in let lt : f.field < g.field = omega (arith, le, ne) in lt))
+]
+
+rises_from : (fs : List Field) → Rises Below fs → IsDistinct is_field fs → Rises FieldBefore fs
+rises_from [] up d = tt
+rises_from (f ∷ fs) up d =
+    ((λ g i. before_from f g (up.0 g i) (by_all (λ y. is_field f y ≡ false) fs g (IsDistinct-head is_field f fs d) i)), rises_from fs up.1 (IsDistinct-tail is_field f fs d))
+
+-- OF A SHARED VALUE
+same_item : {A : Type 0} (xs : List A) (x : A) → In xs x → HasItem xs x
+same_item (y ∷ ys) x (inl e) = inl e
+same_item (y ∷ ys) x (inr i) = inr (same_item ys x i)
+same_item [] x i = absurd i
+
+item_same : {A : Type 0} (xs : List A) (x : A) → HasItem xs x → In xs x
+item_same (y ∷ ys) x (inl e) = inl e
+item_same (y ∷ ys) x (inr i) = inr (item_same ys x i)
+item_same [] x i = absurd i
+
+module _ (w : World) (I : IsWorld w) where
+  near_in : (o : Option Rest) (u : ℕ) → rest_at w.homes u ≡ o → (a : Addr) → (q : Seen) → HasItem (objects_in (home_in o).chunks) q → q.at ≡ a → a.offset < 1024
+  near_in None u e a q i at = absurd i
+  near_in (Some r) u e a q i at = subst (λ (z : Addr). z.offset < 1024) at ((I.heaps u r e).near q (subst (λ ks. HasItem (objects_in ks) q) (home_chunks r) i))
+
+  -- words can hold where the objects of remembered fields lie
+  pub source_near : (t : ℕ) (s : SeenSource) → HasItem (sources (value_of w) t) s → s.object.offset < 1024
+  source_near t s i =
+      let k = I.stands.homes.sources t s i in
+      let o = k.place.here k.rests in
+      near_in (rest_at w.homes (own (handed (accounts w)) k.name)) (own (handed (accounts w)) k.name) refl s.object o.0 o.1 o.2.at
+
+  word_once : (a b : Addr) → a.offset < 1024 → b.offset < 1024 → word_of_ref (Some a) ≡ word_of_ref (Some b) → (a.chunk ≡ b.chunk) × (a.offset ≡ b.offset)
+  word_once a b na nb e = let f : a.chunk * 1024 + a.offset + 1 ≡ b.chunk * 1024 + b.offset + 1 = e in (omega (arith, na, nb, f), omega (arith, na, nb, f))
+
+  -- a task that wasn't made has none
+  pub none_noted : (t : ℕ) → length w.tree ≤ t → AreAll FieldBefore (IsNoted w t) []
+  none_noted t past =
+      let none : sources (value_of w) t ≡ [] = ap (λ o. (noted_in o).sources) (slice_get_past w.sets t (subst (λ n. n ≤ t) (sym I.noted) past)) in
+      record {
+        rising = tt;
+        each = λ f. ((λ i. absurd i), (λ h. absurd (subst (λ xs. HasItem xs h.0) none h.1)));
+      }
+
+  module _ (t : ℕ) (set : SetOf) (is : slice_get w.sets t ≡ Some set) where
+    abbrev ss : List Source
+    ss = set.remembered.sources
+
+    noted_is : sources (value_of w) t ≡ map source_of ss
+    noted_is = ap (λ o. (noted_in o).sources) is
+
+    near : (s : Source) → In ss s → s.object.offset < 1024
+    near s i = source_near t (source_of s) (subst (λ xs. HasItem xs (source_of s)) (sym noted_is) (same_item (map source_of ss) (source_of s) (in_map source_of ss s i)))
+
+    apart : (s u : Source) → In ss s → In ss u → one s ≡ one u → s ≡ u
+    apart s u i j e =
+        let a = word_once s.object u.object (near s i) (near u j) (ap (λ (f : Field). f.object) e) in
+        let c : s.object.chunk ≡ u.object.chunk = a.0 in
+        let o : s.object.offset ≡ u.object.offset = a.1 in
+        let f : s.field ≡ u.field = ap (λ (x : Field). x.field) e in
+        λ k. record { object = record { chunk = c k; offset = o k }; field = f k }
+
+    pub noted_in_order : (fs gs : List Field) → StandOnce ss → fs ≡ map one ss → IsPermutation fs gs → IsSortedWithin cmp_lt gs 0 (length gs) → AreAll FieldBefore (IsNoted w t) gs
+    noted_in_order fs gs once all moved sorted = record {
+      rising = rises_from gs (up_from gs sorted) (IsDistinct-IsPermutation is_field flips fs gs moved (subst (IsDistinct is_field) (sym all) (distinct ss apart ss (λ s i. i) once)));
+      each = λ f. ((λ i. there f i), (λ h. back f h));
+    }
+      where
+        there : (f : Field) → In gs f → IsNoted w t f
+        there f i =
+            let j : In fs f = in_from_contains fs f (Contains-permutation gs fs f (IsPermutation-sym fs gs moved) (contains_from_in gs f i)) in
+            let r = map_in one ss f (subst (λ xs. In xs f) all j) in
+            (source_of r.0, subst (λ xs. HasItem xs (source_of r.0)) (sym noted_is) (same_item (map source_of ss) (source_of r.0) (in_map source_of ss r.0 r.1)), r.2)
+
+        back : (f : Field) → IsNoted w t f → In gs f
+        back f h =
+            let r = map_in source_of ss h.0 (item_same (map source_of ss) h.0 (subst (λ xs. HasItem xs h.0) noted_is h.1)) in
+            let j : In fs (one r.0) = subst (λ xs. In xs (one r.0)) (sym all) (in_map one ss r.0 r.1) in
+            let same : one r.0 ≡ f = ap field_of (sym r.2) ∙ sym h.2 in
+            subst (In gs) same (in_from_contains gs (one r.0) (Contains-permutation fs gs (one r.0) moved (contains_from_in fs (one r.0) j)))

@@ -1,0 +1,144 @@
+-- The objects of a chunk, read one after another; and which chunk has a number.
+use Rattle.std.proofs.Common.{◌≡◌, ℕ, zero, suc, ◌+◌, ◌<◌, ◌≤◌, ◌==◌, arith, Bool, true, false, cond, Option, Some, None, List, [], ◌∷◌, ◌++◌, All, length, map, take, slice_get, IfSome, Bor, option_copied, inl, inr, refl, ap, sym, subst, ◌∙◌, ◌⊎◌, append_assoc, option_map}
+use Rattle.std.proofs.lemmas.Bool.{cases_Bool}
+use Rattle.std.proofs.lemmas.List.{map-append}
+use Rattle.std.proofs.lemmas.List.Elements.{All-append, All-cons, All-nil, All-tail}
+use Rattle.std.proofs.lemmas.Option.{same_Some}
+use Rattle.object_layout.specs.Cell.{Born, Cell, Hole, IsBorn, IsObject, IsRef, Mark, Moved, moved_to, size_of}
+use Rattle.object_layout.specs.Chunks.{chunk_at, place_in, place_of}
+use Rattle.object_layout.specs.Content.{Content}
+use Rattle.object_layout.specs.Place.{cells_from}
+use Rattle.object_layout.specs.declared.word.Birth.{Birth}
+use Rattle.chunk_pool.specs.Chunks.{owner_of}
+use Rattle.alloc_path.proofs.HeapLemmas.{none_there, place_found}
+use Rattle.heap_tree.specs.Node.{state_of}
+use Rattle.core_relation.specs.Value.{Home, In, Seen}
+use Rattle.shared_value.specs.declared.rest.Rest.{Rest}
+use Rattle.shared_value.specs.Objects.{chunk_of, chunks_of, objects_from, seen, seen_by}
+use Rattle.shared_value.specs.World.{World, home_in, rest_at}
+use Rattle.shared_value.proofs.FieldsLed.{home_chunks}
+use Rattle.heap_reading.specs.declared.seen.Seen.{Seen as Shown}
+use Rattle.heap_reading.specs.HeldNames.{is_state_running}
+use Rattle.heap_reading.specs.Image.{IsInWords, objects_numbered, objects_of, objects_owned, shown}
+
+-- ONE ITEM MORE
+pub take_next : {A : Type 0} (xs : List A) (k : ℕ) (x : A) → slice_get xs k ≡ Some x → take (k + 1) xs ≡ take k xs ++ x ∷ []
+take_next [] k x e = absurd cc
+take_next (y ∷ ys) zero x e = ap (λ z. z ∷ []) (same_Some y x e)
+take_next (y ∷ ys) (suc k) x e =
+    ap (λ n. take n (y ∷ ys)) (let s : suc k + 1 ≡ suc (k + 1) = omega arith in s) ∙ ap (λ zs. y ∷ zs) (take_next ys k x e)
+
+pub map_next : {A B : Type 0} (f : A → B) (xs : List A) (k : ℕ) (x : A) → slice_get xs k ≡ Some x → map f (take (k + 1) xs) ≡ map f (take k xs) ++ f x ∷ []
+map_next f xs k x e = ap (map f) (take_next xs k x e) ∙ map-append f (take k xs) (x ∷ [])
+
+pub all_next : {A : Type 0} (P : A → Type 0) (xs : List A) (k : ℕ) (x : A) → slice_get xs k ≡ Some x → P x → All P (take k xs) → All P (take (k + 1) xs)
+all_next P xs k x e one all = subst (All P) (sym (take_next xs k x e)) (All-append P (take k xs) (x ∷ []) all (All-cons P x [] one (All-nil P)))
+
+-- MARKS
+pub born_is : (m : Mark) → IsBorn m → (b : Birth) × (m ≡ Born b)
+born_is (Born b) h = (b, refl)
+born_is (Moved to) h = absurd h
+born_is Hole h = absurd h
+
+pub born_from : (m : Mark) → moved_to m ≡ None → IsObject m → IsBorn m
+born_from (Born b) e h = h
+born_from (Moved to) e h = absurd cc
+born_from Hole e h = h
+
+skipped : (number at : ℕ) (c : Cell) (m : Mark) (os : List Seen) → moved_to m ≡ None → (IsObject m → ⊥) → seen_by number at c m os ≡ os
+skipped number at c (Born b) os e off = absurd (off tt)
+skipped number at c (Moved to) os e off = refl
+skipped number at c Hole os e off = refl
+
+-- A STEP OF THE WALK
+module _ (number at next : ℕ) (cells : List Cell) (c : Cell) (rest : cells_from cells at ≡ c ∷ cells_from cells next) (next_is : next ≡ at + size_of c) where
+  abbrev here : List Seen
+  here = objects_from number at (cells_from cells at)
+
+  abbrev there : List Seen
+  there = objects_from number next (cells_from cells next)
+
+  here_is : here ≡ seen_by number at c c.mark there
+  here_is = ap (objects_from number at) rest ∙ ap (λ n. seen_by number at c c.mark (objects_from number n (cells_from cells next))) (sym next_is)
+
+  pub unmoved_next : All (λ k. moved_to k.mark ≡ None) (cells_from cells at) → All (λ k. moved_to k.mark ≡ None) (cells_from cells next)
+  unmoved_next all = All-tail (λ k. moved_to k.mark ≡ None) c (cells_from cells next) (subst (All (λ k. moved_to k.mark ≡ None)) rest all)
+
+  module _ (b : Birth) (born : c.mark ≡ Born b) where
+    abbrev one : Seen
+    one = seen number at b c
+
+    born_here : here ≡ one ∷ there
+    born_here = here_is ∙ ap (λ m. seen_by number at c m there) born
+
+    pub objects_more : (os os' all : List Shown) → os' ≡ os ++ shown one ∷ [] → os ++ map shown here ≡ all → os' ++ map shown there ≡ all
+    objects_more os os' all more e =
+        ap (λ z. z ++ map shown there) more
+        ∙ (append_assoc os (shown one ∷ []) (map shown there)
+        ∙ (ap (λ z. os ++ map shown z) (sym born_here) ∙ e))
+
+    pub words_more : (all : List Seen) → IsInWords one → ((o : Seen) → In all o → IsInWords o ⊎ In here o) → (o : Seen) → In all o → IsInWords o ⊎ In there o
+    words_more all words was o i = elim (was o i) [
+      | inl w ↦ inl w
+      | inr j ↦ elim (subst (λ z. In z o) born_here j) [ inl e ↦ inl (subst IsInWords e words) | inr k ↦ inr k ]
+    ]
+
+  module _ (still : moved_to c.mark ≡ None) (off : IsObject c.mark → ⊥) where
+    none_here : here ≡ there
+    none_here = here_is ∙ skipped number at c c.mark there still off
+
+    pub objects_same : (os all : List Shown) → os ++ map shown here ≡ all → os ++ map shown there ≡ all
+    objects_same os all e = ap (λ z. os ++ map shown z) (sym none_here) ∙ e
+
+    pub words_same : (all : List Seen) → ((o : Seen) → In all o → IsInWords o ⊎ In here o) → (o : Seen) → In all o → IsInWords o ⊎ In there o
+    words_same all was o i = elim (was o i) [ inl w ↦ inl w | inr j ↦ inr (subst (λ z. In z o) none_here j) ]
+
+-- THE CHUNK OF A NUMBER
+numbered_at : (ks : List Content) (n : ℕ) → place_of ks n < length ks → objects_numbered n (chunks_of ks) ≡ (chunk_of (chunk_at ks (place_of ks n))).objects
+numbered_at [] n lt = absurd (omega arith)
+numbered_at (k ∷ ks) n lt = by (k.number == n) lt (numbered_at ks n)
+  where
+    by : (b : Bool) → cond b 0 (1 + place_of ks n) < suc (length ks) → (place_of ks n < length ks → objects_numbered n (chunks_of ks) ≡ (chunk_of (chunk_at ks (place_of ks n))).objects)
+        → cond b (chunk_of k).objects (objects_numbered n (chunks_of ks)) ≡ (chunk_of (chunk_at (k ∷ ks) (cond b 0 (1 + place_of ks n)))).objects
+    by true lt rest = refl
+    by false lt rest = rest (omega arith) ∙ ap (λ z. (chunk_of (chunk_at (k ∷ ks) z)).objects) (let e : suc (place_of ks n) ≡ 1 + place_of ks n = omega arith in e)
+
+numbered_off : (ks : List Content) (n : ℕ) → length ks ≤ place_of ks n → objects_numbered n (chunks_of ks) ≡ []
+numbered_off [] n le = refl
+numbered_off (k ∷ ks) n le = by (k.number == n) le (numbered_off ks n)
+  where
+    by : (b : Bool) → suc (length ks) ≤ cond b 0 (1 + place_of ks n) → (length ks ≤ place_of ks n → objects_numbered n (chunks_of ks) ≡ []) → cond b (chunk_of k).objects (objects_numbered n (chunks_of ks)) ≡ []
+    by true le rest = absurd (omega arith)
+    by false le rest = rest (omega arith)
+
+pub numbered_found : (ks : List Content) (n i : ℕ) → place_in ks n ≡ Some i → objects_numbered n (chunks_of ks) ≡ (chunk_of (chunk_at ks i)).objects
+numbered_found ks n i e =
+    let p = place_found ks n i e in
+    numbered_at ks n (subst (λ z. z < length ks) p.0 p.1) ∙ ap (λ z. (chunk_of (chunk_at ks z)).objects) (sym p.0)
+
+pub numbered_none : (ks : List Content) (n : ℕ) → place_in ks n ≡ None → objects_numbered n (chunks_of ks) ≡ []
+numbered_none ks n e = numbered_off ks n (none_there ks n e)
+
+-- as the heap tells it
+pub none_numbered : (ks : List Content) (n : ℕ) (o : Option (Bor Content)) → option_copied o ≡ option_map (λ i. chunk_at ks i) (place_in ks n) → o ≡ None → objects_numbered n (chunks_of ks) ≡ []
+none_numbered ks n o e none = numbered_none ks n (by (place_in ks n) (sym e ∙ ap option_copied none))
+  where
+    by : (p : Option ℕ) → option_map (λ i. chunk_at ks i) p ≡ None → p ≡ None
+    by None z = refl
+    by (Some i) z = absurd cc
+
+pub some_numbered : (ks : List Content) (n : ℕ) (o : Option (Bor Content)) → option_copied o ≡ option_map (λ i. chunk_at ks i) (place_in ks n) → IfSome o (λ k. (chunk_of k.now).objects ≡ objects_numbered n (chunks_of ks))
+some_numbered ks n None e = tt
+some_numbered ks n (Some k) e = by (place_in ks n) refl e
+  where
+    by : (p : Option ℕ) → place_in ks n ≡ p → Some k.now ≡ option_map (λ i. chunk_at ks i) p → (chunk_of k.now).objects ≡ objects_numbered n (chunks_of ks)
+    by None is z = absurd cc
+    by (Some i) is z = ap (λ (x : Content). (chunk_of x).objects) (same_Some k.now (chunk_at ks i) z) ∙ sym (numbered_found ks n i is)
+
+-- of a task that doesn't run
+pub resting_objects : (w : World) (n t : ℕ) (r : Rest) → owner_of w.pool n ≡ Some t → is_state_running (state_of w.tree t) ≡ false → rest_at w.homes t ≡ Some r
+    → objects_of w n ≡ objects_numbered n (chunks_of r.heap.chunks)
+resting_objects w n t r owned idle there =
+    ap (objects_owned w n) owned
+    ∙ (ap (λ b. cond b [] (objects_numbered n (home_in (rest_at w.homes t)).chunks)) idle
+    ∙ (ap (λ o. objects_numbered n (home_in o).chunks) there ∙ ap (objects_numbered n) (home_chunks r)))

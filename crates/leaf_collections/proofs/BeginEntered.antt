@@ -1,0 +1,118 @@
+-- A leaf collection begins, as the call has it.
+use Rattle.std.proofs.Common.{◌≡◌, ℕ, ◌+◌, ◌^◌, ◌<◌, ◌≤◌, ◌++◌, arith, Some, None, List, [], ◌∷◌, length, map, All, ap, sym, subst, ◌∙◌}
+use Rattle.std.specs.Prelude.{vec_len}
+use Rattle.listed.specs.Space.{Space}
+use Rattle.run_trace.specs.declared.entry.Kind.TheVariants.{Begin}
+use Rattle.run_trace.specs.Entry.{Event}
+use Rattle.object_layout.specs.declared.word.Addr.{Addr}
+use Rattle.object_layout.specs.Cell.{IsBorn}
+use Rattle.object_layout.specs.Chunks.{cell_of, small_words}
+use Rattle.object_layout.specs.Content.{Content}
+use Rattle.object_layout.specs.Graph.{IsSound}
+use Rattle.chunk_pool.specs.Chunks.{Chunks, TakesAll, units_in_use}
+use Rattle.alloc_path.specs.Heap.{AreApart, IsFresh, counted, with_places}
+use Rattle.leaf_copy_gc.specs.declared.lists.ToChunks.{ToChunks}
+use Rattle.leaf_copy_gc.specs.Laid.{AreNew}
+use Rattle.leaf_copy_gc.specs.Lists.{AreReserved}
+use Rattle.leaf_copy_gc.specs.Survivors.{as_reference}
+use Rattle.core_relation.specs.Value.{In}
+use Rattle.core_relation.proofs.objects.Members.{map_in}
+use Rattle.task_machine.specs.declared.part.Begun.{Begun as BegunPart}
+use Rattle.task_machine.specs.declared.part.Private.{Private}
+use Rattle.shared_value.specs.World.{World, accounts}
+use Rattle.shared_value.specs.Stands.{IsWorld}
+use Rattle.shared_value.specs.Fits.{Fits, OthersFit}
+use Rattle.shared_value.specs.Due.{take_by}
+use Rattle.shared_value.specs.Entered.{refused}
+use Rattle.shared_value.specs.LeafBegin.{HasBegun, number_of}
+use Rattle.shared_value.specs.Roots.{roots_of}
+use Rattle.shared_value.proofs.CellsRead.{seen_object}
+use Rattle.shared_value.proofs.EntryMade.{entry_on}
+use Rattle.shared_value.proofs.RootsByAccounts.{root_here}
+use Rattle.leaf_collections.proofs.CollectionPutOff.{without_fresh}
+use Rattle.leaf_collections.proofs.WhyNoCollection.{begin_idle, begin_within}
+use Rattle.leaf_collections.proofs.CollectionBegins.{begin_others, begin_world}
+use Rattle.leaf_collections.proofs.PartCollecting.{begin_part, new_fresh}
+use Rattle.leaf_collections.proofs.NewChunks.{born_is, each_at, new_of}
+
+module _ (w : World) (k : ℕ) (p : Private) (I : IsWorld w) (F : Fits w k p) (none : p.fresh ≡ 0) (free : refused w (record { worker = k; kind = Begin p.task }) ≡ None) where
+  F0 : Fits w k (record p { fresh = 0 })
+  F0 = without_fresh w k p F none
+
+  goes : (accounts w).end ≡ None
+  goes = entry_on w (record { worker = k; kind = Begin p.task }) free
+
+  pub begins_idle : p.begun ≡ None
+  begins_idle = begin_idle w k p I F0 free
+
+  -- how many chunks it takes, as the code counts them
+  pub begin_count : (n : ℕ) → n ≡ take_by (counted (small_words p.heap.chunks)) → n ≡ take_by (small_words p.heap.chunks)
+  begin_count n q =
+      let h : units_in_use w.pool + take_by (small_words p.heap.chunks) ≤ w.settings.chunks = begin_within w k p I F0 free in
+      let few : w.settings.chunks ≤ 65536 = I.limits.chunks.1 in
+      omega (arith, q, h, few)
+
+  pub begin_few : (n : ℕ) → n ≡ take_by (counted (small_words p.heap.chunks)) → n < 2 ^ 22
+  begin_few n q =
+      let c = begin_count n q in
+      let h : units_in_use w.pool + take_by (small_words p.heap.chunks) ≤ w.settings.chunks = begin_within w k p I F0 free in
+      let few : w.settings.chunks ≤ 65536 = I.limits.chunks.1 in
+      omega (arith, c, h, few)
+
+  pub begin_free : (n : ℕ) → n ≡ take_by (counted (small_words p.heap.chunks)) → w.pool.limit < units_in_use w.pool + n → ⊥
+  begin_free n q lt =
+      let c = begin_count n q in
+      let h : units_in_use w.pool + take_by (small_words p.heap.chunks) ≤ w.settings.chunks = begin_within w k p I F0 free in
+      let limit : w.pool.limit ≡ w.settings.chunks = I.limit in
+      omega (arith, c, h, lt, limit)
+
+  module _ (pool : Chunks) (news was : List Content) (task count : ℕ) (et : task ≡ p.task) (ec : count ≡ take_by (small_words p.heap.chunks)) (ew : was ≡ []) (taken : TakesAll w.pool pool task count was news)
+      (roots : List Addr) (er : roots ≡ roots_of w p) (numbers : List ℕ) (en : numbers ≡ map number_of news) (j : Space Event) where
+    T : TakesAll w.pool pool p.task (take_by (small_words p.heap.chunks)) [] news
+    T =
+        subst (λ n. TakesAll w.pool pool n (take_by (small_words p.heap.chunks)) [] news) et
+        (subst (λ n. TakesAll w.pool pool task n [] news) ec (subst (λ ks. TakesAll w.pool pool task count ks news) ew taken))
+
+    news_are : news ≡ T.numbers.chunks
+    news_are = T.numbers.behind
+
+    pub begins_long : length news ≡ count
+    begins_long = ap length news_are ∙ (T.numbers.count ∙ sym ec)
+
+    abbrev begun_world : World
+    begun_world = record w { pool = pool; journal = record { items = w.journal.items ++ record { worker = k; kind = Begin p.task } ∷ []; room = j.room } }
+
+    abbrev begun_so : BegunPart
+    begun_so = record { roots = roots; news = numbers }
+
+    pub begins_world : IsWorld begun_world
+    begins_world = begin_world w k p I F0 free pool news 0 0 T j
+
+    pub begins_apart : OthersFit w begun_world k
+    begins_apart = begin_others w k p I F0 free pool news 0 0 T j
+
+    pub begins_fit : (a b : ℕ) → Fits begun_world k (record p { heap = with_places p.heap a b; begun = Some begun_so })
+    begins_fit a b =
+        subst (λ n. Fits begun_world k (record p { heap = with_places p.heap a b; begun = Some begun_so; fresh = n })) (sym none)
+        (subst (λ rs. Fits begun_world k (record p { heap = with_places p.heap a b; begun = Some (record { roots = rs; news = numbers }); fresh = 0 })) (sym er)
+        (subst (λ ns. Fits begun_world k (record p { heap = with_places p.heap a b; begun = Some (record { roots = roots_of w p; news = ns }); fresh = 0 })) (sym (en ∙ ap (map number_of) news_are))
+        (begin_part w k p I F0 free pool news a b T j)))
+
+    -- the roots are objects of the heap
+    sound_root : (a : Addr) → In roots a → IsSound p.heap.chunks (Some a)
+    sound_root a i = λ lt.
+        let q = root_here w k p I F0 goes a (subst (λ rs. In rs a) er i) in
+        let y = seen_object p.heap.chunks q.0 F.form.shaped.apart q.1 in
+        (subst (λ z. IsBorn (cell_of p.heap.chunks z).mark) q.2 (born_is (cell_of p.heap.chunks q.0.at).mark y.birth y.mark), subst (λ (z : Addr). z.offset < 1024) q.2 (F.form.near q.0 q.1))
+
+    pub begins_with : (new : Private) (to : ToChunks) → to.chunks.items ≡ news → new ≡ record p { heap = with_places p.heap new.heap.slots new.heap.spare; begun = Some begun_so } → AreReserved new.heap (vec_len to.chunks) to → HasBegun p new roots to
+    begins_with new to items part reserved = record {
+      part = part ∙ ap (λ ns. record p { heap = with_places p.heap new.heap.slots new.heap.spare; begun = Some (record { roots = roots; news = ns }) }) (en ∙ ap (map number_of) (sym items));
+      sound = each_at (IsSound p.heap.chunks) (map as_reference roots) (λ r i. let x = map_in as_reference roots r i in subst (IsSound p.heap.chunks) x.2 (sound_root x.0 x.1));
+      apart = subst AreApart (sym (items ∙ news_are)) T.numbers.numbered.apart;
+      fresh = subst (All (λ (z : Content). IsFresh p.heap.chunks z.number)) (sym (items ∙ news_are))
+          (each_at (λ (z : Content). IsFresh p.heap.chunks z.number) T.numbers.chunks (new_fresh w k p I F0 free pool news 0 0 T j));
+      empty = subst AreNew (sym (items ∙ news_are)) (new_of T.numbers.chunks T.numbers.blank);
+      count = ap length (items ∙ news_are) ∙ T.numbers.count;
+      reserved = reserved;
+    }

@@ -1,0 +1,608 @@
+-- A part gets a chunk.
+use Rattle.std.proofs.Common.{◌≡◌, ◌⊎◌, ℕ, zero, suc, ◌+◌, ◌*◌, ◌/◌, ◌<◌, ◌≤◌, true, false, ◌&&◌, not, Bool, cond, Option, Some, None, List, [], ◌∷◌, ◌++◌, length, map, slice_get, option_map, is_none, is_some, nat_lt, ◌==◌, inl, inr, refl, ap, ap₂, sym, subst, ◌∙◌, arith, lt-ltb, le-ltb, eq-eqb, ne_eqb}
+use Rattle.std.proofs.lemmas.Bool.{both_ways, cases_eq, cases_lt, cond-false, cond-true, false≢true, leb-false}
+use Rattle.std.proofs.lemmas.Option.{same_Some}
+use Rattle.listed.specs.Space.{Space}
+use Rattle.hh_model.specs.declared.data.State.{State}
+use Rattle.hh_model.specs.Effect.{row_of}
+use Rattle.hh_model.specs.Step.{asked, is_waiting, waits}
+use Rattle.run_trace.specs.declared.entry.Kind.TheVariants.{Chunk as ChunkOf}
+use Rattle.run_trace.specs.Entry.{Event}
+use Rattle.run_ledger.specs.declared.data.Heap.{Heap as Account}
+use Rattle.run_ledger.specs.declared.data.Ledger.{Ledger}
+use Rattle.run_ledger.specs.declared.data.Refused.{Refused}
+use Rattle.run_ledger.specs.declared.data.Refused.TheVariants.{Collecting, Due, NotNeeded}
+use Rattle.run_ledger.specs.declared.data.RunEnd.{RunEnd}
+use Rattle.run_ledger.specs.declared.data.RunEnd.TheVariants.{Pool as PoolOf}
+use Rattle.run_ledger.specs.Heaps.{chunk_words, heap_of, in_use, is_small, lacks_room, let_go, or_fresh, units, with_heap}
+use Rattle.run_ledger.specs.Entries.{after, chunk_units, kind_refusal, refused_if, refused_unless, with_chunk}
+use Rattle.run_ledger.specs.Steps.{is_due, is_in_need, on_asked}
+use Rattle.run_ledger.proofs.Journals.{entry_tells}
+use Rattle.run_ledger.proofs.Space.{legal_booked}
+use Rattle.object_layout.specs.Chunks.{place_in}
+use Rattle.object_layout.specs.Content.{Content}
+use Rattle.chunk_pool.specs.declared.pool.Held.{Held}
+use Rattle.chunk_pool.specs.Chunks.{Chunks, Takes as PoolTakes, units_in_use}
+use Rattle.alloc_path.specs.Heap.{Heap, IsFresh, added, with_places}
+use Rattle.ledger_steps.specs.Accounts.{Rests, rested}
+use Rattle.ledger_steps.proofs.Ahead.{heap_then, with_at, with_machine, with_off}
+use Rattle.ledger_steps.proofs.Rested.{rested_view}
+use Rattle.core_relation.specs.Value.{Chunk, Home, In, Seen, Value, objects, objects_in}
+use Rattle.core_relation.specs.Layout.{AreLaidOut, reserved_chunks, reserved_units}
+use Rattle.core_relation.specs.Stands.{HasNames, HomeStands, large_chunks}
+use Rattle.core_relation.specs.Changes.{SameObjects}
+use Rattle.core_relation.specs.Counts.{AsksUnits, CountsGo}
+use Rattle.core_relation.specs.Since.{NotesStay}
+use Rattle.core_relation.specs.Whole.{BegunBy, StandsFor}
+use Rattle.core_relation.specs.Fits.{with_home}
+use Rattle.core_relation.proofs.changes.Alone.{home_kept}
+use Rattle.core_relation.proofs.objects.Members.{in_map}
+use Rattle.core_relation.proofs.changes.With.{at_home, off_home}
+use Rattle.task_machine.specs.declared.part.Private.{Private}
+use Rattle.task_machine.specs.Accounts.{AreReserved, IsCounted}
+use Rattle.task_machine.specs.Fits.{IsShaped}
+use Rattle.task_machine.proofs.Added.{chunks_added, shape_added}
+use Rattle.shared_value.specs.Objects.{chunk_of, chunks_of}
+use Rattle.shared_value.specs.World.{World, accounts, begun_of, totals_of, value_of}
+use Rattle.shared_value.specs.Measured.{AreMeasured, IsMeasured, KeepsUnits}
+use Rattle.shared_value.specs.Stands.{HeapForm, IsWorld}
+use Rattle.shared_value.specs.Fits.{Fits, OthersFit, home_of_part}
+use Rattle.shared_value.specs.Next.{part_asks}
+use Rattle.shared_value.specs.Causes.{need_cause}
+use Rattle.shared_value.specs.Entered.{refused}
+use Rattle.shared_value.proofs.NextStepAsks.{account_is, asks_is, counted_is}
+use Rattle.shared_value.proofs.CollectionUnderWay.{account_idle, none_begun}
+use Rattle.shared_value.proofs.HeapCounts.{small_names}
+use Rattle.shared_value.proofs.EntryMade.{entered, entry_on, held_apart}
+use Rattle.shared_value.proofs.NothingMoves.{quiet_others, quiet_own, quiet_world, same_value}
+use Rattle.shared_value.proofs.HeapForms.{reserved_none}
+use Rattle.shared_value.proofs.PartFitsMachine as link
+use Rattle.shared_value.proofs.UnitsMeasured.{all_kept, measured_both, measured_new, part_kept, taken_keeps}
+use Rattle.shared_value.proofs.BeforeTheEnd.{stands_now, used_now}
+use Rattle.shared_value.proofs.StepsEntered.{fits_now, home_is, status}
+use Rattle.shared_value.proofs.HeapForms.{places_form}
+use Rattle.leaf_collections.proofs.MoreChunksRead.{units_some, chunk_begun, chunk_held, chunk_large, chunk_since, chunk_with, grown_counted, in_more, large_more, none_in, objects_more}
+use Rattle.leaf_collections.proofs.MoreChunksLaid.{form_more, laid_more}
+use Rattle.leaf_collections.proofs.WhyNoChunk.{at_work, chunk_is}
+
+needed : (due need : Bool) (x y : Refused) → is_none (refused_if due x (refused_unless need y None)) ≡ true → need ≡ true
+needed true need x y h = absurd (false≢true h)
+needed false true x y h = refl
+needed false false x y h = absurd (false≢true h)
+
+append_none : (ns : List ℕ) → ns ++ [] ≡ ns
+append_none [] = refl
+append_none (n ∷ ns) = ap (λ ms. n ∷ ms) (append_none ns)
+
+some_units : (n : ℕ) → 1 ≤ n → reserved_units n ≡ n ∷ []
+some_units zero lt = absurd (omega (arith, lt))
+some_units (suc n) lt = refl
+
+-- the reserved chunk after it
+units_more : (number words : ℕ) (z : Account) → (is_small words ≡ false → z.reserved ≡ 0)
+    → reserved_units z.reserved ++ map (λ (c : Chunk). c.units) (reserved_chunks (chunk_of (chunk_with number (chunk_units (Some words))) ∷ [])) ≡ reserved_units (with_chunk (Some words) z).reserved
+units_more number words z none = by (is_small words) refl
+  where
+    big_spare : (n : ℕ) → 2 ≤ n → map (λ (c : Chunk). c.units) (reserved_chunks (chunk_of (chunk_with number n) ∷ [])) ≡ n ∷ []
+    big_spare n two =
+        ap (λ b. map (λ (c : Chunk). c.units) (cond (not b && true) (chunk_of (chunk_with number n) ∷ []) [])) (ne_eqb (1024 * n) 1024 (λ e. omega (arith, e, two))) ∙ ap (λ m. m ∷ []) (let q : (1024 * n) / 1024 ≡ n = omega arith in q)
+
+    by : (b : Bool) → is_small words ≡ b → reserved_units z.reserved ++ map (λ (c : Chunk). c.units) (reserved_chunks (chunk_of (chunk_with number (cond b 1 (units words))) ∷ []))
+        ≡ reserved_units (cond b (record z { chunks = z.chunks ++ [] ∷ []; room = chunk_words }) (record z { reserved = chunk_units (Some words) })).reserved
+    by true s = append_none (reserved_units z.reserved)
+    by false s =
+        let big_words : chunk_words < words = leb-false words chunk_words s in
+        let two : 2 ≤ units words = omega (arith, big_words) in
+        ap (λ n. reserved_units n ++ map (λ (c : Chunk). c.units) (reserved_chunks (chunk_of (chunk_with number (units words)) ∷ []))) (none s)
+        ∙ (big_spare (units words) two ∙ (sym (some_units (units words) (omega (arith, two))) ∙ ap reserved_units (sym (cond-false (is_small words) 1 (units words) s))))
+
+-- the worker that the entry speaks of holds a part without fresh steps
+module _ (w : World) (k : ℕ) (p : Private) (I : IsWorld w) (F : Fits w k (record p { fresh = 0 })) (on : (accounts w).end ≡ None) (free : refused w (record { worker = k; kind = ChunkOf p.task }) ≡ None)
+    (words : ℕ) (asks : part_asks w.program p ≡ Some words) where
+  abbrev P : Private
+  P = record p { fresh = 0 }
+
+  abbrev t : ℕ
+  t = p.task
+
+  abbrev e : Event
+  e = record { worker = k; kind = ChunkOf p.task }
+
+  abbrev l : Ledger
+  l = accounts w
+
+  abbrev v : Value
+  v = value_of w
+
+  asked_is : asked w.program l.machine t ≡ Some words
+  asked_is = asks_is w k P I F on ∙ asks
+
+  abbrev more : Account → Account
+  more = with_chunk (Some words)
+
+  abbrev L : Ledger
+  L = with_heap l t more
+
+  abbrev given_by : Option ℕ → Ledger
+  given_by o = cond (nat_lt w.settings.chunks (in_use l + chunk_units o)) (record l { end = Some (PoolOf (in_use l)) }) (with_heap l t (with_chunk o))
+
+  -- ---- WHERE TOO FEW ARE FREE
+  pub full_then : w.pool.limit < units_in_use w.pool + chunk_units (Some words) → after w.program w.settings l e ≡ record l { end = Some (PoolOf (units_in_use w.pool)) }
+  full_then full =
+      ap given_by asked_is
+      ∙ (ap (λ n. cond (nat_lt w.settings.chunks (n + chunk_units (Some words))) (record l { end = Some (PoolOf n) }) L) (sym (used_now w I))
+      ∙ cond-true (nat_lt w.settings.chunks (units_in_use w.pool + chunk_units (Some words))) (record l { end = Some (PoolOf (units_in_use w.pool)) }) L
+      (lt-ltb w.settings.chunks (units_in_use w.pool + chunk_units (Some words)) (let q : w.pool.limit ≡ w.settings.chunks = I.limit in omega (arith, full, q))))
+
+  -- ---- WHERE IT IS GIVEN
+  there : (z : Account) × (slice_get l.heaps t ≡ Some z)
+  there = account_is w k P I F on
+
+  heap_then_is : slice_get L.heaps t ≡ Some (more there.0)
+  heap_then_is = with_at l t more ∙ ap (heap_then more) there.1
+
+  heap_off : (u : ℕ) → (u ≡ t → ⊥) → slice_get L.heaps u ≡ slice_get l.heaps u
+  heap_off u ne = with_off l t u more ne
+
+  held_then : (heap_of L t).worker ≡ Some k
+  held_then = ap (λ o. (or_fresh o).worker) heap_then_is ∙ (chunk_held words there.0 ∙ (ap (λ o. (or_fresh o).worker) (sym there.1) ∙ F.held))
+
+  not_t : (u : ℕ) → Rests L u → u ≡ t → ⊥
+  not_t u r q = let a : (heap_of L u).worker ≡ Some k = ap (λ z. (heap_of L z).worker) q ∙ held_then in absurd cc
+
+  rested_before : (u : ℕ) → Rests L u → Rests l u
+  rested_before u r = ap (λ o. (or_fresh o).worker) (sym (heap_off u (not_t u r))) ∙ r
+
+  same_machine : L.machine ≡ l.machine
+  same_machine = with_machine l t more
+
+  -- the part is amid no leaf collection
+  abbrev by_need : Option Refused
+  by_need = refused_if (is_due w.settings w.program l t) (Due (heap_of l t).since) (refused_unless (is_in_need w.program l t) (NotNeeded (heap_of l t).room) None)
+
+  pub idle_part : p.begun ≡ None
+  idle_part = none_begun w k P F on by_need (entry_tells w.program w.settings l e (ap is_none free)).2
+
+  idle : is_waiting (slice_get l.machine.tasks t) ≡ false
+  idle = ap is_waiting F.fits.is ∙ ap waits (status w k P I F on)
+
+  -- it is needed, so that no chunk is reserved where a large one comes
+  need : is_in_need w.program l t ≡ true
+  need =
+      needed (is_due w.settings w.program l t) (is_in_need w.program l t) (Due (heap_of l t).since) (NotNeeded (heap_of l t).room)
+      (ap is_none (sym (at_work w k p I F on idle_part by_need)) ∙ (entry_tells w.program w.settings l e (ap is_none free)).2)
+
+  lacks : lacks_room (heap_of l t) words ≡ true
+  lacks = ap (λ o. on_asked o (lacks_room (heap_of l t))) (sym asked_is) ∙ need
+
+  reserved_zero : is_small words ≡ false → there.0.reserved ≡ 0
+  reserved_zero big = elim (cases_lt 0 there.0.reserved) [
+    | inl lt ↦
+        let q = ((legal_booked w.program w.settings w.journal.items I.legal).each t there.0 there.1).reserved lt in
+        let same : q.0 ≡ words = same_Some q.0 words (sym q.1 ∙ asked_is) in
+        let fits : (heap_of l t).reserved ≡ units words = ap (λ o. (or_fresh o).reserved) there.1 ∙ (q.3 ∙ ap units same) in
+        absurd (false≢true (sym (ap not (eq-eqb (heap_of l t).reserved (units words) fits)) ∙ (sym (cond-false (is_small words) (nat_lt (heap_of l t).room words) (not ((heap_of l t).reserved == units words)) big) ∙ lacks)))
+    | inr le ↦ omega (arith, le)
+  ]
+
+  module _ (pool : Chunks) (number u slots spare : ℕ) (within : units_in_use w.pool + u ≤ w.pool.limit) (sized : u ≡ chunk_units (Some words)) (T : PoolTakes w.pool pool number (record { owner = p.task; units = u })) (j : Space Event) where
+    abbrev K : Content
+    K = chunk_with number u
+
+    abbrev g : Heap
+    g = with_places (added p.heap K) slots spare
+
+    abbrev Q : Private
+    Q = record P { heap = g }
+
+    abbrev w' : World
+    w' = entered w e w.tree pool w.homes w.sets w.hands w.outputs w.steps w.end j.room
+
+    abbrev v' : Value
+    v' = value_of w'
+
+    fits_free : nat_lt w.settings.chunks (in_use l + chunk_units (Some words)) ≡ false
+    fits_free =
+        let a : w.pool.limit ≡ w.settings.chunks = I.limit in
+        let b : units_in_use w.pool ≡ in_use l = used_now w I in
+        le-ltb w.settings.chunks (in_use l + chunk_units (Some words)) (omega (arith, a, b, within, sized))
+
+    then : after w.program w.settings l e ≡ L
+    then =
+        ap given_by asked_is
+        ∙ cond-false (nat_lt w.settings.chunks (in_use l + chunk_units (Some words))) (record l { end = Some (PoolOf (in_use l)) }) L fits_free
+
+    -- owners
+    held_same_at : (c : ℕ) → (c ≡ number → ⊥) → v'.owner c ≡ v.owner c
+    held_same_at c ne = ap (option_map (λ (z : Held). z.owner)) (T.rest.others c ne)
+
+    owner_new : v'.owner number ≡ Some t
+    owner_new = ap (option_map (λ (z : Held). z.owner)) T.taken
+
+    owner_free : v.owner number ≡ None
+    owner_free = ap (option_map (λ (z : Held). z.owner)) T.was_free
+
+    owner_kept : (c u : ℕ) → v.owner c ≡ Some u → v'.owner c ≡ Some u
+    owner_kept c u e = elim (cases_eq c number) [
+      | inl q ↦ let a : v.owner c ≡ None = ap v.owner q ∙ owner_free in absurd cc
+      | inr ne ↦ held_same_at c ne ∙ e
+    ]
+
+    owner_taken : (c u : ℕ) → v'.owner c ≡ Some u → (v.owner c ≡ Some u) ⊎ ((is_waiting (slice_get l.machine.tasks u) ≡ false) × (is_some (slice_get l.machine.tasks u) ≡ true))
+    owner_taken c u e = elim (cases_eq c number) [
+      | inl q ↦
+          let same : u ≡ t = same_Some u t (sym e ∙ (ap v'.owner q ∙ owner_new)) in
+          inr (ap (λ z. is_waiting (slice_get l.machine.tasks z)) same ∙ idle, ap (λ z. is_some (slice_get l.machine.tasks z)) same ∙ ap is_some F.fits.is)
+      | inr ne ↦ inl (sym (held_same_at c ne) ∙ e)
+    ]
+
+    -- nothing moves
+    abbrev S : StandsFor v (totals_of w) l
+    S = stands_now w I on
+
+    objects_same : SameObjects v v' l L
+    objects_same = record {
+      home = λ u r. home_kept v v' l L u refl (λ c e. owner_kept c u e) (ap or_fresh (heap_off u (not_t u r))) (ap (λ (m : State). length (row_of (slice_get m.store u))) same_machine) (S.homes.homes u (rested_before u r));
+      objects = λ u. refl;
+      chunks = λ u e. refl;
+      frames = λ u. refl;
+      result = λ u. refl;
+      view = λ u. refl;
+      owner = owner_kept;
+      taken = owner_taken;
+      begun = λ u e. refl;
+      sources = λ u. refl;
+    }
+
+    notes : (u : ℕ) → NotesStay v v' u
+    notes u = record { keeps = refl; kept = refl; marked = refl }
+
+    asks_units : AsksUnits (nat_lt w.settings.chunks (units_in_use w.pool + chunk_units (asked w.program l.machine t))) (totals_of w) (totals_of w') (chunk_units (asked w.program l.machine t))
+    asks_units =
+        subst (λ o. AsksUnits (nat_lt w.settings.chunks (units_in_use w.pool + chunk_units o)) (totals_of w) (totals_of w') (chunk_units o)) (sym asked_is)
+        (subst (λ b. AsksUnits b (totals_of w) (totals_of w') (chunk_units (Some words))) (sym (ap (λ n. nat_lt w.settings.chunks (n + chunk_units (Some words))) (used_now w I) ∙ fits_free))
+        (T.units ∙ ap (λ n. units_in_use w.pool + n) sized, refl))
+
+    counts : CountsGo w.program w.settings l (totals_of w) (totals_of w') k (ChunkOf t)
+    counts = (record { node = λ u. refl; hand = λ u. refl; steps = refl; outputs = refl }, asks_units)
+
+    same : SameObjects v v' l (after w.program w.settings l e)
+    same = subst (SameObjects v v' l) (sym then) objects_same
+
+    units_stay : (o : ℕ) → KeepsUnits w.pool pool o
+    units_stay = taken_keeps w.pool pool number (record { owner = p.task; units = u }) T
+
+    pub chunk_world : IsWorld w'
+    chunk_world = quiet_world w e I free tt (λ u m. m) pool w.end j.room same notes counts T.rest.limit units_stay
+
+    -- ---- THE PART
+    abbrev before : Value
+    before = with_home v t (home_of_part P)
+
+    abbrev after_ : Value
+    after_ = with_home v' t (home_of_part Q)
+
+    here : before.homes t ≡ home_of_part P
+    here = at_home v t (home_of_part P)
+
+    here' : after_.homes t ≡ home_of_part Q
+    here' = at_home v' t (home_of_part Q)
+
+    H : HomeStands before (rested l t) t
+    H = home_is w k P I F on
+
+    counted_then : IsCounted g (more there.0)
+    counted_then = grown_counted p.heap there.0 F.form.shaped (subst (IsCounted p.heap) (ap or_fresh there.1) (counted_is w k P I F on)) number slots spare words u sized
+
+    -- its number is of no chunk of the heap
+    pub fresh : IsFresh p.heap.chunks number
+    fresh = by (place_in p.heap.chunks number) refl
+      where
+        by : (o : Option ℕ) → place_in p.heap.chunks number ≡ o → IsFresh p.heap.chunks number
+        by None q = q
+        by (Some i) q =
+            let c = link.placed_in p.heap.chunks number i q in
+            let a : v.owner number ≡ Some t = ap v.owner (sym c.2) ∙ H.owned (chunk_of c.0) (subst (λ (z : Home). In z.chunks (chunk_of c.0)) (sym here) (in_map chunk_of p.heap.chunks c.0 c.1)) in
+            let b = owner_free in
+            absurd cc
+
+    size_least : 1024 ≤ K.size
+    size_least = let a : 1 ≤ u = subst (λ n. 1 ≤ n) (sym sized) (units_some words) in omega (arith, a)
+
+    chunks_are : g.chunks ≡ p.heap.chunks ++ K ∷ []
+    chunks_are = chunks_added p.heap K refl size_least fresh slots spare
+
+    measured_then : IsMeasured pool Q
+    measured_then =
+        let old = part_kept w.pool pool P (units_stay t) F.measured in
+        (subst (AreMeasured pool t) (sym chunks_are) (measured_both pool t p.heap.chunks (K ∷ []) old.0 (measured_new w.pool pool K t u T refl)), old.1)
+
+    shaped_then : IsShaped g
+    shaped_then = shape_added p.heap K refl size_least fresh F.form.shaped slots spare
+
+    objects_then : objects_in (home_of_part Q).chunks ≡ objects_in (home_of_part P).chunks
+    objects_then = ap (λ ks. objects_in (chunks_of ks)) chunks_are ∙ objects_more K refl p.heap.chunks
+
+    account_then : heap_of (rested L t) t ≡ let_go (more there.0)
+    account_then = ap or_fresh (with_at L t let_go ∙ ap (heap_then let_go) heap_then_is)
+
+    account_before : heap_of (rested l t) t ≡ let_go there.0
+    account_before = ap or_fresh (with_at l t let_go ∙ ap (heap_then let_go) there.1)
+
+    counted_rested : IsCounted g (heap_of (rested L t) t)
+    counted_rested = subst (IsCounted g) (sym account_then) (record { chunks = counted_then.chunks; large = counted_then.large; last = counted_then.last; last_large = counted_then.last_large; room = counted_then.room; since = counted_then.since; reserved = counted_then.reserved })
+
+    names_then : HasNames (home_of_part Q).chunks (heap_of (rested L t) t)
+    names_then = record {
+      small = small_names g.chunks ∙ counted_rested.chunks;
+      large =
+          ap (λ ks. map (λ (o : Seen). o.name) (objects_in (large_chunks (chunks_of ks)))) chunks_are
+          ∙ (large_more K refl p.heap.chunks
+          ∙ (ap (λ (z : Home). map (λ (o : Seen). o.name) (objects_in (large_chunks z.chunks))) (sym here)
+          ∙ (H.names.large ∙ (ap (λ (z : Account). z.large) account_before ∙ (sym (chunk_large words there.0) ∙ ap (λ (z : Account). z.large) (sym account_then))))));
+    }
+
+    -- each of its chunks is one of before or the new one
+    chunk_cases : (c : Chunk) → In (after_.homes t).chunks c → In (before.homes t).chunks c ⊎ (chunk_of K ≡ c)
+    chunk_cases c i =
+        elim (in_more p.heap.chunks K c (subst (λ ks. In (chunks_of ks) c) chunks_are (subst (λ (z : Home). In z.chunks c) here' i))) [
+          | inl j ↦ inl (subst (λ (z : Home). In z.chunks c) (sym here) j)
+          | inr q ↦ inr q
+        ]
+
+    was : (o : Seen) → In (objects after_ t) o → In (objects before t) o
+    was o i = subst (λ (z : Home). In (objects_in z.chunks) o) (sym here) (subst (λ os. In os o) objects_then (subst (λ (z : Home). In (objects_in z.chunks) o) here' i))
+
+    abbrev spares : ℕ
+    spares = (heap_of (rested l t) t).reserved
+
+    abbrev spares_then : ℕ
+    spares_then = (heap_of (rested L t) t).reserved
+
+    spare_more : reserved_units spares ++ map (λ (c : Chunk). c.units) (reserved_chunks (chunk_of K ∷ [])) ≡ reserved_units spares_then
+    spare_more =
+        ap₂ (λ n c. reserved_units n ++ map (λ (c : Chunk). c.units) (reserved_chunks (chunk_of (chunk_with number c) ∷ []))) (ap (λ (z : Account). z.reserved) account_before) sized
+        ∙ (units_more number words there.0 reserved_zero ∙ ap (λ (z : Account). reserved_units z.reserved) (sym account_then))
+
+    laid_then : AreLaidOut (after_.homes t).chunks spares_then
+    laid_then =
+        subst (λ (z : Home). AreLaidOut z.chunks spares_then) (sym here')
+        (subst (λ ks. AreLaidOut (chunks_of ks) spares_then) (sym chunks_are)
+        (laid_more K refl p.heap.chunks fresh spares spares_then (subst (λ (z : Home). AreLaidOut z.chunks spares) here H.laid) spare_more))
+
+    none_reserved : 2 ≤ u → p.heap.reserved ≡ None
+    none_reserved two =
+        reserved_none p.heap F.form p.heap.reserved refl
+        (subst (AreReserved p.heap.chunks p.heap.reserved) (ap (λ o. (or_fresh o).reserved) there.1 ∙ reserved_zero (big (is_small words) refl sized)) (counted_is w k P I F on).reserved)
+      where
+        big : (b : Bool) → is_small words ≡ b → u ≡ cond b 1 (units words) → is_small words ≡ false
+        big true s q = absurd (omega (arith, two, q))
+        big false s q = s
+
+    form_then : HeapForm g
+    form_then = form_more p.heap F.form number u slots spare (omega (arith, size_least)) none_reserved shaped_then chunks_are counted_then.last counted_then.last_large
+
+    home_then : HomeStands after_ (rested L t) t
+    home_then = record {
+      names = subst (λ (z : Home). HasNames z.chunks (heap_of (rested L t) t)) (sym here') names_then;
+      room = ap (λ (z : Home). z.room) here' ∙ counted_rested.room;
+      since = ap (λ (z : Home). z.since) here' ∙ (added_since ∙ (ap (λ (z : Home). z.since) (sym here) ∙ (H.since ∙ (ap (λ (z : Account). z.since) account_before ∙ (sym (chunk_since words there.0) ∙ ap (λ (z : Account). z.since) (sym account_then))))));
+      count = ap (λ (z : Home). z.count) here' ∙ (ap (λ (z : Home). z.count) (sym here) ∙ (H.count ∙ ap (λ (m : State). length (row_of (slice_get m.store t))) (with_machine l t let_go ∙ (sym same_machine ∙ sym (with_machine L t let_go)))));
+      owned = λ c i. elim (chunk_cases c i) [
+        | inl q ↦ owner_kept c.number t (H.owned c q)
+        | inr q ↦ ap (λ (z : Chunk). v'.owner z.number) (sym q) ∙ owner_new
+      ];
+      inside = λ c o i q. elim (chunk_cases c i) [
+        | inl a ↦ H.inside c o a q
+        | inr a ↦ absurd (subst (λ os. In os o) (none_in K refl) (subst (λ (z : Chunk). In z.objects o) (sym a) q))
+      ];
+      once = λ o q a b e. H.once o q (was o a) (was q b) e;
+      named = λ o q a b e. H.named o q (was o a) (was q b) e;
+      laid = laid_then;
+    }
+      where
+        added_since : g.since ≡ p.heap.since
+        added_since = by (K.size == 1024)
+          where
+            by : (b : Bool) → (with_places (cond b (record p.heap { chunks = p.heap.chunks ++ K ∷ []; current = Some (length p.heap.chunks) }) (record p.heap { chunks = p.heap.chunks ++ K ∷ []; reserved = Some (length p.heap.chunks) })) slots spare).since ≡ p.heap.since
+            by true = refl
+            by false = refl
+
+    part_same : SameObjects before after_ (rested l t) (rested L t)
+    part_same = record {
+      home = home_at;
+      objects = λ u. seen (λ (z : Home). objects_in z.chunks) objects_then u;
+      chunks = λ u e. elim (cases_eq u t) [
+        | inl q ↦ absurd (both_ways (is_waiting (slice_get l.machine.tasks t)) idle (ap (λ z. is_waiting (slice_get l.machine.tasks z)) (sym q) ∙ (ap (λ (m : State). is_waiting (slice_get m.tasks u)) (sym (with_machine l t let_go)) ∙ e)))
+        | inr ne ↦ ap (λ (z : Home). length z.chunks) (off_home v' t (home_of_part Q) u ne ∙ sym (off_home v t (home_of_part P) u ne))
+      ];
+      frames = λ u. seen (λ (z : Home). z.frames) refl u;
+      result = λ u. seen (λ (z : Home). z.result) refl u;
+      view = λ u. seen (λ (z : Home). z.view) refl u;
+      owner = owner_kept;
+      taken = λ c u e. elim (owner_taken c u e) [
+        | inl q ↦ inl q
+        | inr q ↦ inr (ap (λ (m : State). is_waiting (slice_get m.tasks u)) (with_machine l t let_go) ∙ q.0, ap (λ (m : State). is_some (slice_get m.tasks u)) (with_machine l t let_go) ∙ q.1)
+      ];
+      begun = λ u e. seen (λ (z : Home). z.begun) refl u;
+      sources = λ u. refl;
+    }
+      where
+        seen : {A : Type 0} (view : Home → A) → view (home_of_part Q) ≡ view (home_of_part P) → (u : ℕ) → view (after_.homes u) ≡ view (before.homes u)
+        seen view e u = elim (cases_eq u t) [
+          | inl q ↦ ap (λ z. view (after_.homes z)) q ∙ (ap view here' ∙ (e ∙ (ap view (sym here) ∙ ap (λ z. view (before.homes z)) (sym q))))
+          | inr ne ↦ ap view (off_home v' t (home_of_part Q) u ne ∙ sym (off_home v t (home_of_part P) u ne))
+        ]
+
+        home_at : (u : ℕ) → Rests (rested L t) u → HomeStands after_ (rested L t) u
+        home_at u r = elim (cases_eq u t) [
+          | inl q ↦ subst (HomeStands after_ (rested L t)) (sym q) home_then
+          | inr ne ↦
+              let same : heap_of (rested L t) u ≡ heap_of (rested l t) u = ap or_fresh (with_off L t u let_go ne ∙ (heap_off u ne ∙ sym (with_off l t u let_go ne))) in
+              let rests : Rests (rested l t) u = ap (λ (z : Account). z.worker) (sym same) ∙ r in
+              home_kept before after_ (rested l t) (rested L t) u (off_home v' t (home_of_part Q) u ne ∙ sym (off_home v t (home_of_part P) u ne)) (λ c e. owner_kept c u e) same
+              (ap (λ (m : State). length (row_of (slice_get m.store u))) (with_machine L t let_go ∙ (same_machine ∙ sym (with_machine l t let_go))))
+              ((fits_now w k P I F on).stands.homes u rests)
+        ]
+
+    none_then : (heap_of (rested L t) t).begun ≡ None
+    none_then = ap (λ (z : Account). z.begun) account_then ∙ (chunk_begun words there.0 ∙ (ap (λ o. (or_fresh o).begun) (sym there.1) ∙ account_idle w k P F on idle_part))
+
+    pub chunk_part : Fits w' k Q
+    chunk_part =
+        quiet_own w e I free tt (λ u m. m) pool w.end j.room same notes counts T.rest.limit units_stay k p g p.begun F form_then measured_then
+        (subst (λ (z : Ledger). SameObjects before after_ (rested l t) (rested z t)) (sym then) part_same)
+        (subst (λ (z : Ledger). BegunBy after_ (rested z t) t (begun_of p.begun)) (sym then) (subst (λ o. BegunBy after_ (rested L t) t (begun_of o)) (sym idle_part) none_then))
+
+    -- ---- THE PARTS OF OTHERS
+    pub chunk_others : OthersFit w w' k
+    chunk_others o q ne G = quiet_others w e I free tt (λ u m. m) pool w.end j.room same notes counts T.rest.limit units_stay o q (held_apart w k o P q F G ne) G
+
+-- ---- WHERE TOO FEW ARE FREE
+module _ (w : World) (k : ℕ) (p : Private) (I : IsWorld w) (F : Fits w k (record p { fresh = 0 })) (on : (accounts w).end ≡ None) (free : refused w (record { worker = k; kind = ChunkOf p.task }) ≡ None)
+    (words : ℕ) (asks : part_asks w.program p ≡ Some words) (full : w.pool.limit < units_in_use w.pool + chunk_units (Some words)) (j : Space Event) where
+  abbrev full_event : Event
+  full_event = record { worker = k; kind = ChunkOf p.task }
+
+  abbrev full_end : Option RunEnd
+  full_end = Some (PoolOf (units_in_use w.pool))
+
+  abbrev ended : World
+  ended = entered w full_event w.tree w.pool w.homes w.sets w.hands w.outputs w.steps full_end j.room
+
+  abbrev full_ledger : Ledger
+  full_ledger = record (accounts w) { end = full_end }
+
+  ends_so : after w.program w.settings (accounts w) full_event ≡ full_ledger
+  ends_so = full_then w k p I F on free words asks full
+
+  full_same : SameObjects (value_of w) (value_of w) (accounts w) (after w.program w.settings (accounts w) full_event)
+  full_same = subst (SameObjects (value_of w) (value_of w) (accounts w)) (sym ends_so) (same_value (value_of w) (accounts w) full_ledger refl (λ u. refl) (stands_now w I on).homes.homes)
+
+  full_notes : (u : ℕ) → NotesStay (value_of w) (value_of w) u
+  full_notes u = record { keeps = refl; kept = refl; marked = refl }
+
+  full_units : AsksUnits (nat_lt w.settings.chunks (units_in_use w.pool + chunk_units (asked w.program (accounts w).machine p.task))) (totals_of w) (totals_of ended) (chunk_units (asked w.program (accounts w).machine p.task))
+  full_units =
+      let limit : w.pool.limit ≡ w.settings.chunks = I.limit in
+      subst (λ o. AsksUnits (nat_lt w.settings.chunks (units_in_use w.pool + chunk_units o)) (totals_of w) (totals_of ended) (chunk_units o)) (sym (asked_is w k p I F on free words asks))
+      (subst (λ b. AsksUnits b (totals_of w) (totals_of ended) (chunk_units (Some words))) (sym (lt-ltb w.settings.chunks (units_in_use w.pool + chunk_units (Some words)) (omega (arith, full, limit))))
+      (refl, refl))
+
+  full_counts : CountsGo w.program w.settings (accounts w) (totals_of w) (totals_of ended) k (ChunkOf p.task)
+  full_counts = (record { node = λ u. refl; hand = λ u. refl; steps = refl; outputs = refl }, full_units)
+
+  pub full_world : IsWorld ended
+  full_world = quiet_world w full_event I free tt (λ u m. m) w.pool full_end j.room full_same full_notes full_counts refl (all_kept w.pool)
+
+  pub full_others : OthersFit w ended k
+  full_others o q ne G = quiet_others w full_event I free tt (λ u m. m) w.pool full_end j.room full_same full_notes full_counts refl (all_kept w.pool) o q (held_apart w k o (record p { fresh = 0 }) q F G ne) G
+
+  abbrev full_home : Value
+  full_home = with_home (value_of w) p.task (home_of_part (record p { fresh = 0 }))
+
+  heaps_rested : (u : ℕ) → heap_of (rested full_ledger p.task) u ≡ heap_of (rested (accounts w) p.task) u
+  heaps_rested u = elim (cases_eq u p.task) [
+    | inl q ↦
+        ap (λ z. heap_of (rested full_ledger p.task) z) q
+        ∙ (ap or_fresh (with_at full_ledger p.task let_go ∙ sym (with_at (accounts w) p.task let_go)) ∙ ap (λ z. heap_of (rested (accounts w) p.task) z) (sym q))
+    | inr ne ↦ ap or_fresh (with_off full_ledger p.task u let_go ne ∙ sym (with_off (accounts w) p.task u let_go ne))
+  ]
+
+  full_idle : p.begun ≡ None
+  full_idle = idle_part w k p I F on free words asks
+
+  none_full : (heap_of (rested full_ledger p.task) p.task).begun ≡ None
+  none_full =
+      ap (λ (z : Account). z.begun) (heaps_rested p.task)
+      ∙ (rested_view (λ (z : Account). z.begun) (λ z. refl) (accounts w) p.task ∙ account_idle w k (record p { fresh = 0 }) F on full_idle)
+
+  -- the part, whose heap may have places for other numbers of chunks
+  pub full_part : (a b : ℕ) → Fits ended k (record p { fresh = 0; heap = with_places p.heap a b })
+  full_part a b =
+      quiet_own w full_event I free tt (λ u m. m) w.pool full_end j.room full_same full_notes full_counts refl (all_kept w.pool) k p (with_places p.heap a b) p.begun F (places_form p.heap a b F.form) F.measured
+      (subst (λ (z : Ledger). SameObjects full_home full_home (rested (accounts w) p.task) (rested z p.task)) (sym ends_so)
+      (same_value full_home (rested (accounts w) p.task) (rested full_ledger p.task) (with_machine full_ledger p.task let_go ∙ sym (with_machine (accounts w) p.task let_go)) heaps_rested (fits_now w k (record p { fresh = 0 }) I F on).stands.homes))
+      (subst (λ (z : Ledger). BegunBy full_home (rested z p.task) p.task (begun_of p.begun)) (sym ends_so) (subst (λ o. BegunBy full_home (rested full_ledger p.task) p.task (begun_of o)) (sym full_idle) none_full))
+
+-- ---- AS THE CALL HAS IT
+
+words_by : (p : Private) (o : Option ℕ) → is_none (need_cause p o) ≡ true → (words : ℕ) × (o ≡ Some words)
+words_by p None h = absurd (false≢true h)
+words_by p (Some words) h = (words, refl)
+
+-- where no chunk is refused to a part that is amid no collection, it needs one
+cause_none : (o : Bool) (c : Refused) (rest : Option Refused) → is_none (refused_if o c rest) ≡ true → is_none rest ≡ true
+cause_none true c rest h = absurd (false≢true h)
+cause_none false c rest h = h
+
+-- places for other numbers of chunks don't matter
+places_added : (h : Heap) (K : Content) (a b c d : ℕ) → with_places (added (with_places h a b) K) c d ≡ with_places (added h K) c d
+places_added h K a b c d = by (K.size == 1024)
+  where
+    by : (v : Bool)
+        → with_places (cond v (record (with_places h a b) { chunks = h.chunks ++ K ∷ []; current = Some (length h.chunks) }) (record (with_places h a b) { chunks = h.chunks ++ K ∷ []; reserved = Some (length h.chunks) })) c d
+        ≡ with_places (cond v (record h { chunks = h.chunks ++ K ∷ []; current = Some (length h.chunks) }) (record h { chunks = h.chunks ++ K ∷ []; reserved = Some (length h.chunks) })) c d
+    by true = refl
+    by false = refl
+
+pub places_fit : (w : World) (k : ℕ) (p : Private) (a b : ℕ) → Fits w k p → Fits w k (record p { heap = with_places p.heap a b })
+places_fit w k p a b F = record { held = F.held; fits = F.fits; form = places_form p.heap a b F.form; measured = F.measured; leaf_limit = F.leaf_limit; field_limit = F.field_limit }
+
+module _ (w : World) (k : ℕ) (p : Private) (I : IsWorld w) (F : Fits w k p) (none : p.fresh ≡ 0) (free : refused w (record { worker = k; kind = ChunkOf p.task }) ≡ None) where
+  part_is : p ≡ record p { fresh = 0 }
+  part_is = ap (λ n. record p { fresh = n }) none
+
+  F0 : Fits w k (record p { fresh = 0 })
+  F0 = subst (Fits w k) part_is F
+
+  runs_on : (accounts w).end ≡ None
+  runs_on = entry_on w (record { worker = k; kind = ChunkOf p.task }) free
+
+  not_refused : is_none (kind_refusal w.program w.settings (accounts w) k (ChunkOf p.task)) ≡ true
+  not_refused = (entry_tells w.program w.settings (accounts w) (record { worker = k; kind = ChunkOf p.task }) (ap is_none free)).2
+
+  pub needs : (words : ℕ) × (part_asks w.program p ≡ Some words)
+  needs = words_by p (part_asks w.program p) (cause_none (is_some p.begun) Collecting (need_cause p (part_asks w.program p)) (ap is_none (sym (chunk_is w k p I F0 runs_on)) ∙ not_refused))
+
+  -- too few are free
+  module _ (units : ℕ) (sized : units ≡ chunk_units (part_asks w.program p)) (full : w.pool.limit < units_in_use w.pool + units) (j : Space Event) where
+    full_so : w.pool.limit < units_in_use w.pool + chunk_units (Some needs.0)
+    full_so = subst (λ n. w.pool.limit < units_in_use w.pool + n) (sized ∙ ap chunk_units needs.1) full
+
+    abbrev pool_ended : World
+    pool_ended = record w { journal = record { items = w.journal.items ++ record { worker = k; kind = ChunkOf p.task } ∷ []; room = j.room }; end = Some (PoolOf (units_in_use w.pool)) }
+
+    pub pool_world : IsWorld pool_ended
+    pool_world = full_world w k p I F0 runs_on free needs.0 needs.1 full_so j
+
+    pub pool_part : (a b : ℕ) → Fits pool_ended k (record p { heap = with_places p.heap a b })
+    pool_part a b = subst (λ n. Fits pool_ended k (record p { heap = with_places p.heap a b; fresh = n })) (sym none) (full_part w k p I F0 runs_on free needs.0 needs.1 full_so j a b)
+
+    pub pool_others : OthersFit w pool_ended k
+    pool_others = full_others w k p I F0 runs_on free needs.0 needs.1 full_so j
+
+  -- it is given
+  module _ (pool : Chunks) (K : Content) (number units : ℕ) (K_is : K ≡ chunk_with number units) (sized : units ≡ chunk_units (part_asks w.program p)) (within : units_in_use w.pool + units ≤ w.pool.limit) (T : PoolTakes w.pool pool number (record { owner = p.task; units = units })) (j : Space Event) where
+    abbrev given : World
+    given = record w { pool = pool; journal = record { items = w.journal.items ++ record { worker = k; kind = ChunkOf p.task } ∷ []; room = j.room } }
+
+    size_is : units ≡ chunk_units (Some needs.0)
+    size_is = sized ∙ ap chunk_units needs.1
+
+    pub given_fresh : IsFresh p.heap.chunks number
+    given_fresh = fresh w k p I F0 runs_on free needs.0 needs.1 pool number units 0 0 within size_is T j
+
+    pub given_world : IsWorld given
+    given_world = chunk_world w k p I F0 runs_on free needs.0 needs.1 pool number units 0 0 within size_is T j
+
+    pub given_part : (a b c d : ℕ) → Fits given k (record p { heap = with_places (added (with_places p.heap a b) K) c d })
+    given_part a b c d =
+        let same : with_places (added p.heap (chunk_with number units)) c d ≡ with_places (added (with_places p.heap a b) K) c d =
+        sym (ap (λ (z : Content). with_places (added (with_places p.heap a b) z) c d) K_is ∙ places_added p.heap (chunk_with number units) a b c d) in
+        subst (λ (h : Heap). Fits given k (record p { heap = h })) same
+        (subst (λ n. Fits given k (record p { heap = with_places (added p.heap (chunk_with number units)) c d; fresh = n })) (sym none)
+        (chunk_part w k p I F0 runs_on free needs.0 needs.1 pool number units c d within size_is T j))
+
+    pub given_others : OthersFit w given k
+    given_others = chunk_others w k p I F0 runs_on free needs.0 needs.1 pool number units 0 0 within size_is T j

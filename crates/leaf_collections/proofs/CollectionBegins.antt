@@ -1,0 +1,179 @@
+-- A leaf collection of a part begins: the shared value and the parts of others.
+use Rattle.std.proofs.Common.{◌≡◌, ℕ, ◌+◌, true, false, Some, None, List, [], length, map, slice_get, option_map, is_some, ◌⊎◌, inl, inr, refl, ap, sym, ◌∙◌}
+use Rattle.std.proofs.lemmas.Bool.{cases_Bool}
+use Rattle.std.proofs.lemmas.Option.{same_Some}
+use Rattle.listed.specs.Space.{Space}
+use Rattle.hh_model.specs.declared.data.State.{State}
+use Rattle.hh_model.specs.Effect.{row_of}
+use Rattle.hh_model.specs.Step.{is_waiting, waits}
+use Rattle.run_trace.specs.declared.entry.Kind.TheVariants.{Begin}
+use Rattle.run_trace.specs.Entry.{Event}
+use Rattle.run_ledger.specs.declared.data.Heap.{Heap as Account}
+use Rattle.run_ledger.specs.declared.data.Ledger.{Ledger}
+use Rattle.run_ledger.specs.Heaps.{heap_of, or_fresh, take_of, with_heap, within}
+use Rattle.object_layout.specs.Chunks.{has_chunk, small_words}
+use Rattle.object_layout.specs.Content.{Content}
+use Rattle.chunk_pool.specs.Chunks.{Chunks, TakesAll, held_in, units_in_use}
+use Rattle.chunk_pool.proofs.OwnerLaws.{taken_are_owned}
+use Rattle.alloc_path.specs.Heap.{Heap, with_places}
+use Rattle.ledger_steps.specs.Accounts.{Rests}
+use Rattle.ledger_steps.proofs.Ahead.{heap_then, with_at, with_machine, with_off}
+use Rattle.core_relation.specs.Changes.{SameObjects}
+use Rattle.core_relation.specs.Counts.{CountsGo}
+use Rattle.core_relation.specs.Since.{NotesStay}
+use Rattle.core_relation.specs.Value.{Begun, In, Value}
+use Rattle.core_relation.specs.Whole.{StandsFor}
+use Rattle.core_relation.proofs.changes.Alone.{home_kept}
+use Rattle.task_machine.specs.declared.part.Begun.{Begun as BegunPart}
+use Rattle.task_machine.specs.declared.part.Private.{Private}
+use Rattle.shared_value.specs.World.{World, accounts, totals_of, value_of}
+use Rattle.shared_value.specs.Measured.{KeepsUnits}
+use Rattle.shared_value.specs.Stands.{IsWorld}
+use Rattle.shared_value.specs.Fits.{Fits, OthersFit}
+use Rattle.shared_value.specs.Due.{take_by}
+use Rattle.shared_value.specs.Entered.{refused}
+use Rattle.shared_value.specs.LeafBegin.{number_of}
+use Rattle.shared_value.specs.Roots.{roots_of}
+use Rattle.shared_value.proofs.NextStepAsks.{account_is}
+use Rattle.shared_value.proofs.EntryMade.{entered, entry_on, held_apart}
+use Rattle.shared_value.proofs.FreeChunks.{take_is}
+use Rattle.shared_value.proofs.NothingMoves.{quiet_others, quiet_world}
+use Rattle.shared_value.proofs.UnitsMeasured.{all_taken_keep}
+use Rattle.shared_value.proofs.BeforeTheEnd.{stands_now}
+use Rattle.shared_value.proofs.StepsEntered.{status}
+use Rattle.shared_value.proofs.RootsHeld.{chunk_in}
+use Rattle.leaf_collections.proofs.NewChunks.{all_at}
+
+module _ (w : World) (k : ℕ) (p : Private) (I : IsWorld w) (F : Fits w k (record p { fresh = 0 })) (free : refused w (record { worker = k; kind = Begin p.task }) ≡ None) where
+  abbrev P : Private
+  P = record p { fresh = 0 }
+
+  abbrev t : ℕ
+  t = p.task
+
+  abbrev e : Event
+  e = record { worker = k; kind = Begin p.task }
+
+  abbrev l : Ledger
+  l = accounts w
+
+  abbrev v : Value
+  v = value_of w
+
+  abbrev begun_with : Account → Account
+  begun_with z = record z { begun = Some (take_of l.machine z); survivors = within l t }
+
+  abbrev L : Ledger
+  L = with_heap l t begun_with
+
+  on : l.end ≡ None
+  on = entry_on w e free
+
+  pub there : (z : Account) × (slice_get l.heaps t ≡ Some z)
+  there = account_is w k P I F on
+
+  pub heap_then_is : slice_get L.heaps t ≡ Some (begun_with there.0)
+  heap_then_is = with_at l t begun_with ∙ ap (heap_then begun_with) there.1
+
+  pub heap_off : (u : ℕ) → (u ≡ t → ⊥) → slice_get L.heaps u ≡ slice_get l.heaps u
+  heap_off u ne = with_off l t u begun_with ne
+
+  held_then : (heap_of L t).worker ≡ Some k
+  held_then = ap (λ o. (or_fresh o).worker) heap_then_is ∙ (ap (λ o. (or_fresh o).worker) (sym there.1) ∙ F.held)
+
+  not_t : (u : ℕ) → Rests L u → u ≡ t → ⊥
+  not_t u r q = let a : (heap_of L u).worker ≡ Some k = ap (λ z. (heap_of L z).worker) q ∙ held_then in absurd cc
+
+  rested_before : (u : ℕ) → Rests L u → Rests l u
+  rested_before u r = ap (λ o. (or_fresh o).worker) (sym (heap_off u (not_t u r))) ∙ r
+
+  pub same_machine : L.machine ≡ l.machine
+  same_machine = with_machine l t begun_with
+
+  idle : is_waiting (slice_get l.machine.tasks t) ≡ false
+  idle = ap is_waiting F.fits.is ∙ ap waits (status w k P I F on)
+
+  module _ (pool : Chunks) (news : List Content) (slots spare : ℕ) (T : TakesAll w.pool pool p.task (take_by (small_words p.heap.chunks)) [] news) (j : Space Event) where
+    abbrev ks : List Content
+    ks = T.numbers.chunks
+
+    -- the collection
+    abbrev b : BegunPart
+    b = record { roots = roots_of w p; news = map number_of ks }
+
+    abbrev b' : Begun
+    b' = record { roots = roots_of w p; news = map number_of ks }
+
+    abbrev g : Heap
+    g = with_places p.heap slots spare
+
+    abbrev Q : Private
+    Q = record P { heap = g; begun = Some b }
+
+    abbrev w' : World
+    w' = entered w e w.tree pool w.homes w.sets w.hands w.outputs w.steps w.end j.room
+
+    abbrev v' : Value
+    v' = value_of w'
+
+    -- OWNERS
+    pub owner_new : (c : ℕ) → has_chunk ks c ≡ true → v'.owner c ≡ Some t
+    owner_new c h = (taken_are_owned w.pool pool p.task (take_by (small_words p.heap.chunks)) [] news T c).0 h
+
+    owner_same : (c : ℕ) → has_chunk ks c ≡ false → v'.owner c ≡ v.owner c
+    owner_same c h = (taken_are_owned w.pool pool p.task (take_by (small_words p.heap.chunks)) [] news T c).1 h
+
+    pub were_free : (c : Content) → In ks c → v.owner c.number ≡ None
+    were_free c i = ap (option_map (λ z. z.owner)) (all_at (λ (x : Content). held_in w.pool.slots x.number ≡ None) ks T.numbers.numbered.were_free c i)
+
+    pub owner_kept : (c u : ℕ) → v.owner c ≡ Some u → v'.owner c ≡ Some u
+    owner_kept c u q = elim (cases_Bool (has_chunk ks c)) [
+      | inl h ↦ let n = chunk_in ks c h in let a : v.owner c ≡ None = ap v.owner (sym n.2) ∙ were_free n.0 n.1 in absurd cc
+      | inr h ↦ owner_same c h ∙ q
+    ]
+
+    pub owner_taken : (c u : ℕ) → v'.owner c ≡ Some u → (v.owner c ≡ Some u) ⊎ ((is_waiting (slice_get l.machine.tasks u) ≡ false) × (is_some (slice_get l.machine.tasks u) ≡ true))
+    owner_taken c u q = elim (cases_Bool (has_chunk ks c)) [
+      | inl h ↦
+          let same : u ≡ t = same_Some u t (sym q ∙ owner_new c h) in
+          inr (ap (λ z. is_waiting (slice_get l.machine.tasks z)) same ∙ idle, ap (λ z. is_some (slice_get l.machine.tasks z)) same ∙ ap is_some F.fits.is)
+      | inr h ↦ inl (sym (owner_same c h) ∙ q)
+    ]
+
+    -- NOTHING MOVES
+    abbrev S : StandsFor v (totals_of w) l
+    S = stands_now w I on
+
+    pub same : SameObjects v v' l L
+    same = record {
+      home = λ u r. home_kept v v' l L u refl (λ c q. owner_kept c u q) (ap or_fresh (heap_off u (not_t u r))) (ap (λ (m : State). length (row_of (slice_get m.store u))) same_machine) (S.homes.homes u (rested_before u r));
+      objects = λ u. refl;
+      chunks = λ u e. refl;
+      frames = λ u. refl;
+      result = λ u. refl;
+      view = λ u. refl;
+      owner = owner_kept;
+      taken = owner_taken;
+      begun = λ u q. refl;
+      sources = λ u. refl;
+    }
+
+    pub notes : (u : ℕ) → NotesStay v v' u
+    notes u = record { keeps = refl; kept = refl; marked = refl }
+
+    pub counts : CountsGo w.program w.settings l (totals_of w) (totals_of w') k (Begin t)
+    counts = (
+      record { node = λ u. refl; hand = λ u. refl; steps = refl; outputs = refl },
+      T.numbers.numbered.units ∙ ap (λ n. units_in_use w.pool + n) (T.numbers.count ∙ sym (take_is w k p I F)),
+      refl,
+    )
+
+    pub units_stay : (o : ℕ) → KeepsUnits w.pool pool o
+    units_stay = all_taken_keep w.pool pool p.task (take_by (small_words p.heap.chunks)) [] news T
+
+    pub begin_world : IsWorld w'
+    begin_world = quiet_world w e I free tt (λ u m. m) pool w.end j.room same notes counts T.limit units_stay
+
+    -- THE PARTS OF OTHERS
+    pub begin_others : OthersFit w w' k
+    begin_others o q ne G = quiet_others w e I free tt (λ u m. m) pool w.end j.room same notes counts T.limit units_stay o q (held_apart w k o P q F G ne) G

@@ -1,0 +1,356 @@
+-- The end of a part's leaf collection: what is entered stands, and parts fit.
+use Rattle.std.proofs.Common.{◌≡◌, ℕ, ◌+◌, ◌-◌, ◌<◌, ◌&&◌, arith, All, true, false, not, Option, Some, None, is_some, List, [], ◌∷◌, ◌++◌, fold, length, map, slice_get, option_map, inl, inr, refl, ap, ap₂, sym, subst, ◌∙◌}
+use Rattle.std.proofs.lemmas.Bool.{cases_eq, false≢true}
+use Rattle.std.proofs.lemmas.Option.{same_Some}
+use Rattle.std.proofs.lemmas.List.Elements.{All-head, All-tail}
+use Rattle.listed.specs.Space.{Space}
+use Rattle.hh_model.specs.declared.data.Object.{Object}
+use Rattle.hh_model.specs.declared.data.Status.{Status}
+use Rattle.hh_model.specs.declared.data.Status.TheVariants.{Running, Waiting, Ended, Joined}
+use Rattle.hh_model.specs.declared.data.Task.{Task}
+use Rattle.hh_model.specs.Effect.{object_at}
+use Rattle.hh_model.specs.Step.{is_running, is_waiting, runs, waits}
+use Rattle.hh_model.specs.declared.data.State.{State}
+use Rattle.run_trace.specs.Entry.{Event}
+use Rattle.run_trace.specs.declared.entry.Kind.TheVariants.{End}
+use Rattle.run_ledger.specs.declared.data.Heap.{Heap as Account}
+use Rattle.run_ledger.specs.declared.data.Ledger.{Ledger}
+use Rattle.run_ledger.specs.Heaps.{collected, heap_of, or_fresh, with_heap, with_heap_at}
+use Rattle.run_ledger.specs.Journals.{is_legal}
+use Rattle.run_ledger.specs.Sound.{SoundLedger}
+use Rattle.run_ledger.proofs.Holders.{tasks_are_held_once}
+use Rattle.run_ledger.proofs.Waiters.{waiters_are_free}
+use Rattle.run_ledger.proofs.Going.{machine_goes_on}
+use Rattle.object_layout.specs.declared.word.Addr.{Addr}
+use Rattle.object_layout.specs.Cell.{Born, marked_object}
+use Rattle.object_layout.specs.Chunks.{cell_of}
+use Rattle.object_layout.specs.Content.{Content}
+use Rattle.chunk_pool.specs.declared.pool.Held.{Held}
+use Rattle.chunk_pool.specs.Chunks.{Chunks, held_at, owner_of, units_in_use}
+use Rattle.alloc_path.specs.Heap.{IsFresh}
+use Rattle.alloc_path.proofs.HeapLemmas.{fresh_cons}
+use Rattle.remembered_set.specs.declared.remembered.Source.{Source}
+use Rattle.remembered_set.specs.Moved.{AreFields, redirected}
+use Rattle.remembered_set.specs.Sources.{StandOnce}
+use Rattle.leaf_copy_gc.specs.declared.lists.Moved.{Moved}
+use Rattle.leaf_copy_gc.specs.Redirected.{new_address}
+use Rattle.inner_mark_gc.specs.Swept.{AreGiven, units_kept}
+use Rattle.ledger_steps.specs.Accounts.{Rests, own}
+use Rattle.ledger_steps.proofs.Ahead.{heap_then, with_at, with_machine, with_off}
+use Rattle.ledger_steps.proofs.Known.{legal_knows}
+use Rattle.core_relation.specs.Copies.{CopyFits, EndsAt}
+use Rattle.core_relation.specs.Counts.{CountsGo}
+use Rattle.core_relation.specs.Since.{OthersNotes}
+use Rattle.core_relation.specs.Stands.{IsSource, Place}
+use Rattle.core_relation.specs.Value.{Chunk, Home, In, Lies, Seen, Value, objects_in, rewritten_home, sources}
+use Rattle.core_relation.specs.Fits.{Part, part_for}
+use Rattle.core_relation.specs.Whole.{StandsFor, StandsForAll, by_end}
+use Rattle.core_relation.specs.Worker.{Fits as FitsValue}
+use Rattle.core_relation.proofs.whole.EntriesWhole.{ends_stand_for}
+use Rattle.core_relation.proofs.objects.Members.{in_map, map_in}
+use Rattle.core_relation.proofs.parts.OwnFits.{ends_fit_then}
+use Rattle.core_relation.proofs.parts.WorkersPast.{ends_leave}
+use Rattle.core_relation.proofs.parts.Quiet.{aside_is}
+use Rattle.task_machine.specs.declared.part.Private.{Private}
+use Rattle.shared_value.specs.declared.heaps.Heaps.{Heaps}
+use Rattle.shared_value.specs.declared.rest.Rest.{Rest}
+use Rattle.shared_value.specs.Objects.{chunk_of, chunks_of}
+use Rattle.shared_value.specs.World.{World, accounts, home_in, rest_at, source_of, totals_of, value_of}
+use Rattle.shared_value.specs.Measured.{KeepsUnits, RestsAreMeasured}
+use Rattle.shared_value.specs.Stands.{IsWorld}
+use Rattle.shared_value.specs.Fits.{Fits, OthersFit, home_of_part, part_of}
+use Rattle.shared_value.specs.RestingHeaps.{refs_for, refs_in, refs_of_rest, with_ref_in}
+use Rattle.shared_value.specs.Roots.{heaps_of, sources_of}
+use Rattle.shared_value.specs.Entered.{refused}
+use Rattle.shared_value.proofs.CellsRead.{fresh_off, seen_object}
+use Rattle.shared_value.proofs.EntryMade.{accounts_are, entered, entered_world, entry_on, held_on, part_fits, unheld_at_rest, unheld_rests}
+use Rattle.shared_value.proofs.JournalGoesOn.{legal_then}
+use Rattle.shared_value.proofs.FreeChunks.{refs_long}
+use Rattle.shared_value.proofs.HeldTasks.{fits_held, stands_for_held}
+use Rattle.shared_value.proofs.FieldsNoted.{all_at, all_rec, are_once, fresh_by, noted_sources, owner_none}
+use Rattle.shared_value.proofs.FieldsLed.{AreFormed, Led, SourceThere, home_chunks, lead_all}
+use Rattle.shared_value.proofs.UnitsMeasured.{given_keeps, measured_given, measured_kept, part_kept}
+use Rattle.shared_value.proofs.BeforeTheEnd.{stands_now}
+use Rattle.leaf_collections.specs.LeafEnd.{FitsCopied, end_event, ended}
+
+module _ (w : World) (k : ℕ) (p : Private) (moved : Moved) (I : IsWorld w) (F : FitsCopied w k p moved) (free : refused w (end_event k p moved) ≡ None) where
+  abbrev e : Event
+  e = end_event k p moved
+
+  abbrev t : ℕ
+  t = p.task
+
+  abbrev l : Ledger
+  l = accounts w
+
+  abbrev v : Value
+  v = value_of w
+
+  abbrev ss : List Source
+  ss = sources_of (slice_get w.sets p.task)
+
+  on : l.end ≡ None
+  on = entry_on w e free
+
+  going : l.machine.end ≡ None
+  going = machine_goes_on w.program w.settings w.journal.items on
+
+  C : CopyFits w.program w.settings t F.home (home_of_part (ended p)) (new_address moved.moved.items) v l
+  C = subst (CopyFits w.program w.settings t F.home (home_of_part (ended p)) (new_address moved.moved.items) v) (aside_is l going) F.copy
+
+  S : StandsFor v (totals_of w) l
+  S = stands_now w I on
+
+  sources_are : sources v t ≡ map source_of ss
+  sources_are = noted_sources (slice_get w.sets t)
+
+  abbrev Good : ℕ → Type 0
+  Good u = Rests l u
+
+  -- a source's object
+  record At (s : Source) : Type 0 where
+    place : SourceThere (heaps_of w) s Good
+    field : s.field < length (refs_in (heaps_of w) s.object)
+
+  at : (s : Source) → In ss s → At s
+  at s i =
+      let Q : IsSource v l t (source_of s) = S.homes.sources t (source_of s) (subst (λ xs. In xs (source_of s)) (sym sources_are) (in_map source_of ss s i)) in
+      let lies : Lies (v.homes (own l Q.name)).chunks Q.name s.object = Q.place.here Q.rests in
+      let c = S.homes.contents (own l Q.name) lies.0 Q.rests lies.1 in
+      let same : Q.object ≡ c.0 = same_Some Q.object c.0 (sym Q.is ∙ (ap (object_at l.machine.store) (sym lies.2.name) ∙ c.1)) in
+      let long : length lies.0.refs ≡ length Q.object.refs = refs_long (Place v l) lies.0.refs c.0.refs c.2.refs ∙ ap (λ (z : Object). length z.refs) (sym same) in
+      by Q lies.0 lies.2.at long (rest_at w.homes (own l Q.name)) refl lies.1
+    where
+      by : (Q : IsSource v l t (source_of s)) (o : Seen) → o.at ≡ s.object → length o.refs ≡ length Q.object.refs → (r : Option Rest) → rest_at w.homes (own l Q.name) ≡ r → In (objects_in (home_in r).chunks) o → At s
+      by Q o e long None q j = absurd j
+      by Q o e long (Some r) q j =
+          let y = seen_object r.heap.chunks o (I.heaps (own l Q.name) r q).shaped.apart (subst (λ cs. In (objects_in cs) o) (home_chunks r) j) in
+          let born : (cell_of r.heap.chunks s.object).mark ≡ Born y.birth = ap (λ z. (cell_of r.heap.chunks z).mark) (sym e) ∙ y.mark in
+          let refs : refs_in (heaps_of w) s.object ≡ o.refs =
+          ap (λ z. refs_for w.homes z s.object) Q.place.chunk
+          ∙ (ap (λ z. refs_of_rest z s.object) q
+          ∙ (ap (λ m. (marked_object m (cell_of r.heap.chunks s.object)).refs) born ∙ sym (ap (λ (z : Seen). z.refs) y.is ∙ ap (λ z. (cell_of r.heap.chunks z).refs) e))) in
+          let f : s.field < length Q.object.refs = Q.field in
+          let n = ap length refs in
+          record {
+            place = record { home = own l Q.name; good = Q.rests; owner = Q.place.chunk; rest = r; is = q; birth = y.birth; born = born };
+            field = omega (arith, f, long, n);
+          }
+
+  pub are_fields : AreFields refs_in (heaps_of w) ss
+  are_fields = all_rec (λ s. s.field < length (refs_in (heaps_of w) s.object)) ss (λ s i. (at s i).field)
+
+  formed : AreFormed (heaps_of w) Good
+  formed = record {
+    form = I.heaps;
+    measured = λ u r good q. I.measured u r q (unheld_at_rest w u I on good);
+    owned = λ u r good q c i. (S.homes.homes u good).owned (chunk_of c) (subst (λ (h : Home). In h.chunks (chunk_of c)) (sym (ap home_in q)) (subst (λ cs. In cs (chunk_of c)) (sym (home_chunks r)) (in_map chunk_of r.heap.chunks c i)));
+  }
+
+  -- the chunks given back are in use
+  pub back_in_use : (c : Content) → In moved.back.items c → is_some (held_at w.pool c.number) ≡ true
+  back_in_use c i = by (held_at w.pool c.number) (all_at (λ (c : Content). owner_of w.pool c.number ≡ Some p.task) moved.back.items c i F.back.owned)
+    where
+      by : (o : Option Held) → option_map (λ (h : Held). h.owner) o ≡ Some p.task → is_some o ≡ true
+      by None q = absurd cc
+      by (Some h) q = refl
+
+  module _ (pool : Chunks) (G : AreGiven w.pool pool moved.back.items) (once : StandOnce (sources_of (slice_get w.sets p.task))) (room : ℕ) where
+    abbrev H' : Heaps
+    H' = fold (redirected refs_in with_ref_in moved.moved.items) (heaps_of w) (sources_of (slice_get w.sets p.task))
+
+    led : Led moved.moved.items (heaps_of w) Good ss H'
+    led = lead_all moved.moved.items ss (heaps_of w) Good (are_once ss once) (λ s i. (at s i).place) formed
+
+    abbrev pub w' : World
+    w' = entered w e w.tree pool H'.homes w.sets w.hands w.outputs w.steps w.end room
+
+    abbrev v' : Value
+    v' = value_of w'
+
+    abbrev f : Addr → Addr
+    f = new_address moved.moved.items
+
+    abbrev L : Ledger
+    L = with_heap l t (collected l.machine)
+
+    -- with what it would be where tasks are held
+    abbrev v'' : Value
+    v'' = record v' { homes = λ u. rewritten_home f (sources v t) (v.homes u) }
+
+    held_then : (heap_of L t).worker ≡ Some k
+    held_then = ap (λ o. (or_fresh o).worker) (with_at l t (collected l.machine)) ∙ (by (slice_get l.heaps t) ∙ F.held)
+      where
+        by : (o : Option Account) → (or_fresh (heap_then (collected l.machine) o)).worker ≡ (or_fresh o).worker
+        by None = refl
+        by (Some z) = refl
+
+    rests_before : (u : ℕ) → Rests L u → Rests l u
+    rests_before u r = elim (cases_eq u t) [
+      | inl q ↦ absurd (none_some (sym (sym (ap (λ z. (heap_of L z).worker) q) ∙ r) ∙ held_then))
+      | inr ne ↦ ap (λ o. (or_fresh o).worker) (sym (with_off l t u (collected l.machine) ne)) ∙ r
+    ]
+      where
+        none_some : ◌≡◌ {A = Option ℕ} None (Some k) → ⊥
+        none_some q = absurd cc
+
+    same : (u : ℕ) → Rests L u → v'.homes u ≡ v''.homes u
+    same u r = led.homes u (rests_before u r) ∙ ap (λ xs. rewritten_home f xs (v.homes u)) (sym sources_are)
+
+    -- WHO OWNS CHUNKS
+    back_mine : (c : Content) → In moved.back.items c → owner_of w.pool c.number ≡ Some t
+    back_mine c i = all_at (λ (c : Content). owner_of w.pool c.number ≡ Some p.task) moved.back.items c i F.back.owned
+
+    stays : (n : ℕ) → IsFresh moved.back.items n → owner_of pool n ≡ owner_of w.pool n
+    stays n fr = ap (option_map (λ (h : Held). h.owner)) (G.others n fr)
+
+    owners : (n u : ℕ) → (u ≡ t → ⊥) → owner_of w.pool n ≡ Some u → owner_of pool n ≡ Some u
+    owners n u ne o = stays n (fresh_by moved.back.items n (λ c i q. ne (same_Some u t (sym o ∙ (ap (owner_of w.pool) (sym q) ∙ back_mine c i))))) ∙ o
+
+    mine : (c : Chunk) → In (chunks_of p.heap.chunks) c → owner_of pool c.number ≡ Some t
+    mine c i =
+        let x = map_in chunk_of p.heap.chunks c i in
+        stays c.number (fresh_by moved.back.items c.number (λ b j q. fresh_off p.heap.chunks x.0 b.number (all_at (λ (b : Content). IsFresh p.heap.chunks b.number) moved.back.items b j F.back.gone) x.1 (ap (λ (z : Chunk). z.number) x.2 ∙ sym q)))
+        ∙ C.copy.owned c i
+
+    owned : (n u : ℕ) → owner_of pool n ≡ Some u → owner_of w.pool n ≡ Some u
+    owned n u o = by moved.back.items G.free (G.others n)
+      where
+        by : (ks : List Content) → All (λ c. held_at pool c.number ≡ None) ks → (IsFresh ks n → held_at pool n ≡ held_at w.pool n) → owner_of w.pool n ≡ Some u
+        by [] a other = sym (ap (option_map (λ (h : Held). h.owner)) (other refl)) ∙ o
+        by (c ∷ ks) a other = elim (cases_eq c.number n) [
+          | inl q ↦ absurd (owner_none pool n u (subst (λ z. held_at pool z ≡ None) q (All-head (λ (c : Content). held_at pool c.number ≡ None) c ks a)) o)
+          | inr ne ↦ by ks (All-tail (λ (c : Content). held_at pool c.number ≡ None) c ks a) (λ fr. other (fresh_cons c ks n ne fr))
+        ]
+
+    ends : EndsAt v v'' t (home_of_part (ended p)) f
+    ends = record { others = λ u ne. refl; owners = owners; mine = mine; owned = owned; sources = λ u. refl }
+
+    -- NOTES AND COUNTS
+    running : is_running (slice_get l.machine.tasks t) ≡ true
+    running = (tasks_are_held_once w.program w.settings w.journal.items I.legal).runs on t k F.held
+
+    idle : is_waiting (slice_get l.machine.tasks t) ≡ false
+    idle = by (slice_get l.machine.tasks t) running
+      where
+        by : (o : Option Task) → is_running o ≡ true → is_waiting o ≡ false
+        by None h = absurd (false≢true h)
+        by (Some x) h = status x.status h
+          where
+            status : (s : Status) → runs s ≡ true → waits s ≡ false
+            status Running h = refl
+            status Waiting h = absurd (false≢true h)
+            status (Ended n b) h = absurd (false≢true h)
+            status Joined h = absurd (false≢true h)
+
+    notes : OthersNotes v v'' t
+    notes = record {
+      none = S.keeps t ∙ ap (λ b. b && not (heap_of l t).swept) idle;
+      others = λ u ne. record { keeps = refl; kept = refl; marked = refl };
+    }
+
+    counts : CountsGo w.program w.settings l (totals_of w) (totals_of w') k (End t moved.taken moved.given moved.left)
+    counts = (
+      record { node = λ u. refl; hand = λ u. refl; steps = refl; outputs = refl },
+      (let g : units_in_use pool + units_kept w.pool moved.back.items ≡ units_in_use w.pool = G.units in let b : units_kept w.pool moved.back.items ≡ moved.given = F.back.units in omega (arith, g, b)),
+      refl,
+    )
+
+    -- WHAT STANDS
+    stands_so : StandsForAll v'' (totals_of w') L
+    stands_so = ends_stand_for w.program w.settings w.journal.items I.form I.legal v v'' (totals_of w) (totals_of w') k t moved.taken moved.given moved.left F.home (home_of_part (ended p)) f free I.stands C ends refl notes counts
+
+    legal' : is_legal w.program w.settings (w.journal.items ++ e ∷ []) ≡ true
+    legal' = legal_then w.program w.settings w.journal.items e I.legal free
+
+    accounts' : accounts w' ≡ L
+    accounts' = accounts_are w e I free w.tree pool H'.homes w.sets w.hands w.outputs w.steps w.end room
+
+    on' : L.end ≡ None
+    on' = by (slice_get l.heaps t) ∙ on
+      where
+        by : (o : Option Account) → (with_heap_at l t (collected l.machine) o).end ≡ l.end
+        by None = refl
+        by (Some h) = refl
+
+    machine' : L.machine ≡ l.machine
+    machine' = with_machine l t (collected l.machine)
+
+    going' : L.machine.end ≡ None
+    going' = ap (λ (m : State). m.end) machine' ∙ going
+
+    sound' : SoundLedger L
+    sound' = subst SoundLedger accounts' (legal_knows w.program w.settings (w.journal.items ++ e ∷ []) legal').sound
+
+    waiters : (u : ℕ) → is_waiting (slice_get L.machine.tasks u) ≡ true → Rests L u
+    waiters = subst (λ (z : Ledger). (u : ℕ) → is_waiting (slice_get z.machine.tasks u) ≡ true → Rests z u) accounts' (waiters_are_free w.program w.settings (w.journal.items ++ e ∷ []) legal')
+
+    stands_now_so : StandsFor v'' (totals_of w') L
+    stands_now_so = subst (λ o. StandsFor v'' (totals_of w') (by_end L o)) on' stands_so
+
+    stands_then : StandsForAll v' (totals_of w') L
+    stands_then = subst (λ o. StandsFor v' (totals_of w') (by_end L o)) (sym on') (stands_for_held v'' (λ u. v'.homes u) L same waiters (totals_of w') stands_now_so)
+
+    -- THE UNITS
+    own_apart : (c : Content) → In p.heap.chunks c → IsFresh moved.back.items c.number
+    own_apart c i = fresh_by moved.back.items c.number (λ b j q. fresh_off p.heap.chunks c b.number (all_at (λ (b : Content). IsFresh p.heap.chunks b.number) moved.back.items b j F.back.gone) i (sym q))
+
+    units_stay : (u : ℕ) → (u ≡ t → ⊥) → KeepsUnits w.pool pool u
+    units_stay u ne = given_keeps w.pool pool moved.back.items t u G F.back.owned ne
+
+    measured_then : RestsAreMeasured pool H'.homes w.hands
+    measured_then u r is none = measured_kept w.pool pool u r.heap.chunks (units_stay u (λ q. none k ((S.totals.hand k u).1 (ap (λ z. (heap_of l z).worker) q ∙ F.held)))) (led.measured u r (unheld_rests w u I on none) is)
+
+    pub end_world : IsWorld w'
+    end_world = entered_world w e I free w.tree pool H'.homes w.sets w.hands w.outputs w.steps w.end room (led.count ∙ I.made) I.noted refl G.limit stands_then led.form measured_then
+
+    -- PARTS
+    held_value : (q : Part) → FitsValue w.program w.settings q v'' L → FitsValue w.program w.settings q v' L
+    held_value q fits = fits_held v'' (λ u. v'.homes u) L same w.program w.settings q sound' going' fits
+
+    pub end_fits : Fits w' k (ended p)
+    end_fits = record {
+      held = held_on w e I free w.tree pool H'.homes w.sets w.hands w.outputs w.steps w.end room end_world k t refl F.held;
+      fits = subst (FitsValue w.program w.settings (part_of w.settings (ended p)) v') (sym accounts')
+          (held_value (part_of w.settings (ended p))
+          (subst (λ n. FitsValue w.program w.settings (part_for w.settings t (home_of_part (ended p)) n) v'' L) (sym F.fresh)
+          (ends_fit_then w.program w.settings w.journal.items I.legal v v'' k t moved.taken moved.given moved.left F.home (home_of_part (ended p)) f free C ends refl)));
+      form = F.form;
+      measured = (measured_given w.pool pool moved.back.items t p.heap.chunks G own_apart F.measured, λ n i. absurd i);
+      leaf_limit = F.leaf_limit;
+      field_limit = F.field_limit;
+    }
+
+    apart : (u : ℕ) (q : Private) → (u ≡ k → ⊥) → Fits w u q → q.task ≡ t → ⊥
+    apart u q ne Q same = ne (same_Some u k (sym Q.held ∙ (ap (λ z. (heap_of l z).worker) same ∙ F.held)))
+
+    pub end_others : OthersFit w w' k
+    end_others u q ne Q =
+        part_fits w e I free w.tree pool H'.homes w.sets w.hands w.outputs w.steps w.end room end_world u q q refl Q refl refl refl Q.form (part_kept w.pool pool q (units_stay q.task (apart u q ne Q)) Q.measured)
+        (held_value (part_of w.settings q)
+        (ends_leave w.program w.settings w.journal.items I.legal v v'' k t moved.taken moved.given moved.left F.home (home_of_part (ended p)) f free C ends (part_of w.settings q)
+        (λ same'. apart u q ne Q (sym same')) Q.fits))
+
+  -- AS THE CALL HAS IT
+  module _ (X : Heaps) (is : X ≡ fold (redirected refs_in with_ref_in moved.moved.items) (heaps_of w) (sources_of (slice_get w.sets p.task))) (once : StandOnce (sources_of (slice_get w.sets p.task))) where
+    pub pool_same : X.pool ≡ w.pool
+    pool_same = ap (λ (h : Heaps). h.pool) is ∙ (lead_all moved.moved.items ss (heaps_of w) Good (are_once ss once) (λ s i. (at s i).place) formed).pool
+
+    module _ (pool : Chunks) (G : AreGiven X.pool pool moved.back.items) (j : Space Event) (made : j ≡ record { items = w.journal.items ++ e ∷ []; room = w.journal.room - 1 }) where
+      given : AreGiven w.pool pool moved.back.items
+      given = subst (λ z. AreGiven z pool moved.back.items) pool_same G
+
+      abbrev pub entered_so : World
+      entered_so = record w { pool = pool; homes = X.homes; journal = j }
+
+      so : entered_so ≡ w' pool given once (w.journal.room - 1)
+      so = ap₂ (λ hs z. record w { pool = pool; homes = hs; journal = z }) (ap (λ (h : Heaps). h.homes) is) made
+
+      pub world_so : IsWorld entered_so
+      world_so = subst IsWorld (sym so) (end_world pool given once (w.journal.room - 1))
+
+      pub fits_so : Fits entered_so k (ended p)
+      fits_so = subst (λ (z : World). Fits z k (ended p)) (sym so) (end_fits pool given once (w.journal.room - 1))
+
+      pub others_so : OthersFit w entered_so k
+      others_so = subst (λ (z : World). OthersFit w z k) (sym so) (end_others pool given once (w.journal.room - 1))

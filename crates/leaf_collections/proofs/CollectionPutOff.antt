@@ -1,0 +1,268 @@
+-- A leaf collection of a part is put off.
+use Rattle.std.proofs.Common.{◌≡◌, ℕ, arith, false, Option, Some, None, [], ◌∷◌, ◌++◌, length, slice_get, is_none, is_some, inl, inr, refl, ap, sym, subst, ◌∙◌}
+use Rattle.std.proofs.lemmas.Bool.{cases_eq}
+use Rattle.listed.specs.Space.{Space}
+use Rattle.hh_model.specs.declared.data.State.{State}
+use Rattle.hh_model.specs.Effect.{row_of}
+use Rattle.run_trace.specs.declared.entry.Kind.TheVariants.{PutOff}
+use Rattle.run_trace.specs.Entry.{Event}
+use Rattle.run_ledger.specs.declared.data.Heap.{Heap as Account}
+use Rattle.run_ledger.specs.declared.data.Ledger.{Ledger}
+use Rattle.run_ledger.specs.declared.data.Refused.{Refused}
+use Rattle.run_ledger.specs.declared.data.Refused.TheVariants.{PoolEnough}
+use Rattle.run_ledger.specs.Heaps.{heap_of, in_use, let_go, or_fresh, with_heap}
+use Rattle.run_ledger.specs.Entries.{is_pool_enough, kind_refusal, on_due, refused_if}
+use Rattle.run_ledger.proofs.Journals.{entry_tells}
+use Rattle.chunk_pool.specs.Chunks.{units_in_use}
+use Rattle.alloc_path.specs.Heap.{Heap}
+use Rattle.ledger_steps.specs.Accounts.{Rests, rested}
+use Rattle.ledger_steps.proofs.Ahead.{heap_then, with_at, with_machine, with_off}
+use Rattle.ledger_steps.proofs.Rested.{rested_view}
+use Rattle.core_relation.specs.Changes.{SameObjects}
+use Rattle.core_relation.specs.Counts.{CountsGo}
+use Rattle.core_relation.specs.Fits.{with_home}
+use Rattle.core_relation.specs.Layout.{AreLaidOut}
+use Rattle.core_relation.specs.Since.{NotesStay}
+use Rattle.core_relation.specs.Stands.{HasNames, HomeStands}
+use Rattle.core_relation.specs.Value.{Chunk, Home, In, Seen, Value, objects, objects_in}
+use Rattle.core_relation.specs.Whole.{BegunBy, StandsFor}
+use Rattle.core_relation.proofs.changes.Alone.{home_kept}
+use Rattle.core_relation.proofs.changes.With.{at_home, off_home}
+use Rattle.task_machine.specs.declared.part.Private.{Private}
+use Rattle.shared_value.specs.World.{World, accounts, begun_of, totals_of, value_of}
+use Rattle.shared_value.specs.Stands.{HeapForm, IsWorld}
+use Rattle.shared_value.specs.Fits.{Fits, OthersFit, home_of_part}
+use Rattle.shared_value.specs.Causes.{first_cause, or_else}
+use Rattle.shared_value.specs.Due.{due_cause}
+use Rattle.shared_value.specs.Entered.{refused}
+use Rattle.shared_value.specs.Next.{part_asks}
+use Rattle.shared_value.proofs.NextStepAsks.{account_is}
+use Rattle.shared_value.proofs.CollectionUnderWay.{account_idle, none_begun}
+use Rattle.shared_value.proofs.EntryMade.{entered, entry_on, held_apart}
+use Rattle.shared_value.proofs.NothingMoves.{quiet_others, quiet_own, quiet_world}
+use Rattle.shared_value.proofs.UnitsMeasured.{all_kept}
+use Rattle.shared_value.proofs.BeforeTheEnd.{stands_now, used_now}
+use Rattle.shared_value.proofs.CausesTold.{on_is, refused_is}
+use Rattle.shared_value.proofs.StepsEntered.{fits_now, home_is}
+use Rattle.leaf_collections.proofs.WhyNotDue.{due_is}
+
+-- WHY IT IS REFUSED
+
+nothing : (o : Option Refused) → is_some o ≡ false → o ≡ None
+nothing None h = refl
+nothing (Some c) h = absurd cc
+
+-- where nothing comes before what it says
+pub put_off_answer : (w : World) (k : ℕ) (p : Private) → IsWorld w → Fits w k (record p { fresh = 0 }) → is_some (first_cause w.end w.steps w.settings k false) ≡ false
+    → refused w (record { worker = k; kind = PutOff p.task }) ≡ or_else (due_cause p (part_asks w.program p)) (refused_if (is_pool_enough w.settings (accounts w) p.task) (PoolEnough (units_in_use w.pool)) None)
+put_off_answer w k p I F h =
+    refused_is w I (record { worker = k; kind = PutOff p.task })
+    ∙ (ap (λ o. or_else o (kind_refusal w.program w.settings (accounts w) k (PutOff p.task))) (nothing (first_cause w.end w.steps w.settings k false) h)
+    ∙ (due_is w k p I F (on_is w I k false h) (refused_if (is_pool_enough w.settings (accounts w) p.task) (PoolEnough (in_use (accounts w))) None)
+    ∙ ap (λ n. or_else (due_cause p (part_asks w.program p)) (refused_if (is_pool_enough w.settings (accounts w) p.task) (PoolEnough n) None)) (sym (used_now w I))))
+
+-- WHAT IT CHANGES
+
+abbrev pub reset : Heap → Heap
+reset h = record h { since = 0 }
+
+pub reset_form : (h : Heap) → HeapForm h → HeapForm (reset h)
+reset_form h F = record {
+  shaped = record { apart = F.shaped.apart; current = F.shaped.current; reserved = F.shaped.reserved };
+  near = F.near;
+  tidy = F.tidy;
+  within = F.within;
+  last = F.last;
+  last_large = F.last_large;
+  since = omega arith;
+  whole = F.whole;
+  spare = F.spare;
+}
+
+abbrev counted_anew : Account → Account
+counted_anew z = record z { since = 0 }
+
+module _ (w : World) (k : ℕ) (p : Private) (I : IsWorld w) (F : Fits w k (record p { fresh = 0 })) (free : refused w (record { worker = k; kind = PutOff p.task }) ≡ None) (j : Space Event) where
+  abbrev P : Private
+  P = record p { fresh = 0 }
+
+  abbrev Q : Private
+  Q = record P { heap = reset p.heap }
+
+  abbrev t : ℕ
+  t = p.task
+
+  abbrev e : Event
+  e = record { worker = k; kind = PutOff p.task }
+
+  abbrev l : Ledger
+  l = accounts w
+
+  abbrev L : Ledger
+  L = with_heap l t counted_anew
+
+  abbrev v : Value
+  v = value_of w
+
+  abbrev w' : World
+  w' = entered w e w.tree w.pool w.homes w.sets w.hands w.outputs w.steps w.end j.room
+
+  on : l.end ≡ None
+  on = entry_on w e free
+
+  there : (z : Account) × (slice_get l.heaps t ≡ Some z)
+  there = account_is w k P I F on
+
+  heap_then_is : slice_get L.heaps t ≡ Some (counted_anew there.0)
+  heap_then_is = with_at l t counted_anew ∙ ap (heap_then counted_anew) there.1
+
+  heap_off : (u : ℕ) → (u ≡ t → ⊥) → slice_get L.heaps u ≡ slice_get l.heaps u
+  heap_off u ne = with_off l t u counted_anew ne
+
+  held_then : (heap_of L t).worker ≡ Some k
+  held_then = ap (λ o. (or_fresh o).worker) heap_then_is ∙ (ap (λ o. (or_fresh o).worker) (sym there.1) ∙ F.held)
+
+  not_t : (u : ℕ) → Rests L u → u ≡ t → ⊥
+  not_t u r q = let a : (heap_of L u).worker ≡ Some k = ap (λ z. (heap_of L z).worker) q ∙ held_then in absurd cc
+
+  rested_before : (u : ℕ) → Rests L u → Rests l u
+  rested_before u r = ap (λ o. (or_fresh o).worker) (sym (heap_off u (not_t u r))) ∙ r
+
+  same_machine : L.machine ≡ l.machine
+  same_machine = with_machine l t counted_anew
+
+  abbrev S : StandsFor v (totals_of w) l
+  S = stands_now w I on
+
+  same : SameObjects v v l L
+  same = record {
+    home = λ u r. home_kept v v l L u refl (λ c e. e) (ap or_fresh (heap_off u (not_t u r))) (ap (λ (m : State). length (row_of (slice_get m.store u))) same_machine) (S.homes.homes u (rested_before u r));
+    objects = λ u. refl;
+    chunks = λ u e. refl;
+    frames = λ u. refl;
+    result = λ u. refl;
+    view = λ u. refl;
+    owner = λ c u e. e;
+    taken = λ c u e. inl e;
+    begun = λ u e. refl;
+    sources = λ u. refl;
+  }
+
+  notes : (u : ℕ) → NotesStay v v u
+  notes u = record { keeps = refl; kept = refl; marked = refl }
+
+  counts : CountsGo w.program w.settings l (totals_of w) (totals_of w') k (PutOff t)
+  counts = (record { node = λ u. refl; hand = λ u. refl; steps = refl; outputs = refl }, refl, refl)
+
+  pub put_off_world : IsWorld w'
+  put_off_world = quiet_world w e I free tt (λ u m. m) w.pool w.end j.room same notes counts refl (all_kept w.pool)
+
+  -- THE PART
+  abbrev before : Value
+  before = with_home v t (home_of_part P)
+
+  abbrev after_ : Value
+  after_ = with_home v t (home_of_part Q)
+
+  here : before.homes t ≡ home_of_part P
+  here = at_home v t (home_of_part P)
+
+  here' : after_.homes t ≡ home_of_part Q
+  here' = at_home v t (home_of_part Q)
+
+  H : HomeStands before (rested l t) t
+  H = home_is w k P I F on
+
+  account_same : heap_of (rested L t) t ≡ counted_anew (heap_of (rested l t) t)
+  account_same =
+      ap or_fresh (with_at L t let_go ∙ ap (heap_then let_go) heap_then_is)
+      ∙ ap counted_anew (sym (ap or_fresh (with_at l t let_go ∙ ap (heap_then let_go) there.1)))
+
+  names : HasNames (home_of_part P).chunks (heap_of (rested l t) t)
+  names = subst (λ (z : Home). HasNames z.chunks (heap_of (rested l t) t)) here H.names
+
+  was : (c : Chunk) → In (after_.homes t).chunks c → In (before.homes t).chunks c
+  was c i = subst (λ (z : Home). In z.chunks c) (sym here) (subst (λ (z : Home). In z.chunks c) here' i)
+
+  object_was : (o : Seen) → In (objects after_ t) o → In (objects before t) o
+  object_was o i = subst (λ (z : Home). In (objects_in z.chunks) o) (sym here) (subst (λ (z : Home). In (objects_in z.chunks) o) here' i)
+
+  home_then : HomeStands after_ (rested L t) t
+  home_then = record {
+    names = subst (λ (z : Home). HasNames z.chunks (heap_of (rested L t) t)) (sym here')
+        (subst (HasNames (home_of_part Q).chunks) (sym account_same) (record { small = names.small; large = names.large }));
+    room = ap (λ (z : Home). z.room) here' ∙ (ap (λ (z : Home). z.room) (sym here) ∙ (H.room ∙ sym (ap (λ (z : Account). z.room) account_same)));
+    since = ap (λ (z : Home). z.since) here' ∙ sym (ap (λ (z : Account). z.since) account_same);
+    count = ap (λ (z : Home). z.count) here' ∙ (ap (λ (z : Home). z.count) (sym here) ∙ (H.count ∙ ap (λ (m : State). length (row_of (slice_get m.store t))) (with_machine l t let_go ∙ (sym same_machine ∙ sym (with_machine L t let_go)))));
+    owned = λ c i. H.owned c (was c i);
+    inside = λ c o i q. H.inside c o (was c i) q;
+    once = λ o q a b e. H.once o q (object_was o a) (object_was q b) e;
+    named = λ o q a b e. H.named o q (object_was o a) (object_was q b) e;
+    laid = subst (λ (z : Home). AreLaidOut z.chunks (heap_of (rested L t) t).reserved) (sym here')
+        (subst (λ (z : Account). AreLaidOut (home_of_part Q).chunks z.reserved) (sym account_same) (subst (λ (z : Home). AreLaidOut z.chunks (heap_of (rested l t) t).reserved) here H.laid));
+  }
+
+  part_same : SameObjects before after_ (rested l t) (rested L t)
+  part_same = record {
+    home = home_at;
+    objects = λ u. seen (λ (z : Home). objects_in z.chunks) refl u;
+    chunks = λ u e. seen (λ (z : Home). length z.chunks) refl u;
+    frames = λ u. seen (λ (z : Home). z.frames) refl u;
+    result = λ u. seen (λ (z : Home). z.result) refl u;
+    view = λ u. seen (λ (z : Home). z.view) refl u;
+    owner = λ c u e. e;
+    taken = λ c u e. inl e;
+    begun = λ u e. seen (λ (z : Home). z.begun) refl u;
+    sources = λ u. refl;
+  }
+    where
+      seen : {A : Type 0} (view : Home → A) → view (home_of_part Q) ≡ view (home_of_part P) → (u : ℕ) → view (after_.homes u) ≡ view (before.homes u)
+      seen view e u = elim (cases_eq u t) [
+        | inl q ↦ ap (λ z. view (after_.homes z)) q ∙ (ap view here' ∙ (e ∙ (ap view (sym here) ∙ ap (λ z. view (before.homes z)) (sym q))))
+        | inr ne ↦ ap view (off_home v t (home_of_part Q) u ne ∙ sym (off_home v t (home_of_part P) u ne))
+      ]
+
+      home_at : (u : ℕ) → Rests (rested L t) u → HomeStands after_ (rested L t) u
+      home_at u r = elim (cases_eq u t) [
+        | inl q ↦ subst (HomeStands after_ (rested L t)) (sym q) home_then
+        | inr ne ↦
+            let same : heap_of (rested L t) u ≡ heap_of (rested l t) u = ap or_fresh (with_off L t u let_go ne ∙ (heap_off u ne ∙ sym (with_off l t u let_go ne))) in
+            let rests : Rests (rested l t) u = ap (λ (z : Account). z.worker) (sym same) ∙ r in
+            home_kept before after_ (rested l t) (rested L t) u (off_home v t (home_of_part Q) u ne ∙ sym (off_home v t (home_of_part P) u ne)) (λ c e. e) same
+            (ap (λ (m : State). length (row_of (slice_get m.store u))) (with_machine L t let_go ∙ (same_machine ∙ sym (with_machine l t let_go))))
+            ((fits_now w k P I F on).stands.homes u rests)
+      ]
+
+  -- the part is amid no leaf collection
+  idle_part : p.begun ≡ None
+  idle_part =
+      none_begun w k P F on (on_due w.settings w.program l t (refused_if (is_pool_enough w.settings l t) (PoolEnough (in_use l)) None)) (entry_tells w.program w.settings l e (ap is_none free)).2
+
+  none_then : (heap_of (rested L t) t).begun ≡ None
+  none_then = ap (λ (z : Account). z.begun) account_same ∙ (rested_view (λ (z : Account). z.begun) (λ z. refl) l t ∙ account_idle w k P F on idle_part)
+
+  pub put_off_part : Fits w' k Q
+  put_off_part = quiet_own w e I free tt (λ u m. m) w.pool w.end j.room same notes counts refl (all_kept w.pool) k p (reset p.heap) p.begun F (reset_form p.heap F.form) F.measured part_same
+      (subst (λ o. BegunBy after_ (rested L t) t (begun_of o)) (sym idle_part) none_then)
+
+  -- THE PARTS OF OTHERS
+  pub put_off_others : OthersFit w w' k
+  put_off_others o q ne G = quiet_others w e I free tt (λ u m. m) w.pool w.end j.room same notes counts refl (all_kept w.pool) o q (held_apart w k o P q F G ne) G
+
+-- AS THE CALL HAS IT
+module _ (w : World) (k : ℕ) (p : Private) (F : Fits w k p) (none : p.fresh ≡ 0) where
+  pub without_fresh : Fits w k (record p { fresh = 0 })
+  without_fresh = subst (λ n. Fits w k (record p { fresh = n })) none F
+
+  module _ (I : IsWorld w) (free : refused w (record { worker = k; kind = PutOff p.task }) ≡ None) (j : Space Event) where
+    abbrev entered_so : World
+    entered_so = record w { journal = record { items = w.journal.items ++ record { worker = k; kind = PutOff p.task } ∷ []; room = j.room } }
+
+    pub put_off_stands : IsWorld entered_so
+    put_off_stands = put_off_world w k p I without_fresh free j
+
+    pub put_off_apart : OthersFit w entered_so k
+    put_off_apart = put_off_others w k p I without_fresh free j
+
+    pub put_off_fits : Fits entered_so k (record p { heap = reset p.heap })
+    put_off_fits = subst (λ n. Fits entered_so k (record p { heap = reset p.heap; fresh = n })) (sym none) (put_off_part w k p I without_fresh free j)

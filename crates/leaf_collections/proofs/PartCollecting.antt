@@ -1,0 +1,267 @@
+-- The part once its leaf collection has begun.
+use Rattle.std.proofs.Common.{◌≡◌, ℕ, true, false, Option, Some, None, List, [], length, map, slice_get, is_some, ◌⊎◌, inl, inr, refl, ap, ap₂, sym, subst, ◌∙◌}
+use Rattle.std.proofs.lemmas.Bool.{cases_eq}
+use Rattle.listed.specs.Space.{Space}
+use Rattle.hh_model.specs.declared.data.State.{State}
+use Rattle.hh_model.specs.Effect.{row_of}
+use Rattle.hh_model.specs.Step.{is_waiting}
+use Rattle.run_trace.specs.declared.entry.Kind.TheVariants.{Begin}
+use Rattle.run_trace.specs.Entry.{Event}
+use Rattle.run_ledger.specs.declared.data.Heap.{Heap as Account}
+use Rattle.run_ledger.specs.declared.data.Ledger.{Ledger}
+use Rattle.run_ledger.specs.Heaps.{heap_of, let_go, or_fresh, take_of, with_heap, within}
+use Rattle.object_layout.specs.Chunks.{place_in, small_words}
+use Rattle.object_layout.specs.Content.{Content}
+use Rattle.chunk_pool.specs.Chunks.{Chunks, TakesAll}
+use Rattle.alloc_path.specs.Heap.{Heap, IsFresh, with_places}
+use Rattle.ledger_steps.specs.Accounts.{Rests, rested}
+use Rattle.ledger_steps.proofs.Ahead.{heap_then, with_at, with_machine, with_off}
+use Rattle.ledger_steps.proofs.Entries.{within_rested}
+use Rattle.ledger_steps.proofs.Known.{legal_knows}
+use Rattle.ledger_steps.proofs.Rested.{rested_sound, rested_view, rested_worker}
+use Rattle.ledger_steps.proofs.Wrote.{waits_rest}
+use Rattle.core_relation.specs.Changes.{SameObjects}
+use Rattle.core_relation.specs.Fits.{with_home}
+use Rattle.core_relation.specs.Layout.{AreLaidOut}
+use Rattle.core_relation.specs.Stands.{HasNames, HomeStands}
+use Rattle.core_relation.specs.Value.{Begun, Chunk, Home, In, Seen, Value, objects, objects_in}
+use Rattle.core_relation.specs.Whole.{BegunStands, Begins}
+use Rattle.core_relation.proofs.changes.Alone.{home_kept}
+use Rattle.core_relation.proofs.notes.Begun.{begins}
+use Rattle.core_relation.proofs.objects.Members.{in_map, map_in}
+use Rattle.core_relation.proofs.changes.With.{at_home, off_home}
+use Rattle.task_machine.specs.declared.part.Begun.{Begun as BegunPart}
+use Rattle.task_machine.specs.declared.part.Private.{Private}
+use Rattle.shared_value.specs.Objects.{chunk_of}
+use Rattle.shared_value.specs.World.{World, accounts, value_of}
+use Rattle.shared_value.specs.Measured.{IsMeasured}
+use Rattle.shared_value.specs.Stands.{IsWorld}
+use Rattle.shared_value.specs.Fits.{Fits, home_of_part}
+use Rattle.shared_value.specs.Due.{take_by}
+use Rattle.shared_value.specs.Entered.{refused}
+use Rattle.shared_value.specs.LeafBegin.{number_of}
+use Rattle.shared_value.specs.Roots.{roots_of}
+use Rattle.shared_value.proofs.CollectionUnderWay.{account_idle}
+use Rattle.shared_value.proofs.HeapForms.{places_form}
+use Rattle.shared_value.proofs.EntryMade.{entered, entry_on}
+use Rattle.shared_value.proofs.FreeChunks.{take_is}
+use Rattle.shared_value.proofs.NothingMoves.{quiet_own}
+use Rattle.shared_value.proofs.PartFitsMachine as link
+use Rattle.shared_value.proofs.UnitsMeasured.{all_taken_units, measured_kept}
+use Rattle.shared_value.proofs.StepsEntered.{fits_now, home_is, status}
+use Rattle.shared_value.proofs.RootsHeld.{has_it}
+use Rattle.shared_value.proofs.RootsByAccounts.{are_roots}
+use Rattle.leaf_collections.proofs.WhyNoCollection.{begin_idle}
+use Rattle.leaf_collections.proofs.CollectionBegins as first
+use Rattle.leaf_collections.proofs.NewChunks.{distinct_numbers, idle_rest, length_map}
+
+module _ (w : World) (k : ℕ) (p : Private) (I : IsWorld w) (F : Fits w k (record p { fresh = 0 })) (free : refused w (record { worker = k; kind = Begin p.task }) ≡ None) where
+  abbrev P : Private
+  P = record p { fresh = 0 }
+
+  abbrev t : ℕ
+  t = p.task
+
+  abbrev e : Event
+  e = record { worker = k; kind = Begin p.task }
+
+  abbrev l : Ledger
+  l = accounts w
+
+  abbrev v : Value
+  v = value_of w
+
+  abbrev begun_with : Account → Account
+  begun_with z = record z { begun = Some (take_of l.machine z); survivors = within l t }
+
+  abbrev L : Ledger
+  L = with_heap l t begun_with
+
+  on : l.end ≡ None
+  on = entry_on w e free
+
+  abbrev there : (z : Account) × (slice_get l.heaps t ≡ Some z)
+  there = first.there w k p I F free
+
+  heap_then_is : slice_get L.heaps t ≡ Some (begun_with there.0)
+  heap_then_is = first.heap_then_is w k p I F free
+
+  heap_off : (u : ℕ) → (u ≡ t → ⊥) → slice_get L.heaps u ≡ slice_get l.heaps u
+  heap_off = first.heap_off w k p I F free
+
+  same_machine : L.machine ≡ l.machine
+  same_machine = first.same_machine w k p I F free
+
+  module _ (pool : Chunks) (news : List Content) (slots spare : ℕ) (T : TakesAll w.pool pool p.task (take_by (small_words p.heap.chunks)) [] news) (j : Space Event) where
+    abbrev ks : List Content
+    ks = T.numbers.chunks
+
+    -- the collection
+    abbrev b : BegunPart
+    b = record { roots = roots_of w p; news = map number_of ks }
+
+    abbrev b' : Begun
+    b' = record { roots = roots_of w p; news = map number_of ks }
+
+    abbrev g : Heap
+    g = with_places p.heap slots spare
+
+    abbrev Q : Private
+    Q = record P { heap = g; begun = Some b }
+
+    abbrev w' : World
+    w' = entered w e w.tree pool w.homes w.sets w.hands w.outputs w.steps w.end j.room
+
+    abbrev v' : Value
+    v' = value_of w'
+
+    owner_kept : (c u : ℕ) → v.owner c ≡ Some u → v'.owner c ≡ Some u
+    owner_kept = first.owner_kept w k p I F free pool news slots spare T j
+
+    owner_taken : (c u : ℕ) → v'.owner c ≡ Some u → (v.owner c ≡ Some u) ⊎ ((is_waiting (slice_get l.machine.tasks u) ≡ false) × (is_some (slice_get l.machine.tasks u) ≡ true))
+    owner_taken = first.owner_taken w k p I F free pool news slots spare T j
+
+    were_free : (c : Content) → In ks c → v.owner c.number ≡ None
+    were_free = first.were_free w k p I F free pool news slots spare T j
+
+    abbrev before : Value
+    before = with_home v t (home_of_part P)
+
+    abbrev after_ : Value
+    after_ = with_home v' t (home_of_part Q)
+
+    here : before.homes t ≡ home_of_part P
+    here = at_home v t (home_of_part P)
+
+    here' : after_.homes t ≡ home_of_part Q
+    here' = at_home v' t (home_of_part Q)
+
+    H : HomeStands before (rested l t) t
+    H = home_is w k P I F on
+
+    account_same : heap_of (rested L t) t ≡ begun_with (heap_of (rested l t) t)
+    account_same =
+        ap or_fresh (with_at L t let_go ∙ ap (heap_then let_go) heap_then_is)
+        ∙ ap begun_with (sym (ap or_fresh (with_at l t let_go ∙ ap (heap_then let_go) there.1)))
+
+    take_rested : take_of l.machine (heap_of (rested l t) t) ≡ length (map number_of ks)
+    take_rested =
+        rested_view (take_of l.machine) (λ z. refl) l t
+        ∙ (take_is w k p I F ∙ (sym T.numbers.count ∙ sym (length_map number_of ks)))
+
+    names : HasNames (home_of_part P).chunks (heap_of (rested l t) t)
+    names = subst (λ (z : Home). HasNames z.chunks (heap_of (rested l t) t)) here H.names
+
+    was : (c : Chunk) → In (after_.homes t).chunks c → In (before.homes t).chunks c
+    was c i = subst (λ (z : Home). In z.chunks c) (sym here) (subst (λ (z : Home). In z.chunks c) here' i)
+
+    object_was : (o : Seen) → In (objects after_ t) o → In (objects before t) o
+    object_was o i = subst (λ (z : Home). In (objects_in z.chunks) o) (sym here) (subst (λ (z : Home). In (objects_in z.chunks) o) here' i)
+
+    home_then : HomeStands after_ (rested L t) t
+    home_then = record {
+      names = subst (λ (z : Home). HasNames z.chunks (heap_of (rested L t) t)) (sym here')
+          (subst (HasNames (home_of_part Q).chunks) (sym account_same) (record { small = names.small; large = names.large }));
+      room = ap (λ (z : Home). z.room) here' ∙ (ap (λ (z : Home). z.room) (sym here) ∙ (H.room ∙ sym (ap (λ (z : Account). z.room) account_same)));
+      since = ap (λ (z : Home). z.since) here' ∙ (ap (λ (z : Home). z.since) (sym here) ∙ (H.since ∙ sym (ap (λ (z : Account). z.since) account_same)));
+      count = ap (λ (z : Home). z.count) here' ∙ (ap (λ (z : Home). z.count) (sym here) ∙ (H.count ∙ ap (λ (m : State). length (row_of (slice_get m.store t))) (with_machine l t let_go ∙ (sym same_machine ∙ sym (with_machine L t let_go)))));
+      owned = λ c i. owner_kept c.number t (H.owned c (was c i));
+      inside = λ c o i q. H.inside c o (was c i) q;
+      once = λ o q a b z. H.once o q (object_was o a) (object_was q b) z;
+      named = λ o q a b z. H.named o q (object_was o a) (object_was q b) z;
+      laid = subst (λ (z : Home). AreLaidOut z.chunks (heap_of (rested L t) t).reserved) (sym here')
+          (subst (λ (z : Account). AreLaidOut (home_of_part Q).chunks z.reserved) (sym account_same) (subst (λ (z : Home). AreLaidOut z.chunks (heap_of (rested l t) t).reserved) here H.laid));
+    }
+
+    idle_before : (heap_of (rested l t) t).begun ≡ None
+    idle_before = rested_view (λ (z : Account). z.begun) (λ z. refl) l t ∙ account_idle w k P F on (begin_idle w k p I F free)
+
+    part_same : SameObjects before after_ (rested l t) (rested L t)
+    part_same = record {
+      home = home_at;
+      objects = λ u. seen (λ (z : Home). objects_in z.chunks) refl u;
+      chunks = λ u e. seen (λ (z : Home). length z.chunks) refl u;
+      frames = λ u. seen (λ (z : Home). z.frames) refl u;
+      result = λ u. seen (λ (z : Home). z.result) refl u;
+      view = λ u. seen (λ (z : Home). z.view) refl u;
+      owner = owner_kept;
+      taken = λ c u q. elim (owner_taken c u q) [
+        | inl a ↦ inl a
+        | inr a ↦ inr (ap (λ (m : State). is_waiting (slice_get m.tasks u)) (with_machine l t let_go) ∙ a.0, ap (λ (m : State). is_some (slice_get m.tasks u)) (with_machine l t let_go) ∙ a.1)
+      ];
+      begun = begun_at;
+      sources = λ u. refl;
+    }
+      where
+        seen : {A : Type 0} (view : Home → A) → view (home_of_part Q) ≡ view (home_of_part P) → (u : ℕ) → view (after_.homes u) ≡ view (before.homes u)
+        seen view q u = elim (cases_eq u t) [
+          | inl z ↦ ap (λ y. view (after_.homes y)) z ∙ (ap view here' ∙ (q ∙ (ap view (sym here) ∙ ap (λ y. view (before.homes y)) (sym z))))
+          | inr ne ↦ ap view (off_home v' t (home_of_part Q) u ne ∙ sym (off_home v t (home_of_part P) u ne))
+        ]
+
+        none_some : {A : Type 0} (o : Option ℕ) (n : ℕ) → o ≡ None → Some n ≡ o → A
+        none_some o n a q = by (q ∙ a)
+          where
+            by : {A : Type 0} → Some n ≡ None → A
+            by z = absurd cc
+
+        begun_at : (u : ℕ) → (heap_of (rested L t) u).begun ≡ (heap_of (rested l t) u).begun → (after_.homes u).begun ≡ (before.homes u).begun
+        begun_at u q = elim (cases_eq u t) [
+          | inl z ↦
+              none_some (heap_of (rested l t) t).begun (take_of l.machine (heap_of (rested l t) t)) idle_before
+              (sym (ap (λ (y : Account). y.begun) account_same) ∙ (ap (λ y. (heap_of (rested L t) y).begun) (sym z) ∙ (q ∙ ap (λ y. (heap_of (rested l t) y).begun) z)))
+          | inr ne ↦ ap (λ (y : Home). y.begun) (off_home v' t (home_of_part Q) u ne ∙ sym (off_home v t (home_of_part P) u ne))
+        ]
+
+        home_at : (u : ℕ) → Rests (rested L t) u → HomeStands after_ (rested L t) u
+        home_at u r = elim (cases_eq u t) [
+          | inl q ↦ subst (HomeStands after_ (rested L t)) (sym q) home_then
+          | inr ne ↦
+              let same : heap_of (rested L t) u ≡ heap_of (rested l t) u = ap or_fresh (with_off L t u let_go ne ∙ (heap_off u ne ∙ sym (with_off l t u let_go ne))) in
+              let rests : Rests (rested l t) u = ap (λ (z : Account). z.worker) (sym same) ∙ r in
+              home_kept before after_ (rested l t) (rested L t) u (off_home v' t (home_of_part Q) u ne ∙ sym (off_home v t (home_of_part P) u ne)) (λ c q. owner_kept c u q) same
+              (ap (λ (m : State). length (row_of (slice_get m.store u))) (with_machine L t let_go ∙ (same_machine ∙ sym (with_machine l t let_go))))
+              ((fits_now w k P I F on).stands.homes u rests)
+        ]
+
+    -- THE COLLECTION
+    new_is : (n : ℕ) → In (map number_of ks) n → (c : Content) × In ks c × (c.number ≡ n)
+    new_is n i = map_in number_of ks n i
+
+    -- no new chunk is one of the heap's
+    pub new_apart : (n : ℕ) (c : Chunk) → In (map number_of ks) n → In (before.homes t).chunks c → c.number ≡ n → ⊥
+    new_apart n c i q z =
+        let x = new_is n i in
+        let a : v.owner n ≡ Some t = ap v.owner (sym z) ∙ H.owned c q in
+        let b : v.owner n ≡ None = ap v.owner (sym x.2) ∙ were_free x.0 x.1 in
+        absurd cc
+
+    begins_so : Begins before after_ (rested l t) (rested L t) t b'
+    begins_so = record {
+      home = here' ∙ ap (λ (z : Home). record z { begun = Some b' }) (sym here);
+      heap = account_same ∙ ap₂ (λ n ns. record (heap_of (rested l t) t) { begun = Some n; survivors = ns }) take_rested (sym (within_rested l t t));
+      once = distinct_numbers ks T.numbers.numbered.apart;
+      owned = λ n i. let x = new_is n i in ap v'.owner (sym x.2) ∙ first.owner_new w k p I F free pool news slots spare T j x.0.number (has_it ks x.0 x.0.number x.1 refl);
+      apart = new_apart;
+    }
+
+    begun_stands : BegunStands after_ (rested L t) t b'
+    begun_stands =
+        begins before after_ (rested l t) (rested L t) t F.fits.task b' (rested_sound l t (legal_knows w.program w.settings w.journal.items I.legal).sound) (fits_now w k P I F on).stands
+        (ap (λ (m : State). slice_get m.tasks t) (with_machine l t let_go) ∙ F.fits.is) (status w k P I F on) (rested_worker l t) (waits_rest l t (idle_rest w I on)) (are_roots w k p I F on) begins_so
+
+    measured_then : IsMeasured pool Q
+    measured_then = (measured_kept w.pool pool t p.heap.chunks (first.units_stay w k p I F free pool news slots spare T j t) F.measured.0, all_taken_units w.pool pool p.task (take_by (small_words p.heap.chunks)) [] news T)
+
+    pub begin_part : Fits w' k Q
+    begin_part = quiet_own w e I free tt (λ u m. m) pool w.end j.room (first.same w k p I F free pool news slots spare T j) (first.notes w k p I F free pool news slots spare T j) (first.counts w k p I F free pool news slots spare T j) T.limit (first.units_stay w k p I F free pool news slots spare T j) k p g (Some b) F (places_form p.heap slots spare F.form) measured_then part_same begun_stands
+
+    -- no new chunk's number is one of the heap's
+    pub new_fresh : (c : Content) → In ks c → IsFresh p.heap.chunks c.number
+    new_fresh c i = by (place_in p.heap.chunks c.number) refl
+      where
+        by : (o : Option ℕ) → place_in p.heap.chunks c.number ≡ o → IsFresh p.heap.chunks c.number
+        by None q = q
+        by (Some n) q =
+            let x = link.placed_in p.heap.chunks c.number n q in
+            absurd (new_apart c.number (chunk_of x.0) (in_map number_of ks c i) (subst (λ (z : Home). In z.chunks (chunk_of x.0)) (sym here) (in_map chunk_of p.heap.chunks x.0 x.1)) x.2)

@@ -1,0 +1,85 @@
+-- Why a leaf collection of a part doesn't begin, and what is known where it may.
+use Rattle.std.proofs.Common.{◌≡◌, ℕ, ◌+◌, ◌≤◌, arith, Bool, true, false, Option, Some, None, is_none, is_some, refl, ap, sym, ◌∙◌}
+use Rattle.std.proofs.lemmas.Bool.{false≢true, leb-true}
+use Rattle.run_trace.specs.declared.entry.Kind.TheVariants.{Begin}
+use Rattle.run_trace.specs.Entry.{Event}
+use Rattle.run_ledger.specs.declared.data.Ledger.{Ledger}
+use Rattle.run_ledger.specs.declared.data.Refused.{Refused}
+use Rattle.run_ledger.specs.declared.data.Refused.TheVariants.{PoolShort}
+use Rattle.run_ledger.specs.Heaps.{heap_of, in_use, take_of}
+use Rattle.run_ledger.specs.Entries.{is_pool_enough, kind_refusal, on_due, refused_if, refused_unless}
+use Rattle.run_ledger.proofs.Journals.{entry_tells}
+use Rattle.object_layout.specs.Chunks.{small_words}
+use Rattle.chunk_pool.specs.Chunks.{units_in_use}
+use Rattle.task_machine.specs.declared.part.Private.{Private}
+use Rattle.shared_value.specs.World.{World, accounts}
+use Rattle.shared_value.specs.Stands.{IsWorld}
+use Rattle.shared_value.specs.Fits.{Fits}
+use Rattle.shared_value.specs.Causes.{first_cause, or_else}
+use Rattle.shared_value.specs.Due.{due_cause, take_by}
+use Rattle.shared_value.specs.Entered.{refused}
+use Rattle.shared_value.specs.Next.{part_asks}
+use Rattle.shared_value.proofs.CollectionUnderWay.{none_begun}
+use Rattle.shared_value.proofs.EntryMade.{entry_on}
+use Rattle.shared_value.proofs.FreeChunks.{take_is}
+use Rattle.shared_value.proofs.BeforeTheEnd.{used_now}
+use Rattle.shared_value.proofs.CausesTold.{on_is, refused_is}
+use Rattle.leaf_collections.proofs.WhyNotDue.{due_is}
+
+-- WHY IT IS REFUSED
+
+nothing : (o : Option Refused) → is_some o ≡ false → o ≡ None
+nothing None h = refl
+nothing (Some c) h = absurd cc
+
+-- where nothing comes before what it says
+pub begin_answer : (w : World) (k : ℕ) (p : Private) → IsWorld w → Fits w k (record p { fresh = 0 }) → is_some (first_cause w.end w.steps w.settings k false) ≡ false
+    → refused w (record { worker = k; kind = Begin p.task }) ≡ or_else (due_cause p (part_asks w.program p)) (refused_unless (is_pool_enough w.settings (accounts w) p.task) (PoolShort (units_in_use w.pool)) None)
+begin_answer w k p I F h =
+    refused_is w I (record { worker = k; kind = Begin p.task })
+    ∙ (ap (λ o. or_else o (kind_refusal w.program w.settings (accounts w) k (Begin p.task))) (nothing (first_cause w.end w.steps w.settings k false) h)
+    ∙ (due_is w k p I F (on_is w I k false h) (refused_unless (is_pool_enough w.settings (accounts w) p.task) (PoolShort (in_use (accounts w))) None)
+    ∙ ap (λ n. or_else (due_cause p (part_asks w.program p)) (refused_unless (is_pool_enough w.settings (accounts w) p.task) (PoolShort n) None)) (sym (used_now w I))))
+
+-- WHERE NOTHING REFUSES IT
+
+module _ (w : World) (k : ℕ) (p : Private) (I : IsWorld w) (F : Fits w k (record p { fresh = 0 })) (free : refused w (record { worker = k; kind = Begin p.task }) ≡ None) where
+  abbrev P : Private
+  P = record p { fresh = 0 }
+
+  abbrev t : ℕ
+  t = p.task
+
+  abbrev e : Event
+  e = record { worker = k; kind = Begin p.task }
+
+  abbrev l : Ledger
+  l = accounts w
+
+  on : l.end ≡ None
+  on = entry_on w e free
+
+  -- the part is amid no leaf collection, and the free chunks are enough
+  abbrev by_pool : Option Refused
+  by_pool = refused_unless (is_pool_enough w.settings l t) (PoolShort (in_use l)) None
+
+  pub begin_idle : p.begun ≡ None
+  begin_idle = none_begun w k P F on (on_due w.settings w.program l t by_pool) (entry_tells w.program w.settings l e (ap is_none free)).2
+
+  enough_of : (amid due enough : Bool) (x y z : Refused) → is_none (or_else (refused_if amid x (refused_unless due y None)) (refused_unless enough z None)) ≡ true → enough ≡ true
+  enough_of true due enough x y z h = absurd (false≢true h)
+  enough_of false false enough x y z h = absurd (false≢true h)
+  enough_of false true true x y z h = refl
+  enough_of false true false x y z h = absurd (false≢true h)
+
+  pub begin_enough : is_pool_enough w.settings l t ≡ true
+  begin_enough =
+      enough_of (is_some p.begun) _ (is_pool_enough w.settings l t) _ _ (PoolShort (in_use l))
+      (ap is_none (sym (due_is w k p I F on by_pool)) ∙ (entry_tells w.program w.settings l e (ap is_none free)).2)
+
+  pub begin_within : units_in_use w.pool + take_by (small_words p.heap.chunks) ≤ w.settings.chunks
+  begin_within =
+      let h : in_use l + take_of l.machine (heap_of l t) ≤ w.settings.chunks = leb-true (in_use l + take_of l.machine (heap_of l t)) w.settings.chunks begin_enough in
+      let a : units_in_use w.pool ≡ in_use l = used_now w I in
+      let b : take_of l.machine (heap_of l t) ≡ take_by (small_words p.heap.chunks) = take_is w k p I F in
+      omega (arith, h, a, b)

@@ -1,0 +1,54 @@
+-- Why the end of a part's leaf collection is refused: for what comes before it alone.
+use Rattle.std.proofs.Common.{◌≡◌, ℕ, ◌==◌, ◌&&◌, Bool, true, false, Option, Some, None, is_some, slice_get, refl, ap, ap₂, sym, ◌∙◌, eq-eqb}
+use Rattle.std.proofs.lemmas.Bool.{false≢true}
+use Rattle.hh_model.specs.Step.{is_running}
+use Rattle.run_trace.specs.declared.entry.Kind.TheVariants.{End}
+use Rattle.run_ledger.specs.declared.data.Ledger.{Ledger}
+use Rattle.run_ledger.specs.declared.data.Refused.{Refused}
+use Rattle.run_ledger.specs.declared.data.Refused.TheVariants.{Count, NotCollecting, NotOut}
+use Rattle.run_ledger.specs.Entries.{counted, ends_as, is_held_by, is_out, kind_refusal, refused_unless}
+use Rattle.run_ledger.specs.Heaps.{end_numbers, heap_of}
+use Rattle.run_ledger.proofs.Holders.{tasks_are_held_once}
+use Rattle.leaf_copy_gc.specs.declared.lists.Moved.{Moved}
+use Rattle.task_machine.specs.declared.part.Private.{Private}
+use Rattle.shared_value.specs.World.{World, accounts}
+use Rattle.shared_value.specs.Stands.{IsWorld}
+use Rattle.shared_value.specs.Causes.{first_cause, or_else}
+use Rattle.shared_value.specs.Entered.{refused}
+use Rattle.shared_value.proofs.CausesTold.{on_is, refused_is}
+use Rattle.leaf_collections.specs.LeafEnd.{FitsCopied, end_event}
+use Rattle.leaf_collections.proofs.WhyNoChunk.{first_answer}
+
+-- WHY IT IS REFUSED
+pub unless_true : (b : Bool) (c : Refused) (rest : Option Refused) → b ≡ true → refused_unless b c rest ≡ rest
+unless_true true c rest e = refl
+unless_true false c rest e = absurd (false≢true e)
+
+said_so : (n m q : ℕ) → ends_as (n, m, q) (n, m, q) ≡ None
+said_so n m q =
+    unless_true (n == n) (Count n n) (counted m m (counted q q None)) (eq-eqb n n refl)
+    ∙ (unless_true (m == m) (Count m m) (counted q q None) (eq-eqb m m refl) ∙ unless_true (q == q) (Count q q) None (eq-eqb q q refl))
+
+pub end_answer : (w : World) (k : ℕ) (p : Private) (moved : Moved) → IsWorld w → FitsCopied w k p moved → refused w (end_event k p moved) ≡ first_cause w.end w.steps w.settings k false
+end_answer w k p moved I F = by (is_some (first_cause w.end w.steps w.settings k false)) refl
+  where
+    l : Ledger
+    l = accounts w
+
+    behind : (o rest : Option Refused) → rest ≡ None → or_else o rest ≡ o
+    behind None rest e = e
+    behind (Some c) rest e = refl
+
+    by : (b : Bool) → is_some (first_cause w.end w.steps w.settings k false) ≡ b → refused w (end_event k p moved) ≡ first_cause w.end w.steps w.settings k false
+    by true h = first_answer w I (end_event k p moved) h
+    by false h =
+        let on : (accounts w).end ≡ None = on_is w I k false h in
+        let runs' : is_running (slice_get (accounts w).machine.tasks p.task) ≡ true = (tasks_are_held_once w.program w.settings w.journal.items I.legal).runs on p.task k F.held in
+        let held' : is_held_by (heap_of (accounts w) p.task).worker k ≡ true = ap (λ o. is_held_by o k) F.held ∙ eq-eqb k k refl in
+        let begun : is_some (heap_of (accounts w) p.task).begun ≡ true = F.copy.collects in
+        refused_is w I (end_event k p moved)
+        ∙ behind (first_cause w.end w.steps w.settings k false) (kind_refusal w.program w.settings (accounts w) k (End p.task moved.taken moved.given moved.left))
+        (unless_true (is_out (accounts w) k p.task) NotOut (refused_unless (is_some (heap_of (accounts w) p.task).begun) NotCollecting (ends_as (moved.taken, moved.given, moved.left) (end_numbers (accounts w).machine (heap_of (accounts w) p.task))))
+        (ap₂ (λ x y. x && y) runs' held')
+        ∙ (unless_true (is_some (heap_of (accounts w) p.task).begun) NotCollecting (ends_as (moved.taken, moved.given, moved.left) (end_numbers (accounts w).machine (heap_of (accounts w) p.task))) begun
+        ∙ (ap (λ z. ends_as (moved.taken, moved.given, moved.left) z) (sym F.numbers) ∙ said_so moved.taken moved.given moved.left)))

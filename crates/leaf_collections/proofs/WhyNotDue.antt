@@ -1,0 +1,43 @@
+-- Why a leaf collection of a part neither begins nor is put off.
+use Rattle.std.proofs.Common.{◌≡◌, ℕ, true, false, Bool, Option, None, is_some, nat_le, refl, ap, ap₂, sym, ◌∙◌}
+use Rattle.run_ledger.specs.declared.data.Ledger.{Ledger}
+use Rattle.run_ledger.specs.declared.data.Refused.{Refused}
+use Rattle.run_ledger.specs.declared.data.Refused.TheVariants.{Collecting, NotDue}
+use Rattle.run_ledger.specs.Heaps.{heap_of}
+use Rattle.run_ledger.specs.Steps.{is_due, on_asked}
+use Rattle.run_ledger.specs.Entries.{on_due, on_running, refused_if, refused_unless}
+use Rattle.task_machine.specs.declared.part.Private.{Private}
+use Rattle.shared_value.specs.World.{World, accounts}
+use Rattle.shared_value.specs.Stands.{IsWorld}
+use Rattle.shared_value.specs.Fits.{Fits}
+use Rattle.shared_value.specs.Next.{part_asks}
+use Rattle.shared_value.specs.Causes.{or_else}
+use Rattle.shared_value.specs.Due.{due_cause, is_part_due}
+use Rattle.shared_value.proofs.NextStepAsks.{asks_is, since_is}
+use Rattle.shared_value.proofs.CollectionUnderWay.{at_part}
+
+in_turn : (a b : Bool) (x y : Refused) (rest : Option Refused) → refused_if a x (refused_unless b y rest) ≡ or_else (refused_if a x (refused_unless b y None)) rest
+in_turn true b x y rest = refl
+in_turn false true x y rest = refl
+in_turn false false x y rest = refl
+
+module _ (w : World) (k : ℕ) (p : Private) (I : IsWorld w) (F : Fits w k (record p { fresh = 0 })) (on : (accounts w).end ≡ None) where
+  abbrev P : Private
+  P = record p { fresh = 0 }
+
+  abbrev l : Ledger
+  l = accounts w
+
+  abbrev t : ℕ
+  t = p.task
+
+  due_same : is_due w.settings w.program l t ≡ is_part_due p (part_asks w.program p)
+  due_same =
+      ap (λ o. on_asked o (λ n. nat_le w.settings.leaf (heap_of l t).since)) (asks_is w k P I F on)
+      ∙ ap₂ (λ a b. on_asked (part_asks w.program p) (λ n. nat_le a b)) (sym F.leaf_limit) (sym (since_is w k P I F on))
+
+  pub due_is : (rest : Option Refused) → on_running l k t (on_due w.settings w.program l t rest) ≡ or_else (due_cause p (part_asks w.program p)) rest
+  due_is rest =
+      at_part w k P F on (on_due w.settings w.program l t rest)
+      ∙ (ap₂ (λ b n. refused_if (is_some p.begun) Collecting (refused_unless b (NotDue n) rest)) due_same (sym (since_is w k P I F on))
+      ∙ in_turn (is_some p.begun) (is_part_due p (part_asks w.program p)) Collecting (NotDue p.heap.since) rest)

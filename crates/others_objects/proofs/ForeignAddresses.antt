@@ -1,0 +1,73 @@
+-- Addresses of names: which are the same, where one name's owner rests.
+use Rattle.std.proofs.Common.{◌≡◌, ◌==◌, Bool, true, false, Option, Some, None, refl, ap, ap₂, sym, subst, ◌∙◌, eq-eqb}
+use Rattle.std.proofs.lemmas.Bool.{eqb-true, and_parts, and_from, false≢true}
+use Rattle.std.proofs.lemmas.Option.{same_Some}
+use Rattle.hh_model.specs.declared.data.Name.{Name}
+use Rattle.hh_model.specs.Effect.{same_name}
+use Rattle.run_ledger.specs.declared.data.Ledger.{Ledger}
+use Rattle.object_layout.specs.declared.word.Addr.{Addr}
+use Rattle.object_layout.specs.Chunks.{same_address}
+use Rattle.object_layout.specs.References.{same_reference}
+use Rattle.ledger_steps.specs.Accounts.{Rests, own}
+use Rattle.core_relation.specs.Value.{Lies, Seen, Value}
+use Rattle.core_relation.specs.Reads.{Reads}
+use Rattle.core_relation.specs.Stands.{Place, Stands}
+
+module _ (v : Value) (l : Ledger) (W : Stands v l) where
+  -- the second name's owner rests
+  module _ (n m : Name) (a b : Addr) (P : Place v l n a) (Q : Place v l m b) (rests : Rests l (own l m)) where
+    there : Lies (v.homes (own l m)).chunks m b
+    there = Q.here rests
+
+    -- one address is of one name
+    one_name : a ≡ b → n ≡ m
+    one_name e =
+        let u : own l n ≡ own l m = same_Some (own l n) (own l m) (sym P.chunk ∙ (ap (λ (z : Addr). v.owner z.chunk) e ∙ Q.chunk)) in
+        let x : Lies (v.homes (own l m)).chunks n a = subst (λ z. Lies (v.homes z).chunks n a) u (P.here (subst (Rests l) (sym u) rests)) in
+        let same : x.0 ≡ there.0 = (W.homes (own l m) rests).once x.0 there.0 x.1 there.1 (x.2.at ∙ (e ∙ sym there.2.at)) in
+        sym x.2.name ∙ (ap (λ (z : Seen). z.name) same ∙ there.2.name)
+
+    -- one name lies at one address
+    one_place : n ≡ m → a ≡ b
+    one_place e =
+        let x : Lies (v.homes (own l m)).chunks m a = subst (λ z. Lies (v.homes (own l z)).chunks z a) e (P.here (subst (λ z. Rests l (own l z)) (sym e) rests)) in
+        let same : x.0 ≡ there.0 = (W.homes (own l m) rests).named x.0 there.0 x.1 there.1 (x.2.name ∙ sym there.2.name) in
+        sym x.2.at ∙ (ap (λ (z : Seen). z.at) same ∙ there.2.at)
+
+    address_is : same_address a b ≡ true → a ≡ b
+    address_is h =
+        let q = and_parts (a.chunk == b.chunk) (a.offset == b.offset) h in
+        ap₂ (λ x y. let z : Addr = record { chunk = x; offset = y } in z) (eqb-true a.chunk b.chunk q.0) (eqb-true a.offset b.offset q.1)
+
+    name_is : same_name (Some n) (Some m) ≡ true → n ≡ m
+    name_is h =
+        let q = and_parts (n.task == m.task) (n.count == m.count) h in
+        ap₂ (λ x y. let z : Name = record { task = x; count = y } in z) (eqb-true n.task m.task q.0) (eqb-true n.count m.count q.1)
+
+    is_address : a ≡ b → same_address a b ≡ true
+    is_address e = and_from (a.chunk == b.chunk) (a.offset == b.offset) (eq-eqb a.chunk b.chunk (ap (λ (z : Addr). z.chunk) e)) (eq-eqb a.offset b.offset (ap (λ (z : Addr). z.offset) e))
+
+    is_name : n ≡ m → same_name (Some n) (Some m) ≡ true
+    is_name e = and_from (n.task == m.task) (n.count == m.count) (eq-eqb n.task m.task (ap (λ (z : Name). z.task) e)) (eq-eqb n.count m.count (ap (λ (z : Name). z.count) e))
+
+    same_by : (c d : Bool) → (c ≡ true → d ≡ true) → (d ≡ true → c ≡ true) → c ≡ d
+    same_by true true f g = refl
+    same_by false false f g = refl
+    same_by true false f g = absurd (false≢true (f refl))
+    same_by false true f g = absurd (false≢true (g refl))
+
+    same_some : same_address a b ≡ same_name (Some n) (Some m)
+    same_some = same_by (same_address a b) (same_name (Some n) (Some m)) (λ h. is_name (one_name (address_is h))) (λ h. is_address (one_place (name_is h)))
+
+  -- so the tests of references and of names are the same
+  pub tests_same : (a b : Option Addr) (n m : Option Name) → Reads (Place v l) a n → Reads (Place v l) b m → ((z : Name) → m ≡ Some z → Rests l (own l z)) → same_reference a b ≡ same_name n m
+  tests_same None None None None p q r = refl
+  tests_same None (Some b) None (Some m) p q r = refl
+  tests_same (Some a) None (Some n) None p q r = refl
+  tests_same (Some a) (Some b) (Some n) (Some m) p q r = same_some n m a b p q (r m refl)
+  tests_same None b (Some n) m p q r = absurd p
+  tests_same (Some a) b None m p q r = absurd p
+  tests_same None None None (Some m) p q r = absurd q
+  tests_same None (Some b) None None p q r = absurd q
+  tests_same (Some a) None (Some n) (Some m) p q r = absurd q
+  tests_same (Some a) (Some b) (Some n) None p q r = absurd q

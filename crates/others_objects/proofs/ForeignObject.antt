@@ -1,0 +1,164 @@
+-- Before the run's end the object in a register of a part that fits lies, where another task owns it, in that task's heap, which
+-- no worker holds.
+use Rattle.std.proofs.Common.{◌≡◌, ℕ, suc, pos, true, Option, Some, None, List, [], ◌∷◌, length, slice_get, unwrap_or, inl, refl, ap, sym, subst, ◌∙◌}
+use Rattle.std.proofs.lemmas.Option.{same_Some}
+use Rattle.hh_model.specs.declared.data.Name.{Name}
+use Rattle.hh_model.specs.declared.data.Object.{Object}
+use Rattle.hh_model.specs.declared.data.Task.{Task}
+use Rattle.hh_model.specs.Effect.{int_in, object_at, ref_in}
+use Rattle.hh_model.specs.Names.{task_names}
+use Rattle.hh_model.specs.Step.{is_on_path}
+use Rattle.hh_model.proofs.Carried.{at_in}
+use Rattle.hh_model.proofs.Steps.{in_registers, names_run}
+use Rattle.run_ledger.specs.declared.data.Ledger.{Ledger}
+use Rattle.run_ledger.specs.Steps.{task_steps}
+use Rattle.object_layout.specs.declared.word.Addr.{Addr}
+use Rattle.object_layout.specs.declared.word.Birth.{Birth}
+use Rattle.object_layout.specs.Cell.{Born, Cell}
+use Rattle.object_layout.specs.Chunks.{cell_of}
+use Rattle.ledger_steps.specs.Accounts.{Rests, own, rested}
+use Rattle.core_relation.specs.Value.{Home, In, Lies, Seen, Value, objects, objects_in}
+use Rattle.core_relation.specs.Fits.{with_home}
+use Rattle.core_relation.specs.Reads.{AllRead, FrameIsRead, FramesAreRead, HoldsRead, Reads}
+use Rattle.core_relation.specs.Stands.{Place}
+use Rattle.core_relation.proofs.objects.Carry.{field_of}
+use Rattle.core_relation.proofs.changes.With.{at_home}
+use Rattle.task_machine.specs.declared.part.Private.{Private}
+use Rattle.task_machine.specs.Plan.{int_of, ref_of}
+use Rattle.shared_value.specs.declared.rest.Rest.{Rest}
+use Rattle.shared_value.specs.declared.rest.Work.{Work}
+use Rattle.shared_value.specs.declared.rest.Work.TheVariants.{Calls, Result}
+use Rattle.shared_value.specs.World.{World, accounts, frame_of, frames_of, home_by, home_in, rest_at, value_of}
+use Rattle.shared_value.specs.Objects.{chunks_of}
+use Rattle.shared_value.specs.Stands.{IsWorld}
+use Rattle.shared_value.specs.Fits.{Fits, home_of_part}
+use Rattle.shared_value.proofs.CellsRead.{seen_object}
+use Rattle.shared_value.proofs.PartFitsMachine as link
+
+-- as many references are read as there are
+pub reads_length : (at : Name → Addr → Type 0) (rs : List (Option Addr)) (xs : List (Option Name)) → AllRead at rs xs → length rs ≡ length xs
+reads_length at [] [] h = refl
+reads_length at [] (x ∷ xs) h = absurd h
+reads_length at (r ∷ rs) [] h = absurd h
+reads_length at (r ∷ rs) (x ∷ xs) h = ap suc (reads_length at rs xs h.1)
+
+-- the address of a name that is read
+pub reads_name : (at : Name → Addr → Type 0) (r : Option Addr) (x : Option Name) (n : Name) → Reads at r x → x ≡ Some n → (a : Addr) × (r ≡ Some a) × at n a
+reads_name at None None n h e = absurd cc
+reads_name at None (Some m) n h e = absurd h
+reads_name at (Some a) None n h e = absurd h
+reads_name at (Some a) (Some m) n h e = (a, refl, subst (λ z. at z a) (same_Some m n e) h)
+
+-- the home of who rests has the chunks of its heap
+rest_chunks : (r : Rest) (x : Work) → (home_by r.heap r.view r.allocations x).chunks ≡ chunks_of r.heap.chunks
+rest_chunks r (Calls s) = refl
+rest_chunks r (Result k b) = refl
+
+-- THE OBJECT of a name, which lies at an address in the heap of another task, above this one; no worker holds that task
+pub record IsForeign (w : World) (v : Value) (l : Ledger) (t : ℕ) (n : Name) (a : Addr) : Type 0 where
+  pub apart : own l n ≡ t → ⊥
+  pub above : is_on_path l.machine.tasks (own l n) t ≡ true
+  pub place : Place v l n a
+  pub rests : Rests (accounts w) (own l n)
+  pub rest : Rest
+  pub there : rest_at w.homes (own l n) ≡ Some rest
+  pub birth : Birth
+  pub mark : (cell_of rest.heap.chunks a).mark ≡ Born birth
+  pub object : Object
+  pub is : object_at l.machine.store n ≡ Some object
+  pub mutable : (cell_of rest.heap.chunks a).mutable ≡ object.mutable
+  pub refs : AllRead (Place v l) (cell_of rest.heap.chunks a).refs object.refs
+  pub ints : (cell_of rest.heap.chunks a).ints ≡ object.ints
+
+module _ (w : World) (k : ℕ) (p : Private) (I : IsWorld w) (F : Fits w k p) (on : (accounts w).end ≡ None) where
+  abbrev t : ℕ
+  t = p.task
+
+  abbrev l : Ledger
+  l = accounts w
+
+  abbrev v : Value
+  v = value_of w
+
+  abbrev h : Home
+  h = home_of_part p
+
+  abbrev v' : Value
+  v' = with_home v t h
+
+  abbrev L : Ledger
+  L = rested (task_steps w.program l t p.fresh) t
+
+  abbrev pub x : Task
+  x = (link.A w k p I F on).task
+
+  here : v'.homes t ≡ h
+  here = at_home v t h
+
+  -- ITS REGISTERS
+  frames : FramesAreRead (Place v' L) (frames_of p.frames) (x.top ∷ x.below)
+  frames =
+      subst (λ (z : Home). FramesAreRead (Place v' L) z.frames (x.top ∷ x.below)) here
+      (subst (HoldsRead (Place v' L) (v'.homes t) x) (link.run_status w k p I F on) ((link.W w k p I F on).tasks t x (link.at_rest w k p I F on) (link.is w k p I F on)))
+
+  pub frame : FrameIsRead (Place v' L) (frame_of p.frames.top) x.top
+  frame = frames.0
+
+  pub register_at : (o : ℕ) → Reads (Place v' L) (ref_of p.frames.top o) (ref_in x.top o)
+  register_at o = field_of (Place v' L) p.frames.top.refs x.top.refs o frame.refs
+
+  pub number_at : (o : ℕ) → int_of p.frames.top o ≡ int_in x.top o
+  number_at o = ap (λ zs. unwrap_or (slice_get zs o) (pos 0)) frame.ints
+
+  pub holds : (o : ℕ) (n : Name) → ref_in x.top o ≡ Some n → In (task_names x) n
+  holds o n e = names_run x n (link.run_status w k p I F on) (in_registers (x.top ∷ x.below) x.top n (inl refl) (at_in x.top.refs o n e))
+
+  -- AN OBJECT OF ANOTHER
+  module _ (n : Name) (a : Addr) (P : Place v' L n a) (held : In (task_names x) n) (apart : own L n ≡ t → ⊥) where
+    abbrev u : ℕ
+    u = own L n
+
+    above : is_on_path L.machine.tasks u t ≡ true
+    above = ((link.sound w k p I F on).apart.of_task t x n (link.is w k p I F on) held).1
+
+    rests : Rests l u
+    rests = link.rests_above w k p I F on u apart above
+
+    rests_L : Rests L u
+    rests_L = link.rests_then w k p I F on u apart rests
+
+    lies : Lies (home_in (rest_at w.homes u)).chunks n a
+    lies = subst (λ (z : Home). Lies z.chunks n a) (link.off w k p I F on u apart) (P.here rests_L)
+
+    by : (o : Option Rest) → rest_at w.homes u ≡ o → Lies (home_in o).chunks n a → IsForeign w v' L t n a
+    by None e y = absurd y.1
+    by (Some r) e y =
+        let i : In (objects_in (chunks_of r.heap.chunks)) y.0 = subst (λ ks. In (objects_in ks) y.0) (rest_chunks r r.work) y.1 in
+        let z = seen_object r.heap.chunks y.0 (I.heaps u r e).shaped.apart i in
+        let c : cell_of r.heap.chunks y.0.at ≡ cell_of r.heap.chunks a = ap (cell_of r.heap.chunks) y.2.at in
+        let j : In (objects v' u) y.0 = subst (λ (q : Home). In (objects_in q.chunks) y.0) (sym (link.off w k p I F on u apart)) (subst (λ q. In (objects_in (home_in q).chunks) y.0) (sym e) y.1) in
+        let q = (link.W w k p I F on).contents u y.0 rests_L j in
+        record {
+          apart = apart;
+          above = above;
+          place = P;
+          rests = rests;
+          rest = r;
+          there = e;
+          birth = z.birth;
+          mark = ap (λ (d : Cell). d.mark) (sym c) ∙ z.mark;
+          object = q.0;
+          is = ap (object_at L.machine.store) (sym y.2.name) ∙ q.1;
+          mutable = ap (λ (d : Cell). d.mutable) (sym c) ∙ (ap (λ (s : Seen). s.mutable) (sym z.is) ∙ q.2.mutable);
+          refs = subst (λ rs. AllRead (Place v' L) rs q.0.refs) (ap (λ (s : Seen). s.refs) z.is ∙ ap (λ (d : Cell). d.refs) c) q.2.refs;
+          ints = ap (λ (d : Cell). d.ints) (sym c) ∙ (ap (λ (s : Seen). s.ints) (sym z.is) ∙ q.2.ints);
+        }
+
+    pub foreign : IsForeign w v' L t n a
+    foreign = by (rest_at w.homes u) refl lies
+
+  -- the object in a register
+  pub in_register : (o : ℕ) (n : Name) → ref_in x.top o ≡ Some n → (own L n ≡ t → ⊥) → (a : Addr) × (ref_of p.frames.top o ≡ Some a) × IsForeign w v' L t n a
+  in_register o n e apart =
+      let r = reads_name (Place v' L) (ref_of p.frames.top o) (ref_in x.top o) n (register_at o) e in
+      (r.0, r.1, foreign n r.0 r.2 (holds o n e) apart)

@@ -1,0 +1,227 @@
+-- The next line of a part whose step works on an object that another task owns: the object, and what the step does with it.
+use Rattle.std.proofs.Common.{◌≡◌, ℕ, ◌<◌, not, true, Option, Some, None, List, length, slice_get, option_map, is_some, refl, ap, ap₂, sym, subst, ◌∙◌}
+use Rattle.std.specs.Prelude.{IsSome}
+use Rattle.std.proofs.lemmas.Bool.{eq-eqb, false≢true}
+use Rattle.std.proofs.lemmas.Option.{same_Some}
+use Rattle.hh_lang.specs.declared.instr.Instr.{Instr}
+use Rattle.hh_lang.specs.declared.instr.Instr.TheVariants.{Getr, Geti, Putr, Puti, Cntr, Cnti, Freeze, Cas}
+use Rattle.hh_lang.specs.declared.program.Line.{Line}
+use Rattle.hh_lang.specs.Form.{line_at}
+use Rattle.hh_model.specs.declared.data.Frame.{Frame as ModelFrame}
+use Rattle.hh_model.specs.declared.data.Name.{Name}
+use Rattle.hh_model.specs.declared.data.State.{State}
+use Rattle.hh_model.specs.declared.data.Task.{Task}
+use Rattle.hh_model.specs.Effect.{ref_in}
+use Rattle.hh_model.specs.Step.{fetched, owner_of}
+use Rattle.run_ledger.specs.declared.data.Ledger.{Ledger}
+use Rattle.run_ledger.specs.Steps.{owns, task_steps, touched}
+use Rattle.object_layout.specs.declared.word.Addr.{Addr}
+use Rattle.object_layout.specs.Cell.{Cell}
+use Rattle.object_layout.specs.Chunks.{cell_of, object_of}
+use Rattle.chunk_pool.specs.Chunks.{held_at, owner_of as pool_owner}
+use Rattle.chunk_pool.specs.declared.pool.Held.{Held}
+use Rattle.task_frames.specs.declared.frames.Frame.{Frame}
+use Rattle.write_barrier.specs.Stored.{IsOwned}
+use Rattle.ledger_steps.specs.Accounts.{own, rested}
+use Rattle.core_relation.specs.Value.{Value}
+use Rattle.core_relation.specs.Fits.{with_home}
+use Rattle.core_relation.specs.Stands.{Place}
+use Rattle.core_relation.proofs.notes.Roots.{name_at}
+use Rattle.task_machine.specs.declared.part.Private.{Private}
+use Rattle.task_machine.specs.Plan.{ref_of}
+use Rattle.task_machine.proofs.Owned.{born_is, born_object}
+use Rattle.shared_value.specs.World.{World, accounts, flat, value_of}
+use Rattle.shared_value.specs.Stands.{IsWorld}
+use Rattle.shared_value.specs.Fits.{Fits, home_of_part}
+use Rattle.shared_value.specs.Next.{next_line}
+use Rattle.shared_value.specs.declared.rest.Rest.{Rest}
+use Rattle.shared_value.proofs.PartFitsMachine as link
+use Rattle.own_steps.specs.Alone.{IsShared}
+use Rattle.own_steps.proofs.LastSteps.{machine_same}
+use Rattle.others_objects.specs.Other.{IsOther, IsReadable, SaysOther, TellsOther, is_other, is_other_by, is_other_line, object_named, other_step, then_places}
+use Rattle.others_objects.specs.declared.other.OtherStep.{OtherStep}
+use Rattle.others_objects.proofs.ForeignObject.{IsForeign, frame, in_register, x}
+use Rattle.others_objects.proofs.TreePaths.{made_there}
+use Rattle.others_objects.proofs.OtherSteps.{says_other}
+
+-- THE OBJECT REGISTER of an instruction that works on an object
+pub record HasRegister (f : ModelFrame) (i : Instr) (n : Name) : Type 0 where
+  pub register : ℕ
+  pub holds : ref_in f register ≡ Some n
+  pub at : (g : Frame) → object_named g i ≡ ref_of g register
+
+none_named : {A : Type 0} {n : Name} → ◌≡◌ {A = Option Name} None (Some n) → A
+none_named e = absurd cc
+
+register_of : (f : ModelFrame) (i : Instr) (n : Name) → touched f i ≡ Some n → HasRegister f i n
+register_of f (Getr d o k) n e = record { register = o; holds = e; at = λ g. refl }
+register_of f (Geti d o k) n e = record { register = o; holds = e; at = λ g. refl }
+register_of f (Putr o k v) n e = record { register = o; holds = e; at = λ g. refl }
+register_of f (Puti o k v) n e = record { register = o; holds = e; at = λ g. refl }
+register_of f (Cntr d o) n e = record { register = o; holds = e; at = λ g. refl }
+register_of f (Cnti d o) n e = record { register = o; holds = e; at = λ g. refl }
+register_of f (Freeze o) n e = record { register = o; holds = e; at = λ g. refl }
+register_of f (Cas d o k v b) n e = record { register = o; holds = e; at = λ g. refl }
+register_of f _ n e = none_named e
+
+-- a name that another task owns
+pub record Touches (tasks : List Task) (t : ℕ) (f : ModelFrame) (i : Instr) : Type 0 where
+  pub name : Name
+  pub touches : touched f i ≡ Some name
+  pub apart : owner_of tasks name.task ≡ t → ⊥
+
+touches_by : (tasks : List Task) (t : ℕ) (f : ModelFrame) (i : Instr) (o : Option Name) → touched f i ≡ o → not (owns tasks t o) ≡ true → Touches tasks t f i
+touches_by tasks t f i None e h = absurd (false≢true h)
+touches_by tasks t f i (Some n) e h = record { name = n; touches = e; apart = λ q. false≢true (sym (ap not (eq-eqb (owner_of tasks n.task) t q)) ∙ h) }
+
+pub some_held : (o : Option Held) (u : ℕ) → option_map (λ (h : Held). h.owner) o ≡ Some u → IsSome o
+some_held None u e = absurd cc
+some_held (Some h) u e = refl
+
+some_flat : (o : Option (Option Rest)) (r : Rest) → flat o ≡ Some r → o ≡ Some (Some r)
+some_flat None r e = absurd cc
+some_flat (Some q) r e = ap Some e
+
+module _ (w : World) (k : ℕ) (p : Private) (I : IsWorld w) (F : Fits w k p) (shared : IsShared w p) (other : IsOther w p) (on : (accounts w).end ≡ None) where
+  abbrev pub t : ℕ
+  t = p.task
+
+  abbrev pub l : Ledger
+  l = accounts w
+
+  abbrev pub v' : Value
+  v' = with_home (value_of w) t (home_of_part p)
+
+  abbrev pub M : Ledger
+  M = task_steps w.program l t p.fresh
+
+  abbrev pub L : Ledger
+  L = rested M t
+
+  abbrev pub X : Task
+  X = x w k p I F on
+
+  machine_is : L.machine ≡ M.machine
+  machine_is = link.machine_is w k p I F on
+
+  -- a task that owns a chunk was made
+  pub owned : (b : ℕ) (u : ℕ) → pool_owner w.pool b ≡ Some u → u < length w.tree
+  owned b u e = made_there w I on u (sym ((link.alone w k p I F on).tree.made u) ∙ (link.W w k p I F on).made b u e)
+
+  pub in_use : (b : ℕ) (u : ℕ) → pool_owner w.pool b ≡ Some u → IsSome (held_at w.pool b)
+  in_use b u e = some_held (held_at w.pool b) u e
+
+  pub reader_there : t < length w.tree
+  reader_there = made_there w I on t (ap is_some F.fits.is)
+
+  module _ (line : Line) (next : next_line w.program p ≡ Some line) where
+    at : fetched w.program X.top ≡ Some line
+    at = let f = frame w k p I F on in ap₂ (line_at w.program) (sym f.function) (sym f.next) ∙ next
+
+    pub touches : Touches M.machine.tasks t X.top line.instr
+    touches =
+        touches_by M.machine.tasks t X.top line.instr (touched X.top line.instr) refl
+        (ap (λ o. is_other_line M.machine t X o) (sym at)
+        ∙ (ap (is_other_by w.program M.machine t) (sym (link.A w k p I F on).is)
+        ∙ (ap (λ (m : State). is_other w.program m t) (sym (machine_same w k p I F shared on)) ∙ other)))
+
+    abbrev pub n : Name
+    n = touches.name
+
+    pub register : HasRegister X.top line.instr n
+    register = register_of X.top line.instr n touches.touches
+
+    apart : own L n ≡ t → ⊥
+    apart e = touches.apart (ap (λ (m : State). owner_of m.tasks n.task) (sym machine_is) ∙ e)
+
+    pub object : (a : Addr) × (ref_of p.frames.top register.register ≡ Some a) × IsForeign w v' L t n a
+    object = in_register w k p I F on register.register n register.holds apart
+
+    -- THE OBJECT, and the task in whose heap it lies
+    abbrev pub address : Addr
+    address = object.0
+
+    abbrev pub foreign : IsForeign w v' L t n address
+    foreign = object.2
+
+    abbrev pub owner : ℕ
+    owner = own L n
+
+    pub named : object_named p.frames.top line.instr ≡ Some address
+    named = register.at p.frames.top ∙ object.1
+
+    pub owner_is : pool_owner w.pool address.chunk ≡ Some owner
+    owner_is = foreign.place.chunk
+
+    pub owner_there : owner < length w.homes
+    owner_there = subst (λ n. owner < n) (sym I.made) (owned address.chunk owner owner_is)
+
+    pub rest_there : slice_get w.homes owner ≡ Some (Some foreign.rest)
+    rest_there = some_flat (slice_get w.homes owner) foreign.rest foreign.there
+
+    pub object_is : object_of foreign.rest.heap.chunks address ≡ cell_of foreign.rest.heap.chunks address
+    object_is = born_object foreign.rest.heap.chunks address foreign.birth foreign.mark
+
+    pub readable : IsReadable (length w.tree) w.pool t foreign.rest.heap.chunks address
+    readable = record {
+      object = born_is (cell_of foreign.rest.heap.chunks address).mark foreign.birth foreign.mark;
+      reader = reader_there;
+      refs = λ i r e. by i r (ap (λ (c : Cell). slice_get c.refs i) (sym object_is) ∙ e);
+    }
+      where
+        by : (i : ℕ) (r : Option Addr) → slice_get (cell_of foreign.rest.heap.chunks address).refs i ≡ Some r → IsOwned (length w.tree) w.pool r
+        by i None e = tt
+        by i (Some b) e =
+            let y = name_at (Place v' L) (cell_of foreign.rest.heap.chunks address).refs foreign.object.refs i b foreign.refs e in
+            (in_use b.chunk (own L y.0) y.2.chunk, λ u h. owned b.chunk u h)
+
+    abbrev pub step_is : OtherStep
+    step_is = other_step w.tree w.pool p address (object_of foreign.rest.heap.chunks address) line.instr
+
+    says : SaysOther w.program (then_places w p) p L.machine t X line step_is
+    says =
+        subst (λ (c : Cell). SaysOther w.program (then_places w p) p L.machine t X line (other_step w.tree w.pool p address c line.instr)) (sym object_is)
+        (says_other w k p I F on line at n address foreign touches.touches named)
+
+    -- WHAT THE STEP DOES
+    pub other_tells : TellsOther w p step_is line.number
+    other_tells = record {
+      task = X;
+      line = line;
+      is = (link.A w k p I F on).is;
+      next = at;
+      number_is = refl;
+      says = subst (λ (m : State). SaysOther w.program (then_places w p) p m t X line step_is) machine_is says;
+    }
+
+    -- as the call finds it
+    module _ (a : Addr) (is : object_named p.frames.top line.instr ≡ Some a) where
+      same_address : a ≡ address
+      same_address = same_Some a address (sym is ∙ named)
+
+      pub used_there : IsSome (held_at w.pool a.chunk)
+      used_there = in_use a.chunk owner (ap (λ (z : Addr). pool_owner w.pool z.chunk) same_address ∙ owner_is)
+
+      module _ (u : ℕ) (owns : pool_owner w.pool a.chunk ≡ Some u) where
+        same_owner : u ≡ owner
+        same_owner = same_Some u owner (sym owns ∙ (ap (λ (z : Addr). pool_owner w.pool z.chunk) same_address ∙ owner_is))
+
+        pub home_there : u < length w.homes
+        home_there = subst (λ z. z < length w.homes) (sym same_owner) owner_there
+
+        pub rest_is : slice_get w.homes u ≡ Some (Some foreign.rest)
+        rest_is = ap (slice_get w.homes) same_owner ∙ rest_there
+
+        module _ (r : Rest) (there : slice_get w.homes u ≡ Some (Some r)) where
+          same_rest : r ≡ foreign.rest
+          same_rest = same_Some r foreign.rest (same_Some (Some r) (Some foreign.rest) (sym there ∙ rest_is))
+
+          pub can_read : IsReadable (length w.tree) w.pool t r.heap.chunks a
+          can_read =
+              subst (λ (z : Rest). IsReadable (length w.tree) w.pool t z.heap.chunks a) (sym same_rest)
+              (subst (λ (z : Addr). IsReadable (length w.tree) w.pool t foreign.rest.heap.chunks z) (sym same_address) readable)
+
+          pub does_so : TellsOther w p (other_step w.tree w.pool p a (object_of r.heap.chunks a) line.instr) line.number
+          does_so =
+              subst (λ (z : Rest). TellsOther w p (other_step w.tree w.pool p a (object_of z.heap.chunks a) line.instr) line.number) (sym same_rest)
+              (subst (λ (z : Addr). TellsOther w p (other_step w.tree w.pool p z (object_of foreign.rest.heap.chunks z) line.instr) line.number) (sym same_address) other_tells)

@@ -1,0 +1,249 @@
+-- The value once an object of another task is written: the object alone changes.
+use Rattle.std.proofs.Common.{◌≡◌, ℕ, cond, Option, Some, None, List, map, slice_get, slice_set, is_none, inl, inr, refl, ap, ap₂, sym, subst, ◌∙◌}
+use Rattle.std.proofs.lemmas.Bool.{cases_eq, cond-true}
+use Rattle.std.proofs.lemmas.Option.{same_Some}
+use Rattle.listed.proofs.Members.{got_other, got_same}
+use Rattle.hh_model.specs.declared.data.Name.{Name}
+use Rattle.run_ledger.specs.declared.data.Ledger.{Ledger}
+use Rattle.run_ledger.specs.Heaps.{heap_of}
+use Rattle.run_ledger.specs.Steps.{task_steps}
+use Rattle.object_layout.specs.declared.word.Addr.{Addr}
+use Rattle.object_layout.specs.declared.word.Birth.{Birth}
+use Rattle.object_layout.specs.Cell.{Cell, size_of}
+use Rattle.object_layout.specs.Chunks.{cell_of}
+use Rattle.alloc_path.specs.Heap.{Heap, room_of}
+use Rattle.alloc_path.specs.View.{Level}
+use Rattle.task_frames.specs.declared.frames.Frame.{Frame}
+use Rattle.write_barrier.specs.declared.sets.SetOf.{SetOf}
+use Rattle.ledger_steps.specs.Accounts.{Rests, own, rested}
+use Rattle.core_relation.specs.Value.{Chunk, Home, In, Seen, Source, Value, mapped_chunk, objects, objects_in, put_at, sources}
+use Rattle.core_relation.specs.Changes.{WritesAt}
+use Rattle.core_relation.specs.Fits.{with_home}
+use Rattle.core_relation.specs.Layout.{words}
+use Rattle.core_relation.specs.Stands.{HomeStands}
+use Rattle.core_relation.proofs.objects.Members.{in_chunk}
+use Rattle.core_relation.proofs.changes.With.{at_home, off_home}
+use Rattle.task_machine.specs.declared.part.Private.{Private}
+use Rattle.shared_value.specs.declared.rest.Rest.{Rest}
+use Rattle.shared_value.specs.declared.rest.Work.{Work}
+use Rattle.shared_value.specs.declared.rest.Work.TheVariants.{Calls, Result}
+use Rattle.shared_value.specs.World.{World, accounts, flat, home_by, home_in, home_of, no_home, rest_at, value_by, value_of, with_marks}
+use Rattle.shared_value.specs.Objects.{chunks_of, seen}
+use Rattle.shared_value.specs.Measured.{AreMeasured, RestsAreMeasured}
+use Rattle.shared_value.specs.Stands.{HeapForm, IsWorld}
+use Rattle.shared_value.specs.Fits.{Fits, home_of_part}
+use Rattle.shared_value.proofs.CellsChanged.{with_fields}
+use Rattle.shared_value.proofs.CellsRead.{seen_object}
+use Rattle.shared_value.proofs.PartFitsMachine as link
+use Rattle.shared_value.proofs.UnitsMeasured.{measured_written}
+use Rattle.shared_value.proofs.ObjectRewritten.{chunks_elsewhere, chunks_put, chunks_same, form_written, room_written}
+use Rattle.others_objects.specs.Other.{put_rest}
+use Rattle.others_objects.proofs.ForeignObject.{IsForeign}
+
+-- a home whose heap alone changes
+home_written : (h h' : Heap) (view : List Level) (count : ℕ) (x : Work) → room_of h' ≡ room_of h → h'.since ≡ h.since → home_by h' view count x ≡ record (home_by h view count x) { chunks = chunks_of h'.chunks }
+home_written h h' view count (Calls s) er es = ap₂ (λ n m. record (home_by h view count (Calls s)) { chunks = chunks_of h'.chunks; room = n; since = m }) er es
+home_written h h' view count (Result k b) er es = ap₂ (λ n m. record (home_by h view count (Result k b)) { chunks = chunks_of h'.chunks; room = n; since = m }) er es
+
+chunks_are : (h : Heap) (view : List Level) (count : ℕ) (x : Work) → (home_by h view count x).chunks ≡ chunks_of h.chunks
+chunks_are h view count (Calls s) = refl
+chunks_are h view count (Result k b) = refl
+
+-- the homes of the tasks that no worker holds
+abbrev pub resting : Ledger → (ℕ → Home) → ℕ → Home
+resting l hs u = cond (is_none (heap_of l u).worker) (hs u) no_home
+
+pub resting_is : (l : Ledger) (hs : ℕ → Home) (u : ℕ) → Rests l u → resting l hs u ≡ hs u
+resting_is l hs u r = cond-true (is_none (heap_of l u).worker) (hs u) no_home (ap is_none r)
+
+module _ (w : World) (k : ℕ) (p : Private) (I : IsWorld w) (F : Fits w k p) (on : (accounts w).end ≡ None) where
+  abbrev pub t : ℕ
+  t = p.task
+
+  abbrev pub l : Ledger
+  l = accounts w
+
+  abbrev pub h : Home
+  h = home_of_part p
+
+  abbrev pub L : Ledger
+  L = rested (task_steps w.program l t p.fresh) t
+
+  -- the value without the homes of those that workers hold
+  abbrev pub v0 : Value
+  v0 = record (value_of w) { homes = resting l (value_of w).homes }
+
+  module _ (n : Name) (a : Addr) (O : IsForeign w (with_home (value_of w) t h) L t n a) where
+    abbrev pub u : ℕ
+    u = own L n
+
+    abbrev pub r : Rest
+    r = O.rest
+
+    abbrev pub c : Cell
+    c = cell_of r.heap.chunks a
+
+    -- the owner of the object's chunk is no other
+    owner_apart : (z : ℕ) → (value_of w).owner a.chunk ≡ Some z → z ≡ u
+    owner_apart z e = same_Some z u (sym e ∙ O.place.chunk)
+
+    lies_with : (z : ℕ) (hs : Home) → HomeStands (with_home (value_of w) t h) L z → (with_home (value_of w) t h).homes z ≡ hs → (z ≡ u → ⊥) → (o : Seen) → In (objects_in hs.chunks) o → o.at ≡ a → ⊥
+    lies_with z hs H e ne o i at =
+        let x = in_chunk hs.chunks o i in
+        let j : In ((with_home (value_of w) t h).homes z).chunks x.0 = subst (λ (q : Home). In q.chunks x.0) (sym e) x.1 in
+        ne (owner_apart z (ap (λ (q : Addr). (value_of w).owner q.chunk) (sym at) ∙ (ap (value_of w).owner (H.inside x.0 o j x.2) ∙ H.owned x.0 j)))
+
+    -- neither the task itself has an object there, nor another one that no worker holds
+    none_own : (o : Seen) → In (objects_in h.chunks) o → o.at ≡ a → ⊥
+    none_own o i at = lies_with t h ((link.W w k p I F on).homes t (link.at_rest w k p I F on)) (at_home (value_of w) t h) (λ e. O.apart (sym e)) o i at
+
+    none_other : (z : ℕ) → (z ≡ t → ⊥) → (z ≡ u → ⊥) → Rests l z → (o : Seen) → In (objects_in ((value_of w).homes z).chunks) o → o.at ≡ a → ⊥
+    none_other z nt nu rz o i at =
+        lies_with z ((value_of w).homes z) ((link.W w k p I F on).homes z (link.rests_then w k p I F on z nt rz)) (off_home (value_of w) t h z nt) nu o i at
+
+    -- THE OBJECT IS WRITTEN: its cell is d then, and the object as it is read is changed by f
+    module _ (d : Cell) (mark : d.mark ≡ c.mark) (size : size_of d ≡ size_of c) (f : Seen → Seen) (fields : (number at : ℕ) (b : Birth) → with_fields d (seen number at b c) ≡ f (seen number at b c))
+        (sets : List SetOf) (top : Frame) where
+      abbrev pub r' : Rest
+      r' = put_rest r a d
+
+      abbrev pub homes : List (Option Rest)
+      homes = slice_set w.homes u (Some r')
+
+      abbrev pub v' : Value
+      v' = with_marks w.marks (value_by homes sets w.pool)
+
+      abbrev pub v1 : Value
+      v1 = record v' { homes = resting l v'.homes }
+
+      abbrev pub q : Private
+      q = record p { frames = record { below = p.frames.below; top = top }; fresh = 0 }
+
+      abbrev pub g : Home
+      g = home_of_part q
+
+      form : HeapForm r.heap
+      form = I.heaps u r O.there
+
+      was_there : slice_get w.homes u ≡ Some (Some r)
+      was_there = by (slice_get w.homes u) O.there
+        where
+          by : (o : Option (Option Rest)) → flat o ≡ Some r → o ≡ Some (Some r)
+          by None e = absurd cc
+          by (Some x) e = ap Some e
+
+      -- every heap keeps its form
+      pub forms : (z : ℕ) (s : Rest) → rest_at homes z ≡ Some s → HeapForm s.heap
+      forms z s e = elim (cases_eq z u) [
+        | inl q ↦
+            let is : s ≡ r' = same_Some s r' (sym e ∙ (ap (rest_at homes) q ∙ ap flat (got_same w.homes u (Some r) (Some r') was_there))) in
+            subst (λ (x : Rest). HeapForm x.heap) (sym is) (form_written r.heap a d form mark size)
+        | inr ne ↦ I.heaps z s (sym (ap flat (got_other w.homes u z (Some r') ne)) ∙ e)
+      ]
+
+      -- and the pool has its chunks' units still
+      pub measures : RestsAreMeasured w.pool homes w.hands
+      measures z s e f' = elim (cases_eq z u) [
+        | inl q ↦
+            let is : s ≡ r' = same_Some s r' (sym e ∙ (ap (rest_at homes) q ∙ ap flat (got_same w.homes u (Some r) (Some r') was_there))) in
+            subst (λ (x : Rest). AreMeasured w.pool z x.heap.chunks) (sym is) (measured_written w.pool z r.heap.chunks a d (I.measured z r (ap (rest_at w.homes) q ∙ O.there) f'))
+        | inr ne ↦ I.measured z s (sym (ap flat (got_other w.homes u z (Some r') ne)) ∙ e) f'
+      ]
+
+      -- the home of the object's owner
+      abbrev changed : Home → Home
+      changed x = record x { chunks = map (mapped_chunk (put_at a f)) x.chunks }
+
+      chunks_changed : chunks_of r'.heap.chunks ≡ map (mapped_chunk (put_at a f)) (chunks_of r.heap.chunks)
+      chunks_changed =
+          chunks_put r.heap.chunks a d form.shaped.apart (sym mark) (sym size)
+          ∙ chunks_same a (with_fields d) f (chunks_of r.heap.chunks) (λ o i at.
+          let y = seen_object r.heap.chunks o form.shaped.apart i in
+          let e : o ≡ seen o.at.chunk o.at.offset y.birth c = y.is ∙ ap (λ (z : Addr). seen o.at.chunk o.at.offset y.birth (cell_of r.heap.chunks z)) at in
+          ap (with_fields d) e ∙ (fields o.at.chunk o.at.offset y.birth ∙ ap f (sym e)))
+
+      home_owner : v'.homes u ≡ changed ((value_of w).homes u)
+      home_owner =
+          ap home_in (ap flat (got_same w.homes u (Some r) (Some r') was_there))
+          ∙ (home_written r.heap r'.heap r.view r.allocations r.work (room_written r.heap a d form mark size) refl
+          ∙ (ap (λ (ks : List Chunk). record (home_of r) { chunks = ks }) (chunks_changed ∙ ap (map (mapped_chunk (put_at a f))) (sym (chunks_are r.heap r.view r.allocations r.work)))
+          ∙ ap (λ o. changed (home_in o)) (sym O.there)))
+
+      home_other : (z : ℕ) → (z ≡ t → ⊥) → (z ≡ u → ⊥) → Rests l z → v'.homes z ≡ changed ((value_of w).homes z)
+      home_other z nt nu rz =
+          ap (λ o. home_in (flat o)) (got_other w.homes u z (Some r') nu)
+          ∙ ap (λ (ks : List Chunk). record ((value_of w).homes z) { chunks = ks }) (sym (chunks_elsewhere a f ((value_of w).homes z).chunks (none_other z nt nu rz)))
+
+      home_by_worker : (z : ℕ) → (z ≡ t → ⊥) → (o : Option ℕ) → (heap_of l z).worker ≡ o → cond (is_none o) (v'.homes z) no_home ≡ changed (cond (is_none o) ((value_of w).homes z) no_home)
+      home_by_worker z nt (Some x) e = refl
+      home_by_worker z nt None e = elim (cases_eq z u) [
+        | inl q ↦ subst (λ y. v'.homes y ≡ changed ((value_of w).homes y)) (sym q) home_owner
+        | inr nu ↦ home_other z nt nu e
+      ]
+
+      abbrev old : Value
+      old = with_home v0 t h
+
+      abbrev new : Value
+      new = with_home v1 t g
+
+      pub home_off : (z : ℕ) → (z ≡ t → ⊥) → new.homes z ≡ changed (old.homes z)
+      home_off z nt = off_home v1 t g z nt ∙ (home_by_worker z nt (heap_of l z).worker refl ∙ ap changed (sym (off_home v0 t h z nt)))
+
+      pub home_new : new.homes t ≡ g
+      home_new = at_home v1 t g
+
+      pub home_old : old.homes t ≡ h
+      home_old = at_home v0 t h
+
+      -- what it makes of any home, but for the frames of its own
+      each : {A : Type 0} (look : Home → A) → look g ≡ look (changed h) → (z : ℕ) → look (new.homes z) ≡ look (changed (old.homes z))
+      each look own z = elim (cases_eq z t) [
+        | inl e ↦ ap (λ y. look (new.homes y)) e ∙ (ap look home_new ∙ (own ∙ (ap (λ x. look (changed x)) (sym home_old) ∙ ap (λ y. look (changed (old.homes y))) (sym e))))
+        | inr ne ↦ ap look (home_off z ne)
+      ]
+
+      pub writes : ((o : Seen) → (f o).name ≡ o.name) → ((o : Seen) → (f o).at ≡ o.at) → ((o : Seen) → words (f o) ≡ words o) → ((o : Seen) → (f o).mutable ≡ o.mutable) → ((z : ℕ) (s : Source) → In (sources (value_of w) z) s → In (sources v' z) s) → WritesAt old new t a f
+      writes same_name same_at same_words same_kind noted = record {
+        same_name = same_name;
+        same_at = same_at;
+        same_words = same_words;
+        same_kind = same_kind;
+        chunks = each (λ x. x.chunks) (sym (chunks_elsewhere a f h.chunks none_own));
+        room = each (λ x. x.room) refl;
+        since = each (λ x. x.since) refl;
+        count = each (λ x. x.count) refl;
+        begun = each (λ x. x.begun) refl;
+        view = each (λ x. x.view) refl;
+        frames = λ z ne. ap (λ (x : Home). x.frames) (home_off z ne);
+        result = λ z ne. ap (λ (x : Home). x.result) (home_off z ne);
+        owner = λ y. refl;
+        noted = noted;
+      }
+
+      -- THE OBJECT lies in no other home
+      none_by : (z : ℕ) → (z ≡ t → ⊥) → (z ≡ u → ⊥) → (o : Seen) → o.at ≡ a → (x : Option ℕ) → (heap_of l z).worker ≡ x → In (objects_in (cond (is_none x) ((value_of w).homes z) no_home).chunks) o → ⊥
+      none_by z nt nu o at (Some y) e j = j
+      none_by z nt nu o at None e j = none_other z nt nu e o j at
+
+      pub lies_old : (z : ℕ) → (z ≡ t → ⊥) → (o : Seen) → In (objects old z) o → o.at ≡ a → z ≡ u
+      lies_old z nt o i at = elim (cases_eq z u) [
+        | inl e ↦ e
+        | inr nu ↦ absurd (none_by z nt nu o at (heap_of l z).worker refl (subst (λ (x : Home). In (objects_in x.chunks) o) (off_home v0 t h z nt) i))
+      ]
+
+      -- and is read from its cell
+      pub read_old : (o : Seen) → In (objects old u) o → o.at ≡ a → (b : Birth) × (o ≡ seen o.at.chunk o.at.offset b c)
+      read_old o i at =
+          let j : In (objects_in (resting l (value_of w).homes u).chunks) o = subst (λ (x : Home). In (objects_in x.chunks) o) (off_home v0 t h u O.apart) i in
+          let k' : In (objects_in (home_in (rest_at w.homes u)).chunks) o = subst (λ (x : Home). In (objects_in x.chunks) o) (resting_is l (value_of w).homes u O.rests) j in
+          let m : In (objects_in (chunks_of r.heap.chunks)) o = subst (λ ks. In (objects_in ks) o) (chunks_are r.heap r.view r.allocations r.work) (subst (λ x. In (objects_in (home_in x).chunks) o) O.there k') in
+          let y = seen_object r.heap.chunks o form.shaped.apart m in
+          (y.birth, y.is ∙ ap (λ (z : Addr). seen o.at.chunk o.at.offset y.birth (cell_of r.heap.chunks z)) at)
+
+      pub there_old : (o : Seen) × In (objects old u) o × (o.at ≡ a) × ((b : Birth) × (o ≡ seen o.at.chunk o.at.offset b c))
+      there_old =
+          let x = O.place.here (link.rests_then w k p I F on u O.apart O.rests) in
+          let i : In (objects_in ((value_of w).homes u).chunks) x.0 = subst (λ (y : Home). In (objects_in y.chunks) x.0) (off_home (value_of w) t h u O.apart) x.1 in
+          let j : In (objects old u) x.0 = subst (λ (y : Home). In (objects_in y.chunks) x.0) (sym (off_home v0 t h u O.apart)) (subst (λ (y : Home). In (objects_in y.chunks) x.0) (sym (resting_is l (value_of w).homes u O.rests)) i) in
+          (x.0, j, x.2.at, read_old x.0 j x.2.at)

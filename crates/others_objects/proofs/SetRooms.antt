@@ -1,0 +1,50 @@
+-- The shared value where its sets have more room alone.
+use Rattle.std.proofs.Common.{◌≡◌, ℕ, List, length, slice_get, refl, ap, sym, subst, ◌∙◌}
+use Rattle.write_barrier.specs.declared.sets.SetOf.{SetOf}
+use Rattle.write_barrier.specs.Stored.{content_at}
+use Rattle.core_relation.specs.Value.{Value}
+use Rattle.core_relation.specs.Whole.{StandsForAll}
+use Rattle.core_relation.specs.Worker.{Fits as FitsValue}
+use Rattle.task_machine.specs.declared.part.Private.{Private}
+use Rattle.shared_value.specs.World.{World, accounts, marks_at, noted_in, totals_of, value_of}
+use Rattle.shared_value.specs.Stands.{IsWorld}
+use Rattle.shared_value.specs.Fits.{Fits, part_of}
+use Rattle.others_objects.specs.Other.{SameButRoom}
+use Rattle.others_objects.proofs.WriteNoted.{noted_is, noted_of}
+
+module _ (w : World) (sets : List SetOf) (many : length sets ≡ length w.sets) (same : (t : ℕ) → content_at sets t ≡ content_at w.sets t) where
+  abbrev roomier : World
+  roomier = record w { sets = sets }
+
+  noted_same : (t : ℕ) → noted_in (slice_get w.sets t) ≡ noted_in (slice_get sets t)
+  noted_same t = noted_is (slice_get w.sets t) ∙ (ap noted_of (sym (same t)) ∙ sym (noted_is (slice_get sets t)))
+
+  value_same : value_of w ≡ value_of roomier
+  value_same = λ i. record (value_of w) { noted = λ t. record (noted_same t i) { marked = marks_at w.marks t } }
+
+  pub roomier_world : IsWorld w → IsWorld roomier
+  roomier_world I = record {
+    limits = I.limits;
+    form = I.form;
+    legal = I.legal;
+    made = I.made;
+    noted = many ∙ I.noted;
+    workers = I.workers;
+    limit = I.limit;
+    stands = subst (λ (v : Value). StandsForAll v (totals_of w) (accounts w)) value_same I.stands;
+    heaps = I.heaps;
+    measured = I.measured;
+  }
+
+  pub roomier_fit : (k : ℕ) (p : Private) → Fits w k p → Fits roomier k p
+  roomier_fit k p F = record {
+    held = F.held;
+    fits = subst (λ (v : Value). FitsValue w.program w.settings (part_of w.settings p) v (accounts w)) value_same F.fits;
+    form = F.form;
+    measured = F.measured;
+    leaf_limit = F.leaf_limit;
+    field_limit = F.field_limit;
+  }
+
+  pub roomier_same : SameButRoom w roomier
+  roomier_same = record { same = refl; sets = same; fit = roomier_fit }

@@ -1,0 +1,209 @@
+-- A store into an object of another task: what it makes of the value, and what it notes.
+use Rattle.std.proofs.Common.{◌≡◌, ◌⊎◌, ℕ, ℤ, ◌+◌, ◌<◌, ◌≤◌, ◌&&◌, not, arith, true, false, Bool, Option, Some, None, List, ◌∷◌, length, length-set, map, slice_get, option_map, inl, inr, refl, ap, ap₂, sym, subst, ◌∙◌}
+use Rattle.std.proofs.lemmas.Option.{same_Some}
+use Rattle.hh_model.specs.declared.data.Name.{Name}
+use Rattle.hh_model.specs.declared.data.Task.{Task}
+use Rattle.hh_model.specs.Effect.{ref_in}
+use Rattle.hh_model.specs.Step.{is_on_path, is_waiting, parents, waits}
+use Rattle.hh_model.proofs.Paths.{path_le}
+use Rattle.run_ledger.specs.declared.data.Ledger.{Ledger}
+use Rattle.run_ledger.specs.Heaps.{heap_of}
+use Rattle.object_layout.specs.declared.word.Addr.{Addr}
+use Rattle.object_layout.specs.declared.word.Birth.{Birth}
+use Rattle.object_layout.specs.Cell.{Cell, size_of, with_int as cell_int, with_ref as cell_ref}
+use Rattle.chunk_pool.specs.Chunks.{owner_of as pool_owner}
+use Rattle.task_frames.specs.declared.frames.Frame.{Frame}
+use Rattle.heap_tree.specs.Node.{is_on_path as tree_path}
+use Rattle.write_barrier.specs.declared.sets.SetOf.{SetOf}
+use Rattle.write_barrier.specs.Stored.{content_after, content_at}
+use Rattle.ledger_steps.specs.Accounts.{own}
+use Rattle.core_relation.specs.Value.{Frame as SeenFrame, Home, In, Seen, Source as SeenSource, Value, objects, sources}
+use Rattle.core_relation.specs.Changes.{StoresAt, StoresNumberAt, gone_on, register, with_field, with_number}
+use Rattle.core_relation.specs.Fits.{with_home}
+use Rattle.core_relation.specs.Reads.{Reads}
+use Rattle.core_relation.specs.Since.{Keeps, OthersNotes, StoresNotes}
+use Rattle.core_relation.specs.Stands.{Place}
+use Rattle.core_relation.proofs.changes.Store as store
+use Rattle.task_machine.specs.declared.part.Private.{Private}
+use Rattle.task_machine.specs.Plan.{int_of, ref_of}
+use Rattle.shared_value.specs.World.{World, accounts, frame_of, value_of}
+use Rattle.shared_value.specs.Objects.{seen}
+use Rattle.shared_value.specs.Stands.{IsWorld}
+use Rattle.shared_value.specs.Fits.{Fits, home_of_part}
+use Rattle.shared_value.proofs.PartFitsMachine as link
+use Rattle.shared_value.proofs.BeforeTheEnd.{stands_now, status}
+use Rattle.others_objects.proofs.ForeignObject.{IsForeign, holds, register_at, x}
+use Rattle.others_objects.proofs.WriteNoted as noting
+use Rattle.others_objects.proofs.ObjectWritten as other
+use Rattle.others_objects.proofs.TreePaths.{made_there, paths_same}
+
+-- the name at an address that is read
+pub reads_address : (at : Name → Addr → Type 0) (r : Option Addr) (x : Option Name) (a : Addr) → Reads at r x → r ≡ Some a → (n : Name) × (x ≡ Some n) × at n a
+reads_address at None None a h e = absurd cc
+reads_address at None (Some n) a h e = absurd h
+reads_address at (Some b) None a h e = absurd h
+reads_address at (Some b) (Some n) a h e = (n, refl, subst (at n) (same_Some b a e) h)
+
+false_by : (b : Bool) → (b ≡ true → ⊥) → b ≡ false
+false_by true f = absurd (f refl)
+false_by false f = refl
+
+module _ (w : World) (k : ℕ) (p : Private) (I : IsWorld w) (F : Fits w k p) (on : (accounts w).end ≡ None) where
+  abbrev t : ℕ
+  t = p.task
+
+  abbrev l : Ledger
+  l = accounts w
+
+  abbrev h : Home
+  h = home_of_part p
+
+  abbrev L : Ledger
+  L = other.L w k p I F on
+
+  abbrev v0 : Value
+  v0 = other.v0 w k p I F on
+
+  abbrev X : Task
+  X = x w k p I F on
+
+  -- nothing is kept for the task's own heap
+  none_kept : ((value_of w).noted t).keeps ≡ false
+  none_kept = (stands_now w I on).keeps t ∙ ap (λ b. b && not (heap_of l t).swept) (ap is_waiting F.fits.is ∙ ap waits (status w k p F on))
+
+  pub made : (b u : ℕ) → pool_owner w.pool b ≡ Some u → u < length w.sets
+  made b u e = subst (λ n. u < n) (sym I.noted) (made_there w I on u (sym ((link.alone w k p I F on).tree.made u) ∙ (link.W w k p I F on).made b u e))
+
+  path_is : (a u : ℕ) → tree_path w.tree a u ≡ is_on_path L.machine.tasks a u
+  path_is a u = paths_same w I on a u ∙ sym ((link.alone w k p I F on).tree.paths a u)
+
+  -- of two tasks only one stands above the other
+  one_way : (a u : ℕ) → tree_path w.tree a u ≡ true → (a ≡ u → ⊥) → is_on_path L.machine.tasks u a ≡ false
+  one_way a u path ne =
+      false_by (is_on_path L.machine.tasks u a) (λ back.
+      let low = (link.sound w k p I F on).kept.tree.low in
+      let x : a ≤ u = path_le (parents L.machine.tasks) low u a u (sym (path_is a u) ∙ path) in
+      let y : u ≤ a = path_le (parents L.machine.tasks) low a u a back in
+      ne (omega (arith, x, y)))
+
+  module _ (n : Name) (a : Addr) (O : IsForeign w (with_home (value_of w) t h) L t n a) (o : ℕ) (held : ref_in X.top o ≡ Some n) (at_a : ref_of p.frames.top o ≡ Some a) where
+    abbrev c : Cell
+    c = other.c w k p I F on n a O
+
+    abbrev u : ℕ
+    u = own L n
+
+    -- ---- A REFERENCE, from the register b, into the field i; what stood there is overwritten; the step sets the number register
+    -- swap, or none
+    module _ (b i : ℕ) (swap : Option (ℕ × ℤ)) (overwritten : Option Addr) (was : slice_get c.refs i ≡ Some overwritten) (sets : List SetOf)
+        (C : (z : ℕ) → content_at sets z ≡ option_map (content_after w.tree w.pool (record { object = a; field = i }) overwritten (ref_of p.frames.top b) z) (content_at w.sets z)) (top : Frame) (goes : frame_of top ≡ gone_on swap (frame_of p.frames.top)) where
+      abbrev value : Option Addr
+      value = ref_of p.frames.top b
+
+      abbrev pub d : Cell
+      d = cell_ref c i value
+
+      pub size : size_of d ≡ size_of c
+      size = ap (λ m. 2 + (m + length c.ints)) (length-set c.refs i value)
+
+      abbrev pub f : Seen → Seen
+      f = with_field i value
+
+      abbrev old : Value
+      old = with_home v0 t h
+
+      abbrev v1 : Value
+      v1 = other.v1 w k p I F on n a O d refl size f (λ number at birth. refl) sets top
+
+      abbrev g : Home
+      g = other.g w k p I F on n a O d refl size f (λ number at birth. refl) sets top
+
+      abbrev new : Value
+      new = with_home v1 t g
+
+      fields_of : (s : Seen) → length (f s).refs ≡ length s.refs
+      fields_of s = length-set s.refs i value
+
+      down : (e : Addr) (y z : ℕ) → register (frame_of p.frames.top) b ≡ Some e → v0.owner a.chunk ≡ Some y → v0.owner e.chunk ≡ Some z → is_on_path L.machine.tasks z y ≡ false → In (sources new z) (record { object = a; field = i })
+      down e y z er ea ee off =
+          let r = reads_address (Place (with_home (value_of w) t h) L) (ref_of p.frames.top b) (ref_in X.top b) e (register_at w k p I F on b) er in
+          let yn : y ≡ u = same_Some y u (sym ea ∙ O.place.chunk) in
+          let zr : z ≡ own L r.0 = same_Some z (own L r.0) (sym ee ∙ r.2.chunk) in
+          let off' : is_on_path L.machine.tasks (own L r.0) u ≡ false = ap₂ (is_on_path L.machine.tasks) (sym zr) (sym yn) ∙ off in
+          let is = link.is w k p I F on in
+          let above = store.above L (link.sound w k p I F on) t X is n r.0 (holds w k p I F on o n held) (holds w k p I F on b r.0 r.1) off' in
+          let apart = store.apart L (link.sound w k p I F on) t X is n r.0 (holds w k p I F on o n held) (holds w k p I F on b r.0 r.1) off' in
+          noting.notes_down w.tree w.pool w.sets sets a i overwritten value u O.place.chunk C e z er ee (path_is u z ∙ (ap (is_on_path L.machine.tasks u) zr ∙ above)) (λ q. apart (q ∙ zr)) (made e.chunk z ee)
+
+      only : (z : ℕ) (s : SeenSource) → In (sources new z) s
+          → In (sources old z) s ⊎ ((e : Addr) × (y : ℕ) × (register (frame_of p.frames.top) b ≡ Some e) × (v0.owner e.chunk ≡ Some z) × (v0.owner a.chunk ≡ Some y) × (is_on_path L.machine.tasks z y ≡ false) × (s ≡ record { object = a; field = i }))
+      only z s j = elim (noting.notes_only w.tree w.pool w.sets sets a i overwritten value u O.place.chunk C z s j) [
+        | inl before ↦ inl before
+        | inr added ↦ inr (added.0, u, added.1, added.2, O.place.chunk, one_way u z added.3 added.4, added.5)
+      ]
+
+      pub stores_at : StoresAt old new L t (frame_of p.frames.top) (map frame_of p.frames.below) a b i swap
+      stores_at = record {
+        frames = ap (λ (y : Home). y.frames) (other.home_old w k p I F on n a O d refl size f (λ number at birth. refl) sets top);
+        goes = ap (λ (y : Home). y.frames) (other.home_new w k p I F on n a O d refl size f (λ number at birth. refl) sets top) ∙ ap (λ (y : SeenFrame). y ∷ map frame_of p.frames.below) goes;
+        writes = other.writes w k p I F on n a O d refl size f (λ number at birth. refl) sets top (λ s. refl) (λ s. refl) (λ s. ap (λ m. 2 + m + length s.ints) (fields_of s)) (λ s. refl)
+            (λ z s j. noting.sources_grow w.tree w.pool w.sets sets a i overwritten value u O.place.chunk C z s j);
+        down = down;
+        only = only;
+      }
+
+      -- WHAT IS KEPT
+      old_field : (s : Seen) (e : Addr) (birth : Birth) → s ≡ seen s.at.chunk s.at.offset birth c → slice_get s.refs i ≡ Some (Some e) → overwritten ≡ Some e
+      old_field s e birth is at = same_Some overwritten (Some e) (sym was ∙ (ap (λ (y : Seen). slice_get y.refs i) (sym is) ∙ at))
+
+      keeps : (z : ℕ) → (z ≡ t → ⊥) → (old.noted z).keeps ≡ true → Keeps old new z a i
+      keeps z ne on' = record {
+        marked = refl;
+        more = (noting.kept_more w.tree w.pool w.sets sets a i overwritten value u O.place.chunk C z).0;
+        grows = (noting.kept_more w.tree w.pool w.sets sets a i overwritten value u O.place.chunk C z).1;
+        old = λ y0 s e there j at field owner.
+            let same : y0 ≡ u = same_Some y0 u (sym there ∙ O.place.chunk) in
+            let y = other.read_old w k p I F on n a O d refl size f (λ number at' birth. refl) sets top s (subst (λ r. In (objects old r) s) same j) at in
+            noting.keeps_old w.tree w.pool w.sets sets a i overwritten value u O.place.chunk C z e on' (old_field s e y.0 y.1 field) owner;
+        only = λ e j. elim (noting.kept_only w.tree w.pool w.sets sets a i overwritten value u O.place.chunk C z e j) [
+          | inl before ↦ inl before
+          | inr added ↦
+              let y = other.there_old w k p I F on n a O d refl size f (λ number at birth. refl) sets top in
+              inr (u, y.0, y.1, y.2, ap (λ (s : Seen). slice_get s.refs i) y.3.1 ∙ (was ∙ ap Some added.0), added.1, O.place.chunk)
+        ];
+      }
+
+      pub stores_notes : StoresNotes old new t a i
+      stores_notes = record {
+        none = noting.keeps_noted w.tree w.pool w.sets sets a i overwritten value u O.place.chunk C t ∙ none_kept;
+        keeps = λ z ne. noting.keeps_noted w.tree w.pool w.sets sets a i overwritten value u O.place.chunk C z;
+        each = keeps;
+      }
+
+    -- ---- A NUMBER, from the register b, into the field i
+    module _ (b i : ℕ) (top : Frame) (goes : frame_of top ≡ gone_on None (frame_of p.frames.top)) where
+      abbrev pub number : ℤ
+      number = int_of p.frames.top b
+
+      abbrev pub d_number : Cell
+      d_number = cell_int c i number
+
+      pub size_number : size_of d_number ≡ size_of c
+      size_number = ap (λ m. 2 + (length c.refs + m)) (length-set c.ints i number)
+
+      abbrev pub f_number : Seen → Seen
+      f_number = with_number i number
+
+      abbrev new_number : Value
+      new_number = with_home (other.v1 w k p I F on n a O d_number refl size_number f_number (λ number at birth. refl) w.sets top) t (other.g w k p I F on n a O d_number refl size_number f_number (λ number at birth. refl) w.sets top)
+
+      pub stores_number : StoresNumberAt (with_home v0 t h) new_number t (frame_of p.frames.top) (map frame_of p.frames.below) a b i
+      stores_number = record {
+        frames = ap (λ (y : Home). y.frames) (other.home_old w k p I F on n a O d_number refl size_number f_number (λ number at birth. refl) w.sets top);
+        goes = ap (λ (y : Home). y.frames) (other.home_new w k p I F on n a O d_number refl size_number f_number (λ number at birth. refl) w.sets top) ∙ ap (λ (y : SeenFrame). y ∷ map frame_of p.frames.below) goes;
+        writes = other.writes w k p I F on n a O d_number refl size_number f_number (λ number at birth. refl) w.sets top (λ s. refl) (λ s. refl) (λ s. ap (λ m. 2 + length s.refs + m) (length-set s.ints i number)) (λ s. refl) (λ z s j. j);
+        only = λ z s j. j;
+      }
+
+      pub number_notes : OthersNotes (with_home v0 t h) new_number t
+      number_notes = record { none = none_kept; others = λ z ne. record { keeps = refl; kept = refl; marked = refl } }

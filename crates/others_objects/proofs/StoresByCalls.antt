@@ -1,0 +1,284 @@
+-- Stores into objects of other tasks, as the calls have them.
+use Rattle.std.proofs.Common.{◌≡◌, ℕ, ℤ, suc, ◌+◌, ◌<◌, ◌++◌, arith, Option, Some, None, List, [], ◌∷◌, length, map, slice_get, slice_set, option_map, refl, ap, sym, subst, ◌∙◌}
+use Rattle.std.specs.Prelude.{slice_index_or}
+use Rattle.std.proofs.lemmas.Option.{same_Some}
+use Rattle.listed.proofs.Members.{got_same}
+use Rattle.listed.specs.Space.{Space}
+use Rattle.hh_lang.specs.declared.instr.Instr.{Instr}
+use Rattle.hh_lang.specs.declared.instr.Instr.TheVariants.{Puti}
+use Rattle.hh_model.specs.declared.data.Frame.{Frame as ModelFrame}
+use Rattle.hh_model.specs.declared.data.Name.{Name}
+use Rattle.hh_model.specs.declared.data.Object.{Object}
+use Rattle.hh_model.specs.declared.data.State.{State}
+use Rattle.hh_model.specs.declared.data.Task.{Task}
+use Rattle.hh_model.specs.Effect.{Goes, effect, int_in, object_at, place_in, ref_in}
+use Rattle.hh_model.specs.Step.{follow, owner_of, runs, setting}
+use Rattle.run_trace.specs.Entry.{Event}
+use Rattle.run_trace.specs.declared.entry.Kind.TheVariants.{Ran}
+use Rattle.run_ledger.specs.declared.data.Ledger.{Ledger}
+use Rattle.run_ledger.specs.Steps.{task_steps, touched}
+use Rattle.object_layout.specs.declared.word.Addr.{Addr}
+use Rattle.object_layout.specs.Cell.{Cell, size_of, with_int as cell_int, with_ref as cell_ref}
+use Rattle.object_layout.specs.Chunks.{cell_of, object_of}
+use Rattle.task_frames.specs.declared.frames.Frame.{Frame}
+use Rattle.write_barrier.specs.declared.sets.SetOf.{SetOf}
+use Rattle.write_barrier.specs.Stored.{content_after, content_at}
+use Rattle.ledger_steps.specs.Accounts.{own, rested}
+use Rattle.ledger_steps.specs.Last.{JustReads, Splits, WritesOther}
+use Rattle.core_relation.specs.Value.{Home, Value}
+use Rattle.core_relation.specs.Changes.{StoresAt, gone_on, with_field, with_number as number_field}
+use Rattle.core_relation.specs.Fits.{with_home}
+use Rattle.core_relation.specs.Makes.{StoresInto}
+use Rattle.core_relation.specs.Since.{StoresNotes}
+use Rattle.task_machine.specs.declared.part.Private.{Private}
+use Rattle.task_machine.specs.Plan.{int_of, ref_of}
+use Rattle.task_machine.proofs.Owned.{born_object}
+use Rattle.shared_value.specs.declared.rest.Rest.{Rest}
+use Rattle.shared_value.specs.World.{World, accounts, frame_of, value_of}
+use Rattle.shared_value.specs.Stands.{IsWorld}
+use Rattle.shared_value.specs.Fits.{Fits, OthersFit, home_of_part}
+use Rattle.shared_value.specs.Entered.{refused}
+use Rattle.shared_value.proofs.PartFitsMachine as link
+use Rattle.own_steps.specs.Alone.{GoesAlone, IsShared}
+use Rattle.own_steps.proofs.LastStepEntry as last
+use Rattle.own_steps.proofs.LastStepEntry.{last_event}
+use Rattle.own_steps.proofs.OtherStepKinds.{same_object, writing}
+use Rattle.others_objects.specs.Other.{put_rest}
+use Rattle.others_objects.proofs.ForeignObject.{IsForeign, in_register, reads_length, x}
+use Rattle.others_objects.proofs.ObjectWritten as other
+use Rattle.others_objects.proofs.StoreValue as stores
+use Rattle.others_objects.proofs.WriteEntered as written
+use Rattle.others_objects.proofs.StoreKinds.{Made, found_less, stands_at}
+
+module _ (w : World) (k : ℕ) (p : Private) (I : IsWorld w) (F : Fits w k p) (shared : IsShared w p) (free : refused w (last_event k p) ≡ None) where
+  abbrev pub t : ℕ
+  t = p.task
+
+  abbrev pub l : Ledger
+  l = accounts w
+
+  abbrev pub M : Ledger
+  M = task_steps w.program l t p.fresh
+
+  abbrev pub L : Ledger
+  L = last.L w k p I F shared free
+
+  abbrev pub h : Home
+  h = home_of_part p
+
+  abbrev pub S : Splits w.program w.settings l L t p.fresh
+  S = last.S w k p I F shared free
+
+  abbrev pub on : l.end ≡ None
+  on = last.on w k p I F shared free
+
+  abbrev pub X : Task
+  X = x w k p I F on
+
+  more : suc p.fresh ≡ p.fresh + 1
+  more = omega arith
+
+  -- the value once so many steps are entered
+  abbrev pub entered_by : List (Option Rest) → List SetOf → ℕ → Space Event → World
+  entered_by homes sets m space = record w {
+    homes = homes;
+    sets = sets;
+    steps = w.steps + m;
+    journal = record { items = w.journal.items ++ record { worker = k; kind = Ran p.task m } ∷ []; room = space.room };
+  }
+
+  task_is : X ≡ S.task
+  task_is = same_Some X S.task (sym (link.A w k p I F on).is ∙ S.at.task)
+
+  -- the step works on the object n, and goes on with this frame and store
+  module _ (n : Name) (y : Object) (touches : touched S.task.top S.line.instr ≡ Some n) (is : object_at M.machine.store n ≡ Some y) (frame : ModelFrame) (store : List (List Object)) (does : effect (setting M.machine t S.task) S.task.top M.machine.store S.line.instr ≡ Goes frame store)
+      (not : (f : ModelFrame) → JustReads S.task S.line.instr y f → ⊥) where
+    abbrev z : Task
+    z = record S.task { top = frame }
+
+    machine_is : L.machine ≡ record M.machine { tasks = slice_set M.machine.tasks t z; store = store }
+    machine_is = last.machine_then w k p I F shared free ∙ (last.taken w k p I F shared free ∙ ap (follow M.machine t S.task S.line.number) does)
+
+    at_then : slice_get L.machine.tasks t ≡ Some z
+    at_then = ap (λ (m : State). slice_get m.tasks t) machine_is ∙ got_same M.machine.tasks t S.task z S.at.task
+
+    goes_then : L.machine.end ≡ None
+    goes_then = ap (λ (m : State). m.end) machine_is ∙ last.mid_goes w k p I F shared free
+
+    pub K : WritesOther M L t S.task S.line
+    K =
+        writing w.program M L t S.task S.line (last.is_not_private w k p I F shared free) n touches z at_then (ap runs S.at.runs) goes_then y is
+        not S.kind S.last
+
+    pub object_is : y ≡ K.object
+    object_is = same_object w.program M L t S.task S.line (last.is_not_private w k p I F shared free) n touches z at_then (ap runs S.at.runs) goes_then y is K
+
+    apart : own (rested M t) n ≡ t → ⊥
+    apart e = K.foreign (ap (λ (r : Name). owner_of M.machine.tasks r.task) (sym (same_Some n K.name (sym touches ∙ K.touches))) ∙ (ap (λ (m : State). owner_of m.tasks n.task) (sym (link.machine_is w k p I F on)) ∙ e))
+
+    -- the object in the register o
+    module _ (o : ℕ) (named : ref_in S.task.top o ≡ Some n) (a : Addr) (at_a : ref_of p.frames.top o ≡ Some a) where
+      pub held : ref_in X.top o ≡ Some n
+      held = ap (λ (q : Task). ref_in q.top o) task_is ∙ named
+
+      pub foreign : IsForeign w (with_home (value_of w) t h) (rested M t) t n a
+      foreign =
+          let r = in_register w k p I F on o n held apart in
+          subst (IsForeign w (with_home (value_of w) t h) (rested M t) t n) (same_Some r.0 a (sym r.1 ∙ at_a)) r.2
+
+      same_foreign : foreign.object ≡ y
+      same_foreign = same_Some foreign.object y (sym foreign.is ∙ (ap (λ (m : State). object_at m.store n) (link.machine_is w k p I F on) ∙ is))
+
+      pub refs_many : length (cell_of foreign.rest.heap.chunks a).refs ≡ length y.refs
+      refs_many = reads_length _ (cell_of foreign.rest.heap.chunks a).refs foreign.object.refs foreign.refs ∙ ap (λ (q : Object). length q.refs) same_foreign
+
+      pub ints_many : length (cell_of foreign.rest.heap.chunks a).ints ≡ length y.ints
+      ints_many = ap length foreign.ints ∙ ap (λ (q : Object). length q.ints) same_foreign
+
+      -- ---- A REFERENCE, from the register b, into the field i, whose number is in the register j
+      module _ (b j i : ℕ) (swap : Option (ℕ × ℤ)) (place : place_in (length y.refs) (int_in S.task.top j) ≡ Some i)
+          (pack : (y' : Object) (v v' : Value) (C : StoresInto v v' M t h S.task y' o j b swap) → StoresNotes (with_home v t h) (with_home v' t C.0) t C.4 C.1 → Made v v' M t h S.task y' S.line.instr C.0)
+          (top : Frame) (goes : frame_of top ≡ gone_on swap (frame_of p.frames.top)) where
+        abbrev pub rest : Rest
+        rest = foreign.rest
+
+        abbrev pub cell : Cell
+        cell = cell_of rest.heap.chunks a
+
+        object_same : object_of rest.heap.chunks a ≡ cell
+        object_same = born_object rest.heap.chunks a foreign.birth foreign.mark
+
+        abbrev pub overwritten : Option Addr
+        overwritten = slice_index_or (object_of rest.heap.chunks a).refs i None
+
+        pub field_there : i < length (object_of rest.heap.chunks a).refs
+        field_there =
+            let lt : i < length y.refs = found_less (length y.refs) (int_in S.task.top j) i place in
+            subst (λ m. i < m) (sym (ap (λ (q : Cell). length q.refs) object_same ∙ refs_many)) lt
+
+        was : slice_get cell.refs i ≡ Some overwritten
+        was = ap (λ (q : Cell). slice_get q.refs i) (sym object_same) ∙ stands_at (object_of rest.heap.chunks a).refs i None field_there
+
+        abbrev value : Option Addr
+        value = ref_of p.frames.top b
+
+        module _ (sets : List SetOf) (many : length sets ≡ length w.sets) (C : (q : ℕ) → content_at sets q ≡ option_map (content_after w.tree w.pool (record { object = a; field = i }) overwritten value q) (content_at w.sets q)) where
+          abbrev d : Cell
+          d = cell_ref cell i value
+
+          size : size_of d ≡ size_of cell
+          size = stores.size w k p I F on n a foreign o held at_a b i swap overwritten was sets C top goes
+
+          abbrev v0 : Value
+          v0 = written.v0 w k p I F shared free
+
+          abbrev v1 : Value
+          v1 = other.v1 w k p I F on n a foreign d refl size (with_field i value) (λ m e birth. refl) sets top
+
+          abbrev q : Private
+          q = record p { frames = record { below = p.frames.below; top = top }; fresh = 0 }
+
+          abbrev g : Home
+          g = home_of_part q
+
+          at : StoresAt (with_home v0 t h) (with_home v1 t g) (rested M t) t (frame_of p.frames.top) (map frame_of p.frames.below) a b i swap
+          at = stores.stores_at w k p I F on n a foreign o held at_a b i swap overwritten was sets C top goes
+
+          made : Made v0 v1 M t h S.task K.object S.line.instr g
+          made =
+              pack K.object v0 v1
+              (g, i, frame_of p.frames.top, map frame_of p.frames.below, a, subst (λ (q : Object). place_in (length q.refs) (int_in S.task.top j) ≡ Some i) object_is place, at, at_a)
+              (stores.stores_notes w k p I F on n a foreign o held at_a b i swap overwritten was sets C top goes)
+
+          module _ (space : Space Event) where
+            abbrev homes : List (Option Rest)
+            homes = slice_set w.homes (own (rested M t) n) (Some (put_rest rest a d))
+
+            abbrev pub stored : World
+            stored = entered_by homes sets (p.fresh + 1) space
+
+            stored_is : entered_by homes sets (suc p.fresh) space ≡ stored
+            stored_is = ap (λ m. entered_by homes sets m space) more
+
+            pub reference_world : IsWorld stored
+            reference_world =
+                subst IsWorld stored_is
+                (written.written_world w k p I F shared free n a foreign d refl size (with_field i value) (λ m e birth. refl) sets many top K made.0 made.1 made.2 space)
+
+            pub reference_goes : GoesAlone w stored k p q
+            reference_goes = record {
+              enters = record { journal = refl; program = refl; settings = refl; halted = refl };
+              goes = subst (λ (y : World). (accounts y).end ≡ None) stored_is (written.written_goes w k p I F shared free n a foreign d refl size (with_field i value) (λ m e birth. refl) sets many top K made.0 made.1 made.2 space);
+              fits = subst (λ (y : World). Fits y k q) stored_is (written.written_part w k p I F shared free n a foreign d refl size (with_field i value) (λ m e birth. refl) sets many top K made.0 made.1 made.2 space);
+              part = refl;
+              others = subst (λ (y : World). OthersFit w y k) stored_is (written.written_others w k p I F shared free n a foreign d refl size (with_field i value) (λ m e birth. refl) sets many top K made.0 made.1 made.2 space);
+            }
+
+      -- ---- A NUMBER, from the register b, into the field i, whose number is in the register j
+      module _ (b j i : ℕ) (place : place_in (length y.ints) (int_in S.task.top j) ≡ Some i) (by : S.line.instr ≡ Puti o j b) (top : Frame) (goes : frame_of top ≡ gone_on None (frame_of p.frames.top)) where
+        abbrev rest_n : Rest
+        rest_n = foreign.rest
+
+        abbrev cell_n : Cell
+        cell_n = cell_of rest_n.heap.chunks a
+
+        same_n : object_of rest_n.heap.chunks a ≡ cell_n
+        same_n = born_object rest_n.heap.chunks a foreign.birth foreign.mark
+
+        pub number_there : i < length (object_of rest_n.heap.chunks a).ints
+        number_there =
+            let lt : i < length y.ints = found_less (length y.ints) (int_in S.task.top j) i place in
+            subst (λ m. i < m) (sym (ap (λ (q : Cell). length q.ints) same_n ∙ ints_many)) lt
+
+        abbrev number : ℤ
+        number = int_of p.frames.top b
+
+        abbrev d_n : Cell
+        d_n = cell_int cell_n i number
+
+        size_n : size_of d_n ≡ size_of cell_n
+        size_n = stores.size_number w k p I F on n a foreign o held at_a b i top goes
+
+        abbrev v0_n : Value
+        v0_n = written.v0 w k p I F shared free
+
+        abbrev v1_n : Value
+        v1_n = other.v1 w k p I F on n a foreign d_n refl size_n (number_field i number) (λ m e birth. refl) w.sets top
+
+        abbrev q_n : Private
+        q_n = record p { frames = record { below = p.frames.below; top = top }; fresh = 0 }
+
+        abbrev g_n : Home
+        g_n = home_of_part q_n
+
+        made_n : Made v0_n v1_n M t h S.task K.object S.line.instr g_n
+        made_n =
+            subst (λ (e : Instr). Made v0_n v1_n M t h S.task K.object e g_n) (sym by) (
+              (g_n, i, frame_of p.frames.top, map frame_of p.frames.below, a, subst (λ (q : Object). place_in (length q.ints) (int_in S.task.top j) ≡ Some i) object_is place, stores.stores_number w k p I F on n a foreign o held at_a b i top goes, at_a),
+              stores.number_notes w k p I F on n a foreign o held at_a b i top goes,
+              refl,
+            )
+
+        module _ (space : Space Event) where
+          abbrev homes_n : List (Option Rest)
+          homes_n = slice_set w.homes (own (rested M t) n) (Some (put_rest rest_n a d_n))
+
+          abbrev pub stored_n : World
+          stored_n = entered_by homes_n w.sets (p.fresh + 1) space
+
+          stored_is_n : entered_by homes_n w.sets (suc p.fresh) space ≡ stored_n
+          stored_is_n = ap (λ m. entered_by homes_n w.sets m space) more
+
+          pub number_world : IsWorld stored_n
+          number_world =
+              subst IsWorld stored_is_n
+              (written.written_world w k p I F shared free n a foreign d_n refl size_n (number_field i number) (λ m e birth. refl) w.sets refl top K made_n.0 made_n.1 made_n.2 space)
+
+          pub number_goes : GoesAlone w stored_n k p q_n
+          number_goes = record {
+            enters = record { journal = refl; program = refl; settings = refl; halted = refl };
+            goes = subst (λ (y : World). (accounts y).end ≡ None) stored_is_n (written.written_goes w k p I F shared free n a foreign d_n refl size_n (number_field i number) (λ m e birth. refl) w.sets refl top K made_n.0 made_n.1 made_n.2 space);
+            fits = subst (λ (y : World). Fits y k q_n) stored_is_n (written.written_part w k p I F shared free n a foreign d_n refl size_n (number_field i number) (λ m e birth. refl) w.sets refl top K made_n.0 made_n.1 made_n.2 space);
+            part = refl;
+            others = subst (λ (y : World). OthersFit w y k) stored_is_n (written.written_others w k p I F shared free n a foreign d_n refl size_n (number_field i number) (λ m e birth. refl) w.sets refl top K made_n.0 made_n.1 made_n.2 space);
+          }

@@ -1,0 +1,55 @@
+-- The tree has the paths of the machine's tasks.
+use Rattle.std.proofs.Common.{◌≡◌, ℕ, zero, suc, ◌<◌, ◌==◌, ◌||◌, Bool, true, false, Option, Some, None, length, slice_get, option_map, is_some, refl, ap, ◌∙◌}
+use Rattle.std.proofs.lemmas.Bool.{false≢true}
+use Rattle.std.proofs.lemmas.Option.{same_Some}
+use Rattle.listed.proofs.Members.{got_within}
+use Rattle.hh_model.specs.declared.data.Task.{Task}
+use Rattle.hh_model.specs.Step.{is_on_path, parent_of, parents, path_by, through}
+use Rattle.run_ledger.specs.declared.data.Ledger.{Ledger}
+use Rattle.run_ledger.specs.Heaps.{heap_of}
+use Rattle.heap_tree.specs.Node.{Node, parent_in, parent_of as tree_parent, is_on_path as tree_path}
+use Rattle.core_relation.specs.Whole.{Node as SeenNode, state_by}
+use Rattle.shared_value.specs.World.{World, accounts, node_of}
+use Rattle.shared_value.specs.Stands.{IsWorld}
+use Rattle.shared_value.proofs.BeforeTheEnd.{stands_now}
+
+same_through : (f g : ℕ → Bool) → ((u : ℕ) → f u ≡ g u) → (o q : Option ℕ) → o ≡ q → through o false f ≡ through q false g
+same_through f g e None None h = refl
+same_through f g e None (Some u) h = absurd cc
+same_through f g e (Some u) None h = absurd cc
+same_through f g e (Some u) (Some z) h = e u ∙ ap g (same_Some u z h)
+
+-- the same parents make the same paths
+same_by : (f g : ℕ → Option ℕ) → ((u : ℕ) → f u ≡ g u) → (more a t : ℕ) → path_by f more a t ≡ path_by g more a t
+same_by f g e zero a t = refl
+same_by f g e (suc more) a t = ap (λ b. (a == t) || b) (same_through (path_by f more a) (path_by g more a) (λ u. same_by f g e more a u) (f t) (g t) (e t))
+
+abbrev seen_task : Option ℕ → Task → SeenNode
+seen_task worker x = record { parent = x.parent; state = state_by x.status worker }
+
+same_parent : (o : Option Node) (q : Option Task) (worker : Option ℕ) → option_map node_of o ≡ option_map (seen_task worker) q → parent_in o ≡ parent_of q
+same_parent None None k e = refl
+same_parent None (Some x) k e = absurd cc
+same_parent (Some n) None k e = absurd cc
+same_parent (Some n) (Some x) k e = ap (λ (z : SeenNode). z.parent) (same_Some (node_of n) (seen_task k x) e)
+
+there : (o : Option Node) (q : Option Task) (worker : Option ℕ) → option_map node_of o ≡ option_map (seen_task worker) q → is_some q ≡ true → (n : Node) × (o ≡ Some n)
+there (Some n) q k e h = (n, refl)
+there None None k e h = absurd (false≢true h)
+there None (Some x) k e h = absurd cc
+
+module _ (w : World) (I : IsWorld w) (on : (accounts w).end ≡ None) where
+  abbrev l : Ledger
+  l = accounts w
+
+  same_node : (u : ℕ) → option_map node_of (slice_get w.tree u) ≡ option_map (seen_task (heap_of l u).worker) (slice_get l.machine.tasks u)
+  same_node u = (stands_now w I on).totals.node u
+
+  pub paths_same : (a t : ℕ) → tree_path w.tree a t ≡ is_on_path l.machine.tasks a t
+  paths_same a t = same_by (tree_parent w.tree) (parents l.machine.tasks) (λ u. same_parent (slice_get w.tree u) (slice_get l.machine.tasks u) (heap_of l u).worker (same_node u)) t a t
+
+  -- a task that was made has its place in the tree
+  pub made_there : (u : ℕ) → is_some (slice_get l.machine.tasks u) ≡ true → u < length w.tree
+  made_there u h =
+      let n = there (slice_get w.tree u) (slice_get l.machine.tasks u) (heap_of l u).worker (same_node u) h in
+      got_within w.tree u n.0 n.1

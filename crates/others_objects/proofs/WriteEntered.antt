@@ -1,0 +1,210 @@
+-- A write of an object of another task is entered.
+use Rattle.std.proofs.Common.{◌≡◌, ℕ, suc, ◌+◌, true, false, Option, Some, None, List, length, length-set, slice_get, inl, inr, refl, ap, sym, subst, ◌∙◌}
+use Rattle.std.proofs.lemmas.Bool.{cases_eq, false≢true}
+use Rattle.listed.proofs.Members.{got_other, got_same}
+use Rattle.listed.specs.Space.{Space}
+use Rattle.hh_model.specs.declared.data.Name.{Name}
+use Rattle.hh_model.specs.declared.data.Status.{Status}
+use Rattle.hh_model.specs.declared.data.Status.TheVariants.{Running, Waiting, Ended, Joined}
+use Rattle.hh_model.specs.declared.data.Task.{Task}
+use Rattle.hh_model.specs.Step.{is_running, is_waiting, runs, waits}
+use Rattle.run_trace.specs.Entry.{Event}
+use Rattle.run_ledger.specs.declared.data.Heap.{Heap}
+use Rattle.run_ledger.specs.declared.data.Ledger.{Ledger}
+use Rattle.run_ledger.specs.Heaps.{heap_of, or_fresh}
+use Rattle.run_ledger.specs.Steps.{task_steps}
+use Rattle.run_ledger.proofs.Holders.{tasks_are_held_once}
+use Rattle.object_layout.specs.declared.word.Addr.{Addr}
+use Rattle.object_layout.specs.declared.word.Birth.{Birth}
+use Rattle.object_layout.specs.Cell.{Cell, size_of}
+use Rattle.task_frames.specs.declared.frames.Frame.{Frame}
+use Rattle.write_barrier.specs.declared.sets.SetOf.{SetOf}
+use Rattle.ledger_steps.specs.Accounts.{Rests}
+use Rattle.ledger_steps.specs.Last.{Runs, Splits, Writing, WritesOther}
+use Rattle.core_relation.specs.Value.{Home, Seen, Value}
+use Rattle.core_relation.specs.Fits.{part_for, with_home}
+use Rattle.core_relation.specs.Makes.{Stores, StoresHome}
+use Rattle.core_relation.specs.Marks.{StoreMarks}
+use Rattle.core_relation.specs.RanCounts.{RanCounts}
+use Rattle.core_relation.specs.Whole.{StandsFor, StandsForAll, by_end}
+use Rattle.core_relation.specs.Worker.{Fits as FitsValue}
+use Rattle.core_relation.proofs.parts.RanFits.{ran_fits_then}
+use Rattle.core_relation.proofs.whole.RanWhole.{ran_stands_for}
+use Rattle.core_relation.proofs.parts.Workers.{ran_leaves}
+use Rattle.task_machine.specs.declared.part.Private.{Private}
+use Rattle.shared_value.specs.declared.rest.Rest.{Rest}
+use Rattle.shared_value.specs.World.{World, accounts, totals_of, value_of}
+use Rattle.shared_value.specs.Objects.{seen}
+use Rattle.shared_value.specs.Stands.{IsWorld}
+use Rattle.shared_value.specs.Fits.{Fits, OthersFit, home_of_part, part_of}
+use Rattle.shared_value.specs.Entered.{refused}
+use Rattle.shared_value.proofs.CellsChanged.{with_fields}
+use Rattle.shared_value.proofs.EntryMade.{entered, entered_world, held_apart, part_fits}
+use Rattle.shared_value.proofs.HeldTasks.{fits_held, stands_for_held}
+use Rattle.shared_value.proofs.BeforeTheEnd.{end_now, stands_now}
+use Rattle.own_steps.specs.Alone.{IsShared}
+use Rattle.own_steps.proofs.LastStepEntry as last
+use Rattle.own_steps.proofs.LastStepEntry.{last_event}
+use Rattle.others_objects.proofs.ForeignObject.{IsForeign}
+use Rattle.others_objects.proofs.ObjectWritten as other
+use Rattle.others_objects.proofs.ObjectWritten.{resting_is}
+
+-- who waits doesn't run
+waits_not : (o : Option Task) → is_waiting o ≡ true → is_running o ≡ false
+waits_not None h = absurd (false≢true h)
+waits_not (Some x) h = by x.status h
+  where
+    by : (s : Status) → waits s ≡ true → runs s ≡ false
+    by Running e = absurd (false≢true e)
+    by Waiting e = refl
+    by (Ended k r) e = refl
+    by Joined e = refl
+
+running_not : {A : Type 0} (o : Option Task) → is_waiting o ≡ true → is_running o ≡ true → A
+running_not o h r = absurd (false≢true (sym (waits_not o h) ∙ r))
+
+none_held : {A : Type 0} (k : ℕ) → ◌≡◌ {A = Option ℕ} None (Some k) → A
+none_held k e = absurd cc
+
+held_not : {A : Type 0} (o : Option ℕ) (k : ℕ) → o ≡ Some k → o ≡ None → A
+held_not o k a b = none_held k (sym b ∙ a)
+
+module _ (w : World) (k : ℕ) (p : Private) (I : IsWorld w) (F : Fits w k p) (shared : IsShared w p) (free : refused w (last_event k p) ≡ None) where
+  abbrev pub t : ℕ
+  t = p.task
+
+  abbrev pub l : Ledger
+  l = accounts w
+
+  abbrev pub M : Ledger
+  M = task_steps w.program l t p.fresh
+
+  abbrev pub L : Ledger
+  L = last.L w k p I F shared free
+
+  abbrev pub h : Home
+  h = home_of_part p
+
+  abbrev pub S : Splits w.program w.settings l L t p.fresh
+  S = last.S w k p I F shared free
+
+  abbrev pub on : l.end ≡ None
+  on = last.on w k p I F shared free
+
+  abbrev pub v0 : Value
+  v0 = other.v0 w k p I F on
+
+  -- before it, who waits rests
+  waits_l : (u : ℕ) → is_waiting (slice_get l.machine.tasks u) ≡ true → Rests l u
+  waits_l u h' = by (heap_of l u).worker refl
+    where
+      by : (o : Option ℕ) → (heap_of l u).worker ≡ o → Rests l u
+      by None e = e
+      by (Some x) e = running_not (slice_get l.machine.tasks u) h' ((tasks_are_held_once w.program w.settings w.journal.items I.legal).runs on u x e)
+
+  stands_0 : StandsFor v0 (totals_of w) l
+  stands_0 = stands_for_held (value_of w) v0.homes l (λ u r. resting_is l (value_of w).homes u r) waits_l (totals_of w) (stands_now w I on)
+
+  all_0 : StandsForAll v0 (totals_of w) l
+  all_0 = subst (λ o. StandsFor v0 (totals_of w) (by_end l o)) (sym on) stands_0
+
+  abbrev R : Runs w.program w.settings l L t k p.fresh
+  R = last.runs_so w k p I F shared free
+
+  own_0 : FitsValue w.program w.settings (part_for w.settings t h p.fresh) v0 l
+  own_0 = fits_held (value_of w) v0.homes l (λ u r. resting_is l (value_of w).homes u r) w.program w.settings (part_for w.settings t h p.fresh) R.knows.sound (last.before_goes w k p I F shared free) F.fits
+
+  module _ (n : Name) (a : Addr) (O : IsForeign w (with_home (value_of w) t h) (other.L w k p I F on) t n a) (d : Cell) (mark : d.mark ≡ (other.c w k p I F on n a O).mark) (size : size_of d ≡ size_of (other.c w k p I F on n a O))
+      (f : Seen → Seen) (fields : (number at : ℕ) (b : Birth) → with_fields d (seen number at b (other.c w k p I F on n a O)) ≡ f (seen number at b (other.c w k p I F on n a O))) (sets : List SetOf) (many : length sets ≡ length w.sets) (top : Frame) where
+    abbrev pub homes : List (Option Rest)
+    homes = other.homes w k p I F on n a O d mark size f fields sets top
+
+    abbrev pub v' : Value
+    v' = other.v' w k p I F on n a O d mark size f fields sets top
+
+    abbrev pub v1 : Value
+    v1 = other.v1 w k p I F on n a O d mark size f fields sets top
+
+    abbrev pub q : Private
+    q = other.q w k p I F on n a O d mark size f fields sets top
+
+    abbrev pub g : Home
+    g = home_of_part q
+
+    module _ (K : WritesOther M L t S.task S.line) (C : Stores v0 v1 M t h S.task K.object S.line.instr) (mk : StoreMarks v0 v1 M t h S.task K.object S.line.instr C) (gh : StoresHome v0 v1 M t h S.task K.object S.line.instr C g) where
+      goes_then : L.machine.end ≡ None
+      goes_then = ap (λ (y : Ledger). y.machine.end) K.goes ∙ last.mid_goes w k p I F shared free
+
+      end_then : L.end ≡ None
+      end_then = ap (λ (y : Ledger). y.end) K.goes ∙ ((last.A w k p I F shared free).end ∙ on)
+
+      -- how the entry splits
+      abbrev E : Runs w.program w.settings l L t k p.fresh
+      E = record R { splits = record S { kind = Writing; last = K; apart = last.is_not_private w k p I F shared free; on = λ u. goes_then } }
+
+      -- who holds what stays
+      heap_then : (u : ℕ) → heap_of L u ≡ heap_of M u
+      heap_then u = ap (λ (y : Ledger). or_fresh (slice_get y.heaps u)) K.goes
+
+      rests_then : (u : ℕ) → Rests L u → Rests l u
+      rests_then u r = elim (cases_eq u t) [
+        | inl e ↦ held_not (heap_of M t).worker k (last.held_mid w k p I F shared free) (subst (λ z. (heap_of M z).worker ≡ None) e (ap (λ (z : Heap). z.worker) (sym (heap_then u)) ∙ r))
+        | inr ne ↦ ap (λ o. (or_fresh o).worker) (sym (last.heap_off w k p I F shared free u ne)) ∙ (ap (λ (z : Heap). z.worker) (sym (heap_then u)) ∙ r)
+      ]
+
+      same_then : (u : ℕ) → Rests L u → v'.homes u ≡ v1.homes u
+      same_then u r = sym (resting_is l v'.homes u (rests_then u r))
+
+      -- and so does who waits
+      at_then : slice_get L.machine.tasks t ≡ Some (record S.task { top = K.frame })
+      at_then = ap (λ (y : Ledger). slice_get y.machine.tasks t) K.goes ∙ got_same M.machine.tasks t S.task (record S.task { top = K.frame }) S.at.task
+
+      waits_same : (u : ℕ) → is_waiting (slice_get L.machine.tasks u) ≡ is_waiting (slice_get M.machine.tasks u)
+      waits_same u = elim (cases_eq u t) [
+        | inl e ↦ ap (λ z. is_waiting (slice_get L.machine.tasks z)) e ∙ (ap is_waiting at_then ∙ (ap is_waiting (sym S.at.task) ∙ ap (λ z. is_waiting (slice_get M.machine.tasks z)) (sym e)))
+        | inr ne ↦ ap is_waiting (ap (λ (y : Ledger). slice_get y.machine.tasks u) K.goes ∙ got_other M.machine.tasks t u (record S.task { top = K.frame }) ne)
+      ]
+
+      waits_then : (u : ℕ) → is_waiting (slice_get L.machine.tasks u) ≡ true → Rests L u
+      waits_then u h' = ap (λ (z : Heap). z.worker) (heap_then u) ∙ R.idle u (waits_not (slice_get M.machine.tasks u) (sym (waits_same u) ∙ h'))
+
+      module _ (j : Space Event) where
+        abbrev steps : ℕ
+        steps = w.steps + suc p.fresh
+
+        abbrev w' : World
+        w' = entered w (last_event k p) w.tree w.pool homes sets w.hands w.outputs steps w.end j.room
+
+        counts : RanCounts w.program (totals_of w) (totals_of w') M L t k p.fresh S.task S.line Writing K
+        counts = record { tree = λ u. refl; hand = λ u. refl; outputs = refl; end = refl; used = refl; steps = refl }
+
+        all_1 : StandsForAll v1 (totals_of w') L
+        all_1 = ran_stands_for w.program w.settings w.journal.items I.form I.legal v0 v1 (totals_of w) (totals_of w') k t p.fresh h free E all_0 own_0 C mk counts
+
+        all_then : StandsForAll v' (totals_of w') L
+        all_then =
+            subst (λ o. StandsFor v' (totals_of w') (by_end L o)) (sym end_then)
+            (stands_for_held v1 v'.homes L same_then waits_then (totals_of w') (subst (λ o. StandsFor v1 (totals_of w') (by_end L o)) end_then all_1))
+
+        pub written_world : IsWorld w'
+        written_world =
+            entered_world w (last_event k p) I free w.tree w.pool homes sets w.hands w.outputs steps w.end j.room
+            (length-set w.homes (other.u w k p I F on n a O) _ ∙ I.made) (many ∙ I.noted) refl refl all_then
+            (other.forms w k p I F on n a O d mark size f fields sets top) (other.measures w k p I F on n a O d mark size f fields sets top)
+
+        pub written_goes : (accounts w').end ≡ None
+        written_goes = sym (end_now w' written_world) ∙ (end_now w I ∙ on)
+
+        pub written_part : Fits w' k q
+        written_part =
+            part_fits w (last_event k p) I free w.tree w.pool homes sets w.hands w.outputs steps w.end j.room written_world k p q refl F refl refl refl F.form F.measured
+            (fits_held v1 v'.homes L same_then w.program w.settings (part_of w.settings q) R.knows_then.sound goes_then
+            (ran_fits_then w.program w.settings v0 v1 l L t k p.fresh h g E own_0 C gh))
+
+        -- THE PARTS OF OTHERS
+        pub written_others : OthersFit w w' k
+        written_others u r ne G =
+            part_fits w (last_event k p) I free w.tree w.pool homes sets w.hands w.outputs steps w.end j.room written_world u r r refl G refl refl refl G.form G.measured
+            (fits_held v1 v'.homes L same_then w.program w.settings (part_of w.settings r) R.knows_then.sound goes_then
+            (ran_leaves w.program w.settings v0 v1 l L t k p.fresh h E own_0 C (part_of w.settings r) (held_apart w k u p r F G ne)
+            (fits_held (value_of w) v0.homes l (λ z y. resting_is l (value_of w).homes z y) w.program w.settings (part_of w.settings r) R.knows.sound (last.before_goes w k p I F shared free) G.fits)))

@@ -1,0 +1,314 @@
+-- What the write of a reference notes, in the sets of the heaps.
+use Rattle.std.proofs.Common.{◌≡◌, ◌⊎◌, ℕ, zero, suc, arith, ◌<◌, ◌==◌, ◌&&◌, ◌||◌, ◌++◌, not, Bool, true, false, cond, Option, Some, None, List, [], ◌∷◌, length, map, slice_get, option_map, inl, inr, refl, ap, ap₂, sym, subst, ◌∙◌, eq-eqb, ne_eqb}
+use Rattle.std.specs.Prelude.{option_to_list}
+use Rattle.std.proofs.lemmas.Bool.{and_parts, cond-true, eqb-true, false≢true, both_ways}
+use Rattle.std.proofs.lemmas.Option.{same_Some}
+use Rattle.listed.proofs.Members.{in_append_cases, in_append_left, in_append_right}
+use Rattle.object_layout.specs.declared.word.Addr.{Addr}
+use Rattle.chunk_pool.specs.Chunks.{Chunks, owner_of}
+use Rattle.heap_tree.specs.Node.{Node, is_on_path}
+use Rattle.remembered_set.specs.declared.remembered.Source.{Source}
+use Rattle.remembered_set.specs.Sources.{has_source, noted, same_source}
+use Rattle.write_barrier.specs.declared.sets.SetOf.{SetOf}
+use Rattle.write_barrier.specs.Stored.{Content, content_after, content_at, content_of, heap_of, is_down, is_of, noted_in as noted_heap, with_source}
+use Rattle.core_relation.specs.Value.{In, Noted, Source as SeenSource}
+use Rattle.core_relation.proofs.objects.Members.{in_map, map_in}
+use Rattle.shared_value.specs.World.{noted_in, source_of}
+
+-- ---- ONE SET
+
+-- what is noted, by what a set holds
+abbrev pub noted_of : Option Content → Noted
+noted_of None = record { sources = []; kept = []; keeps = false; marked = None }
+noted_of (Some c) = record { sources = map source_of c.sources; kept = c.kept; keeps = c.keeps; marked = None }
+
+pub noted_is : (o : Option SetOf) → noted_in o ≡ noted_of (option_map content_of o)
+noted_is None = refl
+noted_is (Some s) = refl
+
+source_is : (s x : Source) → same_source s x ≡ true → x ≡ s
+source_is s x e =
+    let q = and_parts (s.object.chunk == x.object.chunk && s.object.offset == x.object.offset) (s.field == x.field) e in
+    let r = and_parts (s.object.chunk == x.object.chunk) (s.object.offset == x.object.offset) q.0 in
+    let chunk : s.object.chunk ≡ x.object.chunk = eqb-true s.object.chunk x.object.chunk r.0 in
+    let offset : s.object.offset ≡ x.object.offset = eqb-true s.object.offset x.object.offset r.1 in
+    let field : s.field ≡ x.field = eqb-true s.field x.field q.1 in
+    let object : x.object ≡ s.object = ap₂ (λ a b. let z : Addr = record { chunk = a; offset = b } in z) (sym chunk) (sym offset) in
+    ap₂ (λ o f. let z : Source = record { object = o; field = f } in z) object (sym field)
+
+has_in : (xs : List Source) (s : Source) → has_source xs s ≡ true → In xs s
+has_in [] s e = absurd (false≢true e)
+has_in (x ∷ xs) s e = by (same_source s x) refl e (has_in xs s)
+  where
+    by : (b : Bool) → same_source s x ≡ b → (b || has_source xs s) ≡ true → (has_source xs s ≡ true → In xs s) → In (x ∷ xs) s
+    by true q h go = inl (source_is s x q)
+    by false q h go = inr (go h)
+
+noted_there : (xs : List Source) (s : Source) → In (noted xs s) s
+noted_there xs s = by (has_source xs s) refl
+  where
+    by : (b : Bool) → has_source xs s ≡ b → In (cond b xs (xs ++ s ∷ [])) s
+    by true e = has_in xs s e
+    by false e = in_append_right xs (s ∷ []) s (inl refl)
+
+noted_grows : (xs : List Source) (s y : Source) → In xs y → In (noted xs s) y
+noted_grows xs s y i = by (has_source xs s)
+  where
+    by : (b : Bool) → In (cond b xs (xs ++ s ∷ [])) y
+    by true = i
+    by false = in_append_left xs (s ∷ []) y i
+
+noted_only : (xs : List Source) (s y : Source) → In (noted xs s) y → In xs y ⊎ (s ≡ y)
+noted_only xs s y i = by (has_source xs s) i
+  where
+    by : (b : Bool) → In (cond b xs (xs ++ s ∷ [])) y → In xs y ⊎ (s ≡ y)
+    by true j = inl j
+    by false j = elim (in_append_cases xs (s ∷ []) y j) [ inl q ↦ inl q | inr q ↦ elim q [ inl e ↦ inr e | inr n ↦ absurd n ] ]
+
+of_is : (o : Option ℕ) (t : ℕ) → is_of o t ≡ true → o ≡ Some t
+of_is None t e = absurd (false≢true e)
+of_is (Some h) t e = ap Some (eqb-true h t e)
+
+is_of_it : (t : ℕ) → is_of (Some t) t ≡ true
+is_of_it t = eq-eqb t t refl
+
+none_there : {A : Type 0} (xs : List A) (n : ℕ) → n < length xs → slice_get xs n ≡ None → ⊥
+none_there [] n lt e = absurd (omega (arith, lt))
+none_there (x ∷ xs) zero lt e = absurd cc
+none_there (x ∷ xs) (suc n) lt e = none_there xs n (omega (arith, lt)) e
+
+-- ---- THE WRITE
+module _ (tree : List Node) (pool : Chunks) (sets sets' : List SetOf) (a : Addr) (i : ℕ) (overwritten value : Option Addr) (u : ℕ) (owner : owner_of pool a.chunk ≡ Some u)
+    (C : (t : ℕ) → content_at sets' t ≡ option_map (content_after tree pool (record { object = a; field = i }) overwritten value t) (content_at sets t)) where
+  abbrev source : Source
+  source = record { object = a; field = i }
+
+  abbrev pub seen_source : SeenSource
+  seen_source = record { object = a; field = i }
+
+  abbrev into : Option ℕ
+  into = noted_heap tree pool a value
+
+  abbrev after : ℕ → Content → Content
+  after t c = content_after tree pool source overwritten value t c
+
+  -- each part of it
+  sources_by : (b d : Bool) (t : ℕ) (c : Content) → (cond d (record (cond b (record c { sources = noted c.sources source }) c) { kept = (cond b (record c { sources = noted c.sources source }) c).kept ++ option_to_list overwritten }) (cond b (record c { sources = noted c.sources source }) c)).sources
+      ≡ cond b (noted c.sources source) c.sources
+  sources_by true true t c = refl
+  sources_by true false t c = refl
+  sources_by false true t c = refl
+  sources_by false false t c = refl
+
+  sources_after : (t : ℕ) (c : Content) → (after t c).sources ≡ cond (is_of into t) (noted c.sources source) c.sources
+  sources_after t c = sources_by (is_of into t) (is_of (heap_of pool overwritten) t && (with_source into source t c).keeps) t c
+
+  kept_source : (t : ℕ) (c : Content) → (with_source into source t c).kept ≡ c.kept
+  kept_source t c = by (is_of into t)
+    where
+      by : (b : Bool) → (cond b (record c { sources = noted c.sources source }) c).kept ≡ c.kept
+      by true = refl
+      by false = refl
+
+  keeps_source : (t : ℕ) (c : Content) → (with_source into source t c).keeps ≡ c.keeps
+  keeps_source t c = by (is_of into t)
+    where
+      by : (b : Bool) → (cond b (record c { sources = noted c.sources source }) c).keeps ≡ c.keeps
+      by true = refl
+      by false = refl
+
+  keeps_after : (t : ℕ) (c : Content) → (after t c).keeps ≡ c.keeps
+  keeps_after t c = by (is_of (heap_of pool overwritten) t && (with_source into source t c).keeps) ∙ keeps_source t c
+    where
+      by : (b : Bool) → (cond b (record (with_source into source t c) { kept = (with_source into source t c).kept ++ option_to_list overwritten }) (with_source into source t c)).keeps ≡ (with_source into source t c).keeps
+      by true = refl
+      by false = refl
+
+  kept_after : (t : ℕ) (c : Content) → (after t c).kept ≡ cond (is_of (heap_of pool overwritten) t && c.keeps) (c.kept ++ option_to_list overwritten) c.kept
+  kept_after t c =
+      by (is_of (heap_of pool overwritten) t && (with_source into source t c).keeps)
+      ∙ ap₂ (λ b ks. cond (is_of (heap_of pool overwritten) t && b) (ks ++ option_to_list overwritten) ks) (keeps_source t c) (kept_source t c)
+    where
+      by : (b : Bool) → (cond b (record (with_source into source t c) { kept = (with_source into source t c).kept ++ option_to_list overwritten }) (with_source into source t c)).kept
+          ≡ cond b ((with_source into source t c).kept ++ option_to_list overwritten) (with_source into source t c).kept
+      by true = refl
+      by false = refl
+
+  -- ---- WHAT IS NOTED OF THE HEAP OF t
+  abbrev was : ℕ → Noted
+  was t = noted_in (slice_get sets t)
+
+  abbrev now : ℕ → Noted
+  now t = noted_in (slice_get sets' t)
+
+  now_is : (t : ℕ) → now t ≡ noted_of (option_map (after t) (content_at sets t))
+  now_is t = noted_is (slice_get sets' t) ∙ ap noted_of (C t)
+
+  was_is : (t : ℕ) → was t ≡ noted_of (content_at sets t)
+  was_is t = noted_is (slice_get sets t)
+
+  pub keeps_noted : (t : ℕ) → (now t).keeps ≡ (was t).keeps
+  keeps_noted t = ap (λ (x : Noted). x.keeps) (now_is t) ∙ (by (content_at sets t) ∙ ap (λ (x : Noted). x.keeps) (sym (was_is t)))
+    where
+      by : (o : Option Content) → (noted_of (option_map (after t) o)).keeps ≡ (noted_of o).keeps
+      by None = refl
+      by (Some c) = keeps_after t c
+
+  pub marked_noted : (t : ℕ) → (now t).marked ≡ (was t).marked
+  marked_noted t = ap (λ (x : Noted). x.marked) (now_is t) ∙ (by (content_at sets t) ∙ ap (λ (x : Noted). x.marked) (sym (was_is t)))
+    where
+      by : (o : Option Content) → (noted_of (option_map (after t) o)).marked ≡ (noted_of o).marked
+      by None = refl
+      by (Some c) = refl
+
+  -- SOURCES
+  pub sources_grow : (t : ℕ) (s : SeenSource) → In (was t).sources s → In (now t).sources s
+  sources_grow t s j = subst (λ (x : Noted). In x.sources s) (sym (now_is t)) (by (content_at sets t) (subst (λ (x : Noted). In x.sources s) (was_is t) j))
+    where
+      one : (b : Bool) (c : Content) → In (map source_of c.sources) s → In (map source_of (cond b (noted c.sources source) c.sources)) s
+      one true c i' =
+          let x = map_in source_of c.sources s i' in
+          subst (In (map source_of (noted c.sources source))) x.2 (in_map source_of (noted c.sources source) x.0 (noted_grows c.sources source x.0 x.1))
+      one false c i' = i'
+
+      by : (o : Option Content) → In (noted_of o).sources s → In (noted_of (option_map (after t) o)).sources s
+      by None i' = i'
+      by (Some c) i' = subst (λ xs. In (map source_of xs) s) (sym (sources_after t c)) (one (is_of into t) c i')
+
+  -- where it points down it is noted
+  pub notes_down : (b : Addr) (t : ℕ) → value ≡ Some b → owner_of pool b.chunk ≡ Some t → is_on_path tree u t ≡ true → (u ≡ t → ⊥) → t < length sets → In (now t).sources seen_source
+  notes_down b t ev eb path ne lt = subst (λ (x : Noted). In x.sources seen_source) (sym (now_is t)) (by (slice_get sets t) refl)
+    where
+      into_is : into ≡ Some t
+      into_is =
+          ap (noted_heap tree pool a) ev
+          ∙ (ap₂ (λ x y. cond (is_down tree x y) y None) owner eb
+          ∙ cond-true (is_on_path tree u t && not (u == t)) (Some t) None (ap₂ (λ x y. x && not y) path (ne_eqb u t ne)))
+
+      one : (c : Content) → In (map source_of (after t c).sources) seen_source
+      one c =
+          subst (λ xs. In (map source_of xs) seen_source)
+          (sym (sources_after t c ∙ cond-true (is_of into t) (noted c.sources source) c.sources (ap (λ o. is_of o t) into_is ∙ is_of_it t)))
+          (in_map source_of (noted c.sources source) source (noted_there c.sources source))
+
+      by : (o : Option SetOf) → slice_get sets t ≡ o → In (noted_of (option_map (after t) (option_map content_of o))).sources seen_source
+      by (Some s) e = one (content_of s)
+      by None e = absurd (none_there sets t lt e)
+
+  -- and nothing else is
+  abbrev pub IsNew : ℕ → SeenSource → Type 0
+  IsNew t s = (b : Addr) × (value ≡ Some b) × (owner_of pool b.chunk ≡ Some t) × (is_on_path tree u t ≡ true) × (u ≡ t → ⊥) × (s ≡ seen_source)
+
+  not_true : (x : Bool) → not x ≡ true → x ≡ false
+  not_true true h = absurd (false≢true h)
+  not_true false h = refl
+
+  new_test : (t : ℕ) (s : SeenSource) (b : Addr) (d : ℕ) → value ≡ Some b → s ≡ seen_source → owner_of pool b.chunk ≡ Some d → (x : Bool) → (is_on_path tree u d && not (u == d)) ≡ x → cond x (Some d) None ≡ Some t → IsNew t s
+  new_test t s b d ev es q false y z = absurd cc
+  new_test t s b d ev es q true y z =
+      let same : d ≡ t = same_Some d t z in
+      let parts = and_parts (is_on_path tree u d) (not (u == d)) y in
+      (b, ev, q ∙ z, ap (is_on_path tree u) (sym same) ∙ parts.0, (λ k. both_ways (u == d) (not_true (u == d) parts.1) (eq-eqb u d (k ∙ sym same))), es)
+
+  new_at : (t : ℕ) (s : SeenSource) (b : Addr) → value ≡ Some b → s ≡ seen_source → (o : Option ℕ) → owner_of pool b.chunk ≡ o → cond (is_down tree (Some u) o) o None ≡ Some t → IsNew t s
+  new_at t s b ev es None q z = absurd cc
+  new_at t s b ev es (Some d) q z = new_test t s b d ev es q (is_on_path tree u d && not (u == d)) refl z
+
+  new_by : (t : ℕ) (s : SeenSource) (v : Option Addr) → value ≡ v → s ≡ seen_source → noted_heap tree pool a v ≡ Some t → IsNew t s
+  new_by t s None ev es e = none_down (owner_of pool a.chunk) e
+    where
+      none_down : {A : Type 0} (o : Option ℕ) → cond (is_down tree o None) None None ≡ Some t → A
+      none_down None q = absurd cc
+      none_down (Some x) q = absurd cc
+  new_by t s (Some b) ev es e = new_at t s b ev es (owner_of pool b.chunk) refl (ap (λ x. cond (is_down tree x (owner_of pool b.chunk)) (owner_of pool b.chunk) None) (sym owner) ∙ e)
+
+  new_one : (t : ℕ) (s : SeenSource) (x : Bool) → is_of into t ≡ x → (c : Content) → In (map source_of (cond x (noted c.sources source) c.sources)) s → In (map source_of c.sources) s ⊎ IsNew t s
+  new_one t s false e c k = inl k
+  new_one t s true e c k =
+      let y = map_in source_of (noted c.sources source) s k in
+      elim (noted_only c.sources source y.0 y.1) [
+        | inl old ↦ inl (subst (In (map source_of c.sources)) y.2 (in_map source_of c.sources y.0 old))
+        | inr same ↦ inr (new_by t s value refl (sym y.2 ∙ ap source_of (sym same)) (of_is into t e))
+      ]
+
+  pub notes_only : (t : ℕ) (s : SeenSource) → In (now t).sources s → In (was t).sources s ⊎ IsNew t s
+  notes_only t s j = by (content_at sets t) refl (subst (λ (x : Noted). In x.sources s) (now_is t) j)
+    where
+      by : (o : Option Content) → content_at sets t ≡ o → In (noted_of (option_map (after t) o)).sources s → In (was t).sources s ⊎ IsNew t s
+      by None e k = absurd k
+      by (Some c) e k = elim (new_one t s (is_of into t) refl c (subst (λ xs. In (map source_of xs) s) (sources_after t c) k)) [
+        | inl old ↦ inl (subst (λ (x : Noted). In x.sources s) (sym (was_is t ∙ ap noted_of e)) old)
+        | inr n ↦ inr n
+      ]
+
+  -- WHAT IS KEPT
+  pub kept_grows : (t : ℕ) (b : Addr) → In (was t).kept b → In (now t).kept b
+  kept_grows t b j = subst (λ (x : Noted). In x.kept b) (sym (now_is t)) (by (content_at sets t) (subst (λ (x : Noted). In x.kept b) (was_is t) j))
+    where
+      one : (x : Bool) (c : Content) → In c.kept b → In (cond x (c.kept ++ option_to_list overwritten) c.kept) b
+      one true c k = in_append_left c.kept (option_to_list overwritten) b k
+      one false c k = k
+
+      by : (o : Option Content) → In (noted_of o).kept b → In (noted_of (option_map (after t) o)).kept b
+      by None k = k
+      by (Some c) k = subst (λ xs. In xs b) (sym (kept_after t c)) (one (is_of (heap_of pool overwritten) t && c.keeps) c k)
+
+  -- behind what was there
+  pub kept_more : (t : ℕ) → (more : List Addr) × ((now t).kept ≡ (was t).kept ++ more)
+  kept_more t = by (content_at sets t) refl
+    where
+      none_more : (xs : List Addr) → xs ≡ xs ++ []
+      none_more [] = refl
+      none_more (x ∷ xs) = ap (λ ys. x ∷ ys) (none_more xs)
+
+      one : (x : Bool) (c : Content) → (more : List Addr) × (cond x (c.kept ++ option_to_list overwritten) c.kept ≡ c.kept ++ more)
+      one true c = (option_to_list overwritten, refl)
+      one false c = ([], none_more c.kept)
+
+      by : (o : Option Content) → content_at sets t ≡ o → (more : List Addr) × ((now t).kept ≡ (was t).kept ++ more)
+      by None e = ([], ap (λ (x : Noted). x.kept) (now_is t ∙ ap (λ z. noted_of (option_map (after t) z)) e) ∙ ap (λ (x : Noted). x.kept ++ []) (sym (was_is t ∙ ap noted_of e)))
+      by (Some c) e =
+          let m = one (is_of (heap_of pool overwritten) t && c.keeps) c in
+          (m.0, ap (λ (x : Noted). x.kept) (now_is t ∙ ap (λ z. noted_of (option_map (after t) z)) e) ∙ (kept_after t c ∙ (m.1 ∙ ap (λ (x : Noted). x.kept ++ m.0) (sym (was_is t ∙ ap noted_of e)))))
+
+  -- what is overwritten, where it points into t's heap, while that keeps
+  pub keeps_old : (t : ℕ) (b : Addr) → (was t).keeps ≡ true → overwritten ≡ Some b → owner_of pool b.chunk ≡ Some t → In (now t).kept b
+  keeps_old t b keeps eo eb = subst (λ (x : Noted). In x.kept b) (sym (now_is t)) (by (content_at sets t) (ap (λ (x : Noted). x.keeps) (sym (was_is t)) ∙ keeps))
+    where
+      heap_is : is_of (heap_of pool overwritten) t ≡ true
+      heap_is = ap (λ o. is_of (heap_of pool o) t) eo ∙ (ap (λ o. is_of o t) eb ∙ is_of_it t)
+
+      one : (c : Content) → c.keeps ≡ true → In (cond (is_of (heap_of pool overwritten) t && c.keeps) (c.kept ++ option_to_list overwritten) c.kept) b
+      one c k =
+          subst (λ xs. In xs b)
+          (sym (cond-true (is_of (heap_of pool overwritten) t && c.keeps) (c.kept ++ option_to_list overwritten) c.kept (ap₂ (λ x y. x && y) heap_is k) ∙ ap (λ o. c.kept ++ option_to_list o) eo))
+          (in_append_right c.kept (b ∷ []) b (inl refl))
+
+      by : (o : Option Content) → (noted_of o).keeps ≡ true → In (noted_of (option_map (after t) o)).kept b
+      by None k = absurd (false≢true k)
+      by (Some c) k = subst (λ xs. In xs b) (sym (kept_after t c)) (one c k)
+
+  -- and nothing else is
+  pub kept_only : (t : ℕ) (b : Addr) → In (now t).kept b → In (was t).kept b ⊎ ((overwritten ≡ Some b) × (owner_of pool b.chunk ≡ Some t))
+  kept_only t b j = by (content_at sets t) refl (subst (λ (x : Noted). In x.kept b) (now_is t) j)
+    where
+      held : (o : Option Addr) → overwritten ≡ o → In (option_to_list o) b → is_of (heap_of pool overwritten) t ≡ true → (overwritten ≡ Some b) × (owner_of pool b.chunk ≡ Some t)
+      held None eo k h = absurd k
+      held (Some y) eo (inl e) h =
+          let is : overwritten ≡ Some b = eo ∙ ap Some e in
+          (is, of_is (owner_of pool b.chunk) t (sym (ap (λ o. is_of (heap_of pool o) t) is) ∙ h))
+      held (Some y) eo (inr n) h = absurd n
+
+      one : (c : Content) (x : Bool) → (is_of (heap_of pool overwritten) t && c.keeps) ≡ x → In (cond x (c.kept ++ option_to_list overwritten) c.kept) b → In c.kept b ⊎ ((overwritten ≡ Some b) × (owner_of pool b.chunk ≡ Some t))
+      one c false e k = inl k
+      one c true e k = elim (in_append_cases c.kept (option_to_list overwritten) b k) [
+        | inl old ↦ inl old
+        | inr new ↦ inr (held overwritten refl new (and_parts (is_of (heap_of pool overwritten) t) c.keeps e).0)
+      ]
+
+      by : (o : Option Content) → content_at sets t ≡ o → In (noted_of (option_map (after t) o)).kept b → In (was t).kept b ⊎ ((overwritten ≡ Some b) × (owner_of pool b.chunk ≡ Some t))
+      by None e k = absurd k
+      by (Some c) e k = elim (one c (is_of (heap_of pool overwritten) t && c.keeps) refl (subst (λ xs. In xs b) (kept_after t c) k)) [
+        | inl old ↦ inl (subst (λ (x : Noted). In x.kept b) (sym (was_is t ∙ ap noted_of e)) old)
+        | inr n ↦ inr n
+      ]

@@ -1,0 +1,215 @@
+-- A part that fits the shared value fits it again after private steps.
+use Rattle.std.proofs.Common.{arith, ◌≡◌, ℕ, ◌+◌, ◌-◌, ◌*◌, ◌/◌, ◌≤◌, ◌^◌, not, Some, None, min, ne_eqb, inr, refl, ap, sym, subst, ◌∙◌}
+use Rattle.std.proofs.lemmas.List.Elements.{All-from_get_or, All-get_or}
+use Rattle.hh_model.specs.declared.data.Name.{Name}
+use Rattle.run_ledger.specs.declared.data.Ledger.{Ledger}
+use Rattle.run_ledger.specs.Heaps.{heap_of}
+use Rattle.run_ledger.specs.Steps.{task_steps}
+use Rattle.object_layout.specs.declared.word.Addr.{Addr}
+use Rattle.object_layout.specs.Content.{Content}
+use Rattle.object_layout.specs.Chunks.{chunk_at, no_chunk}
+use Rattle.object_layout.specs.Place.{words_in}
+use Rattle.object_layout.specs.Cell.{IsObject}
+use Rattle.chunk_pool.specs.declared.pool.Held.{Held}
+use Rattle.chunk_pool.specs.Chunks.{held_at}
+use Rattle.alloc_path.specs.Heap.{AreTidy, AreWithin, IsTidy}
+use Rattle.alloc_path.proofs.Near.{are_near}
+use Rattle.ledger_steps.specs.Accounts.{Rests, own, rested}
+use Rattle.ledger_steps.proofs.Rested.{rested_worker}
+use Rattle.core_relation.specs.Value.{Home, In, Lies, Seen, Value, objects, objects_in}
+use Rattle.core_relation.specs.Changes.{StepsAtHome}
+use Rattle.core_relation.specs.Copies.{PartFits}
+use Rattle.core_relation.specs.Fits.{with_home}
+use Rattle.core_relation.specs.Stands.{HomeStands, Place, Stands}
+use Rattle.core_relation.proofs.objects.Members.{in_chunk, in_map}
+use Rattle.core_relation.proofs.changes.Own.{stepped}
+use Rattle.core_relation.specs.Whole.{BegunBy}
+use Rattle.core_relation.proofs.changes.With.{at_home, off_home}
+use Rattle.core_relation.proofs.parts.Quiet.{aside_is}
+use Rattle.task_machine.specs.declared.part.Private.{Private}
+use Rattle.task_machine.specs.Accounts.{IsCounted, KeepsAccounts}
+use Rattle.task_machine.specs.Fits.{FitsNow as FitsMachine}
+use Rattle.task_machine.specs.Place.{Places}
+use Rattle.task_machine.specs.Run.{KeepsRest, Ran, Runs}
+use Rattle.shared_value.specs.Again.{KeepsPlaces}
+use Rattle.shared_value.specs.Objects.{chunk_of}
+use Rattle.shared_value.specs.World.{World, accounts, begun_of, value_of}
+use Rattle.shared_value.specs.Measured.{IsMeasured}
+use Rattle.shared_value.specs.Stands.{HeapForm, IsWorld}
+use Rattle.shared_value.specs.Fits.{Fits, home_of_part, part_of}
+use Rattle.shared_value.specs.Links.{above_of}
+use Rattle.shared_value.proofs.CellsRead.{object_seen, seen_object}
+use Rattle.shared_value.proofs.HeapCounts.{chunk_there}
+use Rattle.shared_value.proofs.PlacedForm.{Formed, formed_tidy}
+use Rattle.shared_value.proofs.CollectionUnderWay.{steady}
+use Rattle.shared_value.proofs.HeapLaidOut.{place_there}
+use Rattle.shared_value.proofs.PartFitsMachine as link
+use Rattle.shared_value.proofs.OutlineKept.{run_keeps_places}
+use Rattle.own_steps.proofs.StepsCounted as run
+use Rattle.own_steps.proofs.FormByOutline.{run_formed}
+use Rattle.own_steps.proofs.PartHome.{home_read}
+
+module _ (w : World) (k : ℕ) (p q : Private) (n : ℕ) (I : IsWorld w) (F : Fits w k p) (on : (accounts w).end ≡ None) (idle : p.begun ≡ None) (R : Runs w.program p n q) (C : KeepsAccounts w.program p n q) (rest : KeepsRest p q) (few : p.fresh + n ≤ 257) where
+  abbrev l : Ledger
+  l = accounts w
+
+  abbrev t : ℕ
+  t = p.task
+
+  abbrev v : Value
+  v = value_of w
+
+  abbrev above : Places
+  above = above_of v l t
+
+  -- the accounts before the steps and after them, its task at rest
+  abbrev L : Ledger
+  L = rested (task_steps w.program l t p.fresh) t
+
+  abbrev L' : Ledger
+  L' = rested (task_steps w.program l t (p.fresh + n)) t
+
+  ran : Ran w.program p (task_steps w.program l t p.fresh).machine above n q
+  ran = run.ran w k p q n I F on idle R C
+
+  abbrev Q : Private
+  Q = record p { frames = q.frames; heap = q.heap; allocations = q.allocations; fresh = p.fresh + n }
+
+  q_is : q ≡ Q
+  q_is = rest ∙ ap (λ j. record p { frames = q.frames; heap = q.heap; allocations = q.allocations; fresh = j }) ran.fresh
+
+  machine_then : FitsMachine w.program Q L'.machine above
+  machine_then = subst (λ (z : Private). FitsMachine w.program z L'.machine above) q_is (run.machine_then w k p q n I F on idle R C)
+
+  counts_then : IsCounted q.heap (heap_of L' t)
+  counts_then = run.counts_then w k p q n I F on idle R C
+
+  abbrev before : Value
+  before = with_home v t (home_of_part p)
+
+  abbrev after : Value
+  after = with_home v t (home_of_part Q)
+
+  was : before.homes t ≡ home_of_part p
+  was = at_home v t (home_of_part p)
+
+  here : after.homes t ≡ home_of_part Q
+  here = at_home v t (home_of_part Q)
+
+  old : HomeStands before L t
+  old = (link.W w k p I F on).homes t (link.at_rest w k p I F on)
+
+  old_chunk : (c : Content) → In p.heap.chunks c → In (before.homes t).chunks (chunk_of c)
+  old_chunk c i = subst (λ (h : Home). In h.chunks (chunk_of c)) (sym was) (in_map chunk_of p.heap.chunks c i)
+
+  -- what of its heap is known
+  formed_before : Formed p.heap
+  formed_before = record {
+    shaped = F.form.shaped;
+    each = λ i lt.
+        let c = chunk_at p.heap.chunks i in
+        record {
+          tidy = All-get_or IsTidy p.heap.chunks i no_chunk lt F.form.tidy;
+          within = All-get_or (λ (x : Content). words_in x.cells ≤ x.size) p.heap.chunks i no_chunk lt F.form.within;
+          whole = F.form.whole c (chunk_there p.heap.chunks i lt);
+          large = λ big. old.laid.large (chunk_of c) (old_chunk c (chunk_there p.heap.chunks i lt)) (ap not (ne_eqb c.size 1024 big));
+        };
+    spare = F.form.spare;
+  }
+
+  formed_then : Formed q.heap
+  formed_then = run_formed w.program p q (task_steps w.program l t p.fresh).machine above n ran formed_before
+
+  keeps : KeepsPlaces p.heap q.heap
+  keeps = run_keeps_places w.program p q (task_steps w.program l t p.fresh).machine above n ran
+
+  tidy_then : AreTidy q.heap.chunks
+  tidy_then = formed_tidy q.heap formed_then
+
+  within_then : AreWithin q.heap.chunks
+  within_then = All-from_get_or (λ (x : Content). words_in x.cells ≤ x.size) q.heap.chunks no_chunk (λ i lt. (formed_then.each i lt).within)
+
+  form_then : HeapForm q.heap
+  form_then = record {
+    shaped = formed_then.shaped;
+    near = λ o i. let y = seen_object q.heap.chunks o formed_then.shaped.apart i in are_near q.heap.chunks tidy_then within_then o.at (subst IsObject (sym y.mark) tt);
+    tidy = tidy_then;
+    within = within_then;
+    last = counts_then.last;
+    last_large = counts_then.last_large;
+    since = let e : q.heap.since ≡ min (heap_of L' t).since (2 ^ 64 - 1) = counts_then.since in omega (arith, e);
+    whole = λ c i. (let x = place_there q.heap.chunks c i in subst (λ (z : Content). z.size ≡ 1024 * (z.size / 1024)) x.2 (formed_then.each x.0 x.1).whole);
+    spare = formed_then.spare;
+  }
+
+  -- ---- THE VALUE WITH IT
+  -- each object stays where it lies
+  stays : (m : Name) (a : Addr) → Lies (before.homes t).chunks m a → Lies (after.homes t).chunks m a
+  stays m a y =
+      let z = seen_object p.heap.chunks y.0 F.form.shaped.apart (subst (λ (h : Home). In (objects_in h.chunks) y.0) was y.1) in
+      let i = object_seen q.heap.chunks y.0.at z.birth (keeps.stays y.0.at z.birth z.mark) in
+      subst (λ (h : Home). Lies h.chunks m a) (sym here) (_, i, record { name = ap (λ (o : Seen). o.name) (sym z.is) ∙ y.2.name; at = y.2.at })
+
+  at_home_then : StepsAtHome before after t
+  at_home_then = record {
+    others = λ u ne. off_home v t (home_of_part Q) u ne ∙ sym (off_home v t (home_of_part p) u ne);
+    owner = λ c. refl;
+    sources = λ u. refl;
+    view = ap (λ (z : Home). z.view) here ∙ ap (λ (z : Home). z.view) (sym was);
+    stays = stays;
+  }
+
+  owned_then : (c : Content) → In q.heap.chunks c → v.owner c.number ≡ Some t
+  owned_then c i = let j = keeps.numbers c i in ap v.owner (sym j.2) ∙ old.owned (chunk_of j.0) (old_chunk j.0 j.1)
+
+  -- another's object lies where it lay
+  elsewhere : (m : Name) (a : Addr) → (own L' m ≡ t → ⊥) → above m ≡ Some a → Place after L' m a
+  elsewhere m a ne e =
+      let x = link.above_tells w k p I F on m a e in
+      let f = link.found_is (objects v (own l m)) m a x.2 in
+      let u : ℕ = own l m in
+      let same : own L' m ≡ u = run.owner_then w k p q n I F on idle R C m in
+      let r : Rests L u = link.rests_then w k p I F on u x.0 x.1 in
+      let H : HomeStands before L u = (link.W w k p I F on).homes u r in
+      let i : In (objects before u) f.object = subst (λ (h : Home). In (objects_in h.chunks) f.object) (sym (off_home v t (home_of_part p) u x.0)) f.there in
+      let c = in_chunk (before.homes u).chunks f.object i in
+      let owner : v.owner a.chunk ≡ Some u = ap (λ (z : Addr). v.owner z.chunk) (sym f.at) ∙ (ap v.owner (H.inside c.0 f.object c.1 c.2) ∙ H.owned c.0 c.1) in
+      record {
+        chunk = owner ∙ ap Some (sym same);
+        here = λ z. subst (λ y. Lies (after.homes y).chunks m a) (sym same) (subst (λ (h : Home). Lies h.chunks m a) (sym (off_home v t (home_of_part Q) u x.0)) (f.object, f.there, record { name = f.name; at = f.at }));
+      }
+
+  stands_then : Stands after L'
+  stands_then =
+      stepped before after L L' t (link.sound w k p I F on) (run.sound_then w k p q n I F on idle R C) (link.W w k p I F on) (run.alone_then w k p q n I F on idle R C)
+      (link.at_rest w k p I F on) (rested_worker (task_steps w.program l t (p.fresh + n)) t) (link.idle w k p I F on) at_home_then
+      (home_read w.program Q L' above machine_then formed_then counts_then (run.account_few w k p q n I F on idle R C) after here owned_then elsewhere)
+
+  measured_then : IsMeasured w.pool Q
+  measured_then = (
+    λ c i. (let j = keeps.numbers c i in ap (held_at w.pool) (sym j.2) ∙ (F.measured.0 j.0 j.1 ∙ ap (λ n. let h : Held = record { owner = t; units = n / 1024 } in Some h) j.3)),
+    F.measured.1,
+  )
+
+  again : Fits w k Q
+  again = record {
+    held = F.held;
+    fits = record {
+      task = F.fits.task;
+      is = F.fits.is;
+      runs = F.fits.runs;
+      steady = inr (steady w k p F on idle);
+      part = subst (PartFits w.program w.settings (part_of w.settings Q) v) (sym (aside_is l (link.goes w k p I F on)))
+          (record { fits = record { worker = k; out = F.held; few = few; private = run.private_then w k p q n I F on idle R C; stands = stands_then }; begun = subst (λ o. BegunBy after L' t (begun_of o)) (sym idle) (run.begun_then w k p q n I F on idle R C) });
+      leaf = refl;
+      fields = refl;
+    };
+    form = form_then;
+    measured = measured_then;
+    leaf_limit = F.leaf_limit;
+    field_limit = F.field_limit;
+  }
+
+  -- THE PART FITS AGAIN
+  pub parts_fit_again : Fits w k q
+  parts_fit_again = subst (Fits w k) (sym q_is) again

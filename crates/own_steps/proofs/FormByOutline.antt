@@ -1,0 +1,221 @@
+-- What is known of a heap's chunks is told by its outline, so it stays known when private steps are taken.
+use Rattle.std.proofs.Common.{◌≡◌, ℕ, zero, suc, pos, ◌+◌, ◌-◌, ◌*◌, ◌<◌, ◌≤◌, ◌==◌, arith, Bool, true, false, cond, Option, Some, None, List, [], ◌∷◌, length, map, replicate, nat_lt, slice_get, All, inl, inr, refl, ap, ap₂, sym, subst, ◌∙◌}
+use Rattle.std.proofs.lemmas.Option.{same_Some}
+use Rattle.std.proofs.lemmas.List.{length-map, length-replicate}
+use Rattle.std.proofs.lemmas.List.Elements.{All-cons, All-head, All-map, All-nil, All-tail, All-weaker}
+use Rattle.hh_lang.specs.declared.instr.Instr.{Instr}
+use Rattle.hh_lang.specs.declared.instr.Instr.TheVariants.{Newm, Pack}
+use Rattle.hh_lang.specs.declared.program.Line.{Line}
+use Rattle.hh_lang.specs.Form.{ProgramText}
+use Rattle.hh_model.specs.declared.data.Frame.{Frame}
+use Rattle.hh_model.specs.declared.data.State.{State}
+use Rattle.hh_model.specs.declared.data.Task.{Task}
+use Rattle.hh_model.specs.Effect.{counts_in, int_in, row_of}
+use Rattle.hh_model.specs.Names.{words_asked}
+use Rattle.hh_model.specs.Step.{asked, asked_by, asked_line, fetched, is_running}
+use Rattle.run_ledger.specs.Heaps.{units as units_for}
+use Rattle.object_layout.specs.Cell.{Born, Cell, Hole, Mark, Moved, moved_to, size_of}
+use Rattle.object_layout.specs.Chunks.{chunk_at, place_in, place_of}
+use Rattle.object_layout.specs.Content.{Content}
+use Rattle.object_layout.specs.Place.{words_in}
+use Rattle.alloc_path.specs.Heap.{AreApart, Heap, IsCurrent, IsReserved, IsTidy, place_for, placed, units}
+use Rattle.core_relation.specs.Value.{Seen}
+use Rattle.core_relation.specs.Layout.{HoldsLarge, words}
+use Rattle.task_machine.specs.declared.part.Private.{Private}
+use Rattle.task_machine.specs.Fits.{IsShaped}
+use Rattle.task_machine.specs.Outline.{blank, outline_after, outline_by, outline_of, outline_of_cell, outline_of_chunk, steps}
+use Rattle.task_machine.specs.Place.{Places}
+use Rattle.task_machine.specs.Run.{Ran}
+use Rattle.task_machine.proofs.Outlines.{outline_at}
+use Rattle.shared_value.specs.Objects.{chunk_of, objects_from, seen_by}
+use Rattle.shared_value.proofs.NextStepAsks.{counts_two}
+use Rattle.shared_value.proofs.PlacedForm.{Formed, IsFormed, formed_placed}
+use Rattle.shared_value.proofs.OutlineKept.{outline_size}
+
+-- ---- OBJECTS
+
+-- an object with blank fields
+abbrev plain : Seen → Seen
+plain o = record o { mutable = false; refs = []; ints = replicate (length o.refs + length o.ints) (pos 0) }
+
+plain_words : (o : Seen) → words (plain o) ≡ words o
+plain_words o = let e = length-replicate (length o.refs + length o.ints) (pos 0) in omega (arith, e)
+
+objects_outlined : (cs : List Cell) (number base : ℕ) → objects_from number base (map outline_of_cell cs) ≡ map plain (objects_from number base cs)
+objects_outlined [] number base = refl
+objects_outlined (c ∷ cs) number base =
+    ap (λ n. seen_by number base (outline_of_cell c) c.mark (objects_from number (base + n) (map outline_of_cell cs))) (outline_size c)
+    ∙ (ap (seen_by number base (outline_of_cell c) c.mark) (objects_outlined cs number (base + size_of c)) ∙ along c.mark (objects_from number (base + size_of c) cs))
+  where
+    along : (m : Mark) (os : List Seen) → seen_by number base (outline_of_cell c) m (map plain os) ≡ map plain (seen_by number base c m os)
+    along (Born b) os = refl
+    along (Moved to) os = refl
+    along Hole os = refl
+
+objects_of : (k : Content) → (chunk_of (outline_of_chunk k)).objects ≡ map plain (chunk_of k).objects
+objects_of k = objects_outlined k.cells k.number 0
+
+none_back : (os : List Seen) → map plain os ≡ [] → os ≡ []
+none_back [] e = refl
+none_back (o ∷ os) e = absurd cc
+
+one_back : (os : List Seen) (o : Seen) → map plain os ≡ o ∷ [] → (q : Seen) × (os ≡ q ∷ []) × (plain q ≡ o)
+one_back [] o e = absurd cc
+one_back (q ∷ []) o e = (q, refl, cc)
+one_back (q ∷ r ∷ os) o e = absurd cc
+
+large_on : (k : Content) → HoldsLarge (chunk_of k) → HoldsLarge (chunk_of (outline_of_chunk k))
+large_on k (inl e) = inl (objects_of k ∙ ap (map plain) e)
+large_on k (inr h) = inr (plain h.0, objects_of k ∙ ap (map plain) h.1, h.2, h.3 ∙ ap units_for (sym (plain_words h.0)))
+
+large_back : (k : Content) → HoldsLarge (chunk_of (outline_of_chunk k)) → HoldsLarge (chunk_of k)
+large_back k (inl e) = inl (none_back (chunk_of k).objects (sym (objects_of k) ∙ e))
+large_back k (inr h) =
+    let q = one_back (chunk_of k).objects h.0 (sym (objects_of k) ∙ h.1) in
+    inr (q.0, q.1, ap (λ (o : Seen). o.at.offset) q.2 ∙ h.2, h.3 ∙ (ap (λ (o : Seen). units_for (words o)) (sym q.2) ∙ ap units_for (plain_words q.0)))
+
+-- ---- CHUNKS
+
+words_outlined : (cs : List Cell) → words_in (map outline_of_cell cs) ≡ words_in cs
+words_outlined [] = refl
+words_outlined (c ∷ cs) = ap₂ (λ n k. n + k) (outline_size c) (words_outlined cs)
+
+all_back : (P : Cell → Type 0) (cs : List Cell) → All P (map outline_of_cell cs) → All (λ c. P (outline_of_cell c)) cs
+all_back P [] a = All-nil (λ c. P (outline_of_cell c))
+all_back P (c ∷ cs) a = All-cons (λ c. P (outline_of_cell c)) c cs (All-head P (outline_of_cell c) (map outline_of_cell cs) a) (all_back P cs (All-tail P (outline_of_cell c) (map outline_of_cell cs) a))
+
+abbrev Alone : ℕ → Cell → Type 0
+Alone n c = 1024 < size_of c → n ≡ 1
+
+abbrev Exact : ℕ → Cell → Type 0
+Exact size c = 1024 < size_of c → size ≡ 1024 * units (size_of c)
+
+module _ (k : Content) where
+  as_many : length (map outline_of_cell k.cells) ≡ length k.cells
+  as_many = length-map k.cells outline_of_cell
+
+  tidy_on : IsTidy k → IsTidy (outline_of_chunk k)
+  tidy_on t = record {
+    unmoved = All-map (λ (c : Cell). moved_to c.mark ≡ None) outline_of_cell k.cells t.unmoved;
+    alone = subst (λ n. All (Alone n) (map outline_of_cell k.cells)) (sym as_many) (All-map (Alone (length k.cells)) outline_of_cell k.cells (All-weaker (Alone (length k.cells)) (λ c. Alone (length k.cells) (outline_of_cell c)) (λ c f lt. f (subst (λ n. 1024 < n) (outline_size c) lt)) k.cells t.alone));
+    exact = All-map (Exact k.size) outline_of_cell k.cells (All-weaker (Exact k.size) (λ c. Exact k.size (outline_of_cell c)) (λ c f lt. f (subst (λ n. 1024 < n) (outline_size c) lt) ∙ ap (λ n. 1024 * units n) (sym (outline_size c))) k.cells t.exact);
+    few = λ lt. subst (λ n. n ≤ 1) (sym as_many) (t.few lt);
+  }
+
+  tidy_back : IsTidy (outline_of_chunk k) → IsTidy k
+  tidy_back t = record {
+    unmoved = all_back (λ (c : Cell). moved_to c.mark ≡ None) k.cells t.unmoved;
+    alone = All-weaker (λ c. Alone (length k.cells) (outline_of_cell c)) (Alone (length k.cells)) (λ c f lt. f (subst (λ n. 1024 < n) (sym (outline_size c)) lt)) k.cells (all_back (Alone (length k.cells)) k.cells (subst (λ n. All (Alone n) (map outline_of_cell k.cells)) as_many t.alone));
+    exact = All-weaker (λ c. Exact k.size (outline_of_cell c)) (Exact k.size) (λ c f lt. f (subst (λ n. 1024 < n) (sym (outline_size c)) lt) ∙ ap (λ n. 1024 * units n) (outline_size c)) k.cells (all_back (Exact k.size) k.cells t.exact);
+    few = λ lt. subst (λ n. n ≤ 1) as_many (t.few lt);
+  }
+
+  formed_on : IsFormed k → IsFormed (outline_of_chunk k)
+  formed_on F = record {
+    tidy = tidy_on F.tidy;
+    within = subst (λ n. n ≤ k.size) (sym (words_outlined k.cells)) F.within;
+    whole = F.whole;
+    large = λ big. large_on k (F.large big);
+  }
+
+  formed_back : IsFormed (outline_of_chunk k) → IsFormed k
+  formed_back F = record {
+    tidy = tidy_back F.tidy;
+    within = subst (λ n. n ≤ k.size) (words_outlined k.cells) F.within;
+    whole = F.whole;
+    large = λ big. large_back k (F.large big);
+  }
+
+-- ---- THE SHAPE
+
+place_of_outline : (ks : List Content) (n : ℕ) → place_of (map outline_of_chunk ks) n ≡ place_of ks n
+place_of_outline [] n = refl
+place_of_outline (k ∷ ks) n = ap (λ z. cond (k.number == n) 0 (1 + z)) (place_of_outline ks n)
+
+place_in_outline : (ks : List Content) (n : ℕ) → place_in (map outline_of_chunk ks) n ≡ place_in ks n
+place_in_outline ks n = ap₂ (λ z len. cond (nat_lt z len) (Some z) None) (place_of_outline ks n) (length-map ks outline_of_chunk)
+
+apart_on : (ks : List Content) → AreApart ks → AreApart (map outline_of_chunk ks)
+apart_on [] h = h
+apart_on (k ∷ ks) h = (place_in_outline ks k.number ∙ h.0, apart_on ks h.1)
+
+current_on : (ks : List Content) (o : Option ℕ) → IsCurrent ks o → IsCurrent (map outline_of_chunk ks) o
+current_on ks None h = tt
+current_on ks (Some i) h = (let e = length-map ks outline_of_chunk in let lt = h.0 in omega (arith, lt, e), ap (λ (k : Content). k.size) (outline_at ks i) ∙ h.1)
+
+reserved_on : (ks : List Content) (o : Option ℕ) → IsReserved ks o → IsReserved (map outline_of_chunk ks) o
+reserved_on ks None h = tt
+reserved_on ks (Some i) h =
+    (let e = length-map ks outline_of_chunk in let lt = h.0 in omega (arith, lt, e), (subst (λ n. 1024 < n) (ap (λ (k : Content). k.size) (sym (outline_at ks i))) h.1.0, ap (λ (k : Content). k.cells) (outline_at ks i) ∙ ap (map outline_of_cell) h.1.1))
+
+-- ---- THE HEAP
+
+pub formed_outline : (h : Heap) → Formed h → Formed (outline_of h)
+formed_outline h F =
+    let len : length (map outline_of_chunk h.chunks) ≡ length h.chunks = length-map h.chunks outline_of_chunk in
+    record {
+      shaped = record { apart = apart_on h.chunks F.shaped.apart; current = current_on h.chunks h.current F.shaped.current; reserved = reserved_on h.chunks h.reserved F.shaped.reserved };
+      each = λ i lt. subst IsFormed (sym (outline_at h.chunks i)) (formed_on (chunk_at h.chunks i) (F.each i (omega (arith, lt, len))));
+      spare = λ i lt big empty.
+          let at : chunk_at (map outline_of_chunk h.chunks) i ≡ outline_of_chunk (chunk_at h.chunks i) = outline_at h.chunks i in
+          F.spare i (omega (arith, lt, len)) (λ e. big (ap (λ (k : Content). k.size) at ∙ e))
+          (none_back (chunk_of (chunk_at h.chunks i)).objects (sym (objects_of (chunk_at h.chunks i)) ∙ (ap (λ (k : Content). (chunk_of k).objects) (sym at) ∙ empty)));
+    }
+
+pub formed_from : (h : Heap) → IsShaped h → Formed (outline_of h) → Formed h
+formed_from h S F =
+    let len : length (map outline_of_chunk h.chunks) ≡ length h.chunks = length-map h.chunks outline_of_chunk in
+    record {
+      shaped = S;
+      each = λ i lt. formed_back (chunk_at h.chunks i) (subst IsFormed (outline_at h.chunks i) (F.each i (omega (arith, lt, len))));
+      spare = λ i lt big empty.
+          let at : chunk_at (map outline_of_chunk h.chunks) i ≡ outline_of_chunk (chunk_at h.chunks i) = outline_at h.chunks i in
+          F.spare i (omega (arith, lt, len)) (λ e. big (ap (λ (k : Content). k.size) (sym at) ∙ e))
+          (ap (λ (k : Content). (chunk_of k).objects) at ∙ (objects_of (chunk_at h.chunks i) ∙ ap (map plain) empty));
+    }
+
+-- ---- STEPS
+
+instr_two : (limit : ℕ) (f : Frame) (i : Instr) (w : ℕ) → words_asked limit f i ≡ Some w → 2 ≤ w
+instr_two limit f (Newm d a b) w e = counts_two (counts_in limit (int_in f a) (int_in f b)) w e
+instr_two limit f (Pack d r i) w e = let q : 2 + r + i ≡ w = same_Some (2 + r + i) w e in omega (arith, q)
+instr_two limit f _ w e = absurd cc
+
+-- an object has at least two words
+pub asked_two : (p : ProgramText) (m : State) (t w : ℕ) → asked p m t ≡ Some w → 2 ≤ w
+asked_two p m t w e = by_task (slice_get m.tasks t) e
+  where
+    by_line : (x : Task) (o : Option Line) → asked_line m.field_limit x.top o ≡ Some w → 2 ≤ w
+    by_line x None h = absurd cc
+    by_line x (Some line) h = instr_two m.field_limit x.top line.instr w h
+
+    by_run : (b : Bool) (o : Option ℕ) → cond b o None ≡ Some w → o ≡ Some w
+    by_run true o h = h
+    by_run false o h = absurd cc
+
+    by_task : (o : Option Task) → asked_by p m o ≡ Some w → 2 ≤ w
+    by_task None h = absurd cc
+    by_task (Some x) h = by_line x (fetched p x.top) (by_run (is_running (Some x)) (asked_line m.field_limit x.top (fetched p x.top)) h)
+
+-- the outline of the task's next object, of so many words
+abbrev next_blank : State → ℕ → ℕ → Cell
+next_blank m t w = blank (Born (record { task = t; count = length (row_of (slice_get m.store t)) })) (w - 2)
+
+formed_by : (m : State) (t : ℕ) (h : Heap) (o : Option ℕ) → ((w : ℕ) → o ≡ Some w → 2 ≤ w) → Formed h → Formed (outline_by m t h o)
+formed_by m t h None two F = F
+formed_by m t h (Some w) two F = by (place_for h w) refl
+  where
+    size : size_of (next_blank m t w) ≡ w
+    size = let e : length (replicate (w - 2) (pos 0)) ≡ w - 2 = length-replicate (w - 2) (pos 0) in let le = two w refl in omega (arith, e, le)
+
+    by : (q : Option ℕ) → place_for h w ≡ q → Formed (placed h q (next_blank m t w))
+    by None e = F
+    by (Some i) e = formed_placed h F i (next_blank m t w) (record { task = t; count = length (row_of (slice_get m.store t)) }) refl (ap (place_for h) size ∙ e)
+
+formed_after : (p : ProgramText) (m : State) (t : ℕ) (h : Heap) (k : ℕ) → Formed h → Formed (outline_after p m t h k)
+formed_after p m t h zero F = F
+formed_after p m t h (suc k) F = formed_by (steps p m t k) t (outline_after p m t h k) (asked p (steps p m t k) t) (λ w e. asked_two p (steps p m t k) t w e) (formed_after p m t h k F)
+
+-- A RUN LEAVES IT KNOWN
+pub run_formed : (p : ProgramText) (old new : Private) (m : State) (above : Places) (n : ℕ) → Ran p old m above n new → Formed old.heap → Formed new.heap
+run_formed p old new m above n R F = formed_from new.heap R.fits.shape (subst Formed (sym R.outline) (formed_after p m old.task (outline_of old.heap) n (formed_outline old.heap F)))

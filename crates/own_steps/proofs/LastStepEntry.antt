@@ -1,0 +1,125 @@
+-- An entry of a part's fresh steps and its next one: what is known of the accounts before and after it.
+use Rattle.std.proofs.Common.{◌≡◌, ℕ, suc, true, false, Option, Some, None, slice_get, is_none, is_some, min, inr, refl, ap, ap₂, sym, subst, ◌∙◌}
+use Rattle.std.proofs.lemmas.Bool.{false≢true}
+use Rattle.std.proofs.lemmas.Option.{same_Some}
+use Rattle.hh_lang.specs.declared.program.Line.{Line}
+use Rattle.hh_model.specs.declared.data.Task.{Task}
+use Rattle.hh_model.specs.Effect.{effect}
+use Rattle.hh_model.specs.Step.{can_step, fetched, follow, goes_on, is_running, is_waiting, runs, setting, step, waits}
+use Rattle.hh_model.proofs.Taken.{step_taken}
+use Rattle.run_trace.specs.declared.entry.Kind.TheVariants.{Ran}
+use Rattle.run_trace.specs.Entry.{Event}
+use Rattle.run_ledger.specs.declared.data.Ledger.{Ledger}
+use Rattle.run_ledger.specs.Heaps.{heap_of}
+use Rattle.run_ledger.specs.Steps.{is_private, most_steps, standing, task_steps}
+use Rattle.run_ledger.specs.Entries.{after, long_at}
+use Rattle.run_ledger.proofs.Journals.{entry_tells}
+use Rattle.run_ledger.proofs.Machine.{task_step_machine}
+use Rattle.ledger_steps.specs.Accounts.{Knows}
+use Rattle.ledger_steps.specs.Last.{Runs, Splits}
+use Rattle.ledger_steps.proofs.Along.{steps_know}
+use Rattle.ledger_steps.proofs.Known.{legal_knows}
+use Rattle.ledger_steps.proofs.Split.{entry_runs}
+use Rattle.core_relation.specs.Worker.{Fits as FitsValue}
+use Rattle.task_machine.specs.declared.part.Private.{Private}
+use Rattle.shared_value.specs.World.{World, accounts, value_of}
+use Rattle.shared_value.specs.Stands.{IsWorld}
+use Rattle.shared_value.specs.Fits.{Fits, part_of}
+use Rattle.shared_value.specs.declared.next.Ending.{Ending}
+use Rattle.shared_value.specs.Entered.{refused}
+use Rattle.shared_value.proofs.CollectionUnderWay.{none_begun}
+use Rattle.shared_value.proofs.PartFitsMachine as link
+use Rattle.shared_value.proofs.StepsEntered.{goes, status}
+use Rattle.shared_value.proofs.StepAccounts.{After, hold, hold_same}
+use Rattle.own_steps.specs.Alone.{IsShared, SaysOf, Tells}
+use Rattle.own_steps.proofs.LastSteps.{shared_now}
+
+abbrev pub last_event : ℕ → Private → Event
+last_event k p = record { worker = k; kind = Ran p.task (suc p.fresh) }
+
+module _ (w : World) (k : ℕ) (p : Private) (I : IsWorld w) (F : Fits w k p) (shared : IsShared w p) (free : refused w (last_event k p) ≡ None) where
+  abbrev pub t : ℕ
+  t = p.task
+
+  abbrev pub l : Ledger
+  l = accounts w
+
+  abbrev pub M : Ledger
+  M = task_steps w.program l t p.fresh
+
+  -- the accounts after it
+  abbrev pub L : Ledger
+  L = after w.program w.settings l (last_event k p)
+
+  pub on : l.end ≡ None
+  on = none_some l.end (entry_tells w.program w.settings l (last_event k p) (ap is_none free)).0
+    where
+      none_some : {A : Type 0} (o : Option A) → is_some o ≡ false → o ≡ None
+      none_some None h = refl
+      none_some (Some x) h = absurd (false≢true (sym h))
+
+  pub runs_so : Runs w.program w.settings l L t k p.fresh
+  runs_so = entry_runs w.program w.settings w.journal.items k t p.fresh I.form I.legal free
+
+  abbrev pub S : Splits w.program w.settings l L t p.fresh
+  S = runs_so.splits
+
+  pub own : FitsValue w.program w.settings (part_of w.settings p) (value_of w) l
+  own = F.fits
+
+  pub before_goes : l.machine.end ≡ None
+  before_goes = goes w k p I F on
+
+  pub A : After l M t F.fits.task
+  A = link.A w k p I F on
+
+  pub knows : Knows l
+  knows = legal_knows w.program w.settings w.journal.items I.legal
+
+  pub knows_mid : Knows M
+  knows_mid = steps_know w.program w.settings t p.fresh l runs_so.task runs_so.knows (inr runs_so.collects) runs_so.at runs_so.runs runs_so.can S.private
+
+  pub mid_goes : M.machine.end ≡ None
+  mid_goes = A.goes ∙ before_goes
+
+  pub mid_can : can_step M.machine t ≡ true
+  mid_can = ap₂ (λ e o. goes_on e (is_running o)) mid_goes S.at.task ∙ ap runs S.at.runs
+
+  pub idle : is_waiting (slice_get l.machine.tasks t) ≡ false
+  idle = ap is_waiting F.fits.is ∙ ap waits (status w k p I F on)
+
+  -- what is known of the next step in the machine then
+  pub said : (ending : Ending) (number : ℕ) → Tells w p ending number → (S.line.number ≡ number) × SaysOf w.program M.machine t S.task S.line ending
+  said ending number T =
+      let task : T.task ≡ S.task = same_Some T.task S.task (sym T.is ∙ S.at.task) in
+      let line : T.line ≡ S.line = same_Some T.line S.line (sym T.next ∙ (ap (λ (x : Task). fetched_of x) task ∙ S.at.next)) in (
+        ap (λ (z : Line). z.number) (sym line) ∙ T.number_is,
+        subst (λ (x : Task). SaysOf w.program M.machine t x S.line ending) task (subst (λ (z : Line). SaysOf w.program M.machine t T.task z ending) line T.says),
+      )
+    where
+      fetched_of : Task → Option Line
+      fetched_of x = fetched w.program x.top
+
+  -- the machine after it
+  pub machine_then : L.machine ≡ step w.program M.machine t
+  machine_then = ap (λ (z : Ledger). z.machine) S.after ∙ task_step_machine w.program M t
+
+  pub taken : step w.program M.machine t ≡ follow M.machine t S.task S.line.number (effect (setting M.machine t S.task) S.task.top M.machine.store S.line.instr)
+  taken = step_taken w.program M.machine t S.task S.line mid_can S.at.task S.at.next
+
+  pub is_not_private : is_private w.program M.machine t ≡ false
+  is_not_private = shared_now w k p I F shared on
+
+  pub held_mid : (heap_of M t).worker ≡ Some k
+  held_mid = link.worker_then w k p I F on
+
+  pub holds_mid : hold (heap_of M t) ≡ hold (heap_of l t)
+  holds_mid = hold_same (slice_get l.heaps t) (slice_get M.heaps t) A.heap
+
+  -- heaps of others, and whose home is in the value
+  pub heap_off : (u : ℕ) → (u ≡ t → ⊥) → slice_get M.heaps u ≡ slice_get l.heaps u
+  heap_off u ne = A.heaps u ne
+
+  -- the part is amid no leaf collection
+  pub none : p.begun ≡ None
+  none = none_begun w k p F on (long_at (suc p.fresh) (min most_steps (standing w.settings w.program l t (suc p.fresh)))) (entry_tells w.program w.settings l (last_event k p) (ap is_none free)).2

@@ -1,0 +1,144 @@
+-- An output is entered.
+use Rattle.std.proofs.Common.{◌≡◌, ℕ, ℤ, suc, ◌+◌, ◌++◌, true, Some, None, List, [], ◌∷◌, map, slice_get, slice_set, refl, ap, sym, ◌∙◌}
+use Rattle.listed.proofs.Members.{got_same}
+use Rattle.listed.specs.Space.{Space}
+use Rattle.hh_lang.specs.declared.instr.Instr.{Instr}
+use Rattle.hh_lang.specs.declared.instr.Instr.TheVariants.{Out}
+use Rattle.hh_model.specs.declared.data.State.{State}
+use Rattle.hh_model.specs.declared.data.Task.{Task}
+use Rattle.hh_model.specs.Effect.{effect, int_in, onward}
+use Rattle.hh_model.specs.Step.{follow, runs, setting}
+use Rattle.run_trace.specs.Entry.{Event}
+use Rattle.run_ledger.specs.declared.data.Ledger.{Ledger}
+use Rattle.run_ledger.specs.Steps.{task_steps}
+use Rattle.task_frames.specs.Stack.{with_next}
+use Rattle.ledger_steps.specs.Last.{Printing, Prints, Runs, Splits}
+use Rattle.core_relation.specs.Value.{Home, Value}
+use Rattle.core_relation.specs.Fits.{part_for}
+use Rattle.core_relation.specs.Makes.{StepsTo}
+use Rattle.core_relation.specs.RanCounts.{RanCounts}
+use Rattle.core_relation.specs.Worker.{Fits as FitsValue}
+use Rattle.core_relation.proofs.parts.RanFits.{ran_fits_then}
+use Rattle.core_relation.proofs.whole.RanWhole.{ran_stands_for}
+use Rattle.core_relation.proofs.parts.Sets.{numbers_go}
+use Rattle.core_relation.proofs.parts.Workers.{ran_leaves}
+use Rattle.task_machine.specs.declared.part.Private.{Private}
+use Rattle.shared_value.specs.declared.next.Ending.TheVariants.{Prints as PrintsOf}
+use Rattle.shared_value.specs.World.{World, accounts, frame_of, totals_of, value_of}
+use Rattle.shared_value.specs.Stands.{IsWorld}
+use Rattle.shared_value.specs.Fits.{Fits, OthersFit, home_of_part, part_of}
+use Rattle.shared_value.specs.Entered.{refused}
+use Rattle.shared_value.proofs.EntryMade.{entered, entered_world, held_apart, part_fits}
+use Rattle.shared_value.proofs.BeforeTheEnd.{end_now}
+use Rattle.own_steps.specs.Alone.{IsShared, Tells}
+use Rattle.own_steps.proofs.LastKinds.{prints}
+use Rattle.own_steps.proofs.LastStepEntry as last
+use Rattle.own_steps.proofs.LastStepEntry.{last_event}
+
+abbrev register_of : Instr → ℕ
+register_of (Out a) = a
+register_of _ = 0
+
+module _ (w : World) (k : ℕ) (p : Private) (I : IsWorld w) (F : Fits w k p) (shared : IsShared w p) (free : refused w (last_event k p) ≡ None) (value : ℤ) (number : ℕ) (T : Tells w p (PrintsOf value) number) where
+  abbrev t : ℕ
+  t = p.task
+
+  abbrev l : Ledger
+  l = accounts w
+
+  abbrev M : Ledger
+  M = task_steps w.program l t p.fresh
+
+  abbrev L : Ledger
+  L = last.L w k p I F shared free
+
+  abbrev v : Value
+  v = value_of w
+
+  abbrev h : Home
+  h = home_of_part p
+
+  abbrev S : Splits w.program w.settings l L t p.fresh
+  S = last.S w k p I F shared free
+
+  says : (a : ℕ) × (S.line.instr ≡ Out a) × (value ≡ int_in S.task.top a)
+  says = (last.said w k p I F shared free (PrintsOf value) number T).1
+
+  abbrev register : ℕ
+  register = says.0
+
+  -- the machine then
+  abbrev z : Task
+  z = record S.task { top = onward S.task.top }
+
+  abbrev m' : State
+  m' = record M.machine { tasks = slice_set M.machine.tasks t z; outputs = M.machine.outputs ++ int_in S.task.top register ∷ [] }
+
+  machine_is : L.machine ≡ m'
+  machine_is =
+      last.machine_then w k p I F shared free
+      ∙ (last.taken w k p I F shared free ∙ ap (λ (i : Instr). follow M.machine t S.task S.line.number (effect (setting M.machine t S.task) S.task.top M.machine.store i)) says.1)
+
+  goes_then : L.machine.end ≡ None
+  goes_then = ap (λ (m : State). m.end) machine_is ∙ last.mid_goes w k p I F shared free
+
+  at_then : slice_get L.machine.tasks t ≡ Some z
+  at_then = ap (λ (m : State). slice_get m.tasks t) machine_is ∙ got_same M.machine.tasks t S.task z S.at.task
+
+  runs_then : runs z.status ≡ true
+  runs_then = ap runs S.at.runs
+
+  Q : Prints M L t S.task S.line
+  Q = prints w.program M L t S.task S.line (last.is_not_private w k p I F shared free) register says.1 z at_then runs_then goes_then S.kind S.last
+
+  -- how the entry splits
+  abbrev E : Runs w.program w.settings l L t k p.fresh
+  E = record (last.runs_so w k p I F shared free) { splits = record S { kind = Printing; last = Q; apart = last.is_not_private w k p I F shared free; on = λ u. goes_then } }
+
+  abbrev own : FitsValue w.program w.settings (part_for w.settings t h p.fresh) v l
+  own = F.fits
+
+  -- it prints what the part has in its register
+  value_is : value ≡ int_in S.task.top Q.register
+  value_is = says.2 ∙ ap (int_in S.task.top) (ap register_of (sym says.1 ∙ Q.by))
+
+  module _ (j : Space Event) where
+    abbrev outputs : List ℤ
+    outputs = w.outputs ++ value ∷ []
+
+    abbrev steps : ℕ
+    steps = w.steps + suc p.fresh
+
+    abbrev w' : World
+    w' = entered w (last_event k p) w.tree w.pool w.homes w.sets w.hands outputs steps w.end j.room
+
+    counts : RanCounts w.program (totals_of w) (totals_of w') M L t k p.fresh S.task S.line Printing Q
+    counts = record { tree = λ u. refl; hand = λ u. refl; outputs = ap (λ x. w.outputs ++ x ∷ []) value_is; end = refl; used = refl; steps = refl }
+
+    pub output_world : IsWorld w'
+    output_world =
+        entered_world w (last_event k p) I free w.tree w.pool w.homes w.sets w.hands outputs steps w.end j.room I.made I.noted refl refl
+        (ran_stands_for w.program w.settings w.journal.items I.form I.legal v v (totals_of w) (totals_of w') k t p.fresh h free E I.stands own refl tt counts)
+        I.heaps I.measured
+
+    pub output_goes : (accounts w').end ≡ None
+    output_goes = sym (end_now w' output_world) ∙ (end_now w I ∙ last.on w k p I F shared free)
+
+    -- THE PART, whose frame goes on
+    abbrev q : Private
+    q = record p { frames = with_next p.frames (p.frames.top.next + 1); fresh = 0 }
+
+    goes_home : StepsTo v L t h (home_of_part q)
+    goes_home =
+        numbers_go w.program w.settings v l L t k p.fresh h E own (frame_of p.frames.top) (map frame_of p.frames.below) None (M.machine.outputs ++ int_in S.task.top Q.register ∷ []) Q.alone Q.goes refl
+
+    pub output_part : Fits w' k q
+    output_part =
+        part_fits w (last_event k p) I free w.tree w.pool w.homes w.sets w.hands outputs steps w.end j.room output_world k p q refl F refl refl refl F.form F.measured
+        (ran_fits_then w.program w.settings v v l L t k p.fresh h (home_of_part q) E own refl goes_home)
+
+    -- THE PARTS OF OTHERS
+    pub output_others : OthersFit w w' k
+    output_others u r ne G =
+        part_fits w (last_event k p) I free w.tree w.pool w.homes w.sets w.hands outputs steps w.end j.room output_world u r r refl G refl refl refl G.form G.measured
+        (ran_leaves w.program w.settings v v l L t k p.fresh h E own refl (part_of w.settings r) (held_apart w k u p r F G ne) G.fits)

@@ -1,0 +1,150 @@
+-- The home of a part that fits the machine, and whose heap is as its account says, is read by the addresses that it has in a value.
+use Rattle.std.proofs.Common.{◌≡◌, ℕ, ◌-◌, ◌<◌, ◌^◌, arith, Option, Some, None, List, [], ◌∷◌, map, min, slice_get, inl, inr, refl, ap, ap₂, sym, subst, ◌∙◌}
+use Rattle.std.proofs.lemmas.Bool.{cases_eq}
+use Rattle.std.proofs.lemmas.Option.{same_Some}
+use Rattle.hh_lang.specs.Form.{ProgramText}
+use Rattle.hh_model.specs.declared.data.Frame.{Frame as FrameOfModel}
+use Rattle.hh_model.specs.declared.data.Name.{Name}
+use Rattle.hh_model.specs.declared.data.Object.{Object}
+use Rattle.hh_model.specs.declared.data.Task.{Task}
+use Rattle.hh_model.specs.Effect.{object_at}
+use Rattle.hh_model.proofs.Steps.{runs_is}
+use Rattle.run_ledger.specs.declared.data.Heap.{Heap as Account}
+use Rattle.run_ledger.specs.declared.data.Ledger.{Ledger}
+use Rattle.run_ledger.specs.Heaps.{heap_of}
+use Rattle.object_layout.specs.declared.word.Addr.{Addr}
+use Rattle.object_layout.specs.Cell.{Born}
+use Rattle.object_layout.specs.Chunks.{cell_of}
+use Rattle.object_layout.specs.Content.{Content}
+use Rattle.task_frames.specs.declared.frames.Frame.{Frame as FrameOfCode}
+use Rattle.ledger_steps.specs.Accounts.{own}
+use Rattle.core_relation.specs.Value.{Chunk, Home, In, Lies, Seen, Value, objects, objects_in}
+use Rattle.core_relation.specs.Changes.{HomeIsRead}
+use Rattle.core_relation.specs.Layout.{AreLaidOut}
+use Rattle.core_relation.specs.Reads.{AllRead, FrameIsRead, FramesAreRead, HoldsRead, IsRead, TaskIsRead}
+use Rattle.core_relation.specs.Stands.{HasNames, HomeStands, Place}
+use Rattle.core_relation.proofs.objects.Members.{in_chunk}
+use Rattle.task_machine.specs.declared.part.Private.{Private}
+use Rattle.task_machine.specs.Accounts.{IsCounted}
+use Rattle.task_machine.specs.Fits.{FitsNow as FitsMachine}
+use Rattle.task_machine.specs.Place.{AreAt, FrameStands, FramesStand, Places, birth_of}
+use Rattle.shared_value.specs.Objects.{chunks_of, seen}
+use Rattle.shared_value.specs.World.{frame_of}
+use Rattle.shared_value.specs.Fits.{home_of_part}
+use Rattle.shared_value.proofs.CellsRead.{LiesThere, object_seen, seen_object}
+use Rattle.shared_value.proofs.HeapCounts.{large_are, small_names}
+use Rattle.shared_value.proofs.PlacedForm.{Formed}
+use Rattle.shared_value.proofs.HeapLaidOut.{content_of, inside_from, laid_from}
+
+-- ---- REFERENCES
+
+module _ (place : Places) (at : Name → Addr → Type 0) (lies : (n : Name) (a : Addr) → place n ≡ Some a → at n a) where
+  pub refs_read : (ns : List (Option Name)) (as' : List (Option Addr)) → AreAt place ns as' → AllRead at as' ns
+  refs_read [] [] h = tt
+  refs_read [] (a ∷ as') h = absurd h
+  refs_read (n ∷ ns) [] h = absurd h
+  refs_read (None ∷ ns) (None ∷ as') h = (tt, refs_read ns as' h.1)
+  refs_read (None ∷ ns) (Some a ∷ as') h = absurd h.0
+  refs_read (Some n ∷ ns) (None ∷ as') h = absurd h.0
+  refs_read (Some n ∷ ns) (Some a ∷ as') h = (lies n a h.0, refs_read ns as' h.1)
+
+  pub frame_read : (f : FrameOfModel) (g : FrameOfCode) → FrameStands place f g → FrameIsRead at (frame_of g) f
+  frame_read f g h = record { function = h.function; next = h.next; ints = h.ints; refs = refs_read f.refs g.refs h.refs }
+
+  pub frames_read : (fs : List FrameOfModel) (gs : List FrameOfCode) → FramesStand place fs gs → FramesAreRead at (map frame_of gs) fs
+  frames_read [] [] h = tt
+  frames_read [] (g ∷ gs) h = absurd h
+  frames_read (f ∷ fs) [] h = absurd h
+  frames_read (f ∷ fs) (g ∷ gs) h = (frame_read f g h.0, frames_read fs gs h.1)
+
+-- ---- THE HOME
+
+module _ (program : ProgramText) (q : Private) (L : Ledger) (above : Places) (G : FitsMachine program q L.machine above) (F : Formed q.heap) (C : IsCounted q.heap (heap_of L q.task)) (few : (heap_of L q.task).since < 2 ^ 64)
+    (v : Value) (here : v.homes q.task ≡ home_of_part q) (owned : (k : Content) → In q.heap.chunks k → v.owner k.number ≡ Some q.task)
+    (elsewhere : (n : Name) (a : Addr) → (own L n ≡ q.task → ⊥) → above n ≡ Some a → Place v L n a) where
+  abbrev t : ℕ
+  t = q.task
+
+  abbrev cells : List Content
+  cells = q.heap.chunks
+
+  abbrev ks : List Chunk
+  ks = chunks_of q.heap.chunks
+
+  abbrev a_t : Account
+  a_t = heap_of L t
+
+  home_chunks : (v.homes t).chunks ≡ ks
+  home_chunks = ap (λ (h : Home). h.chunks) here
+
+  in_part : (o : Seen) → In (objects v t) o → In (objects_in ks) o
+  in_part o i = subst (λ cs. In (objects_in cs) o) home_chunks i
+
+  lying : (o : Seen) → In (objects_in ks) o → LiesThere cells o
+  lying o i = seen_object cells o F.shaped.apart i
+
+  owned_chunk : (k : Chunk) → In ks k → v.owner k.number ≡ Some t
+  owned_chunk k i = let c = content_of cells k i in ap (λ (z : Chunk). v.owner z.number) (sym c.2) ∙ owned c.0 c.1
+
+  -- ---- NAMES
+
+  -- the map has an object's name where it lies
+  placed : (o : Seen) → In (objects_in ks) o → G.place o.name ≡ Some o.at
+  placed o i = let y = lying o i in ap (λ (z : Seen). G.place z.name) y.is ∙ (G.heap.objects o.at y.birth y.mark).placed
+
+  -- two objects at one address are one
+  same_place : (o r : Seen) → In (objects_in ks) o → In (objects_in ks) r → o.at ≡ r.at → o ≡ r
+  same_place o r i j e =
+      let y = lying o i in
+      let z = lying r j in
+      let marks : Born y.birth ≡ Born z.birth = sym y.mark ∙ (ap (λ a. (cell_of cells a).mark) e ∙ z.mark) in
+      let births : y.birth ≡ z.birth = cc in
+      y.is ∙ (ap₂ (λ (a : Addr) b. seen a.chunk a.offset b (cell_of cells a)) e births ∙ sym z.is)
+
+  same_name : (o r : Seen) → In (objects_in ks) o → In (objects_in ks) r → o.name ≡ r.name → o ≡ r
+  same_name o r i j e = same_place o r i j (same_Some o.at r.at (sym (placed o i) ∙ (ap G.place e ∙ placed r j)))
+
+  home_then : HomeStands v L t
+  home_then = record {
+    names = subst (λ cs. HasNames cs a_t) (sym home_chunks) (record { small = small_names cells ∙ C.chunks; large = large_are cells ∙ C.large });
+    room = ap (λ (h : Home). h.room) here ∙ C.room;
+    since = ap (λ (h : Home). h.since) here ∙ (C.since ∙ (let e : min a_t.since (2 ^ 64 - 1) ≡ a_t.since = omega (arith, few) in e));
+    count = ap (λ (h : Home). h.count) here ∙ G.count;
+    owned = λ k i. owned_chunk k (subst (λ cs. In cs k) home_chunks i);
+    inside = λ k o i j. inside_from cells k o (subst (λ cs. In cs k) home_chunks i) j;
+    once = λ o r i j. same_place o r (in_part o i) (in_part r j);
+    named = λ o r i j. same_name o r (in_part o i) (in_part r j);
+    laid = subst (λ cs. AreLaidOut cs a_t.reserved) (sym home_chunks) (laid_from q.heap F a_t.reserved C.reserved);
+  }
+
+  -- ---- ADDRESSES
+
+  own_place : (n : Name) (a : Addr) → own L n ≡ t → G.place n ≡ Some a → Place v L n a
+  own_place n a mine e =
+      let i : In (objects_in ks) (seen a.chunk a.offset (birth_of n) (cell_of cells a)) = object_seen cells a (birth_of n) (G.heap.own n a mine e) in
+      let c = in_chunk ks _ i in
+      record {
+        chunk = ap v.owner (inside_from cells c.0 _ c.1 c.2) ∙ (owned_chunk c.0 c.1 ∙ ap Some (sym mine));
+        here = λ r. subst (λ u. Lies (v.homes u).chunks n a) (sym mine) (subst (λ cs. Lies cs n a) (sym home_chunks) (seen a.chunk a.offset (birth_of n) (cell_of cells a), i, record { name = refl; at = refl }));
+      }
+
+  lies : (n : Name) (a : Addr) → G.place n ≡ Some a → Place v L n a
+  lies n a e = elim (cases_eq (own L n) t) [ inl mine ↦ own_place n a mine e | inr ne ↦ elsewhere n a ne (sym (G.heap.others n ne) ∙ e) ]
+
+  content : (o : Seen) → In (objects v t) o → (x : Object) × (object_at L.machine.store o.name ≡ Some x) × IsRead (Place v L) o x
+  content o i =
+      let y = lying o (in_part o i) in
+      let O = G.heap.objects o.at y.birth y.mark in
+      subst (λ (z : Seen). (x : Object) × (object_at L.machine.store z.name ≡ Some x) × IsRead (Place v L) z x) (sym y.is)
+      (O.object, O.is, record { mutable = O.stands.mutable; refs = refs_read G.place (Place v L) lies O.object.refs (cell_of cells o.at).refs O.stands.refs; ints = O.stands.ints })
+
+  task_then : (x : Task) → slice_get L.machine.tasks t ≡ Some x → TaskIsRead (Place v L) (v.homes t) x
+  task_then x e =
+      let same : G.task ≡ x = same_Some G.task x (sym G.is ∙ e) in
+      let read : FramesAreRead (Place v L) (home_of_part q).frames (G.task.top ∷ G.task.below) =
+      (frame_read G.place (Place v L) lies G.task.top q.frames.top G.stack.top, frames_read G.place (Place v L) lies G.task.below q.frames.below G.stack.below) in
+      subst (TaskIsRead (Place v L) (v.homes t)) same
+      (subst (HoldsRead (Place v L) (v.homes t) G.task) (sym (runs_is G.task.status G.running)) (subst (λ (z : Home). FramesAreRead (Place v L) z.frames (G.task.top ∷ G.task.below)) (sym here) read))
+
+  pub home_read : HomeIsRead v L t
+  home_read = record { home = home_then; contents = content; task = task_then }

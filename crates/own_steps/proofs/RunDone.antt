@@ -1,0 +1,223 @@
+-- The root's last frame returns, and the run is done: the root is handed back.
+use Rattle.std.proofs.Common.{◌≡◌, ℕ, suc, ◌+◌, ◌<◌, ◌&&◌, not, arith, Option, Some, None, List, [], length, length-set, map, slice_get, slice_set, option_map, inl, inr, refl, ap, sym, subst, ◌∙◌}
+use Rattle.std.proofs.lemmas.Bool.{cases_eq}
+use Rattle.std.proofs.lemmas.Option.{same_Some}
+use Rattle.listed.proofs.Members.{got_other, got_same, got_within}
+use Rattle.listed.specs.Space.{Space}
+use Rattle.hh_lang.specs.declared.instr.Instr.{Instr}
+use Rattle.hh_lang.specs.declared.instr.Instr.TheVariants.{Ret}
+use Rattle.hh_model.specs.declared.data.End.TheVariants.{Done}
+use Rattle.hh_model.specs.declared.data.Frame.{Frame as Framed}
+use Rattle.hh_model.specs.declared.data.State.{State as MachineState}
+use Rattle.hh_model.specs.declared.data.Task.{Task}
+use Rattle.hh_model.specs.Effect.{effect}
+use Rattle.hh_model.specs.Step.{ended_by, ended_task, follow, last_of, last_return, parent_of, result_of, returned_to, runs, setting, with_task}
+use Rattle.run_trace.specs.Entry.{Event}
+use Rattle.run_ledger.specs.declared.data.Ledger.{Ledger}
+use Rattle.run_ledger.specs.declared.data.RunEnd.TheVariants.{Machine}
+use Rattle.run_ledger.specs.Heaps.{heap_of}
+use Rattle.run_ledger.specs.Steps.{task_steps}
+use Rattle.heap_tree.specs.declared.state.State.TheVariants.{Ended}
+use Rattle.heap_tree.specs.Node.{Node, with_state}
+use Rattle.ledger_steps.specs.Accounts.{Rests}
+use Rattle.ledger_steps.specs.Last.{EndsDone, Finishing, Runs, Splits}
+use Rattle.core_relation.specs.Value.{Home, Value}
+use Rattle.core_relation.specs.Changes.{EndsHome}
+use Rattle.core_relation.specs.Fits.{part_for, with_home}
+use Rattle.core_relation.specs.RanCounts.{RanCounts}
+use Rattle.core_relation.specs.Since.{OthersNotes}
+use Rattle.core_relation.specs.Whole.{StandsFor, handed}
+use Rattle.core_relation.specs.Worker.{Fits as FitsValue}
+use Rattle.core_relation.proofs.whole.DoneHands.{done_hands_all}
+use Rattle.core_relation.proofs.whole.RanWhole.{ran_stands_for}
+use Rattle.core_relation.proofs.changes.With.{at_home, off_home}
+use Rattle.core_relation.proofs.parts.Workers.{ran_leaves}
+use Rattle.task_machine.specs.declared.part.Private.{Private}
+use Rattle.shared_value.specs.declared.next.Ending.TheVariants.{Returns}
+use Rattle.shared_value.specs.declared.rest.Rest.{Rest}
+use Rattle.shared_value.specs.World.{World, accounts, begun_of, flat, frame_of, home_in, home_of, node_of, rest_at, totals_of, value_of}
+use Rattle.shared_value.specs.Measured.{AreMeasured, RestsAreMeasured}
+use Rattle.shared_value.specs.Stands.{HeapForm, IsWorld}
+use Rattle.shared_value.specs.Fits.{Fits, OthersFit, home_of_part, part_of}
+use Rattle.shared_value.specs.Entered.{refused}
+use Rattle.shared_value.proofs.EntryMade.{accounts_are, entered, entered_world, hand_is, held_apart, part_fits, unheld_before}
+use Rattle.shared_value.proofs.BeforeTheEnd.{end_now, stands_now}
+use Rattle.shared_value.proofs.TaskTaken.{made_by, node_by, node_off, put_there, told, worker_there}
+use Rattle.own_steps.specs.Alone.{IsShared, Tells, ended_rest}
+use Rattle.own_steps.proofs.LastKinds.{done}
+use Rattle.own_steps.proofs.LastStepEntry as last
+use Rattle.own_steps.proofs.LastStepEntry.{last_event}
+
+no_parent : (par : ℕ → Option ℕ) → ((t p : ℕ) → par t ≡ Some p → p < t) → (t : ℕ) → t ≡ 0 → (o : Option ℕ) → par t ≡ o → o ≡ None
+no_parent par low t z None e = refl
+no_parent par low t z (Some q) e = let lt : q < t = low t q e in absurd (omega (arith, z, lt))
+
+pub some_of : {A B : Type 0} (f : A → B) (o : Option A) (y : B) → option_map f o ≡ Some y → (x : A) × (o ≡ Some x) × (f x ≡ y)
+some_of f None y e = absurd cc
+some_of f (Some x) y e = (x, refl, same_Some (f x) y e)
+
+module _ (w : World) (k : ℕ) (p : Private) (I : IsWorld w) (F : Fits w k p) (shared : IsShared w p) (free : refused w (last_event k p) ≡ None) (number : ℕ) (T : Tells w p Returns number) (root : p.task ≡ 0) where
+  abbrev t : ℕ
+  t = p.task
+
+  abbrev l : Ledger
+  l = accounts w
+
+  abbrev M : Ledger
+  M = task_steps w.program l t p.fresh
+
+  abbrev L : Ledger
+  L = last.L w k p I F shared free
+
+  abbrev v : Value
+  v = value_of w
+
+  abbrev h : Home
+  h = home_of_part p
+
+  abbrev S : Splits w.program w.settings l L t p.fresh
+  S = last.S w k p I F shared free
+
+  says : (S.line.instr ≡ Ret) × (S.task.below ≡ [])
+  says = (last.said w k p I F shared free Returns number T).1
+
+  parent : S.task.parent ≡ None
+  parent = no_parent (λ u. parent_of (slice_get M.machine.tasks u)) (last.knows_mid w k p I F shared free).sound.kept.tree.low t root S.task.parent (ap parent_of S.at.task)
+
+  abbrev z : Task
+  z = ended_task S.task (result_of S.task.top)
+
+  abbrev m' : MachineState
+  m' = ended_by (with_task M.machine t z) Done
+
+  machine_is : L.machine ≡ m'
+  machine_is =
+      last.machine_then w k p I F shared free
+      ∙ (last.taken w k p I F shared free
+      ∙ (ap (λ (i : Instr). follow M.machine t S.task S.line.number (effect (setting M.machine t S.task) S.task.top M.machine.store i)) says.0
+      ∙ (ap (λ (fs : List Framed). returned_to M.machine t S.task (last_of fs)) says.1 ∙ ap (last_return M.machine t S.task) parent)))
+
+  at_then : slice_get L.machine.tasks t ≡ Some z
+  at_then = ap (λ (m : MachineState). slice_get m.tasks t) machine_is ∙ got_same M.machine.tasks t S.task z S.at.task
+
+  D : EndsDone M L t S.task
+  D =
+      done w.program M L t S.task S.line (last.is_not_private w k p I F shared free) (ap (λ (m : MachineState). m.end) machine_is) z at_then refl S.at.task (ap runs S.at.runs) S.kind S.last S.on
+
+  -- how the entry splits
+  abbrev E : Runs w.program w.settings l L t k p.fresh
+  E = record (last.runs_so w k p I F shared free) { splits = record S { kind = Finishing; last = D; apart = last.is_not_private w k p I F shared free; on = λ b. absurd b } }
+
+  abbrev own : FitsValue w.program w.settings (part_for w.settings t h p.fresh) v l
+  own = F.fits
+
+  S0 : StandsFor v (totals_of w) l
+  S0 = stands_now w I (last.on w k p I F shared free)
+
+  -- ---- THE HOME THAT IS HANDED BACK
+  abbrev rest : Rest
+  rest = ended_rest p
+
+  node_there : (n : Node) × (slice_get w.tree t ≡ Some n) × (node_of n ≡ told (heap_of l t).worker F.fits.task)
+  node_there = some_of node_of (slice_get w.tree t) (told (heap_of l t).worker F.fits.task) (S0.totals.node t ∙ ap (option_map (told (heap_of l t).worker)) F.fits.is)
+
+  pub has_node : t < length w.tree
+  has_node = got_within w.tree t node_there.0 node_there.1
+
+  pub has_home : t < length w.homes
+  has_home = subst (λ n. t < n) (sym I.made) has_node
+
+  abbrev vt : Value
+  vt = with_home v t h
+
+  here : vt.homes t ≡ h
+  here = at_home v t h
+
+  module _ (j : Space Event) where
+    abbrev tree : List Node
+    tree = with_state w.tree t Ended
+
+    abbrev homes : List (Option Rest)
+    homes = slice_set w.homes t (Some rest)
+
+    abbrev hands : List (Option ℕ)
+    hands = slice_set w.hands k None
+
+    abbrev steps : ℕ
+    steps = w.steps + suc p.fresh
+
+    abbrev w' : World
+    w' = entered w (last_event k p) tree w.pool homes w.sets hands w.outputs steps (Some (Machine Done)) j.room
+
+    abbrev v' : Value
+    v' = value_of w'
+
+    rest_now : rest_at homes t ≡ Some rest
+    rest_now = ap flat (put_there w.homes t (Some rest) has_home)
+
+    rest_off : (u : ℕ) → (u ≡ t → ⊥) → rest_at homes u ≡ rest_at w.homes u
+    rest_off u ne = ap flat (got_other w.homes t u (Some rest) ne)
+
+    home_now : v'.homes t ≡ home_of rest
+    home_now = ap home_in rest_now
+
+    ends_home : EndsHome vt v' t (frame_of p.frames.top) (map frame_of p.frames.below)
+    ends_home = record {
+      frames = ap (λ (z : Home). z.frames) here;
+      result = ap (λ (z : Home). z.result) home_now;
+      begun = ap (λ (z : Home). z.begun) home_now ∙ (sym (ap begun_of (last.none w k p I F shared free)) ∙ ap (λ (z : Home). z.begun) (sym here));
+      view = ap (λ (z : Home). z.view) home_now ∙ ap (λ (z : Home). z.view) (sym here);
+      chunks = ap (λ (z : Home). z.chunks) home_now ∙ ap (λ (z : Home). z.chunks) (sym here);
+      room = ap (λ (z : Home). z.room) home_now ∙ ap (λ (z : Home). z.room) (sym here);
+      since = ap (λ (z : Home). z.since) home_now ∙ ap (λ (z : Home). z.since) (sym here);
+      count = ap (λ (z : Home). z.count) home_now ∙ ap (λ (z : Home). z.count) (sym here);
+      others = λ u ne. ap home_in (rest_off u ne) ∙ sym (off_home v t h u ne);
+      owner = λ c. refl;
+      sources = λ u. refl;
+    }
+
+    notes : OthersNotes vt v' t
+    notes = record { none = S0.keeps t ∙ ap (λ b. b && not (heap_of l t).swept) (last.idle w k p I F shared free); others = λ u ne. record { keeps = refl; kept = refl; marked = refl } }
+
+    counts : RanCounts w.program (totals_of w) (totals_of w') M L t k p.fresh S.task S.line Finishing D
+    counts = record {
+      tree = record { node = node_by w.tree t Ended (slice_get w.tree t) refl; others = λ u ne. node_off w.tree t Ended (slice_get w.tree t) u ne };
+      hand = record { hand = ap flat (put_there w.hands k None (worker_there w (last_event k p) I free)); others = λ u ne. ap flat (got_other w.hands k u None ne) };
+      outputs = refl;
+      end = refl;
+      used = refl;
+      steps = refl;
+    }
+
+    heaps_then : (u : ℕ) (r : Rest) → rest_at homes u ≡ Some r → HeapForm r.heap
+    heaps_then u r is = elim (cases_eq u t) [
+      | inl q ↦ subst (λ (z : Rest). HeapForm z.heap) (same_Some rest r (sym rest_now ∙ (ap (rest_at homes) (sym q) ∙ is))) F.form
+      | inr ne ↦ I.heaps u r (sym (rest_off u ne) ∙ is)
+    ]
+
+    measured_then : RestsAreMeasured w.pool homes hands
+    measured_then u r is f = elim (cases_eq u t) [
+      | inl q ↦ subst (λ z. AreMeasured w.pool z r.heap.chunks) (sym q) (subst (λ (z : Rest). AreMeasured w.pool t z.heap.chunks) (same_Some rest r (sym rest_now ∙ (ap (rest_at homes) (sym q) ∙ is))) F.measured.0)
+      | inr ne ↦ I.measured u r (sym (rest_off u ne) ∙ is) (unheld_before w.hands k None u f (λ h. ne (same_Some u t (sym h ∙ hand_is w k p I (last.on w k p I F shared free) F))))
+    ]
+
+    pub done_world : IsWorld w'
+    done_world =
+        entered_world w (last_event k p) I free tree w.pool homes w.sets hands w.outputs steps (Some (Machine Done)) j.room (length-set w.homes t (Some rest) ∙ (I.made ∙ sym (made_by w.tree t Ended (slice_get w.tree t)))) (I.noted ∙ sym (made_by w.tree t Ended (slice_get w.tree t))) (length-set w.hands k None) refl
+        (ran_stands_for w.program w.settings w.journal.items I.form I.legal v v' (totals_of w) (totals_of w') k t p.fresh h free E I.stands own (frame_of p.frames.top, map frame_of p.frames.below, ends_home) notes counts)
+        heaps_then measured_then
+
+    pub done_ends : (accounts w').end ≡ Some (Machine Done)
+    done_ends = sym (end_now w' done_world)
+
+    -- every heap is handed back
+    pub done_rests : (u : ℕ) → Rests (handed (accounts w')) u
+    done_rests u =
+        subst (λ (z : Ledger). Rests (handed z) u) (sym (accounts_are w (last_event k p) I free tree w.pool homes w.sets hands w.outputs steps (Some (Machine Done)) j.room))
+        (done_hands_all w.program w.settings l L t k p.fresh E D.ended u)
+
+    -- THE PARTS OF OTHERS
+    pub done_others : OthersFit w w' k
+    done_others u r ne G =
+        part_fits w (last_event k p) I free tree w.pool homes w.sets hands w.outputs steps (Some (Machine Done)) j.room done_world u r r (ap flat (got_other w.hands k u None ne)) G refl refl refl G.form G.measured
+        (ran_leaves w.program w.settings v v' l L t k p.fresh h E own (frame_of p.frames.top, map frame_of p.frames.below, ends_home) (part_of w.settings r) (held_apart w k u p r F G ne) G.fits)

@@ -1,0 +1,85 @@
+-- An entry for a task that its worker doesn't hold is refused.
+use Rattle.std.proofs.Common.{◌≡◌, ◌≢◌, ℕ, ◌⊎◌, ◌&&◌, Bool, true, false, Option, Some, None, slice_get, refl, ap, sym, ◌∙◌, inl, inr}
+use Rattle.std.proofs.lemmas.Bool.{eqb-true, false≢true}
+use Rattle.std.proofs.lemmas.Option.{same_Some}
+use Rattle.hh_model.specs.Step.{is_running}
+use Rattle.run_trace.specs.declared.entry.Kind.{Kind}
+use Rattle.run_trace.specs.declared.entry.Kind.TheVariants.{Took, Ran, Chunk, Begin, End, PutOff, Mark, More, Sweep, Fuel}
+use Rattle.run_ledger.specs.declared.data.RunEnd.{RunEnd}
+use Rattle.run_ledger.specs.declared.data.Refused.{Refused}
+use Rattle.run_ledger.specs.declared.data.Refused.TheVariants.{NotOut}
+use Rattle.run_ledger.specs.Heaps.{heap_of}
+use Rattle.run_ledger.specs.Entries.{is_fuel, is_held_by, is_out, kind_refusal, refused_unless}
+use Rattle.shared_value.specs.World.{World, accounts}
+use Rattle.shared_value.specs.Stands.{IsWorld}
+use Rattle.shared_value.specs.Causes.{first_cause, or_else, task_held}
+use Rattle.shared_value.specs.Entered.{refused}
+use Rattle.shared_value.proofs.CausesTold.{refused_is}
+
+held_is : (o : Option ℕ) (k : ℕ) → is_held_by o k ≡ true → o ≡ Some k
+held_is None k h = absurd (false≢true h)
+held_is (Some u) k h = ap Some (eqb-true u k h)
+
+and_false : (a b : Bool) → b ≡ false → (a && b) ≡ false
+and_false true b h = h
+and_false false b h = refl
+
+pub unless_false : (b : Bool) (c : Refused) (rest : Option Refused) → b ≡ false → refused_unless b c rest ≡ Some c
+unless_false false c rest e = refl
+unless_false true c rest e = absurd cc
+
+module _ (w : World) (I : IsWorld w) (k t : ℕ) where
+  not_out : (heap_of (accounts w) t).worker ≢ Some k → is_out (accounts w) k t ≡ false
+  not_out apart = and_false (is_running (slice_get (accounts w).machine.tasks t)) (is_held_by (heap_of (accounts w) t).worker k) (by (is_held_by (heap_of (accounts w) t).worker k) refl)
+    where
+      by : (b : Bool) → is_held_by (heap_of (accounts w) t).worker k ≡ b → b ≡ false
+      by false e = refl
+      by true e = absurd (apart (held_is (heap_of (accounts w) t).worker k e))
+
+  kind_is : (kind : Kind) → task_held kind ≡ Some t → is_out (accounts w) k t ≡ false → kind_refusal w.program w.settings (accounts w) k kind ≡ Some NotOut
+  kind_is (Took u) e out = absurd cc
+  kind_is (Ran u n) e out = unless_false (is_out (accounts w) k u) NotOut _ (ap (is_out (accounts w) k) (same_Some u t e) ∙ out)
+  kind_is (Chunk u) e out = unless_false (is_out (accounts w) k u) NotOut _ (ap (is_out (accounts w) k) (same_Some u t e) ∙ out)
+  kind_is (Begin u) e out = unless_false (is_out (accounts w) k u) NotOut _ (ap (is_out (accounts w) k) (same_Some u t e) ∙ out)
+  kind_is (End u a b c) e out = unless_false (is_out (accounts w) k u) NotOut _ (ap (is_out (accounts w) k) (same_Some u t e) ∙ out)
+  kind_is (PutOff u) e out = unless_false (is_out (accounts w) k u) NotOut _ (ap (is_out (accounts w) k) (same_Some u t e) ∙ out)
+  kind_is (Mark u) e out = absurd cc
+  kind_is (More u n) e out = absurd cc
+  kind_is (Sweep u n) e out = absurd cc
+  kind_is Fuel e out = absurd cc
+
+  no_fuel : (kind : Kind) → task_held kind ≡ Some t → is_fuel kind ≡ false
+  no_fuel (Took u) e = refl
+  no_fuel (Ran u n) e = refl
+  no_fuel (Chunk u) e = refl
+  no_fuel (Begin u) e = refl
+  no_fuel (End u a b c) e = refl
+  no_fuel (PutOff u) e = refl
+  no_fuel (Mark u) e = refl
+  no_fuel (More u n) e = refl
+  no_fuel (Sweep u n) e = refl
+  no_fuel Fuel e = absurd cc
+
+  goes_by : w.end ≡ None ⊎ (first_cause w.end w.steps w.settings k false ≡ None → ⊥)
+  goes_by = by w.end refl
+    where
+      by : (o : Option RunEnd) → w.end ≡ o → w.end ≡ None ⊎ (first_cause w.end w.steps w.settings k false ≡ None → ⊥)
+      by None e = inl e
+      by (Some x) e = inr (λ h. over (sym (ap (λ z. first_cause z w.steps w.settings k false) e) ∙ h))
+        where
+          over : {c : Refused} → ◌≡◌ {A = Option Refused} (Some c) None → ⊥
+          over q = cc
+
+  -- the causes that come before come first
+  pub apart_cause : (kind : Kind) → task_held kind ≡ Some t → (w.end ≡ None → (heap_of (accounts w) t).worker ≢ Some k) → refused w (record { worker = k; kind = kind }) ≡ or_else (first_cause w.end w.steps w.settings k false) (Some NotOut)
+  apart_cause kind held apart =
+      refused_is w I (record { worker = k; kind = kind })
+      ∙ (ap (λ b. or_else (first_cause w.end w.steps w.settings k b) (kind_refusal w.program w.settings (accounts w) k kind)) (no_fuel kind held)
+      ∙ elim goes_by [
+        | inl goes ↦ ap (or_else (first_cause w.end w.steps w.settings k false)) (kind_is kind held (not_out (apart goes)))
+        | inr over ↦ by (first_cause w.end w.steps w.settings k false) (kind_refusal w.program w.settings (accounts w) k kind) over
+      ])
+    where
+      by : (o rest : Option Refused) → (o ≡ None → ⊥) → or_else o rest ≡ or_else o (Some NotOut)
+      by None rest h = absurd (h refl)
+      by (Some c) rest h = refl

@@ -1,0 +1,80 @@
+-- The words that a heap counts stay few as private steps are taken: 64 bits count them.
+use Rattle.std.proofs.Common.{◌≡◌, ℕ, ℤ, zero, suc, pos, negsuc, ◌+◌, ◌-◌, ◌<◌, ◌≤◌, ◌^◌, ◌++◌, arith, Bool, true, false, cond, Option, Some, None, [], ◌∷◌, length, slice_get, nat_le, refl, subst}
+use Rattle.std.proofs.lemmas.Bool.{leb-false, leb-true}
+use Rattle.std.proofs.lemmas.Option.{same_Some}
+use Rattle.hh_lang.specs.declared.instr.Instr.{Instr}
+use Rattle.hh_lang.specs.declared.instr.Instr.TheVariants.{Newm, Pack}
+use Rattle.hh_lang.specs.declared.program.Line.{Line}
+use Rattle.hh_lang.specs.Form.{ProgramText}
+use Rattle.hh_model.specs.declared.data.Frame.{Frame}
+use Rattle.hh_model.specs.declared.data.Name.{Name}
+use Rattle.hh_model.specs.declared.data.State.{State}
+use Rattle.hh_model.specs.declared.data.Task.{Task}
+use Rattle.hh_model.specs.Effect.{counts_in, int_in, row_of}
+use Rattle.hh_model.specs.Names.{words_asked, words_for}
+use Rattle.hh_model.specs.Step.{asked, asked_by, asked_line, fetched, is_running}
+use Rattle.run_trace.specs.Settings.{field_limit}
+use Rattle.run_trace.specs.declared.settings.Version.{Version}
+use Rattle.run_trace.specs.declared.settings.Version.TheVariants.{One, Two}
+use Rattle.run_ledger.specs.declared.data.Heap.{Heap}
+use Rattle.run_ledger.specs.Heaps.{is_small, placed, put_last}
+use Rattle.run_ledger.specs.Space.{AsksAtMost}
+use Rattle.run_ledger.specs.Steps.{on_asked}
+use Rattle.task_machine.specs.Accounts.{account_after, account_by}
+use Rattle.task_machine.specs.Outline.{steps}
+use Rattle.shared_value.proofs.Packs.{IsFew, PacksFew}
+
+counts_few : (limit : ℕ) (a b : ℤ) (w : ℕ) → words_for (counts_in limit a b) ≡ Some w → w ≤ limit + 34
+counts_few limit (pos a) (pos b) w e = by (nat_le (a + b) limit) refl e
+  where
+    by : (v : Bool) → nat_le (a + b) limit ≡ v → words_for (cond v (Some (a, b)) None) ≡ Some w → w ≤ limit + 34
+    by true q h = let r : a + b ≤ limit = leb-true (a + b) limit q in let z : 2 + a + b ≡ w = same_Some (2 + a + b) w h in omega (arith, r, z)
+    by false q h = absurd cc
+counts_few limit (pos a) (negsuc b) w e = absurd cc
+counts_few limit (negsuc a) b w e = absurd cc
+
+instr_few : (limit : ℕ) (f : Frame) (i : Instr) (w : ℕ) → IsFew i → words_asked limit f i ≡ Some w → w ≤ limit + 34
+instr_few limit f (Newm d a b) w h e = counts_few limit (int_in f a) (int_in f b) w e
+instr_few limit f (Pack d r i) w h e = let z : 2 + r + i ≡ w = same_Some (2 + r + i) w e in omega (arith, z, h.0, h.1)
+instr_few limit f _ w h e = absurd cc
+
+pub asks_few : (p : ProgramText) → PacksFew p → (limit : ℕ) → AsksAtMost p limit (limit + 34)
+asks_few p few limit m t w q e = by_task (slice_get m.tasks t) e
+  where
+    by_line : (x : Task) (o : Option Line) → fetched p x.top ≡ o → asked_line m.field_limit x.top o ≡ Some w → w ≤ limit + 34
+    by_line x None il h = absurd cc
+    by_line x (Some line) il h = subst (λ z. w ≤ z + 34) q (instr_few m.field_limit x.top line.instr w (few x.top.function x.top.next line il) h)
+
+    by_run : (b : Bool) (o : Option ℕ) → cond b o None ≡ Some w → o ≡ Some w
+    by_run true o h = h
+    by_run false o h = absurd cc
+
+    by_task : (o : Option Task) → asked_by p m o ≡ Some w → w ≤ limit + 34
+    by_task None h = absurd cc
+    by_task (Some x) h = by_line x (fetched p x.top) refl (by_run (is_running (Some x)) (asked_line m.field_limit x.top (fetched p x.top)) h)
+
+placed_since : (h : Heap) (n : Name) (w : ℕ) → (placed h n w).since ≡ h.since + w
+placed_since h n w = by (is_small w)
+  where
+    by : (b : Bool) → (cond b (record h { chunks = put_last h.chunks n; room = h.room - w; since = h.since + w }) (record h { large = h.large ++ n ∷ []; reserved = 0; since = h.since + w })).since ≡ h.since + w
+    by true = refl
+    by false = refl
+
+-- a step that was not due when its turn came places few words on top of few
+since_by : (m : State) (t : ℕ) (a : Heap) (o : Option ℕ) (leaf most : ℕ) → a.since < 2 ^ 64 → on_asked o (λ w. nat_le leaf a.since) ≡ false → ((w : ℕ) → o ≡ Some w → w ≤ most) → leaf + most < 2 ^ 64 → (account_by m t a o).since < 2 ^ 64
+since_by m t a None leaf most few due le lt = few
+since_by m t a (Some w) leaf most few due le lt =
+    let s : a.since < leaf = leb-false leaf a.since due in
+    let more : w ≤ most = le w refl in
+    let e = placed_since a (record { task = t; count = length (row_of (slice_get m.store t)) }) w in
+    omega (arith, s, more, e, lt)
+
+pub since_after : (p : ProgramText) (m : State) (t : ℕ) (a : Heap) (leaf most : ℕ) → a.since < 2 ^ 64 → leaf + most < 2 ^ 64 → (k : ℕ) → ((i : ℕ) → i < k → on_asked (asked p (steps p m t i) t) (λ w. nat_le leaf (account_after p m t a i).since) ≡ false)
+    → ((i : ℕ) → i < k → (w : ℕ) → asked p (steps p m t i) t ≡ Some w → w ≤ most) → (account_after p m t a k).since < 2 ^ 64
+since_after p m t a leaf most few lt zero due le = few
+since_after p m t a leaf most few lt (suc k) due le =
+    since_by (steps p m t k) t (account_after p m t a k) (asked p (steps p m t k) t) leaf most (since_after p m t a leaf most few lt k (λ i l. due i (omega (arith, l))) (λ i l. le i (omega (arith, l)))) (due k (omega arith)) (le k (omega arith)) lt
+
+pub limit_small : (v : Version) → field_limit v ≤ 1000000
+limit_small One = omega arith
+limit_small Two = omega arith

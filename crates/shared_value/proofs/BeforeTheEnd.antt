@@ -1,0 +1,90 @@
+-- What the shared value keeps, of the accounts themselves; and before the run's end, of the parts that fit.
+use Rattle.std.proofs.Common.{◌≡◌, ℕ, Option, Some, None, slice_get, refl, ap, subst, ◌∙◌}
+use Rattle.hh_model.specs.declared.data.End.TheVariants.{Done, Trapped, Entangled}
+use Rattle.hh_model.specs.declared.data.State.{State}
+use Rattle.hh_model.specs.declared.data.Status.TheVariants.{Running}
+use Rattle.hh_model.proofs.Steps.{runs_is}
+use Rattle.run_ledger.specs.declared.data.Heap.{Heap}
+use Rattle.run_ledger.specs.declared.data.Ledger.{Ledger}
+use Rattle.run_ledger.specs.declared.data.RunEnd.{RunEnd}
+use Rattle.run_ledger.specs.declared.data.RunEnd.TheVariants.{Fuel, Machine, Pool}
+use Rattle.run_ledger.specs.Heaps.{heap_at, in_use, let_go, units_in, with_heap_at}
+use Rattle.run_ledger.specs.Entries.{held_from}
+use Rattle.run_ledger.proofs.Going.{machine_goes_on}
+use Rattle.chunk_pool.specs.Chunks.{units_in_use}
+use Rattle.core_relation.specs.Copies.{PartFits}
+use Rattle.core_relation.specs.Fits.{FitsAt}
+use Rattle.core_relation.specs.Frames.{IsOut}
+use Rattle.core_relation.specs.Whole.{StandsFor, by_end, handed}
+use Rattle.core_relation.proofs.whole.Hands.{hands_are_held}
+use Rattle.core_relation.proofs.parts.Workers as workers
+use Rattle.task_machine.specs.declared.part.Private.{Private}
+use Rattle.shared_value.specs.World.{World, accounts, flat, totals_of, value_of}
+use Rattle.shared_value.specs.Stands.{IsWorld}
+use Rattle.shared_value.specs.Fits.{Fits, part_of}
+use Rattle.shared_value.proofs.OneAccount.{sum_put}
+
+-- a task that is let go of changes nothing else
+pub record LetsGo (l l' : Ledger) : Type 0 where
+  pub machine : l'.machine ≡ l.machine
+  pub steps : l'.steps ≡ l.steps
+  pub end : l'.end ≡ l.end
+  pub used : in_use l' ≡ in_use l
+
+lets_go : (l : Ledger) (t : ℕ) → LetsGo l (with_heap_at l t let_go (heap_at l t))
+lets_go l t = by (heap_at l t) refl
+  where
+    by : (o : Option Heap) → heap_at l t ≡ o → LetsGo l (with_heap_at l t let_go o)
+    by None e = record { machine = refl; steps = refl; end = refl; used = refl }
+    by (Some h) e = record { machine = refl; steps = refl; end = refl; used = sum_put (units_in l.machine) l.heaps t h (let_go h) e refl }
+
+none_goes : (l : Ledger) → LetsGo l l
+none_goes l = record { machine = refl; steps = refl; end = refl; used = refl }
+
+pub goes_by : (l : Ledger) (o : Option RunEnd) → LetsGo l (by_end l o)
+goes_by l None = none_goes l
+goes_by l (Some (Fuel n)) = none_goes l
+goes_by l (Some (Pool n)) = none_goes l
+goes_by l (Some (Machine Done)) = lets_go l 0
+goes_by l (Some (Machine (Trapped kind t line))) = none_goes l
+goes_by l (Some (Machine (Entangled t u))) = none_goes l
+
+module _ (w : World) (I : IsWorld w) where
+  goes_on : LetsGo (accounts w) (handed (accounts w))
+  goes_on = goes_by (accounts w) (accounts w).end
+
+  pub end_now : w.end ≡ (accounts w).end
+  end_now = I.stands.totals.end ∙ goes_on.end
+
+  pub steps_now : w.steps ≡ (accounts w).steps
+  steps_now = I.stands.totals.steps ∙ goes_on.steps
+
+  pub outputs_now : w.outputs ≡ (accounts w).machine.outputs
+  outputs_now = I.stands.totals.outputs ∙ ap (λ (m : State). m.outputs) goes_on.machine
+
+  pub used_now : units_in_use w.pool ≡ in_use (accounts w)
+  used_now = I.stands.totals.used ∙ goes_on.used
+
+  -- before the end it stands for the accounts themselves
+  pub stands_now : (accounts w).end ≡ None → StandsFor (value_of w) (totals_of w) (accounts w)
+  stands_now on = subst (λ o. StandsFor (value_of w) (totals_of w) (by_end (accounts w) o)) on I.stands
+
+  pub hand_now : (accounts w).end ≡ None → (k : ℕ) → flat (slice_get w.hands k) ≡ held_from k 0 (accounts w).heaps
+  hand_now on k = hands_are_held (totals_of w) (accounts w) (stands_now on).totals k
+
+-- A PART THAT FITS, before the run's end
+module _ (w : World) (k : ℕ) (p : Private) (F : Fits w k p) (on : (accounts w).end ≡ None) where
+  pub alive : (accounts w).machine.end ≡ None
+  alive = machine_goes_on w.program w.settings w.journal.items on
+
+  pub part_now : PartFits w.program w.settings (part_of w.settings p) (value_of w) (accounts w)
+  part_now = workers.part_now w.program w.settings (part_of w.settings p) (value_of w) (accounts w) alive F.fits
+
+  pub fits_now : FitsAt w.program w.settings (part_of w.settings p) (value_of w) (accounts w)
+  fits_now = part_now.fits
+
+  pub out_now : IsOut (accounts w) (part_of w.settings p) F.fits.task
+  out_now = workers.out w.program w.settings (part_of w.settings p) (value_of w) (accounts w) alive F.fits
+
+  pub status : F.fits.task.status ≡ Running
+  status = runs_is F.fits.task.status F.fits.runs

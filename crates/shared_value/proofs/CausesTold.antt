@@ -1,0 +1,110 @@
+-- What the shared value tells of causes is what the accounts say.
+use Rattle.std.proofs.Common.{◌≡◌, ℕ, ◌<◌, ◌&&◌, not, Bool, true, false, Option, Some, None, slice_get, option_map, is_some, is_none, nat_le, nat_lt, refl, ap, ap₂, sym, ◌∙◌}
+use Rattle.std.proofs.lemmas.Option.{same_Some}
+use Rattle.std.proofs.lemmas.Bool.{ltb-true}
+use Rattle.hh_model.specs.declared.data.Task.{Task}
+use Rattle.hh_model.specs.declared.data.Status.{Status}
+use Rattle.hh_model.specs.declared.data.Status.TheVariants.{Running, Waiting, Ended, Joined}
+use Rattle.hh_model.specs.Step.{is_running, runs}
+use Rattle.run_trace.specs.declared.entry.Kind.TheVariants.{Took, Fuel}
+use Rattle.run_trace.specs.Entry.{Event}
+use Rattle.run_ledger.specs.declared.data.Ledger.{Ledger}
+use Rattle.run_ledger.specs.declared.data.Refused.{Refused}
+use Rattle.run_ledger.specs.declared.data.Refused.TheVariants.{Over, Spent, NoWorker, NotReady, NotSpent}
+use Rattle.run_ledger.specs.Heaps.{heap_of}
+use Rattle.run_ledger.specs.Entries.{kind_refusal, is_fuel, refused_if, refused_unless, refused_holding}
+use Rattle.heap_tree.specs.declared.state.State.{State}
+use Rattle.heap_tree.specs.declared.state.State.TheVariants.{Ready, Out, Waiting as Waits', Ended as Ended', Joined as Joined'}
+use Rattle.heap_tree.specs.Node.{Node}
+use Rattle.core_relation.specs.Whole.{State as SeenState, state_by}
+use Rattle.core_relation.specs.Whole.{Ready as IsReady, Out as IsOut, Waits, HasEnded, HasJoined}
+use Rattle.shared_value.specs.World.{World, accounts, node_of, state_of}
+use Rattle.shared_value.specs.Stands.{IsWorld}
+use Rattle.shared_value.specs.Causes.{first_cause, or_else, is_state_ready, took_cause, fuel_cause}
+use Rattle.shared_value.specs.Entered.{refused}
+use Rattle.shared_value.proofs.BeforeTheEnd.{end_now, hand_now, stands_now, steps_now}
+use Rattle.shared_value.proofs.TaskTaken.{told}
+
+in_turn : (a b c : Bool) (x y z : Refused) (rest : Option Refused) → refused_if a x (refused_if b y (refused_unless c z rest)) ≡ or_else (refused_if a x (refused_if b y (refused_unless c z None))) rest
+in_turn true b c x y z rest = refl
+in_turn false true c x y z rest = refl
+in_turn false false true x y z rest = refl
+in_turn false false false x y z rest = refl
+
+pub refused_is : (w : World) → IsWorld w → (e : Event) → refused w e ≡ or_else (first_cause w.end w.steps w.settings e.worker (is_fuel e.kind)) (kind_refusal w.program w.settings (accounts w) e.worker e.kind)
+refused_is w I e =
+    let l : Ledger = accounts w in
+    in_turn (is_some l.end) (nat_le w.settings.fuel l.steps && not (is_fuel e.kind)) (nat_lt e.worker w.settings.workers) Over (Spent l.steps) NoWorker (kind_refusal w.program w.settings l e.worker e.kind)
+    ∙ ap₂ (λ end steps. or_else (first_cause end steps w.settings e.worker (is_fuel e.kind)) (kind_refusal w.program w.settings l e.worker e.kind)) (sym (end_now w I)) (sym (steps_now w I))
+
+-- FUEL
+
+pub fuel_is : (w : World) → IsWorld w → (k : ℕ) → kind_refusal w.program w.settings (accounts w) k Fuel ≡ fuel_cause w
+fuel_is w I k = ap (λ n. refused_unless (nat_le w.settings.fuel n) (NotSpent n) None) (sym (steps_now w I))
+
+-- TOOK
+
+seen_ready : SeenState → Bool
+seen_ready IsReady = true
+seen_ready IsOut = false
+seen_ready Waits = false
+seen_ready HasEnded = false
+seen_ready HasJoined = false
+
+by_state : (a : State) → is_state_ready (Some a) ≡ seen_ready (state_of a)
+unfolding seen_ready
+by_state Ready = refl
+by_state Out = refl
+by_state Waits' = refl
+by_state Ended' = refl
+by_state Joined' = refl
+
+by_status : (s : Status) (o : Option ℕ) → seen_ready (state_by s o) ≡ (runs s && is_none o)
+unfolding seen_ready
+by_status Running None = refl
+by_status Running (Some w) = refl
+by_status Waiting o = refl
+by_status (Ended n r) o = refl
+by_status Joined o = refl
+
+ready_by : (n : Option Node) (x : Option Task) (o : Option ℕ) → option_map node_of n ≡ option_map (told o) x → is_state_ready (option_map (λ m. m.state) n) ≡ (is_running x && is_none o)
+ready_by None None o e = refl
+ready_by None (Some x) o e = absurd cc
+ready_by (Some m) None o e = absurd cc
+ready_by (Some m) (Some x) o e = by_state m.state ∙ (ap (λ y. seen_ready y.state) (same_Some (node_of m) (told o x) e) ∙ by_status x.status o)
+
+took_is : (w : World) → IsWorld w → (accounts w).end ≡ None → (k t : ℕ) → k < w.settings.workers → kind_refusal w.program w.settings (accounts w) k (Took t) ≡ took_cause w k t
+took_is w I on k t lt =
+    ap₂ (λ b o. refused_unless b NotReady (refused_holding o None))
+    (sym (ready_by (slice_get w.tree t) (slice_get (accounts w).machine.tasks t) (heap_of (accounts w) t).worker ((stands_now w I on).totals.node t)))
+    (sym (hand_now w I on k))
+
+worker_by : (a b c : Bool) (x y z : Refused) → is_some (refused_if a x (refused_if b y (refused_unless c z None))) ≡ false → c ≡ true
+worker_by true b c x y z h = absurd cc
+worker_by false true c x y z h = absurd cc
+worker_by false false true x y z h = refl
+worker_by false false false x y z h = absurd cc
+
+pub nothing : (o : Option Refused) → is_some o ≡ false → o ≡ None
+nothing None h = refl
+nothing (Some c) h = absurd cc
+
+pub worker_is : (w : World) (k : ℕ) (fuel : Bool) → is_some (first_cause w.end w.steps w.settings k fuel) ≡ false → k < w.settings.workers
+worker_is w k fuel h = ltb-true k w.settings.workers (worker_by (is_some w.end) (nat_le w.settings.fuel w.steps && not fuel) (nat_lt k w.settings.workers) Over (Spent w.steps) NoWorker h)
+
+-- and the run goes on
+end_by : (a b c : Bool) (x y z : Refused) → is_some (refused_if a x (refused_if b y (refused_unless c z None))) ≡ false → a ≡ false
+end_by true b c x y z h = absurd cc
+end_by false b c x y z h = refl
+
+none_by : {A : Type 0} (o : Option A) → is_some o ≡ false → o ≡ None
+none_by None h = refl
+none_by (Some x) h = absurd cc
+
+pub on_is : (w : World) → IsWorld w → (k : ℕ) (fuel : Bool) → is_some (first_cause w.end w.steps w.settings k fuel) ≡ false → (accounts w).end ≡ None
+on_is w I k fuel h = sym (end_now w I) ∙ none_by w.end (end_by (is_some w.end) (nat_le w.settings.fuel w.steps && not fuel) (nat_lt k w.settings.workers) Over (Spent w.steps) NoWorker h)
+
+pub took_answer : (w : World) → IsWorld w → (k t : ℕ) → is_some (first_cause w.end w.steps w.settings k false) ≡ false → refused w (record { worker = k; kind = Took t }) ≡ took_cause w k t
+took_answer w I k t h =
+    refused_is w I (record { worker = k; kind = Took t })
+    ∙ (ap (λ o. or_else o (kind_refusal w.program w.settings (accounts w) k (Took t))) (nothing (first_cause w.end w.steps w.settings k false) h) ∙ took_is w I (on_is w I k false h) k t (worker_is w k false h))

@@ -1,0 +1,94 @@
+-- A part has begun a leaf collection exactly where its account says so.
+use Rattle.std.proofs.Common.{◌≡◌, ℕ, Bool, true, false, Option, Some, None, List, slice_get, is_none, is_some, refl, ap, sym, ◌∙◌, eq-eqb}
+use Rattle.std.proofs.lemmas.Bool.{and_from, false≢true}
+use Rattle.hh_model.specs.declared.data.Name.{Name}
+use Rattle.hh_model.specs.Step.{is_running}
+use Rattle.run_ledger.specs.declared.data.Heap.{Heap}
+use Rattle.run_ledger.specs.declared.data.Ledger.{Ledger}
+use Rattle.run_ledger.specs.declared.data.Refused.{Refused}
+use Rattle.run_ledger.specs.declared.data.Refused.TheVariants.{Collecting, NotOut}
+use Rattle.run_ledger.specs.Heaps.{heap_of, or_fresh}
+use Rattle.run_ledger.specs.Steps.{task_steps}
+use Rattle.run_ledger.specs.Entries.{is_out, is_held_by, on_running, refused_if, refused_unless}
+use Rattle.run_ledger.specs.Sound.{collecting}
+use Rattle.ledger_steps.specs.Accounts.{rested}
+use Rattle.ledger_steps.proofs.Rested.{rested_view}
+use Rattle.core_relation.specs.Copies.{PartFits}
+use Rattle.core_relation.specs.Fits.{with_home}
+use Rattle.core_relation.specs.Value.{Value}
+use Rattle.core_relation.specs.Whole.{BegunBy}
+use Rattle.task_machine.specs.declared.part.Begun.{Begun}
+use Rattle.task_machine.specs.declared.part.Private.{Private}
+use Rattle.shared_value.specs.World.{World, accounts, begun_of, value_of}
+use Rattle.shared_value.specs.Fits.{Fits, home_of_part, part_of}
+use Rattle.shared_value.proofs.BeforeTheEnd.{alive, part_now, status}
+use Rattle.shared_value.proofs.StepAccounts.{After, after_all, hold_same}
+
+none_by : {A : Type 0} (o : Option A) → is_some o ≡ false → o ≡ None
+none_by None h = refl
+none_by (Some x) h = absurd (false≢true (sym h))
+
+idle_of : (out begun : Bool) (rest : Option Refused) → is_none (refused_unless out NotOut (refused_if begun Collecting rest)) ≡ true → begun ≡ false
+idle_of true false rest h = refl
+idle_of true true rest h = absurd (false≢true h)
+idle_of false begun rest h = absurd (false≢true h)
+
+out_by : (out begun amid : Bool) (rest : Option Refused) → out ≡ true → begun ≡ amid → refused_unless out NotOut (refused_if begun Collecting rest) ≡ refused_if amid Collecting rest
+out_by true begun amid rest a b = ap (λ c. refused_if c Collecting rest) b
+out_by false begun amid rest a b = absurd (false≢true a)
+
+module _ (w : World) (k : ℕ) (p : Private) (F : Fits w k p) (on : (accounts w).end ≡ None) where
+  abbrev l : Ledger
+  l = accounts w
+
+  abbrev t : ℕ
+  t = p.task
+
+  abbrev M : Ledger
+  M = task_steps w.program l t p.fresh
+
+  abbrev L : Ledger
+  L = rested M t
+
+  abbrev v' : Value
+  v' = with_home (value_of w) t (home_of_part p)
+
+  V : PartFits w.program w.settings (part_of w.settings p) (value_of w) l
+  V = part_now w k p F on
+
+  A : After l M t F.fits.task
+  A = after_all w.program w.settings t p.fresh l F.fits.task (alive w k p F on) F.fits.is (status w k p F on) V.fits.private
+
+  account_same : (heap_of L t).begun ≡ (heap_of l t).begun
+  account_same =
+      rested_view (λ (z : Heap). z.begun) (λ z. refl) M t
+      ∙ ap (λ (x : Option ℕ × Option ℕ × List Name × Bool). x.1) (hold_same (slice_get l.heaps t) (slice_get M.heaps t) A.heap)
+
+  by_part : (o : Option Begun) → BegunBy v' L t (begun_of o) → is_some (heap_of L t).begun ≡ is_some o
+  by_part None B = ap is_some B
+  by_part (Some b) B = ap is_some B.few
+
+  pub begun_is : is_some (heap_of l t).begun ≡ is_some p.begun
+  begun_is = ap is_some (sym account_same) ∙ by_part p.begun V.begun
+
+  -- the worker is at the task, which is amid a leaf collection where the part is
+  pub at_part : (rest : Option Refused) → on_running l k t rest ≡ refused_if (is_some p.begun) Collecting rest
+  at_part rest =
+      out_by (is_out l k t) (is_some (heap_of l t).begun) (is_some p.begun) rest
+      (and_from (is_running (slice_get l.machine.tasks t)) (is_held_by (heap_of l t).worker k) (ap is_running F.fits.is ∙ F.fits.runs) (ap (λ o. is_held_by o k) F.held ∙ eq-eqb k k refl))
+      begun_is
+
+  -- where an entry of the task isn't refused, it isn't
+  pub none_begun : (rest : Option Refused) → is_none (on_running l k t rest) ≡ true → p.begun ≡ None
+  none_begun rest h = none_by p.begun (sym begun_is ∙ idle_of (is_out l k t) (is_some (heap_of l t).begun) rest h)
+
+  module _ (none : p.begun ≡ None) where
+    pub account_idle : (heap_of l t).begun ≡ None
+    account_idle = none_by (heap_of l t).begun (begun_is ∙ ap is_some none)
+
+    pub steady : collecting (slice_get l.heaps t) ≡ false
+    steady = by (slice_get l.heaps t) account_idle
+      where
+        by : (o : Option Heap) → (or_fresh o).begun ≡ None → collecting o ≡ false
+        by None e = refl
+        by (Some h) e = ap is_some e

@@ -1,0 +1,134 @@
+-- An entry is made: the shared value that the entry leaves.
+use Rattle.std.proofs.Common.{◌≡◌, ℕ, ℤ, Option, Some, None, List, [], ◌∷◌, ◌++◌, length, slice_get, slice_set, is_none, is_some, false, inl, inr, refl, ap, sym, subst, ◌∙◌}
+use Rattle.std.proofs.lemmas.Bool.{cases_eq, false≢true}
+use Rattle.std.proofs.lemmas.Option.{same_Some}
+use Rattle.listed.proofs.Members.{got_other}
+use Rattle.hh_model.specs.declared.data.End.TheVariants.{Done, Trapped, Entangled}
+use Rattle.run_trace.specs.Entry.{Event}
+use Rattle.run_ledger.specs.declared.data.Ledger.{Ledger}
+use Rattle.run_ledger.specs.declared.data.RunEnd.{RunEnd}
+use Rattle.run_ledger.specs.Heaps.{heap_of, let_go, or_fresh}
+use Rattle.run_ledger.specs.Entries.{after}
+use Rattle.run_ledger.proofs.Journals.{entry_tells}
+use Rattle.run_ledger.specs.declared.data.RunEnd.TheVariants.{Fuel, Machine, Pool}
+use Rattle.chunk_pool.specs.Chunks.{Chunks}
+use Rattle.heap_tree.specs.Node.{Node}
+use Rattle.write_barrier.specs.declared.sets.SetOf.{SetOf}
+use Rattle.ledger_steps.specs.Accounts.{Rests, rested}
+use Rattle.ledger_steps.proofs.Ahead.{with_off}
+use Rattle.ledger_steps.proofs.Rested.{rested_worker}
+use Rattle.core_relation.specs.Whole.{StandsForAll, by_end}
+use Rattle.core_relation.specs.Worker.{Fits as FitsValue}
+use Rattle.task_machine.specs.declared.part.Private.{Private}
+use Rattle.shared_value.specs.declared.rest.Rest.{Rest}
+use Rattle.shared_value.specs.World.{World, accounts, flat, rest_at, totals_of, value_of}
+use Rattle.shared_value.specs.Measured.{IsMeasured, IsUnheld, RestsAreMeasured}
+use Rattle.shared_value.specs.Stands.{HeapForm, IsWorld}
+use Rattle.shared_value.specs.Fits.{Fits, part_of}
+use Rattle.shared_value.specs.Entered.{refused}
+use Rattle.shared_value.proofs.JournalGoesOn.{accounts_then, legal_then}
+use Rattle.shared_value.proofs.BeforeTheEnd.{stands_now}
+
+pub none_by : {A : Type 0} (o : Option A) → is_some o ≡ false → o ≡ None
+none_by None h = refl
+none_by (Some x) h = absurd (false≢true (sym h))
+
+-- nothing is refused after the run's end but as over
+pub entry_on : (w : World) (e : Event) → refused w e ≡ None → (accounts w).end ≡ None
+entry_on w e free = none_by (accounts w).end (entry_tells w.program w.settings (accounts w) e (ap is_none free)).0
+
+-- who holds a heap once the root is handed back held it before
+none_worker : {A : Type 0} (o : Option ℕ) (u : ℕ) → o ≡ None → o ≡ Some u → A
+none_worker o u n e = by (sym n ∙ e)
+  where
+    by : {A : Type 0} → ◌≡◌ {A = Option ℕ} None (Some u) → A
+    by q = absurd cc
+
+held_rested : (l : Ledger) (t u : ℕ) → (heap_of (rested l 0) t).worker ≡ Some u → (heap_of l t).worker ≡ Some u
+held_rested l t u e = elim (cases_eq t 0) [
+  | inl q ↦ none_worker (heap_of (rested l 0) t).worker u (ap (λ z. (heap_of (rested l 0) z).worker) q ∙ rested_worker l 0) e
+  | inr ne ↦ sym (ap (λ o. (or_fresh o).worker) (with_off l 0 t let_go ne)) ∙ e
+]
+
+pub held_by_end : (l : Ledger) (o : Option RunEnd) (t u : ℕ) → (heap_of (by_end l o) t).worker ≡ Some u → (heap_of l t).worker ≡ Some u
+held_by_end l None t u e = e
+held_by_end l (Some (Fuel n)) t u e = e
+held_by_end l (Some (Pool n)) t u e = e
+held_by_end l (Some (Machine Done)) t u e = held_rested l t u e
+held_by_end l (Some (Machine (Trapped kind a line))) t u e = e
+held_by_end l (Some (Machine (Entangled a b))) t u e = e
+
+-- two workers hold two tasks
+pub held_apart : (w : World) (k u : ℕ) (p q : Private) → Fits w k p → Fits w u q → (u ≡ k → ⊥) → p.task ≡ q.task → ⊥
+held_apart w k u p q F G ne e = ne (same_Some u k (sym G.held ∙ (ap (λ t. (heap_of (accounts w) t).worker) (sym e) ∙ F.held)))
+
+-- what a worker holds is in its hand
+pub hand_is : (w : World) (k : ℕ) (p : Private) → IsWorld w → (accounts w).end ≡ None → Fits w k p → flat (slice_get w.hands k) ≡ Some p.task
+hand_is w k p I on F = ((stands_now w I on).totals.hand k p.task).1 F.held
+
+-- no worker's hand has a task at rest, and whom none has is at rest
+pub unheld_at_rest : (w : World) (u : ℕ) → IsWorld w → (accounts w).end ≡ None → Rests (accounts w) u → IsUnheld w.hands u
+unheld_at_rest w u I on rests j h =
+    let a : (heap_of (accounts w) u).worker ≡ None = rests in
+    let b : (heap_of (accounts w) u).worker ≡ Some j = ((stands_now w I on).totals.hand j u).0 h in
+    absurd cc
+
+pub unheld_rests : (w : World) (u : ℕ) → IsWorld w → (accounts w).end ≡ None → IsUnheld w.hands u → Rests (accounts w) u
+unheld_rests w u I on none = by (heap_of (accounts w) u).worker refl
+  where
+    by : (o : Option ℕ) → (heap_of (accounts w) u).worker ≡ o → Rests (accounts w) u
+    by None e = e
+    by (Some j) e = absurd (none j (((stands_now w I on).totals.hand j u).1 e))
+
+-- whom no worker holds once a hand has changed, none held before
+pub unheld_before : (hands : List (Option ℕ)) (k : ℕ) (x : Option ℕ) (u : ℕ) → IsUnheld (slice_set hands k x) u → (flat (slice_get hands k) ≡ Some u → ⊥) → IsUnheld hands u
+unheld_before hands k x u none other j e = elim (cases_eq j k) [
+  | inl q ↦ other (ap (λ z. flat (slice_get hands z)) (sym q) ∙ e)
+  | inr ne ↦ none j (ap flat (got_other hands k j x ne) ∙ e)
+]
+
+-- the value with other fields and one entry more
+abbrev pub entered : World → Event → List Node → Chunks → List (Option Rest) → List SetOf → List (Option ℕ) → List ℤ → ℕ → Option RunEnd → ℕ → World
+entered w e tree pool homes sets hands outputs steps end room = record w { tree = tree; pool = pool; homes = homes; sets = sets; hands = hands; outputs = outputs; steps = steps; end = end; journal = record { items = w.journal.items ++ e ∷ []; room = room } }
+
+module _ (w : World) (e : Event) (I : IsWorld w) (free : refused w e ≡ None) (tree : List Node) (pool : Chunks) (homes : List (Option Rest)) (sets : List SetOf) (hands : List (Option ℕ)) (outputs : List ℤ) (steps : ℕ) (end : Option RunEnd) (room : ℕ) where
+  abbrev w' : World
+  w' = entered w e tree pool homes sets hands outputs steps end room
+
+  pub accounts_are : accounts w' ≡ after w.program w.settings (accounts w) e
+  accounts_are = accounts_then w.program w.settings w.journal.items e
+
+  pub entered_world : length homes ≡ length tree → length sets ≡ length tree → length hands ≡ length w.hands → pool.limit ≡ w.pool.limit
+      → StandsForAll (value_of w') (totals_of w') (after w.program w.settings (accounts w) e) → ((t : ℕ) (r : Rest) → rest_at homes t ≡ Some r → HeapForm r.heap) → RestsAreMeasured pool homes hands → IsWorld w'
+  entered_world made noted workers limit stands heaps measured = record {
+    limits = I.limits;
+    form = I.form;
+    legal = legal_then w.program w.settings w.journal.items e I.legal free;
+    made = made;
+    noted = noted;
+    workers = workers ∙ I.workers;
+    limit = limit ∙ I.limit;
+    stands = subst (λ (z : Ledger). StandsForAll (value_of w') (totals_of w') z) (sym accounts_are) stands;
+    heaps = heaps;
+    measured = measured;
+  }
+
+  module _ (I' : IsWorld w') where
+    -- a worker holds what it holds by its hand
+    pub held_by_hand : (u t : ℕ) → flat (slice_get hands u) ≡ Some t → (heap_of (accounts w') t).worker ≡ Some u
+    held_by_hand u t e = held_by_end (accounts w') (accounts w').end t u ((I'.stands.totals.hand u t).0 e)
+
+    pub held_on : (u t : ℕ) → flat (slice_get hands u) ≡ flat (slice_get w.hands u) → (heap_of (accounts w) t).worker ≡ Some u → (heap_of (accounts w') t).worker ≡ Some u
+    held_on u t same held = held_by_hand u t (same ∙ ((stands_now w I (entry_on w e free)).totals.hand u t).1 held)
+
+    -- a part of a worker that goes on fits where its home does
+    pub part_fits : (u : ℕ) (p q : Private) → flat (slice_get hands u) ≡ flat (slice_get w.hands u) → Fits w u p → q.task ≡ p.task → q.leaf_limit ≡ p.leaf_limit → q.field_limit ≡ p.field_limit → HeapForm q.heap → IsMeasured pool q
+        → FitsValue w.program w.settings (part_of w.settings q) (value_of w') (after w.program w.settings (accounts w) e) → Fits w' u q
+    part_fits u p q same F et el ef form measured fits = record {
+      held = ap (λ z. (heap_of (accounts w') z).worker) et ∙ held_on u p.task same F.held;
+      fits = subst (FitsValue w.program w.settings (part_of w.settings q) (value_of w')) (sym accounts_are) fits;
+      form = form;
+      measured = measured;
+      leaf_limit = el ∙ F.leaf_limit;
+      field_limit = ef ∙ F.field_limit;
+    }

@@ -1,0 +1,344 @@
+-- The remembered fields of a heap are led to where its objects are now: what is read then in the heaps that no worker holds.
+use Rattle.std.proofs.Common.{◌≡◌, ◌⊎◌, ℕ, ◌+◌, ◌-◌, ◌==◌, ◌&&◌, arith, Bool, true, false, cond, Option, Some, None, List, [], ◌∷◌, fold, length, map, slice_get, inl, inr, refl, ap, ap₂, sym, subst, ◌∙◌, eq-eqb}
+use Rattle.std.specs.Prelude.{slice_index_or, slice_set, unwrap_or}
+use Rattle.std.proofs.lemmas.Bool.{cases_eq, false≢true}
+use Rattle.std.proofs.lemmas.List.{length-set}
+use Rattle.std.proofs.lemmas.Option.{same_Some}
+use Rattle.listed.proofs.Members.{got_other, got_same}
+use Rattle.object_layout.specs.declared.word.Addr.{Addr}
+use Rattle.object_layout.specs.declared.word.Birth.{Birth}
+use Rattle.object_layout.specs.Cell.{Born, Cell, IsObject, marked_object, size_of, with_ref}
+use Rattle.object_layout.specs.Chunks.{cell_of, put_object, with_cell}
+use Rattle.object_layout.specs.Content.{Content}
+use Rattle.object_layout.proofs.ChunkLaws as laws
+use Rattle.chunk_pool.specs.Chunks.{Chunks, owner_of}
+use Rattle.alloc_path.specs.Heap.{Heap, room_of}
+use Rattle.alloc_path.specs.FieldLaws.{with_ref_of}
+use Rattle.alloc_path.specs.Heap.{room_at}
+use Rattle.alloc_path.specs.PlaceLaws.{KeepsCounts}
+use Rattle.alloc_path.proofs.Counting.{writes_keep_counts}
+use Rattle.remembered_set.specs.declared.remembered.Source.{Source}
+use Rattle.remembered_set.specs.Moved.{held_by, new_reference, redirected, written}
+use Rattle.leaf_copy_gc.specs.Redirected.{new_address}
+use Rattle.core_relation.specs.Value.{Chunk, In, Seen, Source as SeenSource, led, mapped_chunk, mapped_home, objects_in, put_at, rewritten_home}
+use Rattle.core_relation.proofs.objects.Members.{in_chunk, map_in}
+use Rattle.core_relation.specs.Value.{is_at}
+use Rattle.core_relation.proofs.changes.Write.{at_is}
+use Rattle.shared_value.specs.declared.heaps.Heaps.{Heaps}
+use Rattle.shared_value.specs.declared.rest.Rest.{Rest}
+use Rattle.shared_value.specs.declared.rest.Work.{Work}
+use Rattle.shared_value.specs.declared.rest.Work.TheVariants.{Calls, Result}
+use Rattle.shared_value.specs.Objects.{chunk_of, chunks_of}
+use Rattle.shared_value.specs.RestingHeaps.{refs_for, refs_in, refs_of_rest, with_ref_at, with_ref_for, with_ref_in}
+use Rattle.shared_value.specs.Measured.{AreMeasured}
+use Rattle.shared_value.specs.Stands.{HeapForm}
+use Rattle.shared_value.specs.World.{flat, home_by, home_in, home_of, rest_at, source_of}
+use Rattle.shared_value.proofs.CellsChanged.{with_fields}
+use Rattle.shared_value.proofs.CellsRead.{seen_cell, seen_object}
+use Rattle.shared_value.proofs.FieldsLedTogether.{AreOnce, home_each, home_stays, home_together, lead_at, lead_off, lead_one, none_home, set_itself}
+use Rattle.shared_value.proofs.UnitsMeasured.{measured_written}
+use Rattle.shared_value.proofs.ObjectRewritten.{chunks_put, form_written}
+
+-- ---- ONE SOURCE IN THE HEAPS
+
+-- where a source's object is
+pub record SourceThere (H : Heaps) (s : Source) (Good : ℕ → Type 0) : Type 0 where
+  pub home : ℕ
+  pub good : Good home
+  pub owner : owner_of H.pool s.object.chunk ≡ Some home
+  pub rest : Rest
+  pub is : rest_at H.homes home ≡ Some rest
+  pub birth : Birth
+  pub born : (cell_of rest.heap.chunks s.object).mark ≡ Born birth
+
+-- the resting heaps are formed, and the good ones' chunks are their own, with their units
+pub record AreFormed (H : Heaps) (Good : ℕ → Type 0) : Type 0 where
+  pub form : (u : ℕ) (r : Rest) → rest_at H.homes u ≡ Some r → HeapForm r.heap
+  pub measured : (u : ℕ) (r : Rest) → Good u → rest_at H.homes u ≡ Some r → AreMeasured H.pool u r.heap.chunks
+  pub owned : (u : ℕ) (r : Rest) → Good u → rest_at H.homes u ≡ Some r → (k : Content) → In r.heap.chunks k → owner_of H.pool k.number ≡ Some u
+
+rest_set : (homes : List (Option Rest)) (z : ℕ) (r x : Rest) → rest_at homes z ≡ Some r → rest_at (slice_set homes z (Some x)) z ≡ Some x
+rest_set homes z r x e = by (slice_get homes z) refl e
+  where
+    by : (o : Option (Option Rest)) → slice_get homes z ≡ o → flat o ≡ Some r → rest_at (slice_set homes z (Some x)) z ≡ Some x
+    by None q h = absurd cc
+    by (Some None) q h = absurd cc
+    by (Some (Some y)) q h = ap flat (got_same homes z (Some y) (Some x) q)
+
+rest_off : (homes : List (Option Rest)) (z u : ℕ) (x : Option Rest) → (u ≡ z → ⊥) → rest_at (slice_set homes z x) u ≡ rest_at homes u
+rest_off homes z u x ne = ap flat (got_other homes z u x ne)
+
+pub home_chunks : (r : Rest) → (home_of r).chunks ≡ chunks_of r.heap.chunks
+home_chunks r = by r.work
+  where
+    by : (x : Work) → (home_by r.heap r.view r.allocations x).chunks ≡ chunks_of r.heap.chunks
+    by (Calls s) = refl
+    by (Result n b) = refl
+
+room_written : (h : Heap) (a : Addr) (d : Cell) → d.mark ≡ (cell_of h.chunks a).mark → size_of d ≡ size_of (cell_of h.chunks a) → room_at (put_object h.chunks a d) h.current ≡ room_of h
+room_written h a d mark size = by h.current
+  where
+    K : KeepsCounts h.chunks (put_object h.chunks a d)
+    K = writes_keep_counts h.chunks a d mark size
+
+    by : (o : Option ℕ) → room_at (put_object h.chunks a d) o ≡ room_at h.chunks o
+    by None = refl
+    by (Some i) = ap₂ (λ n m. n - m) (K.shape i).size (K.shape i).used
+
+at_itself : (a : Addr) (o : Seen) → o.at ≡ a → is_at a o ≡ true
+at_itself a o e = ap₂ (λ x y. x && y) (eq-eqb o.at.chunk a.chunk (ap (λ (z : Addr). z.chunk) e)) (eq-eqb o.at.offset a.offset (ap (λ (z : Addr). z.offset) e))
+
+addr_cases : (a b : Addr) → (a ≡ b) ⊎ (a ≡ b → ⊥)
+addr_cases a b = elim (cases_eq a.chunk b.chunk) [
+  | inr ne ↦ inr (λ e. ne (ap (λ (z : Addr). z.chunk) e))
+  | inl c ↦ elim (cases_eq a.offset b.offset) [
+    | inr ne ↦ inr (λ e. ne (ap (λ (z : Addr). z.offset) e))
+    | inl o ↦ inl (λ i. record { chunk = c i; offset = o i })
+  ]
+]
+
+put_number : (ks : List Content) (a : Addr) (d : Cell) (k : Content) → In (put_object ks a d) k → (j : Content) × In ks j × (j.number ≡ k.number)
+put_number [] a d k i = absurd i
+put_number (x ∷ ks) a d k i = by (x.number == a.chunk) i (put_number ks a d k)
+  where
+    by : (b : Bool) → In (cond b (with_cell x a.offset d ∷ ks) (x ∷ put_object ks a d)) k → (In (put_object ks a d) k → (j : Content) × In ks j × (j.number ≡ k.number)) → (j : Content) × In (x ∷ ks) j × (j.number ≡ k.number)
+    by true (inl e) go = (x, inl refl, ap (λ (z : Content). z.number) e)
+    by true (inr j) go = (k, inr j, refl)
+    by false (inl e) go = (x, inl refl, ap (λ (z : Content). z.number) e)
+    by false (inr j) go = let r = go j in (r.0, inr r.1, r.2)
+
+module _ (ms : List (Addr × Addr)) where
+  abbrev f : Addr → Addr
+  f a = new_address ms a
+
+  -- a heap with one reference written
+  home_written : (r : Rest) (a : Addr) (k : ℕ) (x : Option Addr) (b : Birth) → HeapForm r.heap → (cell_of r.heap.chunks a).mark ≡ Born b
+      → home_of (record r { heap = with_ref_of r.heap a k x }) ≡ mapped_home (put_at a (with_fields (with_ref (cell_of r.heap.chunks a) k x))) (home_of r)
+  home_written r a k x b F e = by r.work
+    where
+      size : size_of (with_ref (cell_of r.heap.chunks a) k x) ≡ size_of (cell_of r.heap.chunks a)
+      size = ap (λ n. 2 + (n + length (cell_of r.heap.chunks a).ints)) (length-set (cell_of r.heap.chunks a).refs k x)
+
+      chunks : chunks_of (put_object r.heap.chunks a (with_ref (cell_of r.heap.chunks a) k x)) ≡ map (mapped_chunk (put_at a (with_fields (with_ref (cell_of r.heap.chunks a) k x)))) (chunks_of r.heap.chunks)
+      chunks = chunks_put r.heap.chunks a (with_ref (cell_of r.heap.chunks a) k x) F.shaped.apart refl (sym size)
+
+      room : room_of (with_ref_of r.heap a k x) ≡ room_of r.heap
+      room = room_written r.heap a (with_ref (cell_of r.heap.chunks a) k x) refl size
+
+      by : (w : Work) → home_by (with_ref_of r.heap a k x) r.view r.allocations w ≡ mapped_home (put_at a (with_fields (with_ref (cell_of r.heap.chunks a) k x))) (home_by r.heap r.view r.allocations w)
+      by (Calls s) = ap₂ (λ cs n. record (home_by r.heap r.view r.allocations (Calls s)) { chunks = cs; room = n }) chunks room
+      by (Result n q) = ap₂ (λ cs m. record (home_by r.heap r.view r.allocations (Result n q)) { chunks = cs; room = m }) chunks room
+
+  -- ONE SOURCE
+  module _ (H : Heaps) (Good : ℕ → Type 0) (F : AreFormed H Good) (s : Source) (T : SourceThere H s Good) where
+    abbrev r : Rest
+    r = T.rest
+
+    abbrev a : Addr
+    a = s.object
+
+    abbrev c : Cell
+    c = cell_of T.rest.heap.chunks s.object
+
+    abbrev S : SeenSource
+    S = source_of s
+
+    held_is : held_by refs_in H s ≡ slice_index_or c.refs s.field None
+    held_is =
+        ap (λ o. slice_index_or (refs_for H.homes o s.object) s.field None) T.owner
+        ∙ (ap (λ o. slice_index_or (refs_of_rest o s.object) s.field None) T.is ∙ ap (λ m. slice_index_or (marked_object m c).refs s.field None) T.born)
+
+    -- the source's object, as it is read
+    at_source : (u : ℕ) → Good u → (o : Seen) → In (objects_in (home_in (rest_at H.homes u)).chunks) o → o.at ≡ s.object → (u ≡ T.home) × (o.refs ≡ c.refs) × (o.mutable ≡ c.mutable) × (o.ints ≡ c.ints)
+    at_source u good o i e = by (rest_at H.homes u) refl i
+      where
+        by : (q : Option Rest) → rest_at H.homes u ≡ q → In (objects_in (home_in q).chunks) o → (u ≡ T.home) × (o.refs ≡ c.refs) × (o.mutable ≡ c.mutable) × (o.ints ≡ c.ints)
+        by None h j = absurd j
+        by (Some x) h j =
+            let i' : In (objects_in (chunks_of x.heap.chunks)) o = subst (λ cs. In (objects_in cs) o) (home_chunks x) j in
+            let ch = in_chunk (chunks_of x.heap.chunks) o i' in
+            let k = map_in chunk_of x.heap.chunks ch.0 ch.1 in
+            let number : k.0.number ≡ s.object.chunk = sym (ap (λ (z : Seen). z.at.chunk) (seen_cell k.0.cells k.0.number 0 o (subst (λ (z : Chunk). In z.objects o) (sym k.2) ch.2)).is) ∙ ap (λ (z : Addr). z.chunk) e in
+            let same : u ≡ T.home = same_Some u T.home (sym (F.owned u x good h k.0 k.1) ∙ (ap (owner_of H.pool) number ∙ T.owner)) in
+            let rest : x ≡ T.rest = same_Some x T.rest (sym h ∙ (ap (rest_at H.homes) same ∙ T.is)) in
+            let y = seen_object x.heap.chunks o (F.form u x h).shaped.apart i' in
+            let cell : cell_of x.heap.chunks o.at ≡ c = ap₂ (λ (z : Rest) (b : Addr). cell_of z.heap.chunks b) rest e in
+            (same, ap (λ (z : Seen). z.refs) y.is ∙ ap (λ (z : Cell). z.refs) cell, ap (λ (z : Seen). z.mutable) y.is ∙ ap (λ (z : Cell). z.mutable) cell, ap (λ (z : Seen). z.ints) y.is ∙ ap (λ (z : Cell). z.ints) cell)
+
+    -- an object elsewhere stays
+    elsewhere : (o : Seen) → (o.at ≡ s.object → ⊥) → lead_one f S o ≡ o
+    elsewhere o ne = ap (λ rs. record o { refs = rs }) (lead_off f S o.at 0 o.refs (λ k e q. ne (sym e)))
+
+    -- the source's object is led
+    led_there : (o : Seen) (x : Option Addr) → o.at ≡ s.object → o.refs ≡ c.refs → led f (held_by refs_in H s) ≡ x → lead_one f S o ≡ record o { refs = slice_set c.refs s.field x }
+    led_there o x e same is =
+        ap (λ rs. record o { refs = rs })
+        (lead_at f S o.at 0 s.field o.refs (sym e) (let z : s.field ≡ 0 + s.field = omega arith in z)
+        ∙ (ap (λ rs. slice_set rs s.field (led f (slice_index_or rs s.field None))) same ∙ ap (slice_set c.refs s.field) (ap (led f) (sym held_is) ∙ is)))
+
+    pub record Stepped (H' : Heaps) : Type 0 where
+      pub pool : H'.pool ≡ H.pool
+      pub count : length H'.homes ≡ length H.homes
+      pub formed : AreFormed H' Good
+      pub homes : (u : ℕ) → Good u → home_in (rest_at H'.homes u) ≡ mapped_home (lead_one f S) (home_in (rest_at H.homes u))
+      pub there : (x : Source) → SourceThere H x Good → SourceThere H' x Good
+
+    -- nothing is written, since what it holds was not moved
+    kept : led f (held_by refs_in H s) ≡ held_by refs_in H s → Stepped H
+    kept is = record {
+      pool = refl;
+      count = refl;
+      formed = F;
+      homes = λ u good. sym (home_stays (lead_one f S) (home_in (rest_at H.homes u)) (λ o i. by u good o i (is_at s.object o) refl));
+      there = λ x y. y;
+    }
+      where
+        same_refs : (o : Seen) → o.refs ≡ c.refs → record o { refs = slice_set c.refs s.field (held_by refs_in H s) } ≡ o
+        same_refs o e = ap (λ rs. record o { refs = rs }) (set_itself c.refs s.field (held_by refs_in H s) (sym held_is) ∙ sym e)
+
+        by : (u : ℕ) → Good u → (o : Seen) → In (objects_in (home_in (rest_at H.homes u)).chunks) o → (v : Bool) → is_at s.object o ≡ v → lead_one f S o ≡ o
+        by u good o i true e =
+            let at : o.at ≡ s.object = at_is s.object o e in
+            let q = at_source u good o i at in
+            led_there o (held_by refs_in H s) at q.1 is ∙ same_refs o q.1
+        by u good o i false e = elsewhere o (λ at. false≢true (sym e ∙ at_itself s.object o at))
+
+    -- it is led to where its object is now
+    module _ (x : Option Addr) (is : led f (held_by refs_in H s) ≡ x) where
+      abbrev d : Cell
+      d = with_ref c s.field x
+
+      abbrev r' : Rest
+      r' = record T.rest { heap = with_ref_of T.rest.heap s.object s.field x }
+
+      abbrev homes' : List (Option Rest)
+      homes' = slice_set H.homes T.home (Some r')
+
+      size : size_of d ≡ size_of c
+      size = ap (λ n. 2 + (n + length c.ints)) (length-set c.refs s.field x)
+
+      mark_kept : (b : Addr) → (cell_of (put_object T.rest.heap.chunks s.object d) b).mark ≡ (cell_of T.rest.heap.chunks b).mark
+      mark_kept b = elim (addr_cases b s.object) [
+        | inl e ↦
+            subst (λ z. (cell_of (put_object T.rest.heap.chunks s.object d) z).mark ≡ (cell_of T.rest.heap.chunks z).mark) (sym e)
+            (ap (λ (z : Cell). z.mark) (laws.cell_of-put_same T.rest.heap.chunks s.object d (subst IsObject (sym T.born) tt)))
+        | inr ne ↦ ap (λ (z : Cell). z.mark) (laws.cell_of-put_other T.rest.heap.chunks s.object b d size ne)
+      ]
+
+      form_now : (u : ℕ) (q : Rest) → rest_at homes' u ≡ Some q → HeapForm q.heap
+      form_now u q e = elim (cases_eq u T.home) [
+        | inl at ↦
+            let is' : q ≡ r' = same_Some q r' (sym e ∙ (ap (rest_at homes') at ∙ rest_set H.homes T.home T.rest r' T.is)) in
+            subst (λ (z : Rest). HeapForm z.heap) (sym is') (form_written T.rest.heap s.object d (F.form T.home T.rest T.is) refl size)
+        | inr ne ↦ F.form u q (sym (rest_off H.homes T.home u (Some r') ne) ∙ e)
+      ]
+
+      measured_now : (u : ℕ) (q : Rest) → Good u → rest_at homes' u ≡ Some q → AreMeasured H.pool u q.heap.chunks
+      measured_now u q good e = elim (cases_eq u T.home) [
+        | inl at ↦
+            let is' : q ≡ r' = same_Some q r' (sym e ∙ (ap (rest_at homes') at ∙ rest_set H.homes T.home T.rest r' T.is)) in
+            subst (λ (z : Rest). AreMeasured H.pool u z.heap.chunks) (sym is') (measured_written H.pool u T.rest.heap.chunks s.object d (F.measured u T.rest good (ap (rest_at H.homes) at ∙ T.is)))
+        | inr ne ↦ F.measured u q good (sym (rest_off H.homes T.home u (Some r') ne) ∙ e)
+      ]
+
+      owned_now : (u : ℕ) (q : Rest) → Good u → rest_at homes' u ≡ Some q → (k : Content) → In q.heap.chunks k → owner_of H.pool k.number ≡ Some u
+      owned_now u q good e k i = elim (cases_eq u T.home) [
+        | inl at ↦
+            let is' : q ≡ r' = same_Some q r' (sym e ∙ (ap (rest_at homes') at ∙ rest_set H.homes T.home T.rest r' T.is)) in
+            let j = put_number T.rest.heap.chunks s.object d k (subst (λ (z : Rest). In z.heap.chunks k) is' i) in
+            ap (owner_of H.pool) (sym j.2) ∙ F.owned u T.rest good (ap (rest_at H.homes) at ∙ T.is) j.0 j.1
+        | inr ne ↦ F.owned u q good (sym (rest_off H.homes T.home u (Some r') ne) ∙ e) k i
+      ]
+
+      one_is : (o : Seen) → In (objects_in (home_in (rest_at H.homes T.home)).chunks) o → put_at s.object (with_fields d) o ≡ lead_one f S o
+      one_is o i = by (is_at s.object o) refl
+        where
+          by : (v : Bool) → is_at s.object o ≡ v → cond v (with_fields d o) o ≡ lead_one f S o
+          by true e =
+              let at : o.at ≡ s.object = at_is s.object o e in
+              let q = at_source T.home T.good o i at in
+              (λ k. record o { mutable = sym q.2 k; refs = slice_set c.refs s.field x; ints = sym q.3 k }) ∙ sym (led_there o x at q.1 is)
+          by false e = sym (elsewhere o (λ at. false≢true (sym e ∙ at_itself s.object o at)))
+
+      homes_now : (u : ℕ) → Good u → home_in (rest_at homes' u) ≡ mapped_home (lead_one f S) (home_in (rest_at H.homes u))
+      homes_now u good = elim (cases_eq u T.home) [
+        | inl at ↦
+            ap (λ z. home_in (rest_at homes' z)) at
+            ∙ (ap home_in (rest_set H.homes T.home T.rest r' T.is)
+            ∙ (home_written T.rest s.object s.field x T.birth (F.form T.home T.rest T.is) T.born
+            ∙ (ap (λ q. mapped_home (put_at s.object (with_fields d)) (home_in q)) (sym T.is)
+            ∙ (home_each (put_at s.object (with_fields d)) (lead_one f S) (home_in (rest_at H.homes T.home)) one_is ∙ ap (λ z. mapped_home (lead_one f S) (home_in (rest_at H.homes z))) (sym at)))))
+        | inr ne ↦
+            ap home_in (rest_off H.homes T.home u (Some r') ne)
+            ∙ sym (home_stays (lead_one f S) (home_in (rest_at H.homes u)) (λ o i. elsewhere o (λ at. ne (at_source u good o i at).0)))
+      ]
+
+      there_now : (z : Source) → SourceThere H z Good → SourceThere (record H { homes = homes' }) z Good
+      there_now z Z = elim (cases_eq Z.home T.home) [
+        | inl at ↦
+            let same : Z.rest ≡ T.rest = same_Some Z.rest T.rest (sym Z.is ∙ (ap (rest_at H.homes) at ∙ T.is)) in
+            record {
+              home = Z.home;
+              good = Z.good;
+              owner = Z.owner;
+              rest = r';
+              is = ap (rest_at homes') at ∙ rest_set H.homes T.home T.rest r' T.is;
+              birth = Z.birth;
+              born = mark_kept z.object ∙ (ap (λ (q : Rest). (cell_of q.heap.chunks z.object).mark) (sym same) ∙ Z.born);
+            }
+        | inr ne ↦ record { home = Z.home; good = Z.good; owner = Z.owner; rest = Z.rest; is = rest_off H.homes T.home Z.home (Some r') ne ∙ Z.is; birth = Z.birth; born = Z.born }
+      ]
+
+      changed : Stepped (record H { homes = homes' })
+      changed = record {
+        pool = refl;
+        count = length-set H.homes T.home (Some r');
+        formed = record { form = form_now; measured = measured_now; owned = owned_now };
+        homes = homes_now;
+        there = there_now;
+      }
+
+      written_is : with_ref_in H s.object s.field x ≡ record H { homes = homes' }
+      written_is = ap (λ hs. record H { homes = hs }) (ap (λ o. with_ref_for H.homes o s.object s.field x) T.owner ∙ ap (λ o. with_ref_at H.homes T.home o s.object s.field x) T.is)
+
+    pub step : Stepped (redirected refs_in with_ref_in ms H s)
+    step = by (held_by refs_in H s) refl (new_reference ms (held_by refs_in H s)) refl
+      where
+        none_led : (h o : Option Addr) → new_reference ms h ≡ o → o ≡ None → led f h ≡ h
+        none_led None o e n = refl
+        none_led (Some b) o e n = ap (λ z. Some (unwrap_or z b)) (e ∙ n)
+
+        some_led : (h o : Option Addr) (b : Addr) → new_reference ms h ≡ o → o ≡ Some b → led f h ≡ Some b
+        some_led None o b e n = absurd (none_some (e ∙ n))
+          where
+            none_some : ◌≡◌ {A = Option Addr} None (Some b) → ⊥
+            none_some q = absurd cc
+        some_led (Some z) o b e n = ap (λ q. Some (unwrap_or q z)) (e ∙ n)
+
+        by : (h : Option Addr) → held_by refs_in H s ≡ h → (o : Option Addr) → new_reference ms (held_by refs_in H s) ≡ o → Stepped (written refs_in with_ref_in H s o)
+        by h eh None e = kept (none_led (held_by refs_in H s) (new_reference ms (held_by refs_in H s)) refl e)
+        by h eh (Some b) e =
+            let is : led f (held_by refs_in H s) ≡ Some b = some_led (held_by refs_in H s) (new_reference ms (held_by refs_in H s)) b refl e in
+            subst Stepped (sym (written_is (Some b) is)) (changed (Some b) is)
+
+  -- ---- ALL SOURCES
+
+  pub record Led (H : Heaps) (Good : ℕ → Type 0) (ss : List Source) (H' : Heaps) : Type 0 where
+    pub pool : H'.pool ≡ H.pool
+    pub count : length H'.homes ≡ length H.homes
+    pub form : (u : ℕ) (r : Rest) → rest_at H'.homes u ≡ Some r → HeapForm r.heap
+    pub measured : (u : ℕ) (r : Rest) → Good u → rest_at H'.homes u ≡ Some r → AreMeasured H.pool u r.heap.chunks
+    pub homes : (u : ℕ) → Good u → home_in (rest_at H'.homes u) ≡ rewritten_home f (map source_of ss) (home_in (rest_at H.homes u))
+
+  pub lead_all : (ss : List Source) (H : Heaps) (Good : ℕ → Type 0) → AreOnce (map source_of ss) → ((s : Source) → In ss s → SourceThere H s Good) → AreFormed H Good → Led H Good ss (fold (redirected refs_in with_ref_in ms) H ss)
+  lead_all [] H Good once there F = record { pool = refl; count = refl; form = F.form; measured = F.measured; homes = λ u good. sym (none_home f (home_in (rest_at H.homes u))) }
+  lead_all (s ∷ ss) H Good once there F =
+      let T = step H Good F s (there s (inl refl)) in
+      let R = lead_all ss (redirected refs_in with_ref_in ms H s) Good once.1 (λ x i. T.there x (there x (inr i))) T.formed in
+      record {
+        pool = R.pool ∙ T.pool;
+        count = R.count ∙ T.count;
+        form = R.form;
+        measured = λ u r good e. subst (λ (z : Chunks). AreMeasured z u r.heap.chunks) T.pool (R.measured u r good e);
+        homes = λ u good. R.homes u good ∙ (ap (rewritten_home f (map source_of ss)) (T.homes u good) ∙ home_together f (source_of s) (map source_of ss) (home_in (rest_at H.homes u)) once.0);
+      }

@@ -1,0 +1,126 @@
+-- Remembered fields that are led one after another are led together.
+use Rattle.std.proofs.Common.{◌≡◌, ℕ, zero, suc, ◌+◌, ◌==◌, ◌&&◌, ◌||◌, arith, Bool, true, false, cond, Option, None, List, [], ◌∷◌, map, inl, inr, refl, ap, ap₂, sym, ◌∙◌, eq-eqb}
+use Rattle.std.specs.Prelude.{slice_index_or, slice_set}
+use Rattle.std.specs.List.{list_any}
+use Rattle.std.proofs.lemmas.Bool.{eqb-true, false≢true}
+use Rattle.object_layout.specs.declared.word.Addr.{Addr}
+use Rattle.core_relation.specs.Value.{Chunk, Home, In, Seen, Source as SeenSource, is_source, led, mapped_chunk, mapped_home, objects_in, rewritten, rewritten_home, rewritten_refs}
+use Rattle.core_relation.proofs.objects.Members.{in_chunk, in_objects}
+
+-- ---- ONE SOURCE AFTER ANOTHER
+
+-- a field that the source is, led; any other stays
+abbrev pub lead_refs : (Addr → Addr) → SeenSource → Addr → ℕ → List (Option Addr) → List (Option Addr)
+lead_refs f s a i [] = []
+lead_refs f s a i (r ∷ rs) = cond (is_source a i s) (led f r) r ∷ lead_refs f s a (suc i) rs
+
+abbrev pub lead_one : (Addr → Addr) → SeenSource → Seen → Seen
+lead_one f s o = record o { refs = lead_refs f s o.at 0 o.refs }
+
+-- led one after another is led together, where no source stands twice
+abbrev pub AreOnce : List SeenSource → Type 0
+AreOnce [] = Unit {0}
+AreOnce (s ∷ ss) = (list_any (is_source s.object s.field) ss ≡ false) × AreOnce ss
+
+is_source_same : (a : Addr) (i : ℕ) (s : SeenSource) → is_source a i s ≡ true → (s.object ≡ a) × (s.field ≡ i)
+is_source_same a i s e = by (s.object.chunk == a.chunk) (s.object.offset == a.offset) (s.field == i) refl refl refl e
+  where
+    by : (x y z : Bool) → (s.object.chunk == a.chunk) ≡ x → (s.object.offset == a.offset) ≡ y → (s.field == i) ≡ z → (x && (y && z)) ≡ true → (s.object ≡ a) × (s.field ≡ i)
+    by true true true c o k h = (let q : s.object.chunk ≡ a.chunk = eqb-true s.object.chunk a.chunk c in let r : s.object.offset ≡ a.offset = eqb-true s.object.offset a.offset o in λ j. record { chunk = q j; offset = r j }, eqb-true s.field i k)
+    by true true false c o k h = absurd (false≢true h)
+    by true false z c o k h = absurd (false≢true h)
+    by false y z c o k h = absurd (false≢true h)
+
+refs_together : (f : Addr → Addr) (s : SeenSource) (ss : List SeenSource) (a : Addr) (i : ℕ) (rs : List (Option Addr)) → list_any (is_source s.object s.field) ss ≡ false → rewritten_refs f ss a i (lead_refs f s a i rs) ≡ rewritten_refs f (s ∷ ss) a i rs
+refs_together f s ss a i [] once = refl
+refs_together f s ss a i (r ∷ rs) once = ap₂ (λ x xs. x ∷ xs) (by (is_source a i s) (list_any (is_source a i) ss) refl refl) (refs_together f s ss a (suc i) rs once)
+  where
+    by : (x y : Bool) → is_source a i s ≡ x → list_any (is_source a i) ss ≡ y → cond y (led f (cond x (led f r) r)) (cond x (led f r) r) ≡ cond (x || y) (led f r) r
+    by true false e q = refl
+    by true true e q =
+        let at = is_source_same a i s e in
+        absurd (false≢true (sym once ∙ (ap₂ (λ b k. list_any (is_source b k) ss) at.0 at.1 ∙ q)))
+    by false true e q = refl
+    by false false e q = refl
+
+pub one_together : (f : Addr → Addr) (s : SeenSource) (ss : List SeenSource) (o : Seen) → list_any (is_source s.object s.field) ss ≡ false → rewritten f ss (lead_one f s o) ≡ rewritten f (s ∷ ss) o
+one_together f s ss o once = ap (λ rs. record o { refs = rs }) (refs_together f s ss o.at 0 o.refs once)
+
+none_rewritten : (f : Addr → Addr) (a : Addr) (i : ℕ) (rs : List (Option Addr)) → rewritten_refs f [] a i rs ≡ rs
+none_rewritten f a i [] = refl
+none_rewritten f a i (r ∷ rs) = ap (λ xs. r ∷ xs) (none_rewritten f a (suc i) rs)
+
+-- homes
+objects_each : (one two : Seen → Seen) (os : List Seen) → ((o : Seen) → In os o → one o ≡ two o) → map one os ≡ map two os
+objects_each one two [] h = refl
+objects_each one two (o ∷ os) h = ap₂ (λ x xs. x ∷ xs) (h o (inl refl)) (objects_each one two os (λ q i. h q (inr i)))
+
+chunks_each : (one two : Seen → Seen) (ks : List Chunk) → ((o : Seen) → In (objects_in ks) o → one o ≡ two o) → map (mapped_chunk one) ks ≡ map (mapped_chunk two) ks
+chunks_each one two [] h = refl
+chunks_each one two (k ∷ ks) h =
+    ap₂ (λ x xs. record k { objects = x } ∷ xs) (objects_each one two k.objects (λ o i. h o (in_objects (k ∷ ks) k o (inl refl) i)))
+    (chunks_each one two ks (λ o i. let c = in_chunk ks o i in h o (in_objects (k ∷ ks) c.0 o (inr c.1) c.2)))
+
+pub home_each : (one two : Seen → Seen) (h : Home) → ((o : Seen) → In (objects_in h.chunks) o → one o ≡ two o) → mapped_home one h ≡ mapped_home two h
+home_each one two h e = ap (λ ks. record h { chunks = ks }) (chunks_each one two h.chunks e)
+
+objects_same : (os : List Seen) → map (λ (o : Seen). o) os ≡ os
+objects_same [] = refl
+objects_same (o ∷ os) = ap (λ xs. o ∷ xs) (objects_same os)
+
+chunks_none : (ks : List Chunk) → map (mapped_chunk (λ (o : Seen). o)) ks ≡ ks
+chunks_none [] = refl
+chunks_none (k ∷ ks) = ap₂ (λ x xs. record k { objects = x } ∷ xs) (objects_same k.objects) (chunks_none ks)
+
+-- where no object changes
+pub home_stays : (one : Seen → Seen) (h : Home) → ((o : Seen) → In (objects_in h.chunks) o → one o ≡ o) → mapped_home one h ≡ h
+home_stays one h e = home_each one (λ o. o) h e ∙ ap (λ ks. record h { chunks = ks }) (chunks_none h.chunks)
+
+objects_twice : (one two : Seen → Seen) (os : List Seen) → map one (map two os) ≡ map (λ o. one (two o)) os
+objects_twice one two [] = refl
+objects_twice one two (o ∷ os) = ap (λ xs. one (two o) ∷ xs) (objects_twice one two os)
+
+chunks_twice : (one two : Seen → Seen) (ks : List Chunk) → map (mapped_chunk one) (map (mapped_chunk two) ks) ≡ map (mapped_chunk (λ o. one (two o))) ks
+chunks_twice one two [] = refl
+chunks_twice one two (k ∷ ks) = ap₂ (λ x xs. record k { objects = x } ∷ xs) (objects_twice one two k.objects) (chunks_twice one two ks)
+
+pub home_together : (f : Addr → Addr) (s : SeenSource) (ss : List SeenSource) (h : Home) → list_any (is_source s.object s.field) ss ≡ false → rewritten_home f ss (mapped_home (lead_one f s) h) ≡ rewritten_home f (s ∷ ss) h
+home_together f s ss h once =
+    ap (λ ks. record h { chunks = ks }) (chunks_twice (rewritten f ss) (lead_one f s) h.chunks)
+    ∙ home_each (λ o. rewritten f ss (lead_one f s o)) (rewritten f (s ∷ ss)) h (λ o i. one_together f s ss o once)
+
+pub none_home : (f : Addr → Addr) (h : Home) → rewritten_home f [] h ≡ h
+none_home f h = home_stays (rewritten f []) h (λ o i. ap (λ rs. record o { refs = rs }) (none_rewritten f o.at 0 o.refs))
+
+-- ---- THE REFERENCES OF ONE OBJECT
+
+source_off : (a : Addr) (i : ℕ) (s : SeenSource) → (s.object ≡ a → s.field ≡ i → ⊥) → is_source a i s ≡ false
+source_off a i s ne = by (is_source a i s) refl
+  where
+    by : (b : Bool) → is_source a i s ≡ b → b ≡ false
+    by true e = let at = is_source_same a i s e in absurd (ne at.0 at.1)
+    by false e = refl
+
+source_on : (a : Addr) (i : ℕ) (s : SeenSource) → s.object ≡ a → s.field ≡ i → is_source a i s ≡ true
+source_on a i s e q = ap₂ (λ x y. x && y) (eq-eqb s.object.chunk a.chunk (ap (λ (z : Addr). z.chunk) e)) (ap₂ (λ x y. x && y) (eq-eqb s.object.offset a.offset (ap (λ (z : Addr). z.offset) e)) (eq-eqb s.field i q))
+
+-- behind the field, and of another object, nothing is led
+pub lead_off : (f : Addr → Addr) (s : SeenSource) (a : Addr) (i : ℕ) (rs : List (Option Addr)) → ((k : ℕ) → s.object ≡ a → s.field ≡ i + k → ⊥) → lead_refs f s a i rs ≡ rs
+lead_off f s a i [] ne = refl
+lead_off f s a i (r ∷ rs) ne =
+    ap₂ (λ b xs. cond b (led f r) r ∷ xs) (source_off a i s (λ e q. ne 0 e (let z : s.field ≡ i + 0 = omega (arith, q) in z)))
+    (lead_off f s a (suc i) rs (λ k e q. ne (suc k) e (let z : s.field ≡ i + suc k = omega (arith, q) in z)))
+
+pub lead_at : (f : Addr → Addr) (s : SeenSource) (a : Addr) (i j : ℕ) (rs : List (Option Addr)) → s.object ≡ a → s.field ≡ i + j → lead_refs f s a i rs ≡ slice_set rs j (led f (slice_index_or rs j None))
+lead_at f s a i j [] e q = refl
+lead_at f s a i zero (r ∷ rs) e q =
+    ap₂ (λ b xs. cond b (led f r) r ∷ xs) (source_on a i s e (let z : s.field ≡ i = omega (arith, q) in z))
+    (lead_off f s a (suc i) rs (λ k d p. omega (arith, q, p)))
+lead_at f s a i (suc j) (r ∷ rs) e q =
+    ap₂ (λ b xs. cond b (led f r) r ∷ xs) (source_off a i s (λ d p. omega (arith, q, p)))
+    (lead_at f s a (suc i) j rs e (let z : s.field ≡ suc i + j = omega (arith, q) in z))
+
+pub set_itself : (rs : List (Option Addr)) (j : ℕ) (x : Option Addr) → slice_index_or rs j None ≡ x → slice_set rs j x ≡ rs
+set_itself [] j x e = refl
+set_itself (r ∷ rs) zero x e = ap (λ z. z ∷ rs) (sym e)
+set_itself (r ∷ rs) (suc j) x e = ap (λ zs. r ∷ zs) (set_itself rs j x e)

@@ -1,0 +1,162 @@
+-- The shared value before the first entry.
+use Rattle.std.proofs.Common.{◌≡◌, ℕ, ℤ, zero, suc, false, not, ◌&&◌, Option, Some, None, List, [], ◌∷◌, length, slice_get, replicate, map, option_map, arith, ◌↔◌, refl, ap, sym, subst, ◌∙◌}
+use Rattle.std.proofs.lemmas.Bool.{false≢true}
+use Rattle.std.proofs.lemmas.Option.{same_Some}
+use Rattle.std.proofs.Math.Path.{fun_ext}
+use Rattle.listed.specs.Space.{Space}
+use Rattle.hh_lang.specs.Form.{IsProgram, ProgramText}
+use Rattle.hh_model.specs.Step.{is_waiting}
+use Rattle.run_trace.specs.Settings.{Limits, AreLimits}
+use Rattle.run_trace.specs.Entry.{Event}
+use Rattle.run_ledger.specs.declared.data.Ledger.{Ledger}
+use Rattle.run_ledger.specs.Heaps.{heap_of}
+use Rattle.run_ledger.specs.Journals.{opening}
+use Rattle.chunk_pool.specs.Chunks.{Chunks}
+use Rattle.heap_tree.specs.Node.{Node, root_node}
+use Rattle.write_barrier.specs.declared.sets.SetOf.{SetOf}
+use Rattle.write_barrier.specs.Stored.{content_of, Content}
+use Rattle.inner_mark_gc.specs.Marks.{Marks}
+use Rattle.ledger_steps.specs.Accounts.{Rests}
+use Rattle.core_relation.specs.Value.{Noted, Value}
+use Rattle.core_relation.specs.Stands.{Stands}
+use Rattle.core_relation.specs.Whole.{BegunBy, StandsFor}
+use Rattle.core_relation.proofs.whole.Journals.{first, first_stands}
+use Rattle.shared_value.specs.declared.rest.Rest.{Rest}
+use Rattle.shared_value.specs.World.{World, flat, rest_at, source_of, value_of, totals_of, first_rest}
+use Rattle.shared_value.specs.Measured.{AreMeasured, RestsAreMeasured}
+use Rattle.shared_value.specs.Stands.{HeapForm, IsWorld}
+use Rattle.shared_value.proofs.TaskTaken.{told}
+
+all_long : (n : ℕ) → let xs : List (Option ℕ) = replicate n None in length xs ≡ n
+all_long zero = refl
+all_long (suc n) = ap suc (all_long n)
+
+abbrev pub first_world_of : ProgramText → Limits → ℕ → ℕ → ℕ → SetOf → World
+first_world_of p s slots spare n set = record {
+  program = p;
+  settings = s;
+  tree = root_node ∷ [];
+  pool = record { limit = s.chunks; slots = [] };
+  homes = Some (first_rest p slots spare) ∷ [];
+  sets = set ∷ [];
+  marks = [];
+  hands = replicate s.workers None;
+  outputs = [];
+  journal = record { items = []; room = n };
+  steps = 0;
+  end = None;
+  halted = false;
+}
+
+module _ (p : ProgramText) (s : Limits) (lims : AreLimits s) (form : IsProgram p) (slots spare n : ℕ) (set : SetOf) (empty : content_of set ≡ record { sources = []; kept = []; keeps = false }) where
+  abbrev w : World
+  w = first_world_of p s slots spare n set
+
+  abbrev l : Ledger
+  l = opening p s
+
+  homes_are : (t : ℕ) → (value_of w).homes t ≡ (first p).homes t
+  homes_are zero = refl
+  homes_are (suc t) = refl
+
+  noted_are : (t : ℕ) → (value_of w).noted t ≡ (first p).noted t
+  noted_are zero = ap (λ (c : Content). record { sources = map source_of c.sources; kept = c.kept; keeps = c.keeps; marked = None }) empty
+  noted_are (suc t) = refl
+
+  value_is : first p ≡ value_of w
+  value_is = sym (
+      ap (λ hs. record (value_of w) { homes = hs }) (fun_ext homes_are)
+      ∙ ap (λ ns. record { homes = (first p).homes; noted = ns; owner = (value_of w).owner }) (fun_ext noted_are))
+
+  keeps_are : (t : ℕ) → ((value_of w).noted t).keeps ≡ false
+  keeps_are t = ap (λ (z : Noted). z.keeps) (noted_are t)
+
+  waits_none : (t : ℕ) → is_waiting (slice_get l.machine.tasks t) ≡ false
+  waits_none zero = refl
+  waits_none (suc t) = refl
+
+  node_is : (t : ℕ) → (totals_of w).node t ≡ option_map (told (heap_of l t).worker) (slice_get l.machine.tasks t)
+  node_is zero = refl
+  node_is (suc t) = refl
+
+  hand_none : (k t : ℕ) → (totals_of w).hand k ≡ Some t ↔ (heap_of l t).worker ≡ Some k
+  hand_none k t = ((λ e. absurd (none_hand s.workers k e)), worker_at t)
+    where
+      none_hand : (n k : ℕ) → flat (slice_get (replicate n None) k) ≡ Some t → ⊥
+      none_hand zero k e = absurd cc
+      none_hand (suc n) zero e = absurd cc
+      none_hand (suc n) (suc k) e = none_hand n k e
+
+      worker_at : (t : ℕ) → (heap_of l t).worker ≡ Some k → (totals_of w).hand k ≡ Some t
+      worker_at zero e = absurd cc
+      worker_at (suc t) e = absurd cc
+
+  begun_at : (t : ℕ) → Rests l t → BegunBy (value_of w) l t ((value_of w).homes t).begun
+  begun_at zero r = refl
+  begun_at (suc t) r = refl
+
+  stands : StandsFor (value_of w) (totals_of w) l
+  stands = record {
+    homes = subst (λ (v : Value). Stands v l) value_is (first_stands p s);
+    totals = record { node = node_is; hand = hand_none; used = refl; steps = refl; outputs = refl; end = refl };
+    begun = begun_at;
+    keeps = λ t. keeps_are t ∙ sym (ap (λ b. b && not (heap_of l t).swept) (waits_none t));
+    since = λ t h. absurd (false≢true (sym (keeps_are t) ∙ h));
+    marks = λ t h. absurd (false≢true (sym (keeps_are t) ∙ h));
+  }
+
+  form_first : HeapForm (first_rest p slots spare).heap
+  form_first = record {
+    shaped = record { apart = tt; current = tt; reserved = tt };
+    near = λ o i. absurd i;
+    tidy = λ i x lt. absurd (omega (arith, lt));
+    within = λ i x lt. absurd (omega (arith, lt));
+    last = tt;
+    last_large = tt;
+    since = omega arith;
+    whole = λ k i. absurd i;
+    spare = λ i lt. absurd (omega (arith, lt));
+  }
+
+  heaps : (t : ℕ) (r : Rest) → rest_at w.homes t ≡ Some r → HeapForm r.heap
+  heaps zero r e = subst (λ (x : Rest). HeapForm x.heap) (same_Some (first_rest p slots spare) r e) form_first
+  heaps (suc t) r e = absurd cc
+
+  measured : RestsAreMeasured w.pool w.homes w.hands
+  measured zero r e f = subst (λ (x : Rest). AreMeasured w.pool zero x.heap.chunks) (same_Some (first_rest p slots spare) r e) (λ k i. absurd i)
+  measured (suc t) r e f = absurd cc
+
+  pub first_world : IsWorld w
+  first_world = record {
+    limits = lims;
+    form = form;
+    legal = refl;
+    made = refl;
+    noted = refl;
+    workers = all_long s.workers;
+    limit = refl;
+    stands = stands;
+    heaps = heaps;
+    measured = measured;
+  }
+
+-- the same of fields that are these
+pub first_by : (p p' : ProgramText) (s : Limits) (tree : List Node) (pool : Chunks) (homes : List (Option Rest)) (sets : List SetOf) (marks : List (Option Marks)) (hands : List (Option ℕ)) (outputs : List ℤ) (journal : Space Event) (r : Rest) (set : SetOf)
+    → AreLimits s → IsProgram p → p' ≡ p → tree ≡ root_node ∷ [] → pool ≡ record { limit = s.chunks; slots = [] } → homes ≡ Some r ∷ [] → r ≡ first_rest p r.heap.slots r.heap.spare → sets ≡ set ∷ [] → content_of set ≡ record { sources = []; kept = []; keeps = false }
+    → marks ≡ [] → hands ≡ replicate s.workers None → outputs ≡ [] → journal.items ≡ []
+    → IsWorld (record { program = p'; settings = s; tree = tree; pool = pool; homes = homes; sets = sets; marks = marks; hands = hands; outputs = outputs; journal = journal; steps = 0; end = None; halted = false })
+first_by p p' s tree pool homes sets marks hands outputs journal r set lims form ep et eo eh er es empty em ea eu ej =
+    let eh' : homes ≡ Some (first_rest p r.heap.slots r.heap.spare) ∷ [] = eh ∙ ap (λ x. Some x ∷ []) er in
+    let ej' : journal ≡ record { items = []; room = journal.room } = ap (λ x. record { items = x; room = journal.room }) ej in
+    let W : World = first_world_of p s r.heap.slots r.heap.spare journal.room set in
+    subst IsWorld (sym (
+    ap (λ x. record W { program = x; tree = tree; pool = pool; homes = homes; sets = sets; marks = marks; hands = hands; outputs = outputs; journal = journal }) ep
+    ∙ (ap (λ x. record W { tree = x; pool = pool; homes = homes; sets = sets; marks = marks; hands = hands; outputs = outputs; journal = journal }) et
+    ∙ (ap (λ x. record W { pool = x; homes = homes; sets = sets; marks = marks; hands = hands; outputs = outputs; journal = journal }) eo
+    ∙ (ap (λ x. record W { homes = x; sets = sets; marks = marks; hands = hands; outputs = outputs; journal = journal }) eh'
+    ∙ (ap (λ x. record W { sets = x; marks = marks; hands = hands; outputs = outputs; journal = journal }) es
+    ∙ (ap (λ x. record W { marks = x; hands = hands; outputs = outputs; journal = journal }) em
+    ∙ (ap (λ x. record W { hands = x; outputs = outputs; journal = journal }) ea
+    ∙ (ap (λ x. record W { outputs = x; journal = journal }) eu
+    ∙ ap (λ x. record W { journal = x }) ej')))))))))
+    (first_world p s lims form r.heap.slots r.heap.spare journal.room set empty)

@@ -1,0 +1,127 @@
+-- What a value has for tasks that workers hold means nothing: two values that differ there alone stand for the same accounts,
+-- and the same parts fit them.
+use Rattle.std.proofs.Common.{length, ◌≡◌, ℕ, true, not, Option, Some, None, slice_get, inl, inr, refl, ap, sym, subst, ◌∙◌}
+use Rattle.std.proofs.lemmas.Bool.{cases_eq, and_parts}
+use Rattle.hh_lang.specs.Form.{ProgramText}
+use Rattle.hh_model.specs.declared.data.Name.{Name}
+use Rattle.hh_model.specs.Step.{is_waiting}
+use Rattle.run_trace.specs.Settings.{Limits}
+use Rattle.run_ledger.specs.declared.data.Heap.{Heap}
+use Rattle.run_ledger.specs.declared.data.Ledger.{Ledger}
+use Rattle.run_ledger.specs.Heaps.{heap_of}
+use Rattle.run_ledger.specs.Sound.{SoundLedger}
+use Rattle.object_layout.specs.declared.word.Addr.{Addr}
+use Rattle.ledger_steps.specs.Accounts.{Rests, own}
+use Rattle.ledger_steps.proofs.Rested.{rested_worker}
+use Rattle.ledger_steps.specs.Accounts.{StepsAlone}
+use Rattle.core_relation.specs.Value.{Begun, Home, In, Lies, Seen, Value, objects, objects_in, shown_at}
+use Rattle.core_relation.specs.Reads.{TaskIsRead}
+use Rattle.core_relation.specs.Stands.{Place, Stands}
+use Rattle.core_relation.specs.Begins.{IsReachedAt}
+use Rattle.core_relation.specs.Copies.{PartFits}
+use Rattle.core_relation.specs.Fits.{FitsAt, Part, ahead, with_home}
+use Rattle.core_relation.specs.Since.{NotedAt}
+use Rattle.core_relation.specs.Whole.{BegunBy, StandsFor, Totals}
+use Rattle.core_relation.specs.Worker.{Fits as FitsValue}
+use Rattle.core_relation.proofs.changes.Alone.{home_kept}
+use Rattle.core_relation.proofs.objects.Carry.{object_kept, task_kept}
+use Rattle.core_relation.proofs.changes.Giving.{gives_kept}
+use Rattle.core_relation.proofs.notes.Notes.{notes_stay, same_whole}
+use Rattle.core_relation.proofs.parts.Parts.{ahead_alone}
+use Rattle.core_relation.proofs.notes.Rooted.{root_same}
+use Rattle.core_relation.proofs.changes.Same.{source_same}
+use Rattle.core_relation.proofs.changes.With.{at_home, off_home}
+use Rattle.core_relation.proofs.parts.Quiet.{aside_is}
+
+-- the same value, with other homes of the tasks that workers hold
+module _ (v : Value) (hs : ℕ → Home) (l : Ledger) (same : (u : ℕ) → Rests l u → hs u ≡ v.homes u) where
+  abbrev v' : Value
+  v' = record v { homes = hs }
+
+  place : (n : Name) (a : Addr) → Place v l n a → Place v' l n a
+  place n a p = record { chunk = p.chunk; here = λ r. subst (λ (h : Home). Lies h.chunks n a) (sym (same (own l n) r)) (p.here r) }
+
+  was : (u : ℕ) (o : Seen) → Rests l u → In (objects v' u) o → In (objects v u) o
+  was u o r i = subst (λ (h : Home). In (objects_in h.chunks) o) (same u r) i
+
+  is : (u : ℕ) (o : Seen) → Rests l u → In (objects v u) o → In (objects v' u) o
+  is u o r i = subst (λ (h : Home). In (objects_in h.chunks) o) (sym (same u r)) i
+
+  pub stands_held : Stands v l → Stands v' l
+  stands_held V = record {
+    made = V.made;
+    homes = λ u r. home_kept v v' l l u (same u r) (λ k e. e) refl refl (V.homes u r);
+    contents = λ u o r i. (let c = V.contents u o r (was u o r i) in (c.0, c.1, object_kept (Place v l) (Place v' l) o c.0 (λ n j. place n) c.2));
+    tasks = λ u x r e. subst (λ (h : Home). TaskIsRead (Place v' l) h x) (sym (same u r)) (task_kept (Place v l) (Place v' l) (v.homes u) x (λ n j. place n) (V.tasks u x r e));
+    remembered = λ u o x i n r j e at. V.remembered u o x i n r (was u o r j) e at;
+    sources = λ u s i. (let k = V.sources u s i in source_same l l refl v v' u s k (place k.name s.object k.place) refl k.kept);
+    views = λ u r live z o up ne rz i. ap (λ (h : Home). shown_at h.view o.at) (same u r) ∙ V.views u r live z o up ne rz (was z o rz i);
+    gives = λ u z r live up ne w rz. gives_kept v v' z u (ap (λ (h : Home). h.view) (same u r)) (ap (λ (h : Home). h.view) (same z rz)) (λ n o. o) (V.gives u z r live up ne w rz);
+  }
+
+  begun_held : (t : ℕ) → Rests l t → (b : Option Begun) → BegunBy v l t b → BegunBy v' l t b
+  begun_held t r None B = B
+  begun_held t r (Some b) B = record {
+    few = B.few;
+    once = B.once;
+    owned = B.owned;
+    apart = λ k c i j. B.apart k c i (subst (λ (h : Home). In h.chunks c) (same t r) j);
+    survivors = λ o i.
+        let s = B.survivors o (was t o r i) in (
+          (λ e. s.0 (subst (λ (h : Home). IsReachedAt h b.roots o.at) (same t r) e)),
+          (λ e. subst (λ (h : Home). IsReachedAt h b.roots o.at) (sym (same t r)) (s.1 e)),
+        );
+  }
+
+  -- who waits is held by nobody
+  module _ (waits : (u : ℕ) → is_waiting (slice_get l.machine.tasks u) ≡ true → Rests l u) where
+    noted : (c : Totals) → StandsFor v c l → (t : ℕ) → Rests l t → NotedAt v' l t
+    noted c S t r =
+        notes_stay v v' l l t (record { keeps = refl; kept = refl; waits = refl; swept = refl; snapshot = refl; none_new = λ k e. e; frames = ap (λ (h : Home). h.frames) (same t r); rooted = λ b y. root_same v v' l l t (λ s i. i) (λ k e. e) b y y.rests (ap (λ (h : Home). objects_in h.chunks) (same y.home y.rests)) }) refl refl
+        (same_whole v v' t (ap (λ (h : Home). objects_in h.chunks) (same t r)) (ap (λ (h : Home). length h.chunks) (same t r))) (record { keeps = S.keeps t; since = S.since t; marks = S.marks t })
+
+    rest : (c : Totals) → StandsFor v c l → (t : ℕ) → (v.noted t).keeps ≡ true → Rests l t
+    rest c S t e = waits t (and_parts (is_waiting (slice_get l.machine.tasks t)) (not (heap_of l t).swept) (sym (S.keeps t) ∙ e)).0
+
+    pub stands_for_held : (c : Totals) → StandsFor v c l → StandsFor v' c l
+    stands_for_held c S = record {
+      homes = stands_held S.homes;
+      totals = S.totals;
+      begun = λ t r. begun_held t r (hs t).begun (subst (λ (h : Home). BegunBy v l t h.begun) (sym (same t r)) (S.begun t r));
+      keeps = S.keeps;
+      since = λ t e. (noted c S t (rest c S t e)).since e;
+      marks = λ t e. (noted c S t (rest c S t e)).marks e;
+    }
+
+-- A PART
+module _ (v : Value) (hs : ℕ → Home) (l : Ledger) (same : (u : ℕ) → Rests l u → hs u ≡ v.homes u) (p : ProgramText) (s : Limits) (q : Part) (S : SoundLedger l) where
+  abbrev w : Value
+  w = record v { homes = hs }
+
+  abbrev t : ℕ
+  t = q.task
+
+  abbrev K : Ledger
+  K = ahead p q l
+
+  -- its homes beside its own
+  module _ (A : StepsAlone l K t) where
+    with_same : (u : ℕ) → Rests K u → (with_home w t q.home).homes u ≡ (with_home v t q.home).homes u
+    with_same u r = elim (cases_eq u t) [
+      | inl e ↦ ap (with_home w t q.home).homes e ∙ (at_home w t q.home ∙ (sym (at_home v t q.home) ∙ ap (with_home v t q.home).homes (sym e)))
+      | inr ne ↦ off_home w t q.home u ne ∙ (same u (ap (λ (h : Heap). h.worker) (sym (A.heaps u ne)) ∙ r) ∙ sym (off_home v t q.home u ne))
+    ]
+
+    stands_part : Stands (with_home v t q.home) K → Stands (with_home w t q.home) K
+    stands_part V = stands_held (with_home v t q.home) (with_home w t q.home).homes K with_same V
+
+    begun_part : BegunBy (with_home v t q.home) K t q.home.begun → BegunBy (with_home w t q.home) K t q.home.begun
+    begun_part B = begun_held (with_home v t q.home) (with_home w t q.home).homes K with_same t (rested_worker _ t) q.home.begun B
+
+  pub fits_held : l.machine.end ≡ None → FitsValue p s q v l → FitsValue p s q w l
+  fits_held going F =
+      let P : PartFits p s q v l = subst (PartFits p s q v) (aside_is l going) F.part in
+      let A : StepsAlone l K t = ahead_alone p s q l S F.steady P.fits.private in
+      let fits : FitsAt p s q w l = record { worker = P.fits.worker; out = P.fits.out; few = P.fits.few; private = P.fits.private; stands = stands_part A P.fits.stands } in
+      let Q : PartFits p s q w l = record { fits = fits; begun = begun_part A P.begun } in
+      record { task = F.task; is = F.is; runs = F.runs; steady = F.steady; part = subst (PartFits p s q w) (sym (aside_is l going)) Q; leaf = F.leaf; fields = F.fields }

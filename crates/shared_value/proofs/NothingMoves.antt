@@ -1,0 +1,122 @@
+-- Entries that move nothing: the end of fuel, a chunk, and the end of the pool.
+use Rattle.std.proofs.Common.{◌≡◌, ℕ, Option, Some, None, length, slice_get, inl, refl, ap, sym, ◌∙◌}
+use Rattle.listed.specs.Space.{Space}
+use Rattle.hh_model.specs.declared.data.State.{State}
+use Rattle.hh_model.specs.Effect.{row_of}
+use Rattle.run_trace.specs.declared.entry.Kind.TheVariants.{Fuel}
+use Rattle.run_trace.specs.Entry.{Event}
+use Rattle.run_ledger.specs.declared.data.Heap.{Heap}
+use Rattle.run_ledger.specs.declared.data.Ledger.{Ledger}
+use Rattle.run_ledger.specs.declared.data.RunEnd.{RunEnd}
+use Rattle.run_ledger.specs.declared.data.RunEnd.TheVariants.{Fuel as FuelEnd}
+use Rattle.run_ledger.specs.Heaps.{heap_of}
+use Rattle.run_ledger.specs.Entries.{after}
+use Rattle.chunk_pool.specs.Chunks.{Chunks}
+use Rattle.alloc_path.specs.Heap.{Heap as HeapOf}
+use Rattle.ledger_steps.specs.Accounts.{Rests, rested}
+use Rattle.core_relation.specs.Value.{Value}
+use Rattle.core_relation.specs.Changes.{SameObjects}
+use Rattle.core_relation.specs.Counts.{CountsGo, IsMarked, IsQuiet}
+use Rattle.core_relation.specs.Fits.{with_home}
+use Rattle.core_relation.specs.Since.{NotesStay}
+use Rattle.core_relation.specs.Stands.{HomeStands}
+use Rattle.core_relation.specs.Whole.{BegunBy}
+use Rattle.core_relation.specs.Worker.{IsBy}
+use Rattle.core_relation.proofs.changes.Alone.{home_kept}
+use Rattle.core_relation.proofs.parts.OwnFits.{quiet_fits_then}
+use Rattle.core_relation.proofs.whole.EntriesWhole.{quiet_stands_for}
+use Rattle.core_relation.proofs.parts.WorkersPast.{quiet_leaves}
+use Rattle.task_machine.specs.declared.part.Begun.{Begun}
+use Rattle.task_machine.specs.declared.part.Private.{Private}
+use Rattle.shared_value.specs.World.{World, accounts, begun_of, totals_of, value_of}
+use Rattle.shared_value.specs.Measured.{IsMeasured, KeepsUnits}
+use Rattle.shared_value.specs.Stands.{HeapForm, IsWorld}
+use Rattle.shared_value.specs.Fits.{AllFit, Fits, home_of_part, part_of}
+use Rattle.shared_value.specs.Entered.{refused}
+use Rattle.shared_value.proofs.EntryMade.{entered, entered_world, entry_on, part_fits}
+use Rattle.shared_value.proofs.BeforeTheEnd.{stands_now}
+use Rattle.shared_value.proofs.UnitsMeasured.{all_kept, measured_kept, part_kept}
+
+-- an entry after which the pool and the end may be others
+module _ (w : World) (e : Event) (I : IsWorld w) (free : refused w e ≡ None) (quiet : IsQuiet e.kind) (unmarked : (u : ℕ) → IsMarked e.kind u → ⊥) (pool : Chunks) (end : Option RunEnd) (room : ℕ) where
+  abbrev pub l : Ledger
+  l = accounts w
+
+  abbrev pub L : Ledger
+  L = after w.program w.settings l e
+
+  abbrev pub w' : World
+  w' = entered w e w.tree pool w.homes w.sets w.hands w.outputs w.steps end room
+
+  abbrev pub v : Value
+  v = value_of w
+
+  abbrev pub v' : Value
+  v' = value_of w'
+
+  module _ (same : SameObjects v v' l L) (notes : (u : ℕ) → NotesStay v v' u) (counts : CountsGo w.program w.settings l (totals_of w) (totals_of w') e.worker e.kind) (limit : pool.limit ≡ w.pool.limit) (keeps : (t : ℕ) → KeepsUnits w.pool pool t) where
+    pub quiet_world : IsWorld w'
+    quiet_world =
+        entered_world w e I free w.tree pool w.homes w.sets w.hands w.outputs w.steps end room I.made I.noted refl limit
+        (quiet_stands_for w.program w.settings w.journal.items I.form I.legal v v' (totals_of w) (totals_of w') e free quiet I.stands same (λ u n. notes u) (λ u m. absurd (unmarked u m)) counts)
+        I.heaps (λ t r i f. measured_kept w.pool pool t r.heap.chunks (keeps t) (I.measured t r i f))
+
+    pub quiet_others : (u : ℕ) (q : Private) → (IsBy e.kind q.task → ⊥) → Fits w u q → Fits w' u q
+    quiet_others u q ne F =
+        part_fits w e I free w.tree pool w.homes w.sets w.hands w.outputs w.steps end room quiet_world u q q refl F refl refl refl F.form (part_kept w.pool pool q (keeps q.task) F.measured)
+        (quiet_leaves w.program w.settings w.journal.items I.legal v v' e free quiet same (part_of w.settings q) ne F.fits)
+
+    -- the part of the worker that enters it, without fresh steps, with another heap, and amid the collection b
+    module _ (k : ℕ) (p : Private) (g : HeapOf) (b : Option Begun) (F : Fits w k (record p { fresh = 0 })) where
+      abbrev pub P : Private
+      P = record p { fresh = 0 }
+
+      abbrev pub Q : Private
+      Q = record p { fresh = 0; heap = g; begun = b }
+
+      pub quiet_own : HeapForm g → IsMeasured pool Q → SameObjects (with_home v p.task (home_of_part P)) (with_home v' p.task (home_of_part Q)) (rested l p.task) (rested L p.task) → BegunBy (with_home v' p.task (home_of_part Q)) (rested L p.task) p.task (begun_of b)
+          → Fits w' k Q
+      quiet_own form measured part begun =
+          part_fits w e I free w.tree pool w.homes w.sets w.hands w.outputs w.steps end room quiet_world k P Q refl F refl refl refl form measured
+          (quiet_fits_then w.program w.settings w.journal.items I.legal v v' e p.task (home_of_part P) (home_of_part Q) free quiet F.fits part begun)
+
+-- where the machine and the accounts of heaps stay, the value may
+pub same_value : (v : Value) (l L : Ledger) → L.machine ≡ l.machine → ((u : ℕ) → heap_of L u ≡ heap_of l u) → ((u : ℕ) → Rests l u → HomeStands v l u) → SameObjects v v l L
+same_value v l L m heaps homes = record {
+  home = λ u r. home_kept v v l L u refl (λ k e. e) (heaps u) (ap (λ (z : State). length (row_of (slice_get z.store u))) m) (homes u (ap (λ (h : Heap). h.worker) (sym (heaps u)) ∙ r));
+  objects = λ u. refl;
+  chunks = λ u e. refl;
+  frames = λ u. refl;
+  result = λ u. refl;
+  view = λ u. refl;
+  owner = λ k u e. e;
+  taken = λ k u e. inl e;
+  begun = λ u e. refl;
+  sources = λ u. refl;
+}
+
+-- FUEL
+module _ (w : World) (k : ℕ) (I : IsWorld w) (free : refused w (record { worker = k; kind = Fuel }) ≡ None) (j : Space Event) where
+  abbrev room : ℕ
+  room = j.room
+
+  abbrev e : Event
+  e = record { worker = k; kind = Fuel }
+
+  abbrev fueled : World
+  fueled = entered w e w.tree w.pool w.homes w.sets w.hands w.outputs w.steps (Some (FuelEnd w.steps)) room
+
+  same : SameObjects (value_of w) (value_of w) (accounts w) (after w.program w.settings (accounts w) e)
+  same = same_value (value_of w) (accounts w) (after w.program w.settings (accounts w) e) refl (λ u. refl) (stands_now w I (entry_on w e free)).homes.homes
+
+  counts : CountsGo w.program w.settings (accounts w) (totals_of w) (totals_of fueled) k Fuel
+  counts = (record { node = λ u. refl; hand = λ u. refl; steps = refl; outputs = refl }, refl, refl)
+
+  notes : (u : ℕ) → NotesStay (value_of w) (value_of w) u
+  notes u = record { keeps = refl; kept = refl; marked = refl }
+
+  pub fuel_world : IsWorld fueled
+  fuel_world = quiet_world w e I free tt (λ u m. m) w.pool (Some (FuelEnd w.steps)) room same notes counts refl (all_kept w.pool)
+
+  pub fuel_all : AllFit w fueled
+  fuel_all u q F = quiet_others w e I free tt (λ b m. m) w.pool (Some (FuelEnd w.steps)) room same notes counts refl (all_kept w.pool) u q (λ b. b) F

@@ -1,0 +1,220 @@
+-- An object of a heap is written: what is read of the heap then, and that it keeps its form.
+use Rattle.std.proofs.Common.{◌≡◌, ℕ, ◌+◌, ◌-◌, ◌*◌, ◌/◌, ◌<◌, ◌≤◌, ◌==◌, arith, Bool, true, false, cond, Option, Some, None, List, [], ◌∷◌, All, length, map, inl, inr, refl, ap, ap₂, sym, subst, ◌∙◌, eq-eqb}
+use Rattle.std.proofs.lemmas.Bool.{eqb-true, false≢true}
+use Rattle.std.proofs.lemmas.List.{length-map}
+use Rattle.std.proofs.lemmas.List.Elements.{All-cons, All-head, All-nil, All-tail}
+use Rattle.object_layout.specs.declared.word.Addr.{Addr}
+use Rattle.object_layout.specs.Cell.{Born, Cell, Hole, Mark, Moved, moved_to, size_of}
+use Rattle.object_layout.specs.Chunks.{cell_of, chunk_at, put_object, with_cell}
+use Rattle.object_layout.specs.Content.{Content}
+use Rattle.object_layout.specs.Place.{cell_at, words_in}
+use Rattle.object_layout.proofs.ChunkLaws.{length-put}
+use Rattle.alloc_path.specs.Heap.{AreApart, Heap, IsTidy, room_at, room_of, units}
+use Rattle.core_relation.specs.Value.{Chunk, In, Seen, is_at, mapped_chunk, objects_in, put_at}
+use Rattle.core_relation.proofs.objects.Members.{in_chunk, in_map, map_in, in_objects}
+use Rattle.core_relation.proofs.changes.Write.{at_is}
+use Rattle.task_machine.specs.Accounts.{IsLastLarge, IsLastSmall}
+use Rattle.task_machine.specs.Outline.{outline_of_cell, outline_of_chunk}
+use Rattle.task_machine.proofs.Outlines.{outline_at, written_outline}
+use Rattle.task_machine.proofs.Written.{shape_written}
+use Rattle.shared_value.specs.Objects.{AreNear, chunk_of, chunks_of, objects_from, seen_by}
+use Rattle.shared_value.specs.Stands.{HeapForm}
+use Rattle.shared_value.proofs.CellsChanged.{objects_put, with_fields}
+use Rattle.shared_value.proofs.CellsRead.{fresh_off}
+use Rattle.shared_value.proofs.OutlineKept.{outline_size}
+
+-- ---- WHAT IS READ
+
+-- objects that lie elsewhere stay
+pub elsewhere : (a : Addr) (f : Seen → Seen) (os : List Seen) → ((o : Seen) → In os o → o.at ≡ a → ⊥) → map (put_at a f) os ≡ os
+elsewhere a f [] h = refl
+elsewhere a f (o ∷ os) h = ap₂ (λ x xs. x ∷ xs) (by (is_at a o) refl) (elsewhere a f os (λ q i. h q (inr i)))
+  where
+    by : (b : Bool) → is_at a o ≡ b → cond b (f o) o ≡ o
+    by true e = absurd (h o (inl refl) (at_is a o e))
+    by false e = refl
+
+-- and those of other chunks, whole
+pub chunks_elsewhere : (a : Addr) (f : Seen → Seen) (ks : List Chunk) → ((o : Seen) → In (objects_in ks) o → o.at ≡ a → ⊥) → map (mapped_chunk (put_at a f)) ks ≡ ks
+chunks_elsewhere a f [] h = refl
+chunks_elsewhere a f (k ∷ ks) h =
+    ap₂ (λ x xs. record k { objects = x } ∷ xs) (elsewhere a f k.objects (λ o i. h o (in_objects (k ∷ ks) k o (inl refl) i)))
+    (chunks_elsewhere a f ks (λ o i. let c = in_chunk ks o i in h o (in_objects (k ∷ ks) c.0 o (inr c.1) c.2)))
+
+-- two changes that are the same at the object
+pub put_same : (a : Addr) (f g : Seen → Seen) (os : List Seen) → ((o : Seen) → In os o → o.at ≡ a → f o ≡ g o) → map (put_at a f) os ≡ map (put_at a g) os
+put_same a f g [] h = refl
+put_same a f g (o ∷ os) h = ap₂ (λ x xs. x ∷ xs) (by (is_at a o) refl) (put_same a f g os (λ q i. h q (inr i)))
+  where
+    by : (b : Bool) → is_at a o ≡ b → cond b (f o) o ≡ cond b (g o) o
+    by true e = h o (inl refl) (at_is a o e)
+    by false e = refl
+
+pub chunks_same : (a : Addr) (f g : Seen → Seen) (ks : List Chunk) → ((o : Seen) → In (objects_in ks) o → o.at ≡ a → f o ≡ g o) → map (mapped_chunk (put_at a f)) ks ≡ map (mapped_chunk (put_at a g)) ks
+chunks_same a f g [] h = refl
+chunks_same a f g (k ∷ ks) h =
+    ap₂ (λ x xs. record k { objects = x } ∷ xs) (put_same a f g k.objects (λ o i. h o (in_objects (k ∷ ks) k o (inl refl) i)))
+    (chunks_same a f g ks (λ o i. let c = in_chunk ks o i in h o (in_objects (k ∷ ks) c.0 o (inr c.1) c.2)))
+
+-- the objects of a chunk bear its number
+number_by : (number at : ℕ) (c : Cell) (m : Mark) (os : List Seen) → ((o : Seen) → In os o → o.at.chunk ≡ number) → (o : Seen) → In (seen_by number at c m os) o → o.at.chunk ≡ number
+number_by number at c (Born b) os h o (inl e) = ap (λ (z : Seen). z.at.chunk) (sym e)
+number_by number at c (Born b) os h o (inr i) = h o i
+number_by number at c (Moved to) os h o i = h o i
+number_by number at c Hole os h o i = h o i
+
+numbered : (number base : ℕ) (cs : List Cell) (o : Seen) → In (objects_from number base cs) o → o.at.chunk ≡ number
+numbered number base [] o i = absurd i
+numbered number base (c ∷ cs) o i = number_by number base c c.mark (objects_from number (base + size_of c) cs) (numbered number (base + size_of c) cs) o i
+
+-- A CELL OF THE SAME MARK AND SIZE is put: the object there has its fields
+pub chunks_put : (ks : List Content) (a : Addr) (d : Cell) → AreApart ks → (cell_of ks a).mark ≡ d.mark → size_of (cell_of ks a) ≡ size_of d → chunks_of (put_object ks a d) ≡ map (mapped_chunk (put_at a (with_fields d))) (chunks_of ks)
+chunks_put [] a d A em es = refl
+chunks_put (k ∷ ks) a d A em es = by (k.number == a.chunk) refl em es (chunks_put ks a d A.1)
+  where
+    by : (b : Bool) → (k.number == a.chunk) ≡ b → (cond b (cell_at k.cells a.offset) (cell_of ks a)).mark ≡ d.mark → size_of (cond b (cell_at k.cells a.offset) (cell_of ks a)) ≡ size_of d
+        → ((cell_of ks a).mark ≡ d.mark → size_of (cell_of ks a) ≡ size_of d → chunks_of (put_object ks a d) ≡ map (mapped_chunk (put_at a (with_fields d))) (chunks_of ks))
+        → chunks_of (cond b (with_cell k a.offset d ∷ ks) (k ∷ put_object ks a d)) ≡ map (mapped_chunk (put_at a (with_fields d))) (chunk_of k ∷ chunks_of ks)
+    by true e m z go =
+        let n : k.number ≡ a.chunk = eqb-true k.number a.chunk e in
+        ap₂ (λ x xs. record (chunk_of k) { objects = x } ∷ xs)
+        (objects_put k.cells k.number 0 a.offset a d (ap₂ (λ x y. let r : Addr = record { chunk = x; offset = y } in r) (sym n) (let q : a.offset ≡ 0 + a.offset = omega arith in q)) m z)
+        (sym (chunks_elsewhere a (with_fields d) (chunks_of ks) (λ o i at.
+        let c = in_chunk (chunks_of ks) o i in
+        let j = map_in chunk_of ks c.0 c.1 in
+        fresh_off ks j.0 k.number A.0 j.1 (sym (numbered j.0.number 0 j.0.cells o (subst (λ (x : Chunk). In x.objects o) (sym j.2) c.2)) ∙ (ap (λ (x : Addr). x.chunk) at ∙ sym n)))))
+    by false e m z go =
+        ap₂ (λ x xs. record (chunk_of k) { objects = x } ∷ xs)
+        (sym (elsewhere a (with_fields d) (chunk_of k).objects (λ o i at. false≢true (sym e ∙ eq-eqb k.number a.chunk (sym (numbered k.number 0 k.cells o i) ∙ ap (λ (x : Addr). x.chunk) at)))))
+        (go m z)
+
+-- ---- WHAT THE OUTLINE TELLS
+
+all_by : {A B : Type 0} (f : A → B) (P : A → Type 0) → ((x y : A) → f x ≡ f y → P x → P y) → (xs ys : List A) → map f xs ≡ map f ys → All P xs → All P ys
+all_by f P h [] [] e a = All-nil P
+all_by f P h [] (y ∷ ys) e a = absurd cc
+all_by f P h (x ∷ xs) [] e a = absurd cc
+all_by f P h (x ∷ xs) (y ∷ ys) e a =
+    All-cons P y ys (h x y (let q : f x ≡ f y = cc in q) (All-head P x xs a)) (all_by f P h xs ys (let q : map f xs ≡ map f ys = cc in q) (All-tail P x xs a))
+
+abbrev SameOutline : Cell → Cell → Type 0
+SameOutline c d = outline_of_cell c ≡ outline_of_cell d
+
+same_mark : (c d : Cell) → SameOutline c d → c.mark ≡ d.mark
+same_mark c d e = ap (λ (z : Cell). z.mark) e
+
+same_size : (c d : Cell) → SameOutline c d → size_of c ≡ size_of d
+same_size c d e = sym (outline_size c) ∙ (ap size_of e ∙ outline_size d)
+
+same_words : (cs ds : List Cell) → map outline_of_cell cs ≡ map outline_of_cell ds → words_in cs ≡ words_in ds
+same_words [] [] e = refl
+same_words [] (d ∷ ds) e = absurd cc
+same_words (c ∷ cs) [] e = absurd cc
+same_words (c ∷ cs) (d ∷ ds) e =
+    ap₂ (λ n m. n + m) (same_size c d (let q : outline_of_cell c ≡ outline_of_cell d = cc in q)) (same_words cs ds (let q : map outline_of_cell cs ≡ map outline_of_cell ds = cc in q))
+
+same_count : (cs ds : List Cell) → map outline_of_cell cs ≡ map outline_of_cell ds → length cs ≡ length ds
+same_count cs ds e = sym (length-map cs outline_of_cell) ∙ (ap length e ∙ length-map ds outline_of_cell)
+
+-- no objects in the one, none in the other
+none_too : (number base base' : ℕ) (cs ds : List Cell) → map outline_of_cell cs ≡ map outline_of_cell ds → objects_from number base cs ≡ [] → objects_from number base' ds ≡ []
+none_too number base base' cs [] e h = refl
+none_too number base base' [] (d ∷ ds) e h = absurd cc
+none_too number base base' (c ∷ cs) (d ∷ ds) e h =
+    by c.mark d.mark (same_mark c d (let q : outline_of_cell c ≡ outline_of_cell d = cc in q)) h
+    (none_too number (base + size_of c) (base' + size_of d) cs ds (let q : map outline_of_cell cs ≡ map outline_of_cell ds = cc in q))
+  where
+    by : (m n : Mark) → m ≡ n → seen_by number base c m (objects_from number (base + size_of c) cs) ≡ []
+        → (objects_from number (base + size_of c) cs ≡ [] → objects_from number (base' + size_of d) ds ≡ []) → seen_by number base' d n (objects_from number (base' + size_of d) ds) ≡ []
+    by (Born b) n q g go = absurd cc
+    by (Moved to) (Born b) q g go = absurd cc
+    by (Moved to) (Moved z) q g go = go g
+    by (Moved to) Hole q g go = go g
+    by Hole (Born b) q g go = absurd cc
+    by Hole (Moved z) q g go = go g
+    by Hole Hole q g go = go g
+
+abbrev SameChunks : Content → Content → Type 0
+SameChunks k j = outline_of_chunk k ≡ outline_of_chunk j
+
+cells_same : (k j : Content) → SameChunks k j → map outline_of_cell k.cells ≡ map outline_of_cell j.cells
+cells_same k j e = ap (λ (z : Content). z.cells) e
+
+size_same : (k j : Content) → SameChunks k j → k.size ≡ j.size
+size_same k j e = ap (λ (z : Content). z.size) e
+
+tidy_same : (k j : Content) → SameChunks k j → IsTidy k → IsTidy j
+tidy_same k j e T =
+    let cs = cells_same k j e in
+    let n = same_count k.cells j.cells cs in
+    let z = size_same k j e in
+    record {
+      unmoved = all_by outline_of_cell (λ (c : Cell). moved_to c.mark ≡ None) (λ c d q h. ap moved_to (sym (same_mark c d q)) ∙ h) k.cells j.cells cs T.unmoved;
+      alone = subst (λ i. All (λ c. 1024 < size_of c → i ≡ 1) j.cells) n (all_by outline_of_cell (λ c. 1024 < size_of c → length k.cells ≡ 1) (λ c d q h lt. h (subst (λ i. 1024 < i) (sym (same_size c d q)) lt)) k.cells j.cells cs T.alone);
+      exact = subst (λ i. All (λ c. 1024 < size_of c → i ≡ 1024 * units (size_of c)) j.cells) z
+          (all_by outline_of_cell (λ c. 1024 < size_of c → k.size ≡ 1024 * units (size_of c)) (λ c d q h lt. h (subst (λ i. 1024 < i) (sym (same_size c d q)) lt) ∙ ap (λ i. 1024 * units i) (same_size c d q)) k.cells j.cells cs T.exact);
+      few = λ lt. subst (λ i. i ≤ 1) n (T.few (subst (λ i. 1024 < i) (sym z) lt));
+    }
+
+-- ---- ITS FORM
+module _ (h : Heap) (a : Addr) (d : Cell) (form : HeapForm h) (mark : d.mark ≡ (cell_of h.chunks a).mark) (size : size_of d ≡ size_of (cell_of h.chunks a)) where
+  abbrev ks : List Content
+  ks = put_object h.chunks a d
+
+  outlines : map outline_of_chunk ks ≡ map outline_of_chunk h.chunks
+  outlines = ap (λ (z : Heap). z.chunks) (written_outline h a d mark size)
+
+  at_place : (i : ℕ) → SameChunks (chunk_at h.chunks i) (chunk_at ks i)
+  at_place i = sym (outline_at h.chunks i) ∙ (ap (λ (z : List Content). chunk_at z i) (sym outlines) ∙ outline_at ks i)
+
+  as_many : length ks ≡ length h.chunks
+  as_many = length-put h.chunks a d
+
+  near : AreNear ks
+  near o i =
+      let j = subst (λ (z : List Chunk). In (objects_in z) o) (chunks_put h.chunks a d form.shaped.apart (sym mark) (sym size)) i in
+      let c = in_chunk (map (mapped_chunk (put_at a (with_fields d))) (chunks_of h.chunks)) o j in
+      let k = map_in (mapped_chunk (put_at a (with_fields d))) (chunks_of h.chunks) c.0 c.1 in
+      let q = map_in (put_at a (with_fields d)) k.0.objects o (subst (λ (z : Chunk). In z.objects o) (sym k.2) c.2) in
+      subst (λ (z : Addr). z.offset < 1024) (by q.0 (is_at a q.0) ∙ ap (λ (z : Seen). z.at) q.2) (form.near q.0 (in_objects (chunks_of h.chunks) k.0 q.0 k.1 q.1))
+    where
+      by : (q : Seen) (b : Bool) → q.at ≡ (cond b (with_fields d q) q).at
+      by q true = refl
+      by q false = refl
+
+  last_by : (o : Option ℕ) → IsLastSmall h.chunks o → IsLastSmall ks o
+  last_by None f = tt
+  last_by (Some i) f = λ j lt in_ e. f j lt (omega (arith, in_, as_many)) (size_same (chunk_at h.chunks j) (chunk_at ks j) (at_place j) ∙ e)
+
+  last_large_by : (o : Option ℕ) → IsLastLarge h.chunks o → IsLastLarge ks o
+  last_large_by None f = tt
+  last_large_by (Some i) f = λ j lt in_. sym (size_same (chunk_at h.chunks j) (chunk_at ks j) (at_place j)) ∙ f j lt (omega (arith, in_, as_many))
+
+  pub form_written : HeapForm (record h { chunks = ks })
+  form_written = record {
+    shaped = shape_written h a d form.shaped;
+    near = near;
+    tidy = all_by outline_of_chunk IsTidy tidy_same h.chunks ks (sym outlines) form.tidy;
+    within = all_by outline_of_chunk (λ (k : Content). words_in k.cells ≤ k.size) (λ k j e f. subst (λ n. n ≤ j.size) (same_words k.cells j.cells (cells_same k j e)) (subst (λ n. words_in k.cells ≤ n) (size_same k j e) f)) h.chunks ks (sym outlines) form.within;
+    last = last_by h.current form.last;
+    last_large = last_large_by h.reserved form.last_large;
+    since = form.since;
+    whole = λ k i.
+        let q = map_in outline_of_chunk h.chunks (outline_of_chunk k) (subst (λ zs. In zs (outline_of_chunk k)) outlines (in_map outline_of_chunk ks k i)) in
+        let z = size_same q.0 k q.2 in
+        sym z ∙ (form.whole q.0 q.1 ∙ ap (λ n. 1024 * (n / 1024)) z);
+    spare = λ i lt big none.
+        form.spare i (omega (arith, lt, as_many)) (λ e. big (sym (size_same (chunk_at h.chunks i) (chunk_at ks i) (at_place i)) ∙ e))
+        (none_too (chunk_at h.chunks i).number 0 0 (chunk_at ks i).cells (chunk_at h.chunks i).cells (sym (cells_same (chunk_at h.chunks i) (chunk_at ks i) (at_place i)))
+        (ap (λ n. objects_from n 0 (chunk_at ks i).cells) (ap (λ (z : Content). z.number) (at_place i)) ∙ none));
+  }
+
+  -- as much room is left
+  pub room_written : room_of (record h { chunks = ks }) ≡ room_of h
+  room_written = by h.current
+    where
+      by : (o : Option ℕ) → room_at ks o ≡ room_at h.chunks o
+      by None = refl
+      by (Some i) =
+          let e = at_place i in
+          ap₂ (λ n m. n - m) (sym (size_same (chunk_at h.chunks i) (chunk_at ks i) e)) (sym (same_words (chunk_at h.chunks i).cells (chunk_at ks i).cells (cells_same (chunk_at h.chunks i) (chunk_at ks i) e)))

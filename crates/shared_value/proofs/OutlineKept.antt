@@ -1,0 +1,92 @@
+-- A run of private steps keeps the places of objects: it only adds to chunks that are there.
+use Rattle.std.proofs.Common.{◌≡◌, ℕ, zero, suc, ◌+◌, ◌-◌, arith, Bool, true, false, cond, Option, Some, None, List, [], ◌∷◌, length, map, nat_le, pos, slice_set, ◌==◌, inl, inr, refl, ap, sym, subst, ◌∙◌}
+use Rattle.std.proofs.lemmas.List.{length-replicate}
+use Rattle.hh_lang.specs.Form.{ProgramText}
+use Rattle.hh_model.specs.declared.data.State.{State}
+use Rattle.hh_model.specs.Step.{asked}
+use Rattle.object_layout.specs.declared.word.Addr.{Addr}
+use Rattle.object_layout.specs.declared.word.Birth.{Birth}
+use Rattle.object_layout.specs.Cell.{Born, Cell, IsObject, Mark, no_cell, size_of}
+use Rattle.object_layout.specs.Chunks.{cell_of, chunk_at}
+use Rattle.object_layout.specs.Content.{Content}
+use Rattle.object_layout.specs.Place.{cell_at}
+use Rattle.alloc_path.specs.Heap.{Heap, place_for, placed}
+use Rattle.alloc_path.proofs.PlacedLaws.{cell_of-others}
+use Rattle.core_relation.specs.Value.{In}
+use Rattle.core_relation.proofs.objects.Members.{in_map, map_in}
+use Rattle.task_machine.specs.declared.part.Private.{Private}
+use Rattle.task_machine.specs.Outline.{outline_after, outline_by, outline_of, outline_of_cell, outline_of_chunk, steps}
+use Rattle.task_machine.specs.Place.{Places}
+use Rattle.task_machine.specs.Run.{Ran}
+use Rattle.shared_value.specs.Again.{KeepsPlaces}
+
+pub outline_size : (c : Cell) → size_of (outline_of_cell c) ≡ size_of c
+outline_size c = ap (λ n. 2 + (0 + n)) (length-replicate (length c.refs + length c.ints) (pos 0)) ∙ omega arith
+
+mark_at : (cs : List Cell) (off : ℕ) → (cell_at (map outline_of_cell cs) off).mark ≡ (cell_at cs off).mark
+mark_at [] off = refl
+mark_at (c ∷ cs) zero = refl
+mark_at (c ∷ cs) (suc n) =
+    ap (λ z. (cond (nat_le z (suc n)) (cell_at (map outline_of_cell cs) (suc n - z)) no_cell).mark) (outline_size c)
+    ∙ by (nat_le (size_of c) (suc n)) (mark_at cs (suc n - size_of c))
+  where
+    by : (b : Bool) → (cell_at (map outline_of_cell cs) (suc n - size_of c)).mark ≡ (cell_at cs (suc n - size_of c)).mark
+        → (cond b (cell_at (map outline_of_cell cs) (suc n - size_of c)) no_cell).mark ≡ (cond b (cell_at cs (suc n - size_of c)) no_cell).mark
+    by true e = e
+    by false e = refl
+
+mark_of : (ks : List Content) (a : Addr) → (cell_of (map outline_of_chunk ks) a).mark ≡ (cell_of ks a).mark
+mark_of [] a = refl
+mark_of (k ∷ ks) a = by (k.number == a.chunk) (mark_of ks a)
+  where
+    by : (b : Bool) → (cell_of (map outline_of_chunk ks) a).mark ≡ (cell_of ks a).mark
+        → (cond b (cell_at (map outline_of_cell k.cells) a.offset) (cell_of (map outline_of_chunk ks) a)).mark ≡ (cond b (cell_at k.cells a.offset) (cell_of ks a)).mark
+    by true e = mark_at k.cells a.offset
+    by false e = e
+
+-- each chunk was there, of its size
+abbrev Numbers : List Content → List Content → Type 0
+Numbers old new = (k : Content) → In new k → (j : Content) × In old j × (j.number ≡ k.number) × (j.size ≡ k.size)
+
+numbers_set : (ks : List Content) (i : ℕ) (y k : Content) → y.number ≡ (chunk_at ks i).number → y.size ≡ (chunk_at ks i).size → In (slice_set ks i y) k → (j : Content) × In ks j × (j.number ≡ k.number) × (j.size ≡ k.size)
+numbers_set [] i y k e s h = absurd h
+numbers_set (x ∷ xs) zero y k e s (inl q) = (x, inl refl, sym e ∙ ap (λ (z : Content). z.number) q, sym s ∙ ap (λ (z : Content). z.size) q)
+numbers_set (x ∷ xs) zero y k e s (inr h) = (k, inr h, refl, refl)
+numbers_set (x ∷ xs) (suc i) y k e s (inl q) = (x, inl refl, ap (λ (z : Content). z.number) q, ap (λ (z : Content). z.size) q)
+numbers_set (x ∷ xs) (suc i) y k e s (inr h) = let r = numbers_set xs i y k e s h in (r.0, inr r.1, r.2, r.3)
+
+born_object : (m : Mark) (b : Birth) → m ≡ Born b → IsObject m
+born_object m b e = subst IsObject (sym e) tt
+
+placed_keeps : (h : Heap) (o : Option ℕ) (c : Cell) → KeepsPlaces h (placed h o c)
+placed_keeps h None c = record { stays = λ a b e. e; numbers = λ k i. (k, i, refl, refl) }
+placed_keeps h (Some i) c = record {
+  stays = λ a b e. ap (λ (z : Cell). z.mark) (cell_of-others h.chunks i c a (born_object (cell_of h.chunks a).mark b e)) ∙ e;
+  numbers = λ k j. numbers_set h.chunks i _ k refl refl j;
+}
+
+keeps_both : (f g h : Heap) → KeepsPlaces f g → KeepsPlaces g h → KeepsPlaces f h
+keeps_both f g h A B = record {
+  stays = λ a b e. B.stays a b (A.stays a b e);
+  numbers = λ k i. (let x = B.numbers k i in let y = A.numbers x.0 x.1 in (y.0, y.1, y.2 ∙ x.2, y.3 ∙ x.3));
+}
+
+by_keeps : (m : State) (t : ℕ) (h : Heap) (o : Option ℕ) → KeepsPlaces h (outline_by m t h o)
+by_keeps m t h None = record { stays = λ a b e. e; numbers = λ k i. (k, i, refl, refl) }
+by_keeps m t h (Some w) = placed_keeps h (place_for h w) _
+
+after_keeps : (p : ProgramText) (m : State) (t : ℕ) (h : Heap) (i : ℕ) → KeepsPlaces h (outline_after p m t h i)
+after_keeps p m t h zero = record { stays = λ a b e. e; numbers = λ k i. (k, i, refl, refl) }
+after_keeps p m t h (suc i) = keeps_both h (outline_after p m t h i) (outline_after p m t h (suc i)) (after_keeps p m t h i) (by_keeps (steps p m t i) t (outline_after p m t h i) (asked p (steps p m t i) t))
+
+-- a run does
+pub run_keeps_places : (p : ProgramText) (old new : Private) (m : State) (above : Places) (n : ℕ) → Ran p old m above n new → KeepsPlaces old.heap new.heap
+run_keeps_places p old new m above n R =
+    let K : KeepsPlaces (outline_of old.heap) (outline_of new.heap) = subst (KeepsPlaces (outline_of old.heap)) (sym R.outline) (after_keeps p m old.task (outline_of old.heap) n) in
+    record {
+      stays = λ a b e. sym (mark_of new.heap.chunks a) ∙ K.stays a b (mark_of old.heap.chunks a ∙ e);
+      numbers = λ k i.
+          let j = K.numbers (outline_of_chunk k) (in_map outline_of_chunk new.heap.chunks k i) in
+          let c = map_in outline_of_chunk old.heap.chunks j.0 j.1 in
+          (c.0, c.1, ap (λ (z : Content). z.number) c.2 ∙ j.2, ap (λ (z : Content). z.size) c.2 ∙ j.3);
+    }

@@ -1,0 +1,150 @@
+-- What of a heap's chunks is known stays known when an object is placed.
+use Rattle.std.proofs.Common.{◌≡◌, ℕ, ◌+◌, ◌-◌, ◌*◌, ◌/◌, ◌<◌, ◌≤◌, ◌^◌, arith, Option, Some, None, List, [], ◌∷◌, ◌++◌, length, length-set, nat_le, option_map, inl, inr, refl, ap, sym, subst, ◌∙◌, le-leb}
+use Rattle.std.proofs.lemmas.Bool.{cases_eq, cases_lt, cond-true}
+use Rattle.std.proofs.lemmas.Option.{same_Some}
+use Rattle.std.proofs.lemmas.List.{get_or_default, get_or-set_other, get_or-set_same}
+use Rattle.std.proofs.lemmas.List.Elements.{All-from_get_or, All-get_or}
+use Rattle.object_layout.specs.declared.word.Birth.{Birth}
+use Rattle.object_layout.specs.Cell.{Born, Cell, moved_to, size_of}
+use Rattle.object_layout.specs.Chunks.{chunk_at, held_words, no_chunk, object_count, place_in, push_object, small_words}
+use Rattle.object_layout.specs.Content.{Content}
+use Rattle.object_layout.specs.Place.{words_in}
+use Rattle.object_layout.proofs.PlaceLemmas.{words_in-push}
+use Rattle.alloc_path.specs.Heap.{AreTidy, Heap, IsKept, IsTidy, counted, place_for, placed_at, units}
+use Rattle.alloc_path.proofs.HeapLemmas as heap
+use Rattle.alloc_path.proofs.HeapLemmas.{part-set}
+use Rattle.alloc_path.proofs.Settled.{settled_placed}
+use Rattle.core_relation.specs.Layout.{HoldsLarge}
+use Rattle.task_machine.specs.Fits.{IsShaped}
+use Rattle.task_machine.proofs.Placed.{shape_placed}
+use Rattle.shared_value.specs.Objects.{chunk_of, objects_from, seen, seen_by}
+use Rattle.shared_value.proofs.CellsRead.{objects_appended}
+
+-- a chunk: a large one holds nothing, or one object that has just its units
+pub record IsFormed (k : Content) : Type 0 where
+  pub tidy : IsTidy k
+  pub within : words_in k.cells ≤ k.size
+  pub whole : k.size ≡ 1024 * (k.size / 1024)
+  pub large : (k.size ≡ 1024 → ⊥) → HoldsLarge (chunk_of k)
+
+-- each chunk of the heap is one, and a large one without objects is the reserved one
+pub record Formed (h : Heap) : Type 0 where
+  pub shaped : IsShaped h
+  pub each : (i : ℕ) → i < length h.chunks → IsFormed (chunk_at h.chunks i)
+  pub spare : (i : ℕ) → i < length h.chunks → ((chunk_at h.chunks i).size ≡ 1024 → ⊥) → (chunk_of (chunk_at h.chunks i)).objects ≡ [] → h.reserved ≡ Some i
+
+pub formed_tidy : (h : Heap) → Formed h → AreTidy h.chunks
+formed_tidy h F = All-from_get_or IsTidy h.chunks no_chunk (λ i lt. (F.each i lt).tidy)
+
+not_empty : {A : Type 0} (xs : List A) (x : A) → xs ++ x ∷ [] ≡ [] → ⊥
+not_empty [] x e = absurd cc
+not_empty (y ∷ xs) x e = absurd cc
+
+-- ---- AN OBJECT IS PLACED
+
+module _ (h : Heap) (F : Formed h) (i : ℕ) (c : Cell) (b : Birth) (born : c.mark ≡ Born b) (fits : place_for h (size_of c) ≡ Some i) where
+  abbrev K : Content
+  K = chunk_at h.chunks i
+
+  abbrev fuller : Content
+  fuller = record K { cells = K.cells ++ c ∷ [] }
+
+  abbrev pushed : List Content
+  pushed = push_object h.chunks i c
+
+  abbrev table : ℕ → Option ℕ
+  table n = option_map (λ j. 2 ^ 63 - j) (place_in h.chunks n)
+
+  keeps : IsKept h.chunks h.current h.reserved (counted (held_words h.chunks)) (counted (object_count h.chunks)) (counted (small_words h.chunks)) (2 ^ 63) table (length h.chunks)
+  keeps = record {
+    current = F.shaped.current;
+    reserved = F.shaped.reserved;
+    within = All-from_get_or (λ (k : Content). words_in k.cells ≤ k.size) h.chunks no_chunk (λ j lt. (F.each j lt).within);
+    words = refl;
+    objects = refl;
+    small = refl;
+    least = omega arith;
+    moved = omega arith;
+    table = λ n. refl;
+    each = refl;
+  }
+
+  inside : i < length h.chunks
+  inside = heap.fits_in h _ _ _ _ _ _ keeps (size_of c) i fits (omega arith)
+
+  room : words_in K.cells + size_of c ≤ K.size
+  room = heap.fits_room h _ _ _ _ _ _ keeps (size_of c) i fits (omega arith)
+
+  there : chunk_at pushed i ≡ fuller
+  there = get_or-set_same h.chunks i fuller no_chunk inside
+
+  other : (j : ℕ) → (j ≡ i → ⊥) → chunk_at pushed j ≡ chunk_at h.chunks j
+  other j ne = get_or-set_other h.chunks i j fuller no_chunk ne
+
+  size_same : (j : ℕ) → (chunk_at pushed j).size ≡ (chunk_at h.chunks j).size
+  size_same j = part-set (λ (k : Content). k.size) h.chunks i j fuller no_chunk refl
+
+  as_long : length pushed ≡ length h.chunks
+  as_long = length-set h.chunks i fuller
+
+  tidy_then : IsTidy fuller
+  tidy_then =
+      let S = settled_placed h _ _ _ _ _ _ keeps i c fits (ap moved_to born) K (get_or_default h.chunks i no_chunk K inside) (record { tidy = formed_tidy h F; apart = F.shaped.apart }) in
+      subst IsTidy there (All-get_or IsTidy pushed i no_chunk (omega (arith, inside, as_long)) S.tidy)
+
+  -- it stands behind the others
+  objects_then : (chunk_of fuller).objects ≡ (chunk_of K).objects ++ seen K.number (words_in K.cells) b c ∷ []
+  objects_then =
+      objects_appended K.cells K.number 0 c
+      ∙ (ap (λ n. (chunk_of K).objects ++ seen_by K.number n c c.mark []) (let e : 0 + words_in K.cells ≡ words_in K.cells = omega arith in e)
+      ∙ ap (λ m. (chunk_of K).objects ++ seen_by K.number (words_in K.cells) c m []) born)
+
+  -- a large one is alone, and has just the units of its chunk
+  large_then : (K.size ≡ 1024 → ⊥) → HoldsLarge (chunk_of fuller)
+  large_then big = elim (cases_lt 1024 (size_of c)) [
+    | inl l ↦
+        let f = heap.fits_large h (size_of c) i fits l in
+        let none : K.cells ≡ [] = (heap.reserved_in h _ _ _ _ _ _ keeps i f.0).1.1 in
+        let size : K.size ≡ 1024 * units (size_of c) = f.1 in
+        inr (
+          seen K.number 0 b c,
+          ap (λ cs. objects_from K.number 0 (cs ++ c ∷ [])) none ∙ ap (λ m. seen_by K.number 0 c m []) born,
+          refl,
+          omega (arith, size),
+        )
+    | inr le ↦ absurd (big (heap.current_in h _ _ _ _ _ _ keeps i (heap.fits_small h (size_of c) i fits le).0).1)
+  ]
+
+  formed_there : IsFormed fuller
+  formed_there = record {
+    tidy = tidy_then;
+    within = let e : words_in (K.cells ++ c ∷ []) ≡ words_in K.cells + size_of c = words_in-push K.cells c in let r = room in omega (arith, e, r);
+    whole = (F.each i inside).whole;
+    large = large_then;
+  }
+
+  each_then : (j : ℕ) → j < length pushed → IsFormed (chunk_at pushed j)
+  each_then j lt = elim (cases_eq j i) [
+    | inl e ↦ subst (λ n. IsFormed (chunk_at pushed n)) (sym e) (subst IsFormed (sym there) formed_there)
+    | inr ne ↦ subst IsFormed (sym (other j ne)) (F.each j (omega (arith, lt, as_long)))
+  ]
+
+  -- the reserved chunk is another one, or isn't reserved any more
+  reserved_still : (j : ℕ) → (j ≡ i → ⊥) → h.reserved ≡ Some j → (placed_at h i c).reserved ≡ Some j
+  reserved_still j ne was = elim (cases_lt 1024 (size_of c)) [
+    | inl l ↦ absurd (ne (same_Some j i (sym was ∙ (heap.fits_large h (size_of c) i fits l).0)))
+    | inr le ↦ cond-true (nat_le (size_of c) 1024) h.reserved None (le-leb (size_of c) 1024 le) ∙ was
+  ]
+
+  spare_then : (j : ℕ) → j < length pushed → ((chunk_at pushed j).size ≡ 1024 → ⊥) → (chunk_of (chunk_at pushed j)).objects ≡ [] → (placed_at h i c).reserved ≡ Some j
+  spare_then j lt big empty = elim (cases_eq j i) [
+    | inl e ↦
+        let at : chunk_at pushed j ≡ fuller = ap (chunk_at pushed) e ∙ there in
+        absurd (not_empty (chunk_of K).objects (seen K.number (words_in K.cells) b c) (sym objects_then ∙ (ap (λ (k : Content). (chunk_of k).objects) (sym at) ∙ empty)))
+    | inr ne ↦
+        reserved_still j ne
+        (F.spare j (omega (arith, lt, as_long)) (λ z. big (size_same j ∙ z)) (ap (λ (k : Content). (chunk_of k).objects) (sym (other j ne)) ∙ empty))
+  ]
+
+  pub formed_placed : Formed (placed_at h i c)
+  formed_placed = record { shaped = shape_placed h F.shaped i c fits; each = each_then; spare = spare_then }

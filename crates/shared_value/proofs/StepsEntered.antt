@@ -1,0 +1,225 @@
+-- Private steps are entered.
+use Rattle.std.proofs.Common.{◌≡◌, ℕ, zero, suc, ◌+◌, ◌-◌, ◌<◌, ◌≤◌, true, false, min, Bool, Option, Some, None, map, slice_get, nat_le, is_none, is_some, inl, inr, refl, ap, sym, subst, ◌∙◌, arith, eq-eqb, le-leb}
+use Rattle.std.proofs.lemmas.Bool.{and_from, false≢true}
+use Rattle.listed.specs.Space.{Space}
+use Rattle.hh_lang.specs.Form.{ProgramText}
+use Rattle.hh_model.specs.declared.data.Status.TheVariants.{Running}
+use Rattle.hh_model.specs.Step.{is_running}
+use Rattle.run_trace.specs.declared.entry.Kind.TheVariants.{Ran}
+use Rattle.run_trace.specs.Entry.{Event}
+use Rattle.run_trace.specs.Settings.{Limits}
+use Rattle.run_ledger.specs.declared.data.Heap.{Heap}
+use Rattle.run_ledger.specs.declared.data.Ledger.{Ledger}
+use Rattle.run_ledger.specs.declared.data.Refused.{Refused}
+use Rattle.run_ledger.specs.declared.data.Refused.TheVariants.{NotOut, Collecting, Long}
+use Rattle.run_ledger.specs.Heaps.{heap_of, or_fresh}
+use Rattle.run_ledger.specs.Steps.{is_private, task_step, task_steps, most_steps, standing}
+use Rattle.run_ledger.specs.Entries.{after, is_out, is_held_by, kind_refusal, refused_if, refused_unless}
+use Rattle.run_ledger.proofs.Bounds.{ran_tells}
+use Rattle.run_ledger.proofs.Sound.{collecting}
+use Rattle.ledger_steps.specs.Accounts.{ArePrivate}
+use Rattle.ledger_steps.specs.Last.{Private as PrivateKind, Runs}
+use Rattle.ledger_steps.proofs.Rested.{rested_worker}
+use Rattle.ledger_steps.proofs.Split.{entry_runs}
+use Rattle.core_relation.specs.Layout.{reserved_chunks, reserved_units}
+use Rattle.core_relation.specs.Value.{Chunk, Home, Value}
+use Rattle.core_relation.specs.Fits.{FitsAt, ahead, part_for, with_home}
+use Rattle.core_relation.specs.Frames.{IsSteady}
+use Rattle.core_relation.specs.RanCounts.{RanCounts}
+use Rattle.core_relation.specs.Stands.{HasNames, HomeStands}
+use Rattle.core_relation.specs.Worker.{Fits as FitsValue}
+use Rattle.core_relation.proofs.parts.RanFits.{ran_fits_then}
+use Rattle.core_relation.proofs.whole.RanWhole.{ran_stands_for}
+use Rattle.core_relation.proofs.changes.With.{at_home}
+use Rattle.core_relation.proofs.parts.Workers.{ran_leaves}
+use Rattle.task_machine.specs.declared.part.Private.{Private}
+use Rattle.task_machine.specs.Accounts.{IsCounted}
+use Rattle.shared_value.specs.World.{World, accounts, totals_of, value_of}
+use Rattle.shared_value.specs.Stands.{IsWorld}
+use Rattle.shared_value.specs.Fits.{Fits, OthersFit, home_of_part, part_of}
+use Rattle.shared_value.specs.Entered.{refused}
+use Rattle.shared_value.specs.Causes.{first_cause, or_else}
+use Rattle.shared_value.proofs.HeapCounts.{counted_from}
+use Rattle.shared_value.proofs.EntryMade.{entered, entered_world, entry_on, held_apart, part_fits}
+use Rattle.shared_value.proofs.BeforeTheEnd as now
+use Rattle.shared_value.proofs.BeforeTheEnd.{end_now, steps_now}
+use Rattle.shared_value.proofs.CausesTold.{refused_is}
+use Rattle.shared_value.proofs.StepAccounts.{After, after_all, all_stand}
+
+-- a part that fits, before the run's end
+module _ (w : World) (k : ℕ) (p : Private) (I : IsWorld w) (F : Fits w k p) (on : (accounts w).end ≡ None) where
+  pub goes : (accounts w).machine.end ≡ None
+  goes = now.alive w k p F on
+
+  pub fits_now : FitsAt w.program w.settings (part_of w.settings p) (value_of w) (accounts w)
+  fits_now = now.fits_now w k p F on
+
+  pub status : F.fits.task.status ≡ Running
+  status = now.status w k p F on
+
+  abbrev vp : Value
+  vp = with_home (value_of w) p.task (home_of_part p)
+
+  abbrev M : Ledger
+  M = ahead w.program (part_of w.settings p) (accounts w)
+
+  here : vp.homes p.task ≡ home_of_part p
+  here = at_home (value_of w) p.task (home_of_part p)
+
+  pub home_is : HomeStands vp M p.task
+  home_is = fits_now.stands.homes p.task (rested_worker (task_steps w.program (accounts w) p.task p.fresh) p.task)
+
+  -- its heap is as its account then says
+  pub counted_now : IsCounted p.heap (heap_of M p.task)
+  counted_now =
+      counted_from p.heap (heap_of M p.task) F.form (subst (λ (z : Home). HasNames z.chunks (heap_of M p.task)) here home_is.names) (ap (λ (z : Home). z.room) (sym here) ∙ home_is.room) (ap (λ (z : Home). z.since) (sym here) ∙ home_is.since)
+      (subst (λ (z : Home). map (λ (c : Chunk). c.units) (reserved_chunks z.chunks) ≡ reserved_units (heap_of M p.task).reserved) here home_is.laid.reserved)
+
+-- WHY IT IS REFUSED
+
+pub collecting_of : (o : Option Heap) → is_some (or_fresh o).begun ≡ collecting o
+collecting_of None = refl
+collecting_of (Some h) = refl
+
+free_by : (out begun fits : Bool) (m : ℕ) → out ≡ true → begun ≡ false → fits ≡ true → refused_unless out NotOut (refused_if begun Collecting (refused_unless fits (Long m) None)) ≡ None
+free_by true false true m a b c = refl
+free_by false begun fits m a b c = absurd cc
+free_by true true fits m a b c = absurd cc
+free_by true false false m a b c = absurd cc
+
+end_by : (a b c : Bool) (x y z : Refused) → refused_if a x (refused_if b y (refused_unless c z None)) ≡ None → a ≡ false
+end_by true b c x y z h = absurd cc
+end_by false b c x y z h = refl
+
+else_same : (o : Option Refused) (rest : Option Refused) → (o ≡ None → rest ≡ None) → or_else o rest ≡ o
+else_same None rest h = h refl
+else_same (Some c) rest h = refl
+
+module _ (w : World) (k : ℕ) (p : Private) (I : IsWorld w) (F : Fits w k p) (pos : 0 < p.fresh) where
+  free_kind : (accounts w).end ≡ None → kind_refusal w.program w.settings (accounts w) k (Ran p.task p.fresh) ≡ None
+  free_kind on =
+      let l : Ledger = accounts w in
+      let V = fits_now w k p I F on in
+      let stand : standing w.settings w.program l p.task p.fresh ≡ p.fresh = all_stand w.program w.settings p.task p.fresh l V.private in
+      let few : p.fresh ≤ 257 = V.few in
+      let fits : nat_le p.fresh (min most_steps (standing w.settings w.program l p.task p.fresh)) ≡ true = le-leb p.fresh (min most_steps (standing w.settings w.program l p.task p.fresh)) (omega (arith, stand, few)) in
+      free_by (is_out l k p.task) (is_some (heap_of l p.task).begun) (nat_le p.fresh (min most_steps (standing w.settings w.program l p.task p.fresh))) (min most_steps (standing w.settings w.program l p.task p.fresh))
+      (and_from (is_running (slice_get l.machine.tasks p.task)) (is_held_by (heap_of l p.task).worker k) (ap is_running F.fits.is ∙ F.fits.runs) (ap (λ o. is_held_by o k) F.held ∙ eq-eqb k k refl))
+      (collecting_of (slice_get l.heaps p.task) ∙ steady_by F.fits.steady)
+      fits
+    where
+      -- a part with fresh steps is amid no leaf collection
+      steady_by : IsSteady (part_of w.settings p) (accounts w) → collecting (slice_get (accounts w).heaps p.task) ≡ false
+      steady_by (inl none) = absurd (omega (arith, none, pos))
+      steady_by (inr steady) = steady
+
+  -- it is refused for the causes that come before what it says
+  pub ran_answer : refused w (record { worker = k; kind = Ran p.task p.fresh }) ≡ first_cause w.end w.steps w.settings k false
+  ran_answer =
+      refused_is w I (record { worker = k; kind = Ran p.task p.fresh })
+      ∙ else_same (first_cause w.end w.steps w.settings k false) (kind_refusal w.program w.settings (accounts w) k (Ran p.task p.fresh))
+      (λ h. free_kind (sym (end_now w I) ∙ nothing_some w.end (end_by (is_some w.end) _ _ _ _ _ h)))
+    where
+      nothing_some : {A : Type 0} (o : Option A) → is_some o ≡ false → o ≡ None
+      nothing_some None h = refl
+      nothing_some (Some x) h = absurd (false≢true (sym h))
+
+-- WHAT IT CHANGES
+
+private_at : (p : ProgramText) (s : Limits) (t n : ℕ) (l : Ledger) → ArePrivate p s l t (suc n) → is_private p (task_steps p l t n).machine t ≡ true
+private_at p s t zero l h = h.2
+private_at p s t (suc n) l h = private_at p s t n (task_step p l t) h.3
+
+abbrev ran_event : ℕ → Private → ℕ → Event
+ran_event k p m = record { worker = k; kind = Ran p.task m }
+
+abbrev ran_with : World → ℕ → Private → ℕ → ℕ → World
+ran_with w k p m room = entered w (ran_event k p m) w.tree w.pool w.homes w.sets w.hands w.outputs (w.steps + m) w.end room
+
+module _ (w : World) (k : ℕ) (p : Private) (I : IsWorld w) (F : Fits w k p) (n : ℕ) (is : p.fresh ≡ suc n) (free : refused w (ran_event k p (suc n)) ≡ None) (room : ℕ) where
+  abbrev e : Event
+  e = ran_event k p (suc n)
+
+  abbrev l : Ledger
+  l = accounts w
+
+  abbrev t : ℕ
+  t = p.task
+
+  abbrev h : Home
+  h = home_of_part p
+
+  abbrev L : Ledger
+  L = after w.program w.settings l e
+
+  abbrev v : Value
+  v = value_of w
+
+  abbrev w' : World
+  w' = ran_with w k p (suc n) room
+
+  on : l.end ≡ None
+  on = entry_on w e free
+
+  private : ArePrivate w.program w.settings l t (suc n)
+  private = subst (ArePrivate w.program w.settings l t) is (fits_now w k p I F on).private
+
+  A : After l L t F.fits.task
+  A = after_all w.program w.settings t (suc n) l F.fits.task (goes w k p I F on) F.fits.is (status w k p I F on) private
+
+  R : Runs w.program w.settings l L t k n
+  R = entry_runs w.program w.settings w.journal.items k t n I.form I.legal free
+
+  -- how the entry splits
+  abbrev E : Runs w.program w.settings l L t k n
+  E = record R { splits = record R.splits { kind = PrivateKind; last = private_at w.program w.settings t n l private; apart = tt; on = λ u. A.goes ∙ goes w k p I F on } }
+
+  own : FitsValue w.program w.settings (part_for w.settings t h (suc n)) v l
+  own = subst (λ m. FitsValue w.program w.settings (part_for w.settings t h m) v l) is F.fits
+
+  counts : RanCounts w.program (totals_of w) (totals_of w') (task_steps w.program l t n) L t k n E.splits.task E.splits.line E.splits.kind E.splits.last
+  counts = record { tree = λ u. refl; hand = λ u. refl; outputs = refl; end = refl; used = refl; steps = refl }
+
+  ran_world_by : IsWorld w'
+  ran_world_by =
+      entered_world w e I free w.tree w.pool w.homes w.sets w.hands w.outputs (w.steps + suc n) w.end room I.made I.noted refl refl
+      (ran_stands_for w.program w.settings w.journal.items I.form I.legal v v (totals_of w) (totals_of w') k t n h free E I.stands own refl tt counts)
+      I.heaps I.measured
+
+  -- THE PART, without fresh steps
+  ran_part_by : Fits w' k (record p { fresh = 0 })
+  ran_part_by =
+      part_fits w e I free w.tree w.pool w.homes w.sets w.hands w.outputs (w.steps + suc n) w.end room ran_world_by k p (record p { fresh = 0 }) refl F refl refl refl F.form F.measured
+      (ran_fits_then w.program w.settings v v l L t k n h h E own refl refl)
+
+  -- THE PARTS OF OTHERS
+  ran_others_by : OthersFit w w' k
+  ran_others_by u q ne H =
+      part_fits w e I free w.tree w.pool w.homes w.sets w.hands w.outputs (w.steps + suc n) w.end room ran_world_by u q q refl H refl refl refl H.form H.measured
+      (ran_leaves w.program w.settings v v l L t k n h E own refl (part_of w.settings q) (held_apart w k u p q F H ne) H.fits)
+
+module _ (w : World) (k : ℕ) (p : Private) (I : IsWorld w) (F : Fits w k p) (pos : 0 < p.fresh) (free : refused w (record { worker = k; kind = Ran p.task p.fresh }) ≡ None) (j : Space Event) where
+  abbrev n : ℕ
+  n = p.fresh - 1
+
+  is : p.fresh ≡ suc n
+  is = omega (arith, pos)
+
+  free_so : refused w (ran_event k p (suc n)) ≡ None
+  free_so = subst (λ m. refused w (ran_event k p m) ≡ None) is free
+
+  pub ran_world : IsWorld (ran_with w k p p.fresh j.room)
+  ran_world = subst (λ m. IsWorld (ran_with w k p m j.room)) (sym is) (ran_world_by w k p I F n is free_so j.room)
+
+  pub ran_part : Fits (ran_with w k p p.fresh j.room) k (record p { fresh = 0 })
+  ran_part = subst (λ m. Fits (ran_with w k p m j.room) k (record p { fresh = 0 })) (sym is) (ran_part_by w k p I F n is free_so j.room)
+
+  pub ran_others : OthersFit w (ran_with w k p p.fresh j.room) k
+  ran_others = subst (λ m. OthersFit w (ran_with w k p m j.room) k) (sym is) (ran_others_by w k p I F n is free_so j.room)
+
+-- the counts are small
+pub steps_small : (w : World) (k : ℕ) (p : Private) → IsWorld w → Fits w k p → refused w (record { worker = k; kind = Ran p.task p.fresh }) ≡ None → (w.steps < w.settings.fuel) × (w.settings.fuel ≤ 1000000000) × (p.fresh ≤ 257)
+steps_small w k p I F free =
+    let a = ran_tells w.program w.settings (accounts w) k p.task p.fresh (ap is_none free) in
+    let b : w.steps ≡ (accounts w).steps = steps_now w I in
+    (omega (arith, a.2, b), I.limits.fuel.1, F.fits.part.fits.few)

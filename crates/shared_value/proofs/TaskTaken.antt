@@ -1,0 +1,243 @@
+-- A worker takes a task.
+use Rattle.std.proofs.Common.{◌≡◌, ℕ, zero, suc, ◌<◌, Bool, true, false, not, ◌&&◌, nat_le, nat_lt, Option, Some, None, List, [], ◌∷◌, length, length-set, slice_get, slice_set, option_map, is_none, is_some, inl, inr, refl, ap, sym, subst, ◌∙◌, arith}
+use Rattle.std.proofs.lemmas.Bool.{cases_eq, and_parts, false≢true, ltb-true}
+use Rattle.listed.specs.Space.{Space}
+use Rattle.listed.proofs.Members.{got_same, got_other, got_within}
+use Rattle.hh_model.specs.declared.data.Name.{Name}
+use Rattle.hh_model.specs.declared.data.Task.{Task}
+use Rattle.hh_model.specs.declared.data.Status.TheVariants.{Running}
+use Rattle.hh_model.specs.Step.{is_running}
+use Rattle.hh_model.proofs.Steps.{runs_is}
+use Rattle.run_trace.specs.declared.entry.Kind.TheVariants.{Took}
+use Rattle.run_trace.specs.Entry.{Event}
+use Rattle.run_trace.specs.Settings.{field_limit}
+use Rattle.run_ledger.specs.declared.data.Ledger.{Ledger}
+use Rattle.run_ledger.specs.Heaps.{heap_of}
+use Rattle.run_ledger.specs.declared.data.Refused.{Refused}
+use Rattle.run_ledger.specs.declared.data.Refused.TheVariants.{NoWorker, Over, Spent}
+use Rattle.run_ledger.specs.Entries.{after, held_from, is_fuel, is_ready, kind_refusal, refused_holding, refused_if, refused_unless}
+use Rattle.run_ledger.proofs.Journals.{entry_tells, none_unless}
+use Rattle.object_layout.specs.declared.word.Addr.{Addr}
+use Rattle.task_frames.specs.Stack.{Stack}
+use Rattle.heap_tree.specs.declared.state.State.{State}
+use Rattle.heap_tree.specs.declared.state.State.TheVariants.{Out}
+use Rattle.heap_tree.specs.Node.{Node, set_at, with_state}
+use Rattle.ledger_steps.specs.Accounts.{Rests}
+use Rattle.core_relation.specs.Value.{Home, Value}
+use Rattle.core_relation.specs.Changes.{SameBut}
+use Rattle.core_relation.specs.Counts.{TakesNode}
+use Rattle.core_relation.specs.Reads.{TaskIsRead, HoldsRead}
+use Rattle.core_relation.specs.Stands.{Place}
+use Rattle.core_relation.specs.Fits.{part_for}
+use Rattle.core_relation.specs.Worker.{Fits as FitsValue}
+use Rattle.core_relation.specs.Whole.{StandsFor, state_by, Node as SeenNode}
+use Rattle.core_relation.proofs.whole.EntriesWhole.{took_stands_for}
+use Rattle.core_relation.proofs.parts.TookFits.{took_fits_then}
+use Rattle.core_relation.proofs.parts.WorkersPast.{took_leaves}
+use Rattle.task_machine.specs.declared.part.Private.{Private}
+use Rattle.shared_value.specs.declared.rest.Rest.{Rest}
+use Rattle.shared_value.specs.declared.rest.Work.{Work}
+use Rattle.shared_value.specs.declared.rest.Work.TheVariants.{Calls, Result}
+use Rattle.shared_value.specs.World.{World, accounts, flat, home_in, home_by, home_of, node_of, rest_at, state_of, totals_of, value_of}
+use Rattle.shared_value.specs.Measured.{RestsAreMeasured}
+use Rattle.shared_value.specs.Stands.{HeapForm, IsWorld}
+use Rattle.shared_value.specs.Fits.{Fits, IsAtWork, OthersFit, home_of_part, part_of, taken_part}
+use Rattle.shared_value.specs.Entered.{refused}
+use Rattle.shared_value.proofs.EntryMade.{accounts_are, entered, entered_world, entry_on, held_by_hand, part_fits, unheld_at_rest, unheld_before}
+use Rattle.shared_value.proofs.BeforeTheEnd.{hand_now, stands_now}
+
+-- a task as its account says
+abbrev pub told : Option ℕ → Task → SeenNode
+told w x = record { parent = x.parent; state = state_by x.status w }
+
+none_of : {A : Type 0} (o : Option A) → is_none o ≡ true → o ≡ None
+none_of None h = refl
+none_of (Some x) h = absurd (false≢true h)
+
+-- there is a task where one runs
+task_of : (o : Option Task) → is_running o ≡ true → (x : Task) × (o ≡ Some x) × (x.status ≡ Running)
+task_of None h = absurd (false≢true h)
+task_of (Some x) h = (x, refl, runs_is x.status h)
+
+-- a running task at rest has frames in the value
+abbrev pub HasCalls : Option Rest → Type 0
+HasCalls None = ⊥
+HasCalls (Some r) = (s : Stack) × (r.work ≡ Calls s)
+
+has_calls : (at : Name → Addr → Type 0) (o : Option Rest) (x : Task) → x.status ≡ Running → TaskIsRead at (home_in o) x → HasCalls o
+has_calls at None x e h = absurd (subst (HoldsRead at (home_in None) x) e h)
+has_calls at (Some r) x e h = by r.work refl (subst (HoldsRead at (home_of r) x) e h)
+  where
+    by : (k : Work) → r.work ≡ k → HoldsRead at (home_by r.heap r.view r.allocations k) x Running → HasCalls (Some r)
+    by (Calls s) q g = (s, q)
+    by (Result n a) q g = absurd g
+
+worker_free : (a b c : Bool) (x y z : Refused) (rest : Option Refused) → refused_if a x (refused_if b y (refused_unless c z rest)) ≡ None → c ≡ true
+worker_free true b c x y z rest h = absurd cc
+worker_free false true c x y z rest h = absurd cc
+worker_free false false true x y z rest h = refl
+worker_free false false false x y z rest h = absurd cc
+
+-- a worker that may enter is one of the run's
+pub worker_there : (w : World) (e : Event) → IsWorld w → refused w e ≡ None → e.worker < length w.hands
+worker_there w e I free =
+    let lt : e.worker < w.settings.workers =
+    ltb-true e.worker w.settings.workers (worker_free (is_some (accounts w).end) (nat_le w.settings.fuel (accounts w).steps && not (is_fuel e.kind)) (nat_lt e.worker w.settings.workers) Over (Spent (accounts w).steps) NoWorker (kind_refusal w.program w.settings (accounts w) e.worker e.kind) free) in
+    omega (arith, lt, I.workers)
+
+pub item_there : {A : Type 0} (xs : List A) (i : ℕ) → i < length xs → (x : A) × (slice_get xs i ≡ Some x)
+item_there [] i lt = absurd (omega (arith, lt))
+item_there (x ∷ xs) zero lt = (x, refl)
+item_there (x ∷ xs) (suc i) lt = item_there xs i (omega (arith, lt))
+
+-- what is put stands there
+pub put_there : {A : Type 0} (xs : List A) (i : ℕ) (y : A) → i < length xs → slice_get (slice_set xs i y) i ≡ Some y
+put_there xs i y lt = let x = item_there xs i lt in got_same xs i x.0 y x.1
+
+pub made_by : (xs : List Node) (t : ℕ) (s : State) (o : Option Node) → length (set_at xs t s o) ≡ length xs
+made_by xs t s None = refl
+made_by xs t s (Some m) = length-set xs t (record m { state = s })
+
+-- the node of a task that is in another state
+pub node_by : (xs : List Node) (t : ℕ) (s : State) (n : Option Node) → slice_get xs t ≡ n → option_map node_of (slice_get (set_at xs t s n) t) ≡ option_map (λ (x : SeenNode). record x { state = state_of s }) (option_map node_of n)
+node_by xs t s None is = ap (option_map node_of) is
+node_by xs t s (Some m) is = ap (option_map node_of) (got_same xs t m (record m { state = s }) is)
+
+pub node_off : (xs : List Node) (t : ℕ) (s : State) (n : Option Node) (u : ℕ) → (u ≡ t → ⊥) → option_map node_of (slice_get (set_at xs t s n) u) ≡ option_map node_of (slice_get xs u)
+node_off xs t s None u ne = refl
+node_off xs t s (Some m) u ne = ap (option_map node_of) (got_other xs t u (record m { state = s }) ne)
+
+none_holds : (o : Option ℕ) {u : ℕ} → o ≡ Some u → is_none (refused_holding o None) ≡ true → ⊥
+none_holds None e h = absurd cc
+none_holds (Some x) e h = false≢true h
+
+module _ (w : World) (k t : ℕ) (I : IsWorld w) (free : refused w (record { worker = k; kind = Took t }) ≡ None) where
+  abbrev e : Event
+  e = record { worker = k; kind = Took t }
+
+  abbrev l : Ledger
+  l = accounts w
+
+  abbrev v : Value
+  v = value_of w
+
+  on : l.end ≡ None
+  on = entry_on w e free
+
+  S : StandsFor v (totals_of w) l
+  S = stands_now w I on
+
+  ready : is_ready l t ≡ true
+  ready = (none_unless (is_ready l t) _ _ (entry_tells w.program w.settings l e (ap is_none free)).2).0
+
+  running : is_running (slice_get l.machine.tasks t) ≡ true
+  running = (and_parts (is_running (slice_get l.machine.tasks t)) (is_none (heap_of l t).worker) ready).0
+
+  rests : Rests l t
+  rests = none_of (heap_of l t).worker (and_parts (is_running (slice_get l.machine.tasks t)) (is_none (heap_of l t).worker) ready).1
+
+  -- the worker holds nothing
+  hand_free : is_none (refused_holding (held_from k 0 l.heaps) None) ≡ true
+  hand_free = (none_unless (is_ready l t) _ _ (entry_tells w.program w.settings l e (ap is_none free)).2).1
+
+  there : (x : Task) × (slice_get l.machine.tasks t ≡ Some x) × (x.status ≡ Running)
+  there = task_of (slice_get l.machine.tasks t) running
+
+  pub calls : HasCalls (rest_at w.homes t)
+  calls = has_calls (Place v l) (rest_at w.homes t) there.0 there.2 (S.homes.tasks t there.0 rests there.1)
+
+  pub has_home : t < length w.homes
+  has_home = there_by (slice_get w.homes t) refl calls
+    where
+      there_by : (o : Option (Option Rest)) → slice_get w.homes t ≡ o → HasCalls (flat o) → t < length w.homes
+      there_by None q c = absurd c
+      there_by (Some x) q c = got_within w.homes t x q
+
+  pub has_node : t < length w.tree
+  has_node = subst (λ n. t < n) I.made has_home
+
+  pub calls_of : (r : Rest) → rest_at w.homes t ≡ Some r → (s : Stack) × (r.work ≡ Calls s)
+  calls_of r q = subst HasCalls q calls
+
+  pub at_work : (r : Rest) → rest_at w.homes t ≡ Some r → IsAtWork r.work
+  at_work r q = subst IsAtWork (sym (calls_of r q).1) tt
+
+  module _ (j : Space Event) where
+    abbrev room : ℕ
+    room = j.room
+
+    abbrev w' : World
+    w' = entered w e (with_state w.tree t Out) w.pool (slice_set w.homes t None) w.sets (slice_set w.hands k (Some t)) w.outputs w.steps w.end room
+
+    abbrev v' : Value
+    v' = value_of w'
+
+    homes_off : (u : ℕ) → (u ≡ t → ⊥) → rest_at w'.homes u ≡ rest_at w.homes u
+    homes_off u ne = ap flat (got_other w.homes t u None ne)
+
+    but : SameBut v v' t
+    but = record { homes = λ u ne. ap home_in (homes_off u ne); owner = λ c. refl; sources = λ u. refl }
+
+    counts : TakesNode (totals_of w) (totals_of w') k t
+    counts = record {
+      hand = ap flat (put_there w.hands k (Some t) (worker_there w e I free));
+      hands = λ c ne. ap flat (got_other w.hands k c (Some t) ne);
+      node = node_by w.tree t Out (slice_get w.tree t) refl;
+      others = λ u ne. node_off w.tree t Out (slice_get w.tree t) u ne;
+      used = refl;
+      steps = refl;
+      outputs = refl;
+      end = refl;
+    }
+
+    abbrev L : Ledger
+    L = after w.program w.settings l e
+
+    heaps_then : (u : ℕ) (r : Rest) → rest_at w'.homes u ≡ Some r → HeapForm r.heap
+    heaps_then u r is = elim (cases_eq u t) [
+      | inl q ↦ gone (sym (ap (rest_at w'.homes) q ∙ ap flat (put_there w.homes t None has_home)) ∙ is)
+      | inr ne ↦ I.heaps u r (sym (homes_off u ne) ∙ is)
+    ]
+      where
+        gone : {A : Type 0} → ◌≡◌ {A = Option Rest} None (Some r) → A
+        gone x = absurd cc
+
+    measured_then : RestsAreMeasured w.pool w'.homes w'.hands
+    measured_then u r is f = elim (cases_eq u t) [
+      | inl q ↦ gone (sym (ap (rest_at w'.homes) q ∙ ap flat (put_there w.homes t None has_home)) ∙ is)
+      | inr ne ↦ I.measured u r (sym (homes_off u ne) ∙ is) (unheld_before w.hands k (Some t) u f (λ h. none_holds (held_from k 0 l.heaps) (sym (hand_now w I on k) ∙ h) hand_free))
+    ]
+      where
+        gone : {A : Type 0} → ◌≡◌ {A = Option Rest} None (Some r) → A
+        gone x = absurd cc
+
+    pub took_world : IsWorld w'
+    took_world =
+        entered_world w e I free w'.tree w.pool w'.homes w.sets w'.hands w.outputs w.steps w.end room (length-set w.homes t None ∙ (I.made ∙ sym (made_by w.tree t Out (slice_get w.tree t)))) (I.noted ∙ sym (made_by w.tree t Out (slice_get w.tree t))) (length-set w.hands k (Some t)) refl
+        (took_stands_for w.program w.settings w.journal.items I.form I.legal v v' (totals_of w) (totals_of w') k t free I.stands but (λ u. record { keeps = refl; kept = refl; marked = refl }) counts)
+        heaps_then measured_then
+
+    -- THE PART THAT IS TAKEN
+    module _ (r : Rest) (s : Stack) (rest_is : rest_at w.homes t ≡ Some r) (calls_is : r.work ≡ Calls s) where
+      abbrev p : Private
+      p = taken_part t w.settings.leaf (field_limit w.settings.version) r s
+
+      home_is : v.homes t ≡ home_of_part p
+      home_is = ap home_in rest_is ∙ ap (home_by r.heap r.view r.allocations) calls_is
+
+      pub took_part : Fits w' k p
+      took_part = record {
+        held = held_by_hand w e I free w'.tree w.pool w'.homes w.sets w'.hands w.outputs w.steps w.end room took_world k t counts.hand;
+        fits = subst (FitsValue w.program w.settings (part_of w.settings p) v') (sym (accounts_are w e I free w'.tree w.pool w'.homes w.sets w'.hands w.outputs w.steps w.end room))
+            (subst (λ (g : Home). FitsValue w.program w.settings (part_for w.settings t g 0) v' L) home_is (took_fits_then w.program w.settings w.journal.items I.legal v v' (totals_of w) k t free I.stands but));
+        form = I.heaps t r rest_is;
+        measured = (I.measured t r rest_is (unheld_at_rest w t I on rests), λ n i. absurd i);
+        leaf_limit = refl;
+        field_limit = refl;
+      }
+
+    -- THE PARTS OF OTHERS
+    pub took_others : OthersFit w w' k
+    took_others u q ne F =
+        part_fits w e I free w'.tree w.pool w'.homes w.sets w'.hands w.outputs w.steps w.end room took_world u q q (counts.hands u ne) F refl refl refl F.form F.measured
+        (took_leaves w.program w.settings w.journal.items I.legal v v' k t free but (part_of w.settings q) F.fits)
