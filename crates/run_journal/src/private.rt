@@ -88,8 +88,6 @@ pub(crate) fn is_own(program: &Program, machine: &State, t: u32) -> bool
     };
     match program.line(task.top.function, task.top.next) {
         None => false,
-        Some(line) => {
-            !is_open(task, line.instr) && works_alone(machine, t, &task.top, &line)
-        }
+        Some(line) => { !is_open(task, line.instr) && works_alone(machine, t, &task.top, &line) }
     }
 }
