@@ -27,7 +27,7 @@ use Rattle.every_schedule.proofs.Moves.{Two, both_to}
 use Rattle.every_schedule.proofs.Siblings.{commute_two}
 use Rattle.every_schedule.proofs.Swapping.{Agree, set_set}
 
-even_same : (m m' : State) → m' ≡ m → Even m m'
+pub even_same : (m m' : State) → m' ≡ m → Even m m'
 even_same m m' e = record {
   limit = ap (λ (w : State). w.field_limit) e;
   tasks = ap (λ (w : State). w.tasks) e;

@@ -13,3 +13,10 @@ pub mod Beside
 pub mod Fields
 pub mod Leaving
 pub mod Commute
+pub mod Carrying
+pub mod Composed
+pub mod Splits
+pub mod Fronts
+pub mod Said
+pub mod Schedules
+pub mod GoesOn

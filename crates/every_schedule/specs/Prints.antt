@@ -1,12 +1,15 @@
--- What the next step of a task prints, with its strand.
-use Rattle.std.specs.Prelude.{ℕ, ℤ, Option, Some, None, if◌then◌else◌, slice_get}
+-- What steps print, each with the strand that does.
+use Rattle.std.specs.Prelude.{◌≡◌, ℕ, ℤ, ◌+◌, ◌<◌, Option, Some, None, List, [], ◌∷◌, if◌then◌else◌, slice_get}
 use Rattle.hh_lang.specs.declared.program.Line.{Line}
 use Rattle.hh_lang.specs.Form.{ProgramText}
 use Rattle.hh_model.specs.declared.data.Strand.{Strand}
+use Rattle.hh_model.specs.declared.data.Edge.{Edge}
 use Rattle.hh_model.specs.declared.data.Task.{Task}
 use Rattle.hh_model.specs.declared.data.State.{State}
 use Rattle.hh_model.specs.Effect.{Effect, Goes, Prints, Calls, Forks, Returns, Traps, Stops, effect}
-use Rattle.hh_model.specs.Step.{can_step, fetched, setting, strand_of}
+use Rattle.hh_model.specs.Precedence.{Precedes, same_strand}
+use Rattle.hh_model.specs.Step.{can_step, fetched, setting, start, step, strand_of}
+use Rattle.race_report.specs.Accesses.{with_some}
 
 pub record Print : Type 0 where
   pub strand : Strand
@@ -32,3 +35,28 @@ task_print p m t (Some x) = line_print m t x (fetched p x.top)
 -- what the next step of a task prints, where it can take one and prints
 abbrev pub print_of : ProgramText → State → ℕ → Option Print
 print_of p m t = if can_step m t then task_print p m t (slice_get m.tasks t) else None
+
+abbrev pub prints_from : ProgramText → State → List ℕ → List Print
+prints_from p m [] = []
+prints_from p m (t ∷ ts) = with_some (print_of p m t) (prints_from p (step p m t) ts)
+
+-- what steps of these tasks print, in this order
+abbrev pub prints : ProgramText → ℕ → List ℕ → List Print
+prints p limit ts = prints_from p (start p limit) ts
+
+-- the numbers that one strand printed, in their order
+abbrev pub printed_by : Strand → List Print → List ℤ
+printed_by s [] = []
+printed_by s (x ∷ xs) = if same_strand x.strand s then x.number ∷ printed_by s xs else printed_by s xs
+
+-- of two prints the strand of the earlier one precedes that of the later one
+abbrev pub PrintsAreOrdered : List Edge → List Print → Type 0
+PrintsAreOrdered edges all = (i j : ℕ) (u v : Print) → i < j → slice_get all i ≡ Some u → slice_get all j ≡ Some v → Precedes edges u.strand v.strand
+
+-- how many of these steps are taken
+abbrev pub turns_from : ProgramText → State → List ℕ → ℕ
+turns_from p m [] = 0
+turns_from p m (t ∷ ts) = if can_step m t then turns_from p (step p m t) ts + 1 else turns_from p (step p m t) ts
+
+abbrev pub turns : ProgramText → ℕ → List ℕ → ℕ
+turns p limit ts = turns_from p (start p limit) ts

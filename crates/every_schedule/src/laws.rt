@@ -1,6 +1,7 @@
 // Laws of schedules, each the contract of a function that does nothing.
 
 ghost use Rattle.every_schedule.specs.Steps.{RunningTasksAreApart, FieldsStay, StepsLeaveSteps, ClashesStay, StepsCommute};
+ghost use Rattle.every_schedule.specs.Laws.{OneRunSpeaksForAll, EveryEndAgrees, EveryRunGoesOn};
 
 /// Of two tasks that run at one time neither's strand precedes the other's, by the edges made by then or at any time after.
 pub fn running_tasks_are_apart()
@@ -25,4 +26,20 @@ pub fn clashes_stay()
 /// Steps of two tasks that run at one time, whose accesses don't clash, come to the same in either order, but for the numbers of tasks.
 pub fn steps_commute()
     ensures { StepsCommute }
+{}
+
+/// ONE RUN SPEAKS FOR ALL: where one run ended by the return of main and its accesses are in order, every list of steps is the
+/// beginning of one that comes to the same.
+pub fn one_run_speaks_for_all()
+    ensures { OneRunSpeaksForAll }
+{}
+
+/// So a run that ends, ends alike: it isn't stopped and doesn't trap.
+pub fn every_end_agrees()
+    ensures { EveryEndAgrees }
+{}
+
+/// And one that hasn't ended can go on, has taken fewer steps, and is in order as far as it came.
+pub fn every_run_goes_on()
+    ensures { EveryRunGoesOn }
 {}

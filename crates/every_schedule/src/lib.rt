@@ -1,8 +1,9 @@
-// What one schedule of a program says of the others: steps of tasks that run at one time, and their order.
+// What one schedule of a program says of the others: one whole run in order speaks for all.
 #![tactic(auto)]
 
 mod laws;
 
 pub use laws::{
-    clashes_stay, fields_stay, running_tasks_are_apart, steps_commute, steps_leave_steps,
+    clashes_stay, every_end_agrees, every_run_goes_on, fields_stay, one_run_speaks_for_all,
+    running_tasks_are_apart, steps_commute, steps_leave_steps,
 };

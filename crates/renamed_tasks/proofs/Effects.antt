@@ -31,7 +31,7 @@ module _ (f g : ℕ → ℕ) (back : (t : ℕ) → g (f t) ≡ t) where
   none_map zero = refl
   none_map (suc k) = ap (λ ys. None ∷ ys) (none_map k)
 
-  flat_to : (o : Option (Option Name)) → flat (or_none (ref_to f) o) ≡ ref_to f (flat o)
+  pub flat_to : (o : Option (Option Name)) → flat (or_none (ref_to f) o) ≡ ref_to f (flat o)
   flat_to None = refl
   flat_to (Some r) = refl
 
@@ -47,7 +47,7 @@ module _ (f g : ℕ → ℕ) (back : (t : ℕ) → g (f t) ≡ t) where
     | inr ne ↦ ne_eqb (f a) (f b) (λ e. ne (sym (back a) ∙ (ap g e ∙ back b))) ∙ sym (ne_eqb a b ne)
   ]
 
-  same_carried : (a b : Option Name) → same_name (ref_to f a) (ref_to f b) ≡ same_name a b
+  pub same_carried : (a b : Option Name) → same_name (ref_to f a) (ref_to f b) ≡ same_name a b
   same_carried None None = refl
   same_carried None (Some n) = refl
   same_carried (Some n) None = refl
