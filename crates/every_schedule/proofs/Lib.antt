@@ -20,3 +20,4 @@ pub mod Fronts
 pub mod Said
 pub mod Schedules
 pub mod GoesOn
+pub mod RaceFree

@@ -1,11 +1,16 @@
 -- One whole run without races speaks for all schedules.
-use Rattle.std.specs.Prelude.{◌≡◌, ◌<◌, ◌++◌, ℕ, true, Some, None, List}
+use Rattle.std.specs.Prelude.{◌≡◌, ◌<◌, ◌++◌, ℕ, true, Some, None, List, []}
 use Rattle.hh_lang.specs.Form.{ProgramText}
+use Rattle.run_trace.specs.Entry.{Event}
+use Rattle.run_trace.specs.Settings.{Limits, field_limit}
 use Rattle.hh_model.specs.declared.data.End.{End}
 use Rattle.hh_model.specs.declared.data.End.TheVariants.{Done}
 use Rattle.hh_model.specs.Step.{can_step, run}
+use Rattle.run_ledger.specs.Journals.{machine_of, tasks_of}
 use Rattle.every_schedule.specs.Prints.{turns}
-use Rattle.every_schedule.specs.Ordered.{IsOrdered}
+use Rattle.race_report.specs.Accesses.{accesses}
+use Rattle.race_report.specs.Report.{IsReport}
+use Rattle.every_schedule.specs.Ordered.{IsOrdered, SwapsContend}
 use Rattle.every_schedule.specs.Agrees.{Agrees}
 
 -- a whole run in order: it ended by the return of main
@@ -33,3 +38,14 @@ pub record GoesOn (p : ProgramText) (limit : ℕ) (ts us : List ℕ) : Type 0 wh
 abbrev pub EveryRunGoesOn : Type 0
 EveryRunGoesOn =
     (p : ProgramText) (limit : ℕ) (ts us : List ℕ) → SpeaksUp p limit ts → (run p limit us).end ≡ None → GoesOn p limit ts us
+
+-- over journals: where the machine of one is done, `races` tells none of it, and no compare and swaps contend in it, the machine of each
+-- journal of the program with as many fields allowed agrees as soon as it has an end
+abbrev pub JournalsAgree : Type 0
+JournalsAgree =
+    (p : ProgramText) (s s' : Limits) (journal journal' : List Event) (e : End)
+    → let limit = field_limit s.version in
+    let ts = tasks_of journal in
+    let m = machine_of p s journal in
+    field_limit s'.version ≡ limit → m.end ≡ Some Done → IsReport m.edges (accesses p limit ts) [] → (SwapsContend m.edges (accesses p limit ts) → ⊥) → (machine_of p s' journal').end ≡ Some e
+    → (e ≡ Done) × Agrees p limit ts (tasks_of journal')

@@ -1,7 +1,8 @@
 // Laws of schedules, each the contract of a function that does nothing.
 
 ghost use Rattle.every_schedule.specs.Steps.{RunningTasksAreApart, FieldsStay, StepsLeaveSteps, ClashesStay, StepsCommute};
-ghost use Rattle.every_schedule.specs.Laws.{OneRunSpeaksForAll, EveryEndAgrees, EveryRunGoesOn};
+ghost use Rattle.every_schedule.specs.Laws.{OneRunSpeaksForAll, EveryEndAgrees, EveryRunGoesOn, JournalsAgree};
+ghost use Rattle.every_schedule.specs.Ordered.{OrderedIsRaceFree};
 
 /// Of two tasks that run at one time neither's strand precedes the other's, by the edges made by then or at any time after.
 pub fn running_tasks_are_apart()
@@ -42,4 +43,14 @@ pub fn every_end_agrees()
 /// And one that hasn't ended can go on, has taken fewer steps, and is in order as far as it came.
 pub fn every_run_goes_on()
     ensures { EveryRunGoesOn }
+{}
+
+/// A run is in order exactly where it has no race and no compare and swaps contend.
+pub fn ordered_is_race_free()
+    ensures { OrderedIsRaceFree }
+{}
+
+/// Over journals: where one is done without races, and no compare and swaps contend in it, each other one that has ended agrees.
+pub fn journals_agree()
+    ensures { JournalsAgree }
 {}
