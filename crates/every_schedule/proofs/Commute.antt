@@ -20,7 +20,7 @@ use Rattle.every_schedule.specs.Steps.{AreBeside, StepsCommute}
 use Rattle.every_schedule.proofs.Accessed.{field_of, written_at}
 use Rattle.every_schedule.proofs.Beside.{Leaves}
 use Rattle.every_schedule.proofs.Commuting.{Even}
-use Rattle.every_schedule.proofs.Crossed.{Same_but, same_itself}
+use Rattle.every_schedule.proofs.Crossed.{SameButNumbers, same_itself}
 use Rattle.every_schedule.proofs.Leaving.{D, K, N, can_there, free_may, going, here_acting, runs_record, same, there}
 use Rattle.every_schedule.proofs.Lows.{run_low}
 use Rattle.every_schedule.proofs.Moves.{Two, both_to}
@@ -112,7 +112,7 @@ module _ (p : ProgramText) (limit : ℕ) (ts : List ℕ) where
         agree (Edits k d) (Grows o) ha hb = tt
         agree (Edits k d) (Edits n e) ha hb = λ same_name o. edits_agree k d n e ha.1 hb.1 same_name o
 
-        both_go : Same_but m (step p (step p m t) u) (step p (step p m u) t)
+        both_go : SameButNumbers m (step p (step p m t) u) (step p (step p m u) t)
         both_go =
             let g : m.end ≡ None = going p limit ts t u B.two B.first B.second going1 in
             commute_two m (K p limit ts t u B.two B.first B.second going1) (D p limit ts t u B.two B.first B.second going1) (N p limit ts t u B.two B.first B.second going1) (run_low p limit ts) (counted_here p limit ts).rows g
@@ -120,7 +120,7 @@ module _ (p : ProgramText) (limit : ℕ) (ts : List ℕ) where
             (there p limit ts u t back B.second B.first going2 x is run_t) (there p limit ts t u B.two B.first B.second going1 y iu run_u)
             (two_of u t back B.second B.first going2 going1 free_back g x is run_t lt nt) (two_of t u B.two B.first B.second going1 going2 B.free g y iu run_u lu nu)
 
-      by_lines : (ot ou : Option Line) → fetched p x.top ≡ ot → fetched p y.top ≡ ou → Same_but m (step p (step p m t) u) (step p (step p m u) t)
+      by_lines : (ot ou : Option Line) → fetched p x.top ≡ ot → fetched p y.top ≡ ou → SameButNumbers m (step p (step p m t) u) (step p (step p m u) t)
       by_lines (Some lt) (Some lu) nt nu = both_go lt lu nt nu
       by_lines None ou nt nu =
           let e1 : step p m t ≡ m = step_none p m t x B.first is nt in
@@ -131,7 +131,7 @@ module _ (p : ProgramText) (limit : ℕ) (ts : List ℕ) where
           let e2 : step p (step p m t) u ≡ step p m t = step_none p (step p m t) u y (can_there p limit ts t u B.two B.first B.second going1 y iu run_u) (there p limit ts t u B.two B.first B.second going1 y iu run_u) nu in
           same_itself m (step p (step p m t) u) (step p (step p m u) t) (even_same (step p (step p m t) u) (step p (step p m u) t) (ap (λ w. step p w t) e1 ∙ sym e2))
 
-    pub commute : Same_but m (step p (step p m t) u) (step p (step p m u) t)
+    pub commute : SameButNumbers m (step p (step p m t) u) (step p (step p m u) t)
     commute =
         let x = runs_record m t B.first in
         let y = runs_record m u B.second in

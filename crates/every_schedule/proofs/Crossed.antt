@@ -26,13 +26,13 @@ use Rattle.every_schedule.proofs.Forked.{edges_swap, f, rows_swap, tasks_swap}
 use Rattle.every_schedule.proofs.Lows.{LowIn}
 
 -- m12 and m21 are the same but for the numbers of tasks that m doesn't have
-pub record Same_but (m m12 m21 : State) : Type 0 where
+pub record SameButNumbers (m m12 m21 : State) : Type 0 where
   pub f : ℕ → ℕ
   pub renaming : IsRenaming (length m12.tasks) f f
   pub old : (v : ℕ) → v < length m.tasks → f v ≡ v
   pub alike : AreAlike f m12 m21
 
-pub same_itself : (m m12 m21 : State) → Even m12 m21 → Same_but m m12 m21
+pub same_itself : (m m12 m21 : State) → Even m12 m21 → SameButNumbers m m12 m21
 same_itself m m12 m21 E = record {
   f = itself;
   renaming = record { back = λ t. refl; forth = λ t. refl; root = refl; beyond = λ t le. refl; sides = λ t. refl; siblings = λ t. refl };
@@ -97,7 +97,7 @@ module _ (m : State) (K : Kept m) (D : Disentangled m.tasks m.store) (N : NamesA
     -- both fork
     forked : (x y : Task) (is : slice_get m.tasks t ≡ Some x) (iu : slice_get m.tasks u ≡ Some y) (zt ct dt zu cu du : Task) → Shape t x (Splits zt ct dt) → Shape u y (Splits zu cu du)
         → AllAt (Kind m t) (puts t (Splits zt ct dt)) → AllAt (Kind m u) (puts u (Splits zu cu du))
-        → Moves m m1 t (Splits zt ct dt) → Moves m m2 u (Splits zu cu du) → Moves m1 m12 u (Splits zu cu du) → Moves m2 m21 t (Splits zt ct dt) → Same_but m m12 m21
+        → Moves m m1 t (Splits zt ct dt) → Moves m m2 u (Splits zu cu du) → Moves m1 m12 u (Splits zu cu du) → Moves m2 m21 t (Splits zt ct dt) → SameButNumbers m m12 m21
     forked x y is iu zt ct dt zu cu du (g, h, ez, ec, ed) (k, l, ez', ec', ed') kt ku Ht Hu Hu1 Ht2 =
         let n : ℕ = length m.tasks in
         let yt : Task = record x { status = Waiting; top = onward x.top } in
@@ -140,7 +140,7 @@ module _ (m : State) (K : Kept m) (D : Disentangled m.tasks m.store) (N : NamesA
         }
 
     pub both : (x y : Task) (is : slice_get m.tasks t ≡ Some x) (iu : slice_get m.tasks u ≡ Some y) (mt mu : Move) → Shape t x mt → Shape u y mu → AllAt (Kind m t) (puts t mt) → AllAt (Kind m u) (puts u mu)
-        → Stored m.store (change_in mt) → Stored m.store (change_in mu) → Agree (change_in mu) (change_in mt) → Moves m m1 t mt → Moves m m2 u mu → Moves m1 m12 u mu → Moves m2 m21 t mt → Same_but m m12 m21
+        → Stored m.store (change_in mt) → Stored m.store (change_in mu) → Agree (change_in mu) (change_in mt) → Moves m m1 t mt → Moves m m2 u mu → Moves m1 m12 u mu → Moves m2 m21 t mt → SameButNumbers m m12 m21
     both x y is iu (Acts z op) mu ht hu kt ku st su agree Ht Hu Hu1 Ht2 =
         same_itself m m12 m21 (even t u two run_t run_u m1 m2 m12 m21 (Acts z op) mu refl refl (λ k j. refl) kt ku st su agree Ht Hu Hu1 Ht2)
     both x y is iu (Joins q l a b c) mu ht hu kt ku st su agree Ht Hu Hu1 Ht2 =

@@ -21,3 +21,4 @@ pub mod Said
 pub mod Schedules
 pub mod GoesOn
 pub mod RaceFree
+pub mod Example

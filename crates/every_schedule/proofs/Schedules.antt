@@ -46,8 +46,8 @@ pub record Comes (p : ProgramText) (m : State) (ts : List ℕ) (end : State) (al
   pub spoken : SaidInOrder (run_from p m ts).edges (prints_from p m ts) → numbers said ≡ numbers (prints_from p m ts)
 
 -- a list of steps that comes to the same
-abbrev pub Same_as : ProgramText → State → List ℕ → List ℕ → Type 0
-Same_as p m ts us = Comes p m ts (run_from p m us) (accesses_from p m us) (prints_from p m us) (turns_from p m us)
+abbrev pub ComesAs : ProgramText → State → List ℕ → List ℕ → Type 0
+ComesAs p m ts us = Comes p m ts (run_from p m us) (accesses_from p m us) (prints_from p m us) (turns_from p m us)
 
 walks : (f : ℕ → ℕ) (a b : State) → AreAlike f a b → (u v : Strand) → Precedes a.edges u v → Precedes b.edges (strand_to f u) (strand_to f v)
 walks f a b A u v w = walk_to f a.edges b.edges (λ e. (A.edges e).1) w.0 u v w.1
@@ -76,7 +76,7 @@ order_map f g back a b A (x ∷ xs) h = (by xs h.0, order_map f g back a b A xs 
     by (y ∷ ys) h c (inr i) k = by ys (λ d j. h d (inr j)) c i k
 
 module _ (p : ProgramText) where
-  itself_comes : (m : State) (ts : List ℕ) → InOrder (run_from p m ts).edges (accesses_from p m ts) → Same_as p m ts ts
+  itself_comes : (m : State) (ts : List ℕ) → InOrder (run_from p m ts).edges (accesses_from p m ts) → ComesAs p m ts ts
   itself_comes m ts order = record {
     f = itself;
     g = itself;
@@ -91,7 +91,7 @@ module _ (p : ProgramText) where
   }
 
   -- a step that can't be taken changes nothing
-  unidle : (m : State) (u : ℕ) (ts us : List ℕ) → can_step m u ≡ false → Same_as p m ts (u ∷ us) → Same_as p m ts us
+  unidle : (m : State) (u : ℕ) (ts us : List ℕ) → can_step m u ≡ false → ComesAs p m ts (u ∷ us) → ComesAs p m ts us
   unidle m u ts us none C =
       let e : step p m u ≡ m = step_idle p m u none in
       let es : run_from p m (u ∷ us) ≡ run_from p m us = ap (λ w. run_from p w us) e in
@@ -103,7 +103,7 @@ module _ (p : ProgramText) where
       (subst (λ w. Comes p m ts (run_from p m (u ∷ us)) (accesses_from p m (u ∷ us)) w (turns_from p m us)) ep
       (subst (λ w. Comes p m ts (run_from p m (u ∷ us)) (accesses_from p m (u ∷ us)) (prints_from p m (u ∷ us)) w) et C)))
 
-  idle : (m : State) (u : ℕ) (ts us : List ℕ) → can_step m u ≡ false → Same_as p m ts us → Same_as p m ts (u ∷ us)
+  idle : (m : State) (u : ℕ) (ts us : List ℕ) → can_step m u ≡ false → ComesAs p m ts us → ComesAs p m ts (u ∷ us)
   idle m u ts us none C =
       let e : step p m u ≡ m = step_idle p m u none in
       let es : run_from p m (u ∷ us) ≡ run_from p m us = ap (λ w. run_from p w us) e in
@@ -143,7 +143,7 @@ module _ (p : ProgramText) where
         subst (InOrder (run_from p m2 F.rest).edges) (sym F.accesses.moved)
         (order_map F.f F.g F.renaming.back (run_from p m ts) (run_from p m2 F.rest) F.alike both (tail_of o both first_order))
 
-    module _ (us : List ℕ) (C : Same_as p m2 F.rest us) where
+    module _ (us : List ℕ) (C : ComesAs p m2 F.rest us) where
       abbrev h : ℕ → ℕ
       h = then F.f C.f
 
@@ -244,7 +244,7 @@ module _ (p : ProgramText) where
           let rest = said_rest s in
           λ i. cond (test i) (b.number ∷ rest i) (rest i)
 
-      pub comes_first : Same_as p m ts (u ∷ us)
+      pub comes_first : ComesAs p m ts (u ∷ us)
       comes_first = record {
         f = h;
         g = then C.g F.g;
@@ -276,7 +276,7 @@ module _ (p : ProgramText) where
 
   module _ (limit : ℕ) where
     -- what is known of the rest after u's step
-    after : (hs ts : List ℕ) (u : ℕ) → can_step (run p limit hs) u ≡ true → Whole hs limit ts → (rest : List ℕ) × Whole (hs ++ u ∷ []) limit rest × ((us : List ℕ) → Same_as p (run p limit (hs ++ u ∷ [])) rest us → Same_as p (run p limit hs) ts (u ∷ us))
+    after : (hs ts : List ℕ) (u : ℕ) → can_step (run p limit hs) u ≡ true → Whole hs limit ts → (rest : List ℕ) × Whole (hs ++ u ∷ []) limit rest × ((us : List ℕ) → ComesAs p (run p limit (hs ++ u ∷ [])) rest us → ComesAs p (run p limit hs) ts (u ∷ us))
     after hs ts u can W =
         let F = front p limit ts hs u can W.0 W.1 in
         let push : run p limit (hs ++ u ∷ []) ≡ step p (run p limit hs) u = run_push p (start p limit) hs u in
@@ -286,14 +286,14 @@ module _ (p : ProgramText) where
             subst (λ (w : State). (run_from p w F.rest).end ≡ Some Done) (sym push) done,
             subst (λ (w : State). InOrder (run_from p w F.rest).edges (accesses_from p w F.rest)) (sym push) (rest_order limit hs ts u can W.1 F),
           ),
-          (λ us C. comes_first limit hs ts u can W.1 F us (subst (λ (w : State). Same_as p w F.rest us) push C)),
+          (λ us C. comes_first limit hs ts u can W.1 F us (subst (λ (w : State). ComesAs p w F.rest us) push C)),
         )
 
-    pub comes : (us hs ts : List ℕ) → Whole hs limit ts → (more : List ℕ) × Same_as p (run p limit hs) ts (us ++ more)
+    pub comes : (us hs ts : List ℕ) → Whole hs limit ts → (more : List ℕ) × ComesAs p (run p limit hs) ts (us ++ more)
     comes [] hs ts W = (ts, itself_comes (run p limit hs) ts W.1)
     comes (u ∷ us) hs ts W = by (λ hs' ts' W'. comes us hs' ts' W') (can_step (run p limit hs) u) refl
       where
-        by : ((hs ts : List ℕ) → Whole hs limit ts → (more : List ℕ) × Same_as p (run p limit hs) ts (us ++ more)) → (b : Bool) → can_step (run p limit hs) u ≡ b → (more : List ℕ) × Same_as p (run p limit hs) ts (u ∷ us ++ more)
+        by : ((hs ts : List ℕ) → Whole hs limit ts → (more : List ℕ) × ComesAs p (run p limit hs) ts (us ++ more)) → (b : Bool) → can_step (run p limit hs) u ≡ b → (more : List ℕ) × ComesAs p (run p limit hs) ts (u ∷ us ++ more)
         by all false e = let r = all hs ts W in (r.0, idle (run p limit hs) u ts (us ++ r.0) e r.1)
         by all true e =
             let A = after hs ts u e W in
@@ -303,22 +303,22 @@ module _ (p : ProgramText) where
     stopped : (m : State) (e : End) → m.end ≡ Some e → (u : ℕ) → can_step m u ≡ false
     stopped m e is u = ap (λ w. goes_on w (is_running (slice_get m.tasks u))) is
 
-    cut : (m : State) (e : End) → m.end ≡ Some e → (ts us : List ℕ) → Same_as p m ts us → Same_as p m ts []
+    cut : (m : State) (e : End) → m.end ≡ Some e → (ts us : List ℕ) → ComesAs p m ts us → ComesAs p m ts []
     cut m e is ts [] C = C
     cut m e is ts (u ∷ us) C = cut m e is ts us (unidle m u ts us (stopped m e is u) C)
 
     -- one that ends
-    comes_whole : (us hs ts : List ℕ) (e : End) → Whole hs limit ts → (run_from p (run p limit hs) us).end ≡ Some e → Same_as p (run p limit hs) ts us
+    comes_whole : (us hs ts : List ℕ) (e : End) → Whole hs limit ts → (run_from p (run p limit hs) us).end ≡ Some e → ComesAs p (run p limit hs) ts us
     comes_whole [] hs ts e W is = cut (run p limit hs) e is ts ts (itself_comes (run p limit hs) ts W.1)
     comes_whole (u ∷ us) hs ts e W is = by (λ hs' ts' W' is'. comes_whole us hs' ts' e W' is') (can_step (run p limit hs) u) refl
       where
-        by : ((hs ts : List ℕ) → Whole hs limit ts → (run_from p (run p limit hs) us).end ≡ Some e → Same_as p (run p limit hs) ts us) → (b : Bool) → can_step (run p limit hs) u ≡ b → Same_as p (run p limit hs) ts (u ∷ us)
+        by : ((hs ts : List ℕ) → Whole hs limit ts → (run_from p (run p limit hs) us).end ≡ Some e → ComesAs p (run p limit hs) ts us) → (b : Bool) → can_step (run p limit hs) u ≡ b → ComesAs p (run p limit hs) ts (u ∷ us)
         by all false none = idle (run p limit hs) u ts us none (all hs ts W (ap (λ w. (run_from p w us).end) (sym (step_idle p (run p limit hs) u none)) ∙ is))
         by all true can =
             let A = after hs ts u can W in
             A.2 us (all (hs ++ u ∷ []) A.0 A.1 (ap (λ w. (run_from p w us).end) (run_push p (start p limit) hs u) ∙ is))
 
-    agrees : (ts us : List ℕ) → Same_as p (start p limit) ts us → Agrees p limit ts us
+    agrees : (ts us : List ℕ) → ComesAs p (start p limit) ts us → Agrees p limit ts us
     agrees ts us C = record {
       f = C.f;
       g = C.g;

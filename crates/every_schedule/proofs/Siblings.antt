@@ -19,7 +19,7 @@ use Rattle.every_schedule.proofs.Swapping.{Agree, set_set, sets}
 use Rattle.every_schedule.proofs.Moves.{Acts, Joins, Last, Moves, Two, change_in, last_move, last_moves}
 use Rattle.every_schedule.proofs.Apart.{plain_quiet, run_keeps_none}
 use Rattle.every_schedule.proofs.Commuting.{Even}
-use Rattle.every_schedule.proofs.Crossed.{Resolved, Same_but, both, last_resolved, moved_last, plain_kinds, plain_resolved, same_itself}
+use Rattle.every_schedule.proofs.Crossed.{Resolved, SameButNumbers, both, last_resolved, moved_last, plain_kinds, plain_resolved, same_itself}
 use Rattle.every_schedule.proofs.Lows.{LowIn}
 
 -- a child's record is written over by the join
@@ -99,7 +99,7 @@ module _ (m : State) (K : Kept m) (D : Disentangled m.tasks m.store) (N : NamesA
       ended : sibling t ≡ u → (a b c : Task) (l : ℕ) → (t ≡ l) ⊎ (t ≡ l + 1) → (u ≡ l) ⊎ (u ≡ l + 1)
           → cond (is_left u) (Joins q u (joined_task y) (joined_task x) (resumed top.0 ru rt)) (Joins q (u - 1) (joined_task x) (joined_task y) (resumed top.0 rt ru)) ≡ Joins q l a b c
           → cond (is_left t) (Joins q t (joined_task x) (joined_task y) (resumed top.0 rt ru)) (Joins q (t - 1) (joined_task y) (joined_task x) (resumed top.0 ru rt)) ≡ Joins q l a b c
-          → Same_but m m12 m21
+          → SameButNumbers m m12 m21
       ended sib' a b c l at au eu et =
           let nt : q ≡ t → ⊥ = λ e. (let e' : q ≡ t = e in let h : q < t = lt in omega arith) in
           let nu : q ≡ u → ⊥ = λ e. (let e' : q ≡ u = e in let h : q < u = lu in omega arith) in
@@ -112,7 +112,7 @@ module _ (m : State) (K : Kept m) (D : Disentangled m.tasks m.store) (N : NamesA
           let Ht2 : Moves m2 m21 t (Joins q l a b c) = subst (Moves m2 m21 t) et (second u t y x ru rt m2 m21 q (λ e. two (sym e)) iu is run_u sib' pt top.0 top.1 nu (ap (λ (z : State). z.tasks) H2) there) in
           same_itself m m12 m21 (joined_even m m1 m2 m12 m21 t u q l (ended_task x rt) (ended_task y ru) a b c at au Ht Hu Hu1 Ht2)
 
-      by_side : (is_left u ≡ true) ⊎ (is_left u ≡ false) → Same_but m m12 m21
+      by_side : (is_left u ≡ true) ⊎ (is_left u ≡ false) → SameButNumbers m m12 m21
       by_side (inl left) =
           let e : t ≡ u + 1 = sym sib ∙ cond-true (is_left u) (u + 1) (u - 1) left in
           let odd : u % 2 ≡ 1 = eqb-true (u % 2) 1 left in
@@ -136,7 +136,7 @@ module _ (m : State) (K : Kept m) (D : Disentangled m.tasks m.store) (N : NamesA
           other : (u % 2 ≡ 1 → ⊥) → u ≡ t + 1 → t % 2 ≡ 1
           other even up = elim (cases_eq (u % 2) 1) [ inl o ↦ absurd (even o) | inr ne ↦ omega arith ]
 
-      siblings : Same_but m m12 m21
+      siblings : SameButNumbers m m12 m21
       siblings = by_side (cases_Bool (is_left u))
 
     agree_right : (a b : Change) → b ≡ Same → Agree a b
@@ -170,7 +170,7 @@ module _ (m : State) (K : Kept m) (D : Disentangled m.tasks m.store) (N : NamesA
         ]
 
     module _ (agree : (a b : Change) → ChangesBy (setting m t x) x.top m.store it a → ChangesBy (setting m u y) y.top m.store iu' b → Agree b a) where
-      finish : Resolved m m1 m2 m21 t x it → Resolved m m2 m1 m12 u y iu' → Same_but m m12 m21
+      finish : Resolved m m1 m2 m21 t x it → Resolved m m2 m1 m12 u y iu' → SameButNumbers m m12 m21
       finish Rt Ru =
           both m K D N L rows going t u two run_t run_u m1 m2 m12 m21 x y is iu Rt.move Ru.move Rt.shape Ru.shape Rt.kinds Ru.kinds Rt.stored Ru.stored agreed Rt.here Ru.here Ru.there Rt.there
         where
@@ -180,7 +180,7 @@ module _ (m : State) (K : Kept m) (D : Disentangled m.tasks m.store) (N : NamesA
             | inr a ↦ elim (Ru.by) [ inl e ↦ agree_left (change_in Ru.move) (change_in Rt.move) e | inr b ↦ agree (change_in Rt.move) (change_in Ru.move) a b ]
           ]
 
-      pub commute_two : slice_get m2.tasks t ≡ Some x → slice_get m1.tasks u ≡ Some y → Two m m2 t x running_t going m1 m21 it → Two m m1 u y running_u going m2 m12 iu' → Same_but m m12 m21
+      pub commute_two : slice_get m2.tasks t ≡ Some x → slice_get m1.tasks u ≡ Some y → Two m m2 t x running_t going m1 m21 it → Two m m1 u y running_u going m2 m12 iu' → SameButNumbers m m12 m21
       commute_two it2 iu1 (inl Pt) (inl Pu) = finish (plain_resolved m m2 K t x running_t going is run_t m1 m21 it Pt) (plain_resolved m m1 K u y running_u going iu run_u m2 m12 iu' Pu)
       commute_two it2 iu1 (inl Pt) (inr Eu) =
           finish (plain_resolved m m2 K t x running_t going is run_t m1 m21 it Pt)

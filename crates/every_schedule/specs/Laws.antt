@@ -5,7 +5,7 @@ use Rattle.run_trace.specs.Entry.{Event}
 use Rattle.run_trace.specs.Settings.{Limits, field_limit}
 use Rattle.hh_model.specs.declared.data.End.{End}
 use Rattle.hh_model.specs.declared.data.End.TheVariants.{Done}
-use Rattle.hh_model.specs.Step.{can_step, run}
+use Rattle.hh_model.specs.Step.{can_step, parents, run}
 use Rattle.run_ledger.specs.Journals.{machine_of, tasks_of}
 use Rattle.every_schedule.specs.Prints.{turns}
 use Rattle.race_report.specs.Accesses.{accesses}
@@ -49,3 +49,10 @@ JournalsAgree =
     let m = machine_of p s journal in
     field_limit s'.version ≡ limit → m.end ≡ Some Done → IsReport m.edges (accesses p limit ts) [] → (SwapsContend m.edges (accesses p limit ts) → ⊥) → (machine_of p s' journal').end ≡ Some e
     → (e ≡ Done) × Agrees p limit ts (tasks_of journal')
+
+-- and the law speaks of something: some program has a whole run in order, and another one that ends too, in which a task's parent has another
+-- number
+abbrev pub SomeRunSpeaksUp : Type 0
+SomeRunSpeaksUp =
+    (p : ProgramText) × (limit : ℕ) × (ts : List ℕ) × (us : List ℕ) × SpeaksUp p limit ts × ((run p limit us).end ≡ Some Done)
+    × (t : ℕ) × (parents (run p limit ts).tasks t ≡ parents (run p limit us).tasks t → ⊥)

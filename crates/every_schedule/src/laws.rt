@@ -1,7 +1,7 @@
 // Laws of schedules, each the contract of a function that does nothing.
 
 ghost use Rattle.every_schedule.specs.Steps.{RunningTasksAreApart, FieldsStay, StepsLeaveSteps, ClashesStay, StepsCommute};
-ghost use Rattle.every_schedule.specs.Laws.{OneRunSpeaksForAll, EveryEndAgrees, EveryRunGoesOn, JournalsAgree};
+ghost use Rattle.every_schedule.specs.Laws.{OneRunSpeaksForAll, EveryEndAgrees, EveryRunGoesOn, JournalsAgree, SomeRunSpeaksUp};
 ghost use Rattle.every_schedule.specs.Ordered.{OrderedIsRaceFree};
 
 /// Of two tasks that run at one time neither's strand precedes the other's, by the edges made by then or at any time after.
@@ -53,4 +53,9 @@ pub fn ordered_is_race_free()
 /// Over journals: where one is done without races, and no compare and swaps contend in it, each other one that has ended agrees.
 pub fn journals_agree()
     ensures { JournalsAgree }
+{}
+
+/// Some program has a whole run in order, and another whole one in which tasks have other numbers.
+pub fn some_run_speaks_up()
+    ensures { SomeRunSpeaksUp }
 {}

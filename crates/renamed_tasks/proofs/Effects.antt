@@ -5,7 +5,7 @@ use Rattle.std.proofs.lemmas.Bool.{cases_eq, false≢true}
 use Rattle.std.proofs.Math.Seq.{map-set}
 use Rattle.listed.proofs.Members.{In}
 use Rattle.hh_lang.specs.declared.instr.Instr.{Instr}
-use Rattle.hh_lang.specs.declared.instr.Instr.TheVariants.{Set, Mov, Movr, Nil as NilOf, Calc, Same as Same_, Jmp, Jz, Newm, Pack, Getr, Geti, Putr, Puti, Cntr, Cnti, Freeze, Cas, Call, Par, Ret, Out}
+use Rattle.hh_lang.specs.declared.instr.Instr.TheVariants.{Set, Mov, Movr, Nil as NilOf, Calc, Same as SameOf, Jmp, Jz, Newm, Pack, Getr, Geti, Putr, Puti, Cntr, Cnti, Freeze, Cas, Call, Par, Ret, Out}
 use Rattle.hh_model.specs.declared.data.Name.{Name}
 use Rattle.hh_model.specs.declared.data.Edge.{Edge}
 use Rattle.hh_model.specs.declared.data.Object.{Object}
@@ -189,8 +189,8 @@ module _ (f g : ℕ → ℕ) (back : (t : ℕ) → g (f t) ≡ t) where
       effect_carried (Movr d a) may = same S (Movr d a) _ _ (set_reg S (Movr d a) d (ref_in x a) (ref_in x' a) (ref_carried x a))
       effect_carried (NilOf d) may = same S (NilOf d) _ _ (set_reg S (NilOf d) d None None refl)
       effect_carried (Calc op d a b) may = let i = Calc op d a b in trap S i Div (calculated op (int_in x a) (int_in x b)) _ _ (λ y e. same S i _ _ refl)
-      effect_carried (Same_ d a b) may =
-          same S (Same_ d a b) _ _ (ap (λ w. onward (with_int x' d (flag w))) (ap₂ same_name (ref_carried x a) (ref_carried x b) ∙ same_carried (ref_in x a) (ref_in x b)))
+      effect_carried (SameOf d a b) may =
+          same S (SameOf d a b) _ _ (ap (λ w. onward (with_int x' d (flag w))) (ap₂ same_name (ref_carried x a) (ref_carried x b) ∙ same_carried (ref_in x a) (ref_in x b)))
       effect_carried (Jmp to) may = same S (Jmp to) _ _ refl
       effect_carried (Jz a to) may = jumps S (Jz a to) to (int_eq (int_in x a) (pos 0))
       effect_carried (Newm d a b) may =
