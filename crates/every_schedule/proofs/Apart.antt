@@ -1,5 +1,6 @@
--- Which tasks a move changes: the task itself, its sibling that has ended, or its parent that waits for both. So moves of two tasks that run at one
--- time change none in common, and what comes of the end of the one isn't changed by the other, but where they are children of one fork.
+-- Which tasks a move changes: the task itself, its sibling that has ended, or its parent that waits for both. So moves
+-- of two tasks that run at one time change none in common, and what comes of the end of the one isn't changed by the
+-- other, but where they are children of one fork.
 use Rattle.std.proofs.Common.{◌≡◌, ℕ, ℤ, ◌+◌, ◌-◌, ◌%◌, ◌<◌, Bool, true, false, cond, Option, Some, None, List, [], ◌∷◌, length, slice_get, slice_set, ◌⊎◌, inl, inr, refl, ap, sym, subst, ◌∙◌, arith}
 use Rattle.std.proofs.lemmas.Bool.{both_ways, cases_Bool, cond-false, cond-true, eqb-false, eqb-true, false≢true}
 use Rattle.listed.proofs.Members.{got_cases, got_front, got_other, got_within}

@@ -1,4 +1,5 @@
--- A whole run in order, and another one of the same program in which tasks have other numbers: so the law speaks of something.
+-- A whole run in order, and another one of the same program in which tasks have other numbers: so the law speaks of
+-- something.
 use Rattle.std.proofs.Common.{◌≡◌, ℕ, pos, ◌&&◌, ◌||◌, not, Bool, true, false, Some, List, [], ◌∷◌, map, ◌⊎◌, inl, inr, refl, sym, subst, ◌∙◌}
 use Rattle.std.proofs.lemmas.Bool.{false≢true}
 use Rattle.listed.proofs.Members.{In}
@@ -22,8 +23,8 @@ use Rattle.every_schedule.proofs.Splits.{InOrder, from_order}
 fun : List Instr → Fun
 fun code = record { name = []; code = map (λ i. record { instr = i; number = 1 }) code }
 
--- the root makes an object of one number field, writes it and forks two tasks; each of them forks two, which read the field. The sums are
--- joined, and the root prints 84
+-- the root makes an object of one number field, writes it and forks two tasks; each of them forks two, which read the
+-- field. The sums are joined, and the root prints 84
 p : ProgramText
 unfolding fun
 p = record {

@@ -52,7 +52,8 @@ use Rattle.every_schedule.proofs.Splits.{InOrder, Split, split_next}
 abbrev pub Near : List Edge → Print → Print → Type 0
 Near es a b = (a.strand ≡ b.strand) ⊎ Precedes es a.strand b.strand
 
--- from m a run comes to this end with these accesses, prints and turns; and so it does with u's step first, but for numbers of tasks
+-- from m a run comes to this end with these accesses, prints and turns; and so it does with u's step first, but for
+-- numbers of tasks
 pub record Fronted (p : ProgramText) (m : State) (u : ℕ) (end : State) (all : List Access) (said : List Print) (turns : ℕ) : Type 0 where
   pub rest : List ℕ
   pub f : ℕ → ℕ

@@ -1,4 +1,5 @@
--- A step leaves the next step of a task that runs beside it, unless their accesses clash; and accesses that clash do so after it too.
+-- A step leaves the next step of a task that runs beside it, unless their accesses clash; and accesses that clash do so
+-- after it too.
 use Rattle.std.proofs.Common.{◌≡◌, ℕ, ℤ, ◌+◌, ◌-◌, ◌++◌, Bool, true, false, cond, Option, Some, None, List, [], ◌∷◌, length, nat_lt, slice_get, ◌⊎◌, inl, inr, refl, ap, sym, subst, ◌∙◌}
 use Rattle.std.proofs.lemmas.Bool.{cases_Bool, false≢true}
 use Rattle.std.proofs.lemmas.Option.{same_Some}

@@ -11,6 +11,7 @@ use Rattle.renamed_tasks.specs.Alike.{AreAlike}
 use Rattle.every_schedule.specs.Prints.{prints, printed_by, PrintsAreOrdered, turns}
 use Rattle.every_schedule.specs.Ordered.{IsOrdered}
 
+-- fields and accesses of renamed tasks
 abbrev pub field_to : (ℕ → ℕ) → Field → Field
 field_to f x = record x { name = name_to f x.name }
 
@@ -19,6 +20,7 @@ access_to f a = record a { strand = strand_to f a.strand; field = field_to f a.f
 
 -- the run by us comes to the same as that by ts, but for the numbers of tasks
 pub record Agrees (p : ProgramText) (limit : ℕ) (ts us : List ℕ) : Type 0 where
+  -- f gives each task of the first run its number in the other one, and g takes it back
   pub f : ℕ → ℕ
   pub g : ℕ → ℕ
   pub renaming : IsRenaming (length (run p limit ts).tasks) f g

@@ -39,8 +39,8 @@ abbrev pub EveryRunGoesOn : Type 0
 EveryRunGoesOn =
     (p : ProgramText) (limit : ℕ) (ts us : List ℕ) → SpeaksUp p limit ts → (run p limit us).end ≡ None → GoesOn p limit ts us
 
--- over journals: where the machine of one is done, `races` tells none of it, and no compare and swaps contend in it, the machine of each
--- journal of the program with as many fields allowed agrees as soon as it has an end
+-- over journals: where the machine of one is done, `races` tells none of it, and no compare and swaps contend in it,
+-- the machine of each journal of the program with as many fields allowed agrees as soon as it has an end
 abbrev pub JournalsAgree : Type 0
 JournalsAgree =
     (p : ProgramText) (s s' : Limits) (journal journal' : List Event) (e : End)
@@ -50,8 +50,8 @@ JournalsAgree =
     field_limit s'.version ≡ limit → m.end ≡ Some Done → IsReport m.edges (accesses p limit ts) [] → (SwapsContend m.edges (accesses p limit ts) → ⊥) → (machine_of p s' journal').end ≡ Some e
     → (e ≡ Done) × Agrees p limit ts (tasks_of journal')
 
--- and the law speaks of something: some program has a whole run in order, and another one that ends too, in which a task's parent has another
--- number
+-- and the law speaks of something: some program has a whole run in order, and another one that ends too, in which a
+-- task's parent has another number
 abbrev pub SomeRunSpeaksUp : Type 0
 SomeRunSpeaksUp =
     (p : ProgramText) × (limit : ℕ) × (ts : List ℕ) × (us : List ℕ) × SpeaksUp p limit ts × ((run p limit us).end ≡ Some Done)

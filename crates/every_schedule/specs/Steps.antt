@@ -24,6 +24,8 @@ use Rattle.every_schedule.specs.Clashes.{Clash}
 
 -- STRANDS
 
+-- of two tasks that run at one time neither's strand precedes the other's, by the edges of that time or of any later
+-- one
 abbrev pub RunningTasksAreApart : Type 0
 RunningTasksAreApart =
     (p : ProgramText) (limit : ℕ) (ts more : List ℕ) (t u : ℕ) (x y : Task)
@@ -48,6 +50,7 @@ pub record ChangesOnly (p : ProgramText) (m : State) (t : ℕ) (n : Name) (old n
   pub ints : (k : ℕ) → (slice_get new.ints k ≡ slice_get old.ints k) ⊎ WritesField p m t (record { name = n; is_number = true; index = k })
   pub mutable : (new.mutable ≡ old.mutable) ⊎ FreezesNext p m t n
 
+-- every object stays, and so do its fields but the one that the step writes
 abbrev pub FieldsStay : Type 0
 FieldsStay =
     (p : ProgramText) (limit : ℕ) (ts : List ℕ) (t : ℕ) (n : Name) (old : Object)
@@ -77,13 +80,15 @@ pub record LeavesStep (p : ProgramText) (m : State) (t u : ℕ) : Type 0 where
   pub print : print_of p (step p m t) u ≡ print_of p m u
   pub ends : EndAlike (step p m u).end (step p (step p m t) u).end
 
+-- a step that doesn't end the run leaves the next step of a task beside it
 abbrev pub StepsLeaveSteps : Type 0
 StepsLeaveSteps =
     (p : ProgramText) (limit : ℕ) (ts : List ℕ) (t u : ℕ)
     → let m = run p limit ts in AreBeside p m t u → (step p m t).end ≡ None → LeavesStep p m t u
 
--- accesses that clash in one state clash after t's step too: u's is then of the same field, by the same strand, and is the same one where
--- t's doesn't write. So a clash of steps that stand side by side is one of the accesses that the run makes
+-- accesses that clash in one state clash after t's step too: u's is then of the same field, by the same strand, and is
+-- the same one where t's doesn't write. So a clash of steps that stand side by side is one of the accesses that the run
+-- makes
 abbrev pub ClashesStay : Type 0
 ClashesStay =
     (p : ProgramText) (limit : ℕ) (ts : List ℕ) (t u : ℕ) (a b : Access)
@@ -98,6 +103,7 @@ pub record Commutes (p : ProgramText) (m : State) (t u : ℕ) : Type 0 where
   pub old : (v : ℕ) → v < length m.tasks → f v ≡ v
   pub alike : AreAlike f (step p (step p m t) u) (step p (step p m u) t)
 
+-- steps of two tasks beside one another commute
 abbrev pub StepsCommute : Type 0
 StepsCommute =
     (p : ProgramText) (limit : ℕ) (ts : List ℕ) (t u : ℕ)

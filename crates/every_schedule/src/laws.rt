@@ -4,12 +4,14 @@ ghost use Rattle.every_schedule.specs.Steps.{RunningTasksAreApart, FieldsStay, S
 ghost use Rattle.every_schedule.specs.Laws.{OneRunSpeaksForAll, EveryEndAgrees, EveryRunGoesOn, JournalsAgree, SomeRunSpeaksUp};
 ghost use Rattle.every_schedule.specs.Ordered.{OrderedIsRaceFree};
 
-/// Of two tasks that run at one time neither's strand precedes the other's, by the edges made by then or at any time after.
+/// Of two tasks that run at one time neither's strand precedes the other's, by the edges made by then or at any time
+/// after.
 pub fn running_tasks_are_apart()
     ensures { RunningTasksAreApart }
 {}
 
-/// Of an object a step changes only the field that its access writes, and whether it is mutable only by a freeze by its owner.
+/// Of an object a step changes only the field that its access writes, and whether it is mutable only by a freeze by its
+/// owner.
 pub fn fields_stay()
     ensures { FieldsStay }
 {}
@@ -19,18 +21,19 @@ pub fn steps_leave_steps()
     ensures { StepsLeaveSteps }
 {}
 
-/// Accesses that clash in one state clash after the one of them is made too.
+/// Where the next accesses of two tasks clash, they do so after the step of one of them too.
 pub fn clashes_stay()
     ensures { ClashesStay }
 {}
 
-/// Steps of two tasks that run at one time, whose accesses don't clash, come to the same in either order, but for the numbers of tasks.
+/// Steps of two tasks that run at one time, whose accesses don't clash, come to the same in either order, but for the
+/// numbers of tasks.
 pub fn steps_commute()
     ensures { StepsCommute }
 {}
 
-/// ONE RUN SPEAKS FOR ALL: where one run ended by the return of main and its accesses are in order, every list of steps is the
-/// beginning of one that comes to the same.
+/// ONE RUN SPEAKS FOR ALL: where one run ended by the return of main and its accesses are in order, every list of steps
+/// is the beginning of one that comes to the same.
 pub fn one_run_speaks_for_all()
     ensures { OneRunSpeaksForAll }
 {}
@@ -50,7 +53,8 @@ pub fn ordered_is_race_free()
     ensures { OrderedIsRaceFree }
 {}
 
-/// Over journals: where one is done without races, and no compare and swaps contend in it, each other one that has ended agrees.
+/// Over journals: where one is done without races, and no compare and swaps contend in it, each other one that has
+/// ended agrees.
 pub fn journals_agree()
     ensures { JournalsAgree }
 {}

@@ -1,5 +1,5 @@
--- What an instruction does is carried by a renaming: where the frame, the object that it names, the field that it reads and its tests
--- are alike, so is its effect.
+-- What an instruction does is carried by a renaming: where the frame, the object that it names, the field that it reads
+-- and its tests are alike, so is its effect.
 use Rattle.std.proofs.Common.{◌≡◌, ℕ, zero, suc, pos, ◌==◌, ◌&&◌, Bool, true, false, cond, Option, Some, None, List, [], ◌∷◌, ◌++◌, length, map, take, replicate, slice_get, slice_set, unwrap_or, inl, inr, refl, ap, ap₂, sym, subst, ◌∙◌, eq-eqb, ne_eqb}
 use Rattle.std.proofs.lemmas.Bool.{cases_eq, false≢true}
 use Rattle.std.proofs.Math.Seq.{map-set}

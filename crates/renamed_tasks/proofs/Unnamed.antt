@@ -1,4 +1,5 @@
--- What an instruction does where nothing is renamed: it does the same in another setting, where all that it sees is the same.
+-- What an instruction does where nothing is renamed: it does the same in another setting, where all that it sees is the
+-- same.
 use Rattle.std.proofs.Common.{◌≡◌, ℕ, ◌==◌, Bool, true, false, Option, Some, None, List, length, slice_get, refl, ap, sym, subst, ◌∙◌}
 use Rattle.listed.proofs.Members.{In}
 use Rattle.hh_lang.specs.declared.instr.Instr.{Instr}

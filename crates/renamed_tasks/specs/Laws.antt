@@ -13,17 +13,20 @@ use Rattle.renamed_tasks.specs.Places.{Place, IsPlace}
 abbrev pub swap : ℕ → ℕ → ℕ
 swap n t = if nat_lt t n then t else (if nat_lt t (n + 2) then t + 2 else (if nat_lt t (n + 4) then t - 2 else t))
 
+-- to exchange the children of two forks is a renaming
 abbrev pub SwapsRename : Type 0
 SwapsRename = (n : ℕ) → is_left n ≡ true → IsRenaming (n + 4) (swap n) (swap n)
 
+-- what precedes what is the same under a renaming
 abbrev pub WalksAreCarried : Type 0
 WalksAreCarried = (f : ℕ → ℕ) (m m' : State) → AreAlike f m m' → (u v : Strand) → Precedes m.edges u v → Precedes m'.edges (strand_to f u) (strand_to f v)
 
+-- a renamed task stands at the same place
 abbrev pub PlacesAreCarried : Type 0
 PlacesAreCarried = (n : ℕ) (f g : ℕ → ℕ) (m m' : State) → IsRenaming n f g → AreAlike f m m' → (place : Place) (t : ℕ) → IsPlace m.edges place t → IsPlace m'.edges place (f t)
 
--- NUMBERS OF TASKS MEAN NOTHING: where two runs of a program are alike, a step of a renamed task in the one comes to what the step of
--- that task comes to in the other
+-- NUMBERS OF TASKS MEAN NOTHING: where two runs of a program are alike, a step of a renamed task in the one comes to
+-- what the step of that task comes to in the other
 abbrev pub StepsAreCarried : Type 0
 StepsAreCarried =
     (p : ProgramText) (n limit : ℕ) (f g : ℕ → ℕ) (ts us : List ℕ) (t : ℕ)

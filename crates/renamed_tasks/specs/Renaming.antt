@@ -12,8 +12,8 @@ use Rattle.hh_model.specs.declared.data.End.{End}
 use Rattle.hh_model.specs.declared.data.End.TheVariants.{Done, Trapped, Entangled}
 use Rattle.hh_model.specs.Step.{is_left, sibling}
 
--- f renames the tasks of machines that have at least n tasks, and g takes it back: the root and the numbers from n on stay, and
--- children of one fork stay so, the left one left
+-- f renames the tasks of machines that have at least n tasks, and g takes it back: the root and the numbers from n on
+-- stay, and children of one fork stay so, the left one left
 pub record IsRenaming (n : ℕ) (f g : ℕ → ℕ) : Type 0 where
   pub back : (t : ℕ) → g (f t) ≡ t
   pub forth : (t : ℕ) → f (g t) ≡ t

@@ -1,4 +1,5 @@
-// The machine with other numbers for its tasks: what a renaming of tasks is, and that a run of renamed tasks is the renamed run.
+// The machine with other numbers for its tasks: what a renaming of tasks is, and that a run of renamed tasks is the
+// renamed run.
 #![tactic(auto)]
 
 mod laws;
