@@ -14,7 +14,7 @@ use std::sync::Wait;
 use std::thread::Threads;
 
 /// The number of the allocation of this program that is refused.
-const REFUSED: u64 = 100000;
+const REFUSED: u64 = 5000;
 
 // The numbers of a line; those that aren't there are 0.
 fn numbers_of(line: &[u8]) -> (u64, u64, u64) {
