@@ -9,14 +9,14 @@ use hh_lang::Program;
 use hh_model::End;
 use outside_io::EmptyGate;
 use run_ledger::RunEnd;
-use run_trace::{Entry, Settings, Version};
+use run_trace::{Entry, Kind, Settings, Version};
 use shared_tree::Shared;
 use std::alloc::Global;
 use std::sync::Wait;
 use trace_input::read_trace_input;
 use turn_lock::Turn;
 use worker_run::{Bell, Desk, Next, Ready, Run, opened, prepare, take_turn};
-use world_core::replay;
+use world_core::{World, replay};
 
 const COLLECTS: &str =
     "fn left\nset i0 0\nset i1 14\nnewm r1 i0 i1\nputr r0 i0 r1\nnil r1\nnewm r2 i0 i1\nret\nend\nfn right\nset i0 0\nnil r1\nputr r0 i0 r1\nret\nend\nfn main\nset i0 1\nset i1 0\nnewm r0 i0 i1\npar left right\nset i2 0\ngetr r3 r0 i2\nnil r4\nsame i3 r3 r4\nout i3\nret\nend\ntrace 1\n0 took 0\n0 ran 0 2\n0 chunk 0\n0 ran 0 2\n0 took 1\n1 took 2\n0 ran 1 2\n0 chunk 1\n0 ran 1 2\n0 ran 1 1\n0 begin 1\n1 ran 2 3\n0 end 1 1 1 16\n0 ran 1 2\n1 ran 2 1\n1 took 0\n1 ran 0 5\n1 ran 0 1\n";
@@ -142,6 +142,7 @@ fn is_left(
     shared.journal() == entries
         && shared.outputs() == [1].as_slice()
         && shared.ended() == DONE
+        && shared.held() == (3, 35)
         && replayed(alloc, program, settings, shared.journal()) == DONE
 }
 
@@ -284,4 +285,24 @@ fn two_seats_look(rt: HostRuntime) {
         Err(_) => false,
     };
     assert!(rt; seen);
+}
+
+// Whether a world has stopped at first, whether the end for spent fuel is refused there, and whether it has stopped then.
+fn stops(mut world: World) -> (bool, bool, bool) {
+    let before = world.has_stopped();
+    let refused = world.apply(Entry::new(0, Kind::Fuel)).is_err();
+    (before, refused, world.has_stopped())
+}
+
+#[test]
+fn a_world_stops_at_a_refused_entry(rt: HostRuntime) {
+    let settings = Settings::new(Version::One, 2, 1_000_000, 4096, 16, 8192);
+    let told = match read_trace_input(rt.alloc(), COLLECTS.as_bytes()) {
+        Ok(input) => match World::start(rt.alloc(), &input.program, settings) {
+            Ok(world) => Some(stops(world)),
+            Err(_) => None,
+        },
+        Err(_) => None,
+    };
+    assert!(rt; told == Some((false, true, true)));
 }
