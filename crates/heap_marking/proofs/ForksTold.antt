@@ -1,5 +1,5 @@
 -- What the shared value tells of forks and markings, before the run's end.
-use Rattle.std.proofs.Common.{◌≡◌, ℕ, ◌<◌, ◌≤◌, ◌&&◌, not, Bool, true, false, Option, Some, None, length, option_map, slice_get, inl, inr, refl, ap, sym, subst, ◌∙◌, ◌-◌, ◌^◌, arith, is_some, is_none, nat_le, ap₂}
+use Rattle.std.proofs.Common.{◌≡◌, ℕ, ◌<◌, ◌&&◌, not, Bool, true, false, Option, Some, None, option_map, slice_get, inl, inr, refl, ap, sym, subst, ◌∙◌, ◌-◌, ◌^◌, arith, is_some, is_none, nat_le, ap₂}
 use Rattle.std.proofs.lemmas.Bool.{false≢true, both_ways, and_parts, cases_lt, le-leb}
 use Rattle.std.proofs.lemmas.Option.{same_Some}
 use Rattle.hh_model.specs.declared.data.Status.{Status}
