@@ -46,8 +46,7 @@ fn read_for<S: Source>(alloc: Global, source: &mut S, view: &View) -> Result<Vec
 
 // Writes bytes to a sink, and says how that ended.
 fn write_to<K: Sink>(sink: &mut K, status: Status, bytes: &[u8]) -> Status
-    ensures wrote { Wrote status result (K.written sink.old) (K.written sink.new) bytes.now }
-    ensures failed { result ≡ Status.WriteFault → HasRisen (K.faults sink.old) (K.faults sink.new) }
+    ensures { Wrote status result (K.written sink.old) (K.written sink.new) bytes.now }
 {
     match write_all(sink, bytes) {
         Ok(()) => status,
