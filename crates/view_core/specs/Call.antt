@@ -1,5 +1,5 @@
 -- A whole call: the words, the input, and what is written where.
-use Rattle.std.specs.Prelude.{◌≡◌, ◌⊎◌, ℕ, Bool, true, false, List, [], Option, Some, None}
+use Rattle.std.specs.Prelude.{◌≡◌, ◌⊎◌, ℕ, Bool, true, false, List, [], Option, Some}
 use Rattle.outside_io.specs.Told.{with_more}
 use Rattle.all_bytes.specs.Bytes.{told, WroteSome}
 use Rattle.view_line.specs.ViewLine.{Asked, AsksUsage, AsksHeaps, AsksTimeline, AsksTasks}

@@ -22,7 +22,7 @@ use Rattle.run_timeline.specs.Timeline.{timeline}
 use Rattle.task_table.specs.Table.{table}
 use Rattle.view_line.specs.ViewLine.{Asked, AsksUsage, AsksHeaps, AsksTimeline, AsksTasks}
 use Rattle.view_core.specs.declared.shown.Status.{Status}
-use Rattle.view_core.specs.declared.shown.Status.TheVariants.{Done, Words, Source, Trace, Image}
+use Rattle.view_core.specs.declared.shown.Status.TheVariants.{Done, Source, Trace, Image}
 use Rattle.view_core.specs.declared.shown.Shown.{Shown}
 use Rattle.view_core.specs.declared.runs.RunView.{RunView}
 use Rattle.view_core.specs.declared.runs.RunView.TheVariants.{Timeline, Tasks}

@@ -62,7 +62,7 @@ const RUNS: &[Call] = &[
         "timeline",
         "fn main\nret\nend\ntrace 2\n0 took 0\n0 ran 0 1\n",
         0,
-        "",
+        "{\"traceEvents\":[{\"name\":\"process_name\",\"cat\":\"__metadata\",\"ph\":\"M\",\"ts\":0,\"pid\":1,\"tid\":0,\"args\":{\"name\":\"hheap: a millisecond is one entry\"}},\n{\"name\":\"thread_name\",\"cat\":\"__metadata\",\"ph\":\"M\",\"ts\":0,\"pid\":1,\"tid\":0,\"args\":{\"name\":\"worker 0\"}},\n{\"name\":\"took\",\"cat\":\"entry\",\"ph\":\"X\",\"ts\":0,\"pid\":1,\"tid\":0,\"dur\":1000,\"args\":{\"task\":0}},\n{\"name\":\"task 0\",\"cat\":\"task\",\"ph\":\"b\",\"ts\":1000,\"pid\":1,\"tid\":0,\"id\":0},\n{\"name\":\"ran\",\"cat\":\"entry\",\"ph\":\"X\",\"ts\":1000,\"pid\":1,\"tid\":0,\"dur\":1000,\"args\":{\"task\":0,\"steps\":1}},\n{\"name\":\"task 0\",\"cat\":\"task\",\"ph\":\"e\",\"ts\":2000,\"pid\":1,\"tid\":0,\"id\":0},\n{\"name\":\"end: done\",\"cat\":\"end\",\"ph\":\"i\",\"ts\":2000,\"pid\":1,\"tid\":0,\"s\":\"g\",\"args\":{}}],\"displayTimeUnit\":\"ms\"}\n",
         "",
     ),
 ];
