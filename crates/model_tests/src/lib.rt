@@ -8,6 +8,8 @@ mod programs;
 #[cfg(test)]
 mod runs;
 #[cfg(test)]
+mod schedules;
+#[cfg(test)]
 mod texts;
 #[cfg(test)]
 mod traps;
