@@ -1,4 +1,5 @@
-// The part of Graphviz's DOT language that drawings of heaps need: its definition is in specs/; here it is written piece by piece.
+// The part of Graphviz's DOT language that drawings of heaps need: its definition is in specs/; here it is written
+// piece by piece.
 #![tactic(auto)]
 
 mod laws;

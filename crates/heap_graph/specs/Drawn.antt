@@ -104,7 +104,8 @@ abbrev pub lies_elsewhere : ℕ → Said → Bool
 lies_elsewhere c (OfObject o) = not (chunk_number o.address == c)
 lies_elsewhere c _ = false
 
--- the objects up to the first one in another chunk: the lines of an image rise, so that those of a chunk follow on those of the chunk before
+-- the objects up to the first one in another chunk: the lines of an image rise, so that those of a chunk follow on
+-- those of the chunk before
 abbrev pub nodes_in : ℕ → List (List ℕ) → List Statement
 nodes_in c [] = []
 nodes_in c (l ∷ ls) = if lies_elsewhere c (said_by l) then [] else node_by l (said_by l) ++ nodes_in c ls

@@ -8,8 +8,8 @@ use Rattle.image_check.specs.Tasks.{relation_of, is_running, owner_at}
 use Rattle.dot_text.specs.Dot.{Attributes, Statement, Edge}
 use Rattle.heap_graph.specs.Names.{task_name, task_cluster, object_name, port_name}
 
--- inside a heap grey, up to an ancestor blue, down to a descendant red and bold; in a sound image no heap refers to another one, and
--- each reference down is remembered
+-- inside a heap grey, up to an ancestor blue, down to a descendant red and bold; in a sound image no heap refers to
+-- another one, and each reference down is remembered
 abbrev pub colour_of : Relation → List ℕ
 colour_of Own = codes "gray50"
 colour_of Above = codes "blue"

@@ -89,8 +89,8 @@ fn graph_from(
     Ok(graph)
 }
 
-/// The graph of an image in which there is no fault, or its first fault: of all its heaps, or of those on the path from the root to a task;
-/// heap by heap where it has more objects, or more tasks, than the limit.
+/// The graph of an image in which there is no fault, or its first fault: of all its heaps, or of those on the path from
+/// the root to a task; heap by heap where it has more objects, or more tasks, than the limit.
 pub fn graph_text(
     alloc: Global,
     path: Option<u64>,

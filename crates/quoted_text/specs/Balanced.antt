@@ -2,8 +2,8 @@
 use Rattle.std.specs.Prelude.{◌≡◌, ℕ, ◌==◌, ◌||◌, Bool, true, false, List, [], ◌∷◌, ◌++◌, nat_lt, if◌then◌else◌}
 use Rattle.quoted_text.specs.Quoted.{quoted}
 
--- how far a text is read: outside strings behind brackets that wait for these closing ones, the last one in front; in a string; there
--- behind a backslash; or with a fault
+-- how far a text is read: outside strings behind brackets that wait for these closing ones, the last one in front; in a
+-- string; there behind a backslash; or with a fault
 pub data Reading : Type 0 where
   Outside : List ℕ → Reading
   Inside : List ℕ → Reading

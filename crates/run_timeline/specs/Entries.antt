@@ -159,8 +159,8 @@ run_ended p m n w (Some e) = run_end p m n w e ∷ []
 
 -- ALL OF AN ENTRY
 
--- of the entry of this number, whose worker's entry before had that one: in front of it so many tasks were made and so many chunks in
--- use, and behind it the accounts are these
+-- of the entry of this number, whose worker's entry before had that one: in front of it so many tasks were made and so
+-- many chunks in use, and behind it the accounts are these
 abbrev pub entry_events : ProgramText → ℕ → ℕ → Ledger → ℕ → ℕ → Event → List Json
 entry_events p made used l before n e =
     (slice before n e ∷ told_by p made l.machine n e.worker e.kind)

@@ -1,4 +1,5 @@
--- Events as viewers of traces want them. The axis is the number of entries: an entry is a millisecond, which is 1,000 units.
+-- Events as viewers of traces want them. The axis is the number of entries: an entry is a millisecond, which is 1,000
+-- units.
 use Rattle.std.specs.Prelude.{ℕ, ◌*◌, ◌-◌, List, ◌++◌, codes}
 use Rattle.std.specs.Fmt.{decimal}
 use Rattle.json_text.specs.Json.{Json, Members, Number, Word, Object, NoMember, Member}

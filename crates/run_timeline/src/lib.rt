@@ -1,5 +1,5 @@
-// The timeline of a run, in the Chrome trace-event format that Perfetto and others read: a lane for each worker, and its entries as
-// slices; tasks and collections as spans, forks and joins as arrows, the chunks in use as a counter.
+// The timeline of a run, in the Chrome trace-event format that Perfetto and others read: a lane for each worker, and
+// its entries as slices; tasks and collections as spans, forks and joins as arrows, the chunks in use as a counter.
 #![tactic(auto)]
 
 mod entry;

@@ -31,8 +31,8 @@ name_in (Some f) = f.name
 abbrev pub function_name : ProgramText → ℕ → List ℕ
 function_name p f = name_in (slice_get p.functions f)
 
--- a parallel loop over f goes over its numbers by `f<` for the first half and `f>` for the second: the number where a half begins, by the
--- last byte of the function's name and the numbers at the fork
+-- a parallel loop over f goes over its numbers by `f<` for the first half and `f>` for the second: the number where a
+-- half begins, by the last byte of the function's name and the numbers at the fork
 abbrev pub half_begin : Option ℕ → ℤ → ℤ → Option ℤ
 half_begin None first past = None
 half_begin (Some c) first past =

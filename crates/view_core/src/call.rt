@@ -118,7 +118,8 @@ fn answer<S: Source, K: Sink, E: Sink>(
     }
 }
 
-/// Answers a call: reads its input from the source, and writes a picture of it to standard output, or a refusal to standard error.
+/// Answers a call: reads its input from the source, and writes a picture of it to standard output, or a refusal to
+/// standard error.
 ///
 /// `words` are those behind the program's name. All bytes are built before the first is written.
 pub fn view<S: Source, K: Sink, E: Sink>(

@@ -17,8 +17,8 @@ use Rattle.view_line.specs.App.{heaps_app}
 abbrev pub Run : Type 0
 Run = Option Text × Limits
 
--- the usage; the heaps of an image, those on the path to a task, and object by object up to so many objects; the timeline, or the tasks, of
--- a run
+-- the usage; the heaps of an image, those on the path to a task, and object by object up to so many objects; the
+-- timeline, or the tasks, of a run
 pub data Asked : Type 0 where
   AsksUsage : Asked
   AsksHeaps : Option Text → Option ℕ → ℕ → Asked

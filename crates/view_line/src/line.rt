@@ -14,7 +14,8 @@ pub struct Traced {
 pub enum View {
     /// How the program is called.
     Usage,
-    /// The heaps of an image, or those on the path from the root to a task; heap by heap where there are more objects than the limit.
+    /// The heaps of an image, or those on the path from the root to a task; heap by heap where there are more objects
+    /// than the limit.
     Heaps {
         file: Option<String>,
         path: Option<u64>,
