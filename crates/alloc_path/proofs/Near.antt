@@ -1,17 +1,15 @@
 -- Where objects begin in the chunks of a heap.
-use Rattle.std.proofs.Common.{◌≡◌, ℕ, zero, suc, ◌+◌, ◌-◌, ◌<◌, ◌≤◌, List, [], ◌∷◌, length, refl, sym, subst, arith, inl, inr, eqb, All}
+use Rattle.std.proofs.Common.{◌≡◌, ℕ, zero, suc, ◌+◌, ◌<◌, ◌≤◌, List, [], ◌∷◌, length, refl, sym, subst, arith, inl, inr, eqb, All}
 use Rattle.std.proofs.lemmas.Bool.{cases_Bool, cases_lt}
 use Rattle.std.proofs.lemmas.List.Elements.{All-cons, All-head, All-nil, All-tail}
 use Rattle.listed.proofs.Members.{In, contains_from_in}
-use Rattle.object_layout.specs.declared.word.Addr.{Addr}
-use Rattle.object_layout.specs.Cell.{Born, Cell, IsObject, Mark, size_of}
+use Rattle.object_layout.specs.Cell.{Cell, IsObject, Mark, size_of}
 use Rattle.object_layout.specs.Content.{Content}
 use Rattle.object_layout.specs.Place.{cell_at, words_in, IsCellAt}
-use Rattle.object_layout.specs.Chunks.{cell_of}
 use Rattle.object_layout.specs.Objects.{Located, objects_in}
 use Rattle.object_layout.proofs.ObjectLemmas.{objects_lie_there}
 use Rattle.object_layout.proofs.PlaceLemmas as place
-use Rattle.alloc_path.specs.Heap.{AreApart, AreNear, AreTidy, AreWithin, IsTidy}
+use Rattle.alloc_path.specs.Heap.{AreNear, AreTidy, AreWithin, IsTidy}
 use Rattle.alloc_path.specs.PlaceLaws.{ObjectsAreNear}
 
 -- the only cell begins at 0

@@ -1,5 +1,5 @@
 -- Where the piece of a chunk stands, and what is found of it.
-use Rattle.std.proofs.Common.{◌≡◌, ℕ, ◌+◌, ◌-◌, ◌^◌, ◌<◌, ◌≤◌, Bool, List, [], ◌∷◌, length, refl, ap, ◌∙◌, arith, inl, inr, eqb, Option, Some, None}
+use Rattle.std.proofs.Common.{◌≡◌, ℕ, ◌+◌, ◌-◌, ◌^◌, ◌<◌, ◌≤◌, List, [], ◌∷◌, length, refl, ap, ◌∙◌, arith, inl, inr, eqb, Option, Some, None}
 use Rattle.std.specs.Prelude.{option_map, slice_get}
 use Rattle.std.specs.List.{position_or_len}
 use Rattle.std.specs.Option.{option_or}

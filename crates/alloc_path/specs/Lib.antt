@@ -3,4 +3,3 @@ pub mod Units
 pub mod FieldLaws
 pub mod PlaceLaws
 pub mod View
-pub mod Links

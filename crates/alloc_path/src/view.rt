@@ -1,11 +1,11 @@
 // What a task sees of the heaps above it.
 
-ghost use Rattle.std.specs.Prelude.{◌≡◌, ◌<◌, [], IfOk, Some, length, option_map, slice_get};
+ghost use Rattle.std.specs.Prelude.{◌≡◌, ◌<◌, ◌++◌, ◌∷◌, [], IfOk, OnOk, Some, length, map, option_map, slice_get};
+ghost use Rattle.std.specs.Arc.{arc_value};
 ghost use Rattle.std.specs.Option.{option_copied};
 ghost use Rattle.object_layout.specs.Cell.{header_of, IsPlace};
 ghost use Rattle.object_layout.specs.Piece.{or_no_cell};
 ghost use Rattle.alloc_path.specs.View.{levels_above, nearest, seen_at, view_below};
-ghost use Rattle.alloc_path.specs.Links.{levels_from};
 
 use super::heap::LeafHeap;
 use super::shelf::Shelf;
@@ -14,42 +14,63 @@ use std::alloc::{AllocError, Global};
 use std::marker::Model;
 use std::sync::Arc;
 
-// One level, and those above it.
-#[derive(Drop)]
-pub(crate) struct Link {
-    shelf: Shelf,
-    above: Option<Arc<Link, Global>>,
-}
-
 /// The immutable objects of the tasks above, as each task had them when it forked: a level for each,
 /// the parent's first. Views share the levels that they have in common.
 #[derive(Drop)]
 pub struct View {
-    top: Option<Arc<Link, Global>>,
+    // None where there is none above.
+    levels: Option<Vec<Arc<Shelf, Global>>>,
 }
 
 impl Model for View {
-    ghost use Rattle.std.specs.Prelude.{List, option_map};
+    ghost use Rattle.std.specs.Prelude.{List, map, option_map};
     ghost use Rattle.std.specs.Arc.{arc_value};
-    ghost use Rattle.alloc_path.specs.View.{Level};
-    ghost use Rattle.alloc_path.specs.Links.{levels_of};
+    ghost use Rattle.alloc_path.specs.View.{levels_above, Level};
 
     ghost Value = { List Level };
 
-    ghost view = { λ v. levels_of (option_map arc_value v.top) };
+    ghost view = { λ v. levels_above (option_map (λ levels. map arc_value levels.items) v.levels) };
 }
 
 // The immutable objects of a chunk, of which the nearest level that has the chunk decides.
-fn piece_from(link: &Link, number: u32) -> Option<&Piece>
-    ensures { option_copied result ≡ nearest (levels_from link.now) number }
+fn piece_of(levels: &[Arc<Shelf, Global>], number: u32) -> Option<&Piece>
+    ensures { option_copied result ≡ nearest (map arc_value levels.now) number }
 {
-    match link.shelf.piece(number) {
-        Some(piece) => Some(piece),
-        None => match &link.above {
-            None => None,
-            Some(above) => piece_from(above, number),
-        },
+    for level in levels {
+        if let Some(piece) = level.piece(number) {
+            return Some(piece);
+        }
     }
+    None
+}
+
+// Shares these levels too.
+fn push_levels(
+    levels: &mut Vec<Arc<Shelf, Global>>,
+    more: &[Arc<Shelf, Global>],
+) -> Result<(), AllocError>
+    ensures { OnOk result (map arc_value levels.new.items ≡ map arc_value levels.old.items ++ map arc_value more.now) }
+{
+    for level in more {
+        levels.push(Arc::try_clone(level)?)?;
+    }
+    Ok(())
+}
+
+// This level, before those that a task sees itself.
+fn below(alloc: Global, shelf: Shelf, above: Option<&View>) -> Result<View, AllocError>
+    ensures { IfOk result (λ view. view ≡ shelf ∷ levels_above (option_copied above.entry)) }
+{
+    let mut levels = Vec::new(alloc);
+    levels.push(Arc::new(alloc, shelf)?)?;
+    if let Some(view) = above {
+        if let Some(more) = &view.levels {
+            push_levels(&mut levels, more)?;
+        }
+    }
+    Ok(View {
+        levels: Some(levels),
+    })
 }
 
 impl View {
@@ -57,28 +78,30 @@ impl View {
     pub fn none() -> View
         ensures { result ≡ [] }
     {
-        View { top: None }
+        View { levels: None }
     }
 
     /// The same levels, shared.
     pub fn copy(&self) -> Result<View, AllocError>
         ensures { IfOk result (λ view. view ≡ self.now) }
     {
-        match &self.top {
-            None => Ok(View { top: None }),
-            Some(top) => Ok(View {
-                top: Some(Arc::try_clone(top)?),
-            }),
-        }
+        let Some(levels) = &self.levels else {
+            return Ok(View { levels: None });
+        };
+        let mut copied = Vec::new(*levels.allocator());
+        push_levels(&mut copied, levels)?;
+        Ok(View {
+            levels: Some(copied),
+        })
     }
 
     // The immutable objects of a chunk.
     fn piece(&self, number: u32) -> Option<&Piece>
         ensures { option_copied result ≡ nearest self.now number }
     {
-        match &self.top {
+        match &self.levels {
             None => None,
-            Some(top) => piece_from(top, number),
+            Some(levels) => piece_of(levels, number),
         }
     }
 
@@ -117,27 +140,12 @@ impl View {
     }
 }
 
-// What a task sees, or nothing.
-fn above_or_none(above: Option<&View>) -> Result<View, AllocError>
-    ensures { IfOk result (λ view. view ≡ levels_above (option_copied above.entry)) }
-{
-    match above {
-        None => Ok(View::none()),
-        Some(view) => view.copy(),
-    }
-}
-
 impl LeafHeap {
     /// What the children of the heap's task see: its immutable objects, and what the task sees itself.
     pub fn view(&self, above: Option<&View>) -> Result<View, AllocError>
         ensures { IfOk result (λ view. view ≡ view_below self.now.chunks (option_copied above.entry)) }
     {
         let alloc = self.space.allocator();
-        let shelf = Shelf::of(alloc, self.chunks())?;
-        let View { top } = above_or_none(above)?;
-        let link = Link { shelf, above: top };
-        Ok(View {
-            top: Some(Arc::new(alloc, link)?),
-        })
+        below(alloc, Shelf::of(alloc, self.chunks())?, above)
     }
 }

@@ -1,4 +1,4 @@
-use Rattle.std.proofs.Common.{◌≡◌, ◌∙◌, None, ap, nat_eq, rules, sym, Option}
+use Rattle.std.proofs.Common.{◌≡◌, ◌∙◌, None, ap, nat_eq, rules, sym}
 use Rattle.std.specs.HashMap.{get}
 use Rattle.std.specs.Option.{option_or}
 use Rattle.alloc_path.specs.View.{Level, place_on}
