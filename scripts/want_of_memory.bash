@@ -5,6 +5,7 @@
 #   nothing   want of memory, with nothing handed back
 #   part      want of memory, with a journal without an end, which `replay` accepts as far as it goes
 #   whole     want of memory, with a journal that has an end, which `replay` accepts
+#   unwritten a write fault, since the sink in memory had none, with such a journal
 #   answered  the answer that comes with memory to spare
 #   before    refused while the call was made ready
 #   unmet     no refusal met: the call was over before
@@ -21,7 +22,7 @@ more=32
 
 # Runs the cases of a folder, and puts a line for each into a file: its name, what it came to, and its number.
 run_cases() {
-  (cd "$top/crates/want_of_memory" && rt try --fail-alloc "$refused" --cases "$1") >"$room/said" 2>&1
+  (cd "$top/crates/want_of_memory" && rt try --steps 1 --fail-alloc "$refused" --cases "$1") >"$room/said" 2>&1
   awk '/^== / { name = $2; getline; told[name] = $1 " " $2 }
     /^case=/ { split($1, at, "="); if ($2 != "run=ended" || $3 != "status=0") told[at[2]] = "wrong 0" }
     END { for (name in told) print name, told[name] }' "$room/said" >"$2"
@@ -59,16 +60,16 @@ fi
 awk 'NR == FNR { count[$1] = $3; next }
   { split($1, at, "-"); name = at[1] "-" at[2]; sum[name, $2]++; all[$2]++ }
   END {
-    split("nothing part whole answered before unmet wrong", words, " ")
+    split("nothing part whole unwritten answered before unmet wrong", words, " ")
     for (workers = 1; workers <= 4; workers += 3)
       for (trial = 1; trial <= 5; trial++) {
         name = trial "-" workers
         line = "trial " trial " workers " workers " allocations " count[name]
-        for (k = 1; k <= 7; k++) line = line " " words[k] " " sum[name, words[k]] + 0
+        for (k = 1; k <= 8; k++) line = line " " words[k] " " sum[name, words[k]] + 0
         print line
       }
     line = "all"
-    for (k = 1; k <= 7; k++) line = line " " words[k] " " all[words[k]] + 0
+    for (k = 1; k <= 8; k++) line = line " " words[k] " " all[words[k]] + 0
     print line
     exit all["wrong"] > 0
   }' "$room/counts" "$room/results"

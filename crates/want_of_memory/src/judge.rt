@@ -21,6 +21,8 @@ pub(crate) enum Told {
     Part,
     /// Want of memory, with a legal journal that has an end.
     Whole,
+    /// A write fault with nothing written, since the sink had no memory, and a legal journal that has an end.
+    Unwritten,
     /// The call answered what it answers with memory to spare.
     Answered,
     /// Anything else.
@@ -36,6 +38,7 @@ impl Told {
             Told::Nothing => "nothing",
             Told::Part => "part",
             Told::Whole => "whole",
+            Told::Unwritten => "unwritten",
             Told::Answered => "answered",
             Told::Wrong => "wrong",
         }
@@ -115,6 +118,14 @@ fn handed_back<R: AllocGlobal + Threads + Wait + Sync>(rt: &R, trial: Trial, ran
     }
 }
 
+// What is handed back where the sink had no memory.
+fn unwritten<R: AllocGlobal + Threads + Wait + Sync>(rt: &R, trial: Trial, ran: &Ran) -> Told {
+    match handed_back(rt, trial, ran) {
+        Told::Whole => Told::Unwritten,
+        _ => Told::Wrong,
+    }
+}
+
 // Whether the call is answered so with memory to spare.
 fn is_answer<R: AllocGlobal + Threads + Wait + Sync>(
     rt: &R,
@@ -138,6 +149,8 @@ fn judged<R: AllocGlobal + Threads + Wait + Sync>(
     let code = ran.status.code();
     if code == 10 && written.is_empty() {
         handed_back(rt, trial, ran)
+    } else if code == 9 && written.is_empty() {
+        unwritten(rt, trial, ran)
     } else if code == 0 && is_answer(rt, trial, code, written) {
         Told::Answered
     } else {
