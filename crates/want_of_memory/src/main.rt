@@ -18,10 +18,13 @@ const REFUSED: u64 = 5000;
 
 // The numbers of a line; those that aren't there are 0.
 fn numbers_of(line: &[u8]) -> (u64, u64, u64) {
-    let mut numbers = (0, 0, 0);
+    let mut numbers = (0u64, 0u64, 0u64);
     for byte in line {
         if byte.is_ascii_digit() {
-            numbers.2 = (numbers.2 * 10 + (*byte - b'0') as u64) % 1_000_000;
+            numbers.2 = numbers
+                .2
+                .saturating_mul(10)
+                .saturating_add((*byte - b'0') as u64);
         } else if *byte == b' ' {
             numbers = (numbers.1, numbers.2, 0);
         }
