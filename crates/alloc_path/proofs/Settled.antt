@@ -9,6 +9,7 @@ use Rattle.object_layout.specs.Cell.{Cell, moved_to, no_cell, size_of}
 use Rattle.object_layout.specs.Content.{Content}
 use Rattle.object_layout.specs.Place.{cell_at, put_cell, words_in}
 use Rattle.object_layout.specs.Chunks.{cell_of, chunk_at, no_chunk, place_of, put_object, with_cell}
+use Rattle.object_layout.specs.Piece.{Frozen}
 use Rattle.alloc_path.specs.Heap.{added, AreApart, AreTidy, Heap, IsFresh, IsKept, IsSettled, IsTidy, place_for, units}
 use Rattle.alloc_path.proofs.HeapLemmas as heap
 use Rattle.alloc_path.proofs.PlacedLaws as placed
@@ -145,16 +146,16 @@ size_within : (cs : List Cell) (n : ℕ) → words_in cs ≤ n → All (λ (c : 
 size_within [] n l = All-nil (λ (c : Cell). size_of c ≤ n)
 size_within (c ∷ cs) n l = All-cons (λ (d : Cell). size_of d ≤ n) c cs (omega arith) (size_within cs n (omega arith))
 
-module _ (h : Heap) (count many part base : ℕ) (place : ℕ → Option ℕ) (entries : ℕ) (keeps : IsKept h.chunks h.current h.reserved count many part base place entries) (i : ℕ) (c : Cell)
+module _ (h : Heap) (pieces : List (Option Frozen)) (count many part base : ℕ) (place : ℕ → Option ℕ) (entries : ℕ) (keeps : IsKept h.chunks pieces h.current h.reserved count many part base place entries) (i : ℕ) (c : Cell)
     (fits : place_for h (size_of c) ≡ Some i) (unmoved : moved_to c.mark ≡ None) where
   some : 0 < size_of c
   some = omega arith
 
   inside : i < length h.chunks
-  inside = heap.fits_in h count many part base place entries keeps (size_of c) i fits some
+  inside = heap.fits_in h pieces count many part base place entries keeps (size_of c) i fits some
 
   room : words_in (chunk_at h.chunks i).cells + size_of c ≤ (chunk_at h.chunks i).size
-  room = heap.fits_room h count many part base place entries keeps (size_of c) i fits some
+  room = heap.fits_room h pieces count many part base place entries keeps (size_of c) i fits some
 
   abbrev Alone : Cell → Type 0
   Alone d = 1024 < size_of d → length ((chunk_at h.chunks i).cells ++ c ∷ []) ≡ 1
@@ -167,11 +168,11 @@ module _ (h : Heap) (count many part base : ℕ) (place : ℕ → Option ℕ) (e
   all_alone =
       elim (cases_lt 1024 (size_of c)) [
         | inl l ↦
-            let none : (chunk_at h.chunks i).cells ≡ [] = (heap.reserved_in h count many part base place entries keeps i (heap.fits_large h (size_of c) i fits l).0).1.1 in
+            let none : (chunk_at h.chunks i).cells ≡ [] = (heap.reserved_in h pieces count many part base place entries keeps i (heap.fits_large h (size_of c) i fits l).0).1.1 in
             let one : length ((chunk_at h.chunks i).cells ++ c ∷ []) ≡ 1 = ap (λ (cs : List Cell). length (cs ++ c ∷ [])) none in
             All-push Alone (chunk_at h.chunks i).cells c (subst (λ (cs : List Cell). All Alone cs) (sym none) (All-nil Alone)) (λ b. one)
         | inr l ↦
-            let size : (chunk_at h.chunks i).size ≡ 1024 = (heap.current_in h count many part base place entries keeps i (heap.fits_small h (size_of c) i fits l).0).1 in
+            let size : (chunk_at h.chunks i).size ≡ 1024 = (heap.current_in h pieces count many part base place entries keeps i (heap.fits_small h (size_of c) i fits l).0).1 in
             let r : words_in (chunk_at h.chunks i).cells + size_of c ≤ (chunk_at h.chunks i).size = room in
             All-push Alone (chunk_at h.chunks i).cells c (small_alone (chunk_at h.chunks i).cells (size_within (chunk_at h.chunks i).cells 1024 (omega arith))) (λ b. absurd (omega arith))
       ]
@@ -183,11 +184,11 @@ module _ (h : Heap) (count many part base : ℕ) (place : ℕ → Option ℕ) (e
   few_by big =
       elim (cases_lt 1024 (size_of c)) [
         | inl l ↦
-            let none : (chunk_at h.chunks i).cells ≡ [] = (heap.reserved_in h count many part base place entries keeps i (heap.fits_large h (size_of c) i fits l).0).1.1 in
+            let none : (chunk_at h.chunks i).cells ≡ [] = (heap.reserved_in h pieces count many part base place entries keeps i (heap.fits_large h (size_of c) i fits l).0).1.1 in
             let one : length ((chunk_at h.chunks i).cells ++ c ∷ []) ≡ 1 = ap (λ (cs : List Cell). length (cs ++ c ∷ [])) none in
             omega arith
         | inr l ↦
-            let size : (chunk_at h.chunks i).size ≡ 1024 = (heap.current_in h count many part base place entries keeps i (heap.fits_small h (size_of c) i fits l).0).1 in
+            let size : (chunk_at h.chunks i).size ≡ 1024 = (heap.current_in h pieces count many part base place entries keeps i (heap.fits_small h (size_of c) i fits l).0).1 in
             absurd (omega arith)
       ]
 
@@ -195,11 +196,11 @@ module _ (h : Heap) (count many part base : ℕ) (place : ℕ → Option ℕ) (e
   near_at =
       elim (cases_lt 1024 (size_of c)) [
         | inl l ↦
-            let none : (chunk_at h.chunks i).cells ≡ [] = (heap.reserved_in h count many part base place entries keeps i (heap.fits_large h (size_of c) i fits l).0).1.1 in
+            let none : (chunk_at h.chunks i).cells ≡ [] = (heap.reserved_in h pieces count many part base place entries keeps i (heap.fits_large h (size_of c) i fits l).0).1.1 in
             let zero : words_in (chunk_at h.chunks i).cells ≡ 0 = ap words_in none in
             omega arith
         | inr l ↦
-            let size : (chunk_at h.chunks i).size ≡ 1024 = (heap.current_in h count many part base place entries keeps i (heap.fits_small h (size_of c) i fits l).0).1 in
+            let size : (chunk_at h.chunks i).size ≡ 1024 = (heap.current_in h pieces count many part base place entries keeps i (heap.fits_small h (size_of c) i fits l).0).1 in
             let r : words_in (chunk_at h.chunks i).cells + size_of c ≤ (chunk_at h.chunks i).size = room in
             let s : 0 < size_of c = some in
             omega arith

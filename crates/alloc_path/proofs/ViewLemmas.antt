@@ -1,5 +1,5 @@
 -- Where the piece of a chunk stands, and what is found of it.
-use Rattle.std.proofs.Common.{◌≡◌, ℕ, ◌+◌, ◌-◌, ◌^◌, ◌<◌, ◌≤◌, List, [], ◌∷◌, length, refl, ap, ◌∙◌, arith, inl, inr, eqb, Option, Some, None}
+use Rattle.std.proofs.Common.{◌≡◌, ℕ, zero, suc, ◌+◌, ◌-◌, ◌^◌, ◌<◌, ◌≤◌, List, [], ◌∷◌, get_or, length, map, refl, ap, ◌∙◌, arith, inl, inr, eqb, Option, Some, None}
 use Rattle.std.specs.Prelude.{option_map, slice_get}
 use Rattle.std.specs.List.{position_or_len}
 use Rattle.std.specs.Option.{option_or}
@@ -63,3 +63,9 @@ some_there l n before small e =
 pub or_nothing : (o : Option ℕ) → option_or o None ≡ o
 or_nothing None = refl
 or_nothing (Some i) = refl
+
+-- what is read of a list that is seen through a function
+pub read_mapped : {X Y : Type 0} (f : X → Y) (xs : List X) (i : ℕ) (x : X) → x ≡ get_or xs i x → f x ≡ get_or (map f xs) i (f x)
+read_mapped f [] i x e = refl
+read_mapped f (y ∷ xs) zero x e = ap f e
+read_mapped f (y ∷ xs) (suc i) x e = read_mapped f xs i x e

@@ -19,6 +19,7 @@ impl Space {
         ensures taken { self.new ≡ with_places (exchanged self.old [] None None) self.new.slots self.new.spare }
         ensures spare { self.old.spare + length self.old.chunks ≤ self.new.spare }
     {
+        self.pieces.forget_all();
         self.current = None;
         self.reserved = None;
         self.words = 0;
@@ -52,6 +53,7 @@ impl Space {
         self.table.clear();
         self.base = BASE;
         index_chunks(&mut self.table, &chunks, BASE);
+        self.pieces.forget_all();
         self.chunks = chunks;
         self.current = current;
         self.reserved = reserved;
@@ -82,6 +84,12 @@ impl Space {
         index_chunks(&mut self.table, &right.chunks, self.base);
         self.base += left.chunks.len();
         index_chunks(&mut self.table, &left.chunks, self.base);
+        self.pieces.put_before(
+            left.pieces,
+            left.chunks.len(),
+            right.pieces,
+            right.chunks.len(),
+        );
         put_before(&mut self.chunks, &mut left.chunks, &mut right.chunks);
         self.current = behind(self.current, before);
         self.reserved = behind(self.reserved, before);

@@ -44,6 +44,7 @@ impl Space {
         ensures settled { IsSettled self.old.chunks → IsSettled self.new.chunks }
     {
         let words = 2 + new.header.nrefs + new.header.nints;
+        self.pieces.forget(i);
         let chunk = &mut self.chunks[i];
         let offset = chunk.used();
         let number = chunk.number();

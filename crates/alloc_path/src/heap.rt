@@ -125,6 +125,14 @@ impl LeafHeap {
         self.space.make_room(chunks)
     }
 
+    /// Makes ready what `view` shares of the chunks: copies of those with immutable objects, but of chunks that didn't
+    /// change since the last time. Where memory is wanting, what was made stays.
+    pub fn settle(&mut self) -> Result<(), AllocError>
+        ensures { self.new ≡ self.old }
+    {
+        self.space.settle()
+    }
+
     /// Adds an empty chunk. A small one is filled from then on; a large one is reserved for a large
     /// object of just its units. The answer hands the chunk back where memory is wanting.
     pub fn add(&mut self, chunk: Chunk) -> Result<(), AllocFailed<Chunk>>

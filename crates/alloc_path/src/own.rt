@@ -144,6 +144,7 @@ impl Space {
         ensures { self.new ≡ with_ref_of self.old object field value }
     {
         let chunk = &mut self.chunks[place];
+        self.pieces.forget_written(place, chunk, object.offset);
         set_ref(chunk, object.offset, field, value);
     }
 
@@ -163,6 +164,7 @@ impl Space {
         ensures { self.new ≡ record self.old { chunks = put_object self.old.chunks object (with_int (cell_of self.old.chunks object) field value) } }
     {
         let chunk = &mut self.chunks[place];
+        self.pieces.forget_written(place, chunk, object.offset);
         set_int(chunk, object.offset, field, value);
     }
 
@@ -181,6 +183,7 @@ impl Space {
         requires object { IsObject (cell_of self.old.chunks object).mark }
         ensures { self.new ≡ record self.old { chunks = put_object self.old.chunks object (frozen (cell_of self.old.chunks object)) } }
     {
+        self.pieces.forget(place);
         let chunk = &mut self.chunks[place];
         freeze(chunk, object.offset);
     }
@@ -202,6 +205,7 @@ impl Space {
         requires to { IsPlace (Some to) }
         ensures { self.new ≡ record self.old { chunks = put_object self.old.chunks object (with_mark (cell_of self.old.chunks object) (Moved to)) } }
     {
+        self.pieces.forget(place);
         let chunk = &mut self.chunks[place];
         forward(chunk, object.offset, to);
     }
@@ -217,6 +221,7 @@ impl Space {
         ensures copied { to.new ≡ record to.old { cells = to.old.cells ++ with_mark (cell_of self.old.chunks object) (Born birth) ∷ [] } }
         ensures left { self.new ≡ record self.old { chunks = put_object self.old.chunks object (with_mark (cell_of self.old.chunks object) (Moved result)) } }
     {
+        self.pieces.forget(place);
         let chunk = &mut self.chunks[place];
         move_behind(chunk, object.offset, birth, to)
     }
@@ -227,6 +232,7 @@ impl Space {
         ensures { self.new ≡ record self.old { chunks = put_object self.old.chunks object (with_mark (cell_of self.old.chunks object) (Born birth)) } }
     {
         let i = self.own_place(object.chunk);
+        self.pieces.forget(i);
         let chunk = &mut self.chunks[i];
         set_birth(chunk, object.offset, birth);
     }

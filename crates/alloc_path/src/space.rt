@@ -6,6 +6,7 @@ ghost use Rattle.object_layout.specs.Chunks.{chunk_at, held_words, next_address,
 ghost use Rattle.alloc_path.specs.Heap.{added, counted, placed, placed_at, place_for, room_of, with_places, IsCurrent, IsFresh, IsReserved, IsSettled};
 
 use super::counts::small_part;
+use kept_pieces::Pieces;
 use object_layout::{Addr, Birth, Chunk, Header, write_new};
 use std::alloc::{AllocError, AllocFailed, Global};
 use std::collections::HashMap;
@@ -33,6 +34,8 @@ pub struct New {
 #[derive(Drop)]
 pub struct Space {
     pub(crate) chunks: Vec<Chunk>,
+    // Of chunks that didn't change since.
+    pub(crate) pieces: Pieces,
     pub(crate) table: HashMap<u32, usize>,
     pub(crate) base: usize,
     pub(crate) current: Option<usize>,
@@ -52,7 +55,7 @@ impl Model for Space {
 
     ghost view = { λ h. record { chunks = h.chunks.items; current = h.current; reserved = h.reserved; since = h.since; slots = vec_capacity h.chunks - vec_len h.chunks; spare = spare h.table } };
 
-    ghost invariant = { λ h. IsKept h.chunks.items h.current h.reserved h.words h.objects h.small h.base (get nat_eq h.table) (hash_map_len h.table) };
+    ghost invariant = { λ h. IsKept h.chunks.items h.pieces.pieces h.current h.reserved h.words h.objects h.small h.base (get nat_eq h.table) (hash_map_len h.table) };
 }
 
 impl Space {
@@ -62,6 +65,7 @@ impl Space {
     {
         Space {
             chunks: Vec::new(alloc),
+            pieces: Pieces::new(alloc),
             table: HashMap::new(alloc),
             base: BASE,
             current: None,
@@ -166,7 +170,17 @@ impl Space {
         ensures more_spare { self.old.spare ≤ self.new.spare }
     {
         self.chunks.reserve(chunks as usize)?;
+        self.pieces
+            .make_places(self.chunks.len() + chunks as usize)?;
         self.table.reserve(chunks as usize)
+    }
+
+    /// Makes the pieces of all chunks of which none is kept, so that a view has nothing to make until chunks change.
+    /// Where memory is wanting, those that were made before stay.
+    pub fn settle(&mut self) -> Result<(), AllocError>
+        ensures { self.new ≡ self.old }
+    {
+        self.pieces.settle(&self.chunks)
     }
 
     /// Adds an empty chunk without memory, where there are places for it. A small one is filled from
@@ -244,6 +258,7 @@ impl Space {
         ensures settled { IsSettled self.old.chunks → IsSettled self.new.chunks }
     {
         let words = 2 + new.header.nrefs + new.header.nints;
+        self.pieces.forget(i);
         let chunk = &mut self.chunks[i];
         let offset = chunk.used();
         let number = chunk.number();

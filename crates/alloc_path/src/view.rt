@@ -141,11 +141,17 @@ impl View {
 }
 
 impl LeafHeap {
-    /// What the children of the heap's task see: its immutable objects, and what the task sees itself.
+    /// What the children of the heap's task see: its immutable objects, and what the task sees itself. Of chunks that
+    /// didn't change since `settle`, nothing is copied.
     pub fn view(&self, above: Option<&View>) -> Result<View, AllocError>
         ensures { IfOk result (λ view. view ≡ view_below self.now.chunks (option_copied above.entry)) }
     {
         let alloc = self.space.allocator();
-        below(alloc, Shelf::of(alloc, self.chunks())?, above)
+        let space = &self.space;
+        below(
+            alloc,
+            Shelf::of(alloc, &space.chunks, &space.pieces)?,
+            above,
+        )
     }
 }

@@ -18,6 +18,8 @@ mod joining;
 #[cfg(test)]
 mod joins;
 #[cfg(test)]
+mod pieces;
+#[cfg(test)]
 mod pools;
 #[cfg(test)]
 mod registers;

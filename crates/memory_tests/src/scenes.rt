@@ -51,6 +51,20 @@ pub fn place(heap: &mut LeafHeap, nrefs: u32, nints: u32, count: u32) -> bool {
     matches!(heap.place(New { header, birth }), Ok(Some(_)))
 }
 
+/// Places an object of task 3 with so many numbers, which may be written or not, and says whether it did.
+pub fn place_kind(heap: &mut LeafHeap, nints: u32, mutable: bool) -> bool {
+    if nints > 1000000 {
+        return false;
+    }
+    let header = Header {
+        nrefs: 0,
+        nints,
+        mutable,
+    };
+    let birth = Birth { task: 3, count: 9 };
+    matches!(heap.place(New { header, birth }), Ok(Some(_)))
+}
+
 /// An address in a table: the number of the chunk, and the offset.
 pub type Spot = (u32, u32);
 

@@ -1,7 +1,8 @@
 // What tasks see of the heaps above them.
 
 use crate::joining::forked;
-use crate::scenes::{Put, at, freeze, heap_of, one_frame, set_number};
+use crate::scenes::{Put, Spot, at, at_spot, freeze, heap_of, one_frame, place_kind, set_number};
+use crate::sweeping::mark_and_sweep;
 use alloc_path::{LeafHeap, View};
 use heap_tree::Tree;
 use object_layout::{Addr, Header};
@@ -125,4 +126,97 @@ fn seen_by_children(alloc: Global) -> Option<(Option<i64>, Option<i64>)> {
 #[test]
 fn children_see_their_parents_heap(rt: HostRuntime) {
     assert!(rt; seen_by_children(rt.alloc()) == Some((Some(7), Some(7))));
+}
+
+// What may happen to a heap between two views of it.
+#[derive(Clone, Copy)]
+enum Change {
+    Nothing,
+    // A number is written into the object that lies there.
+    Write(Spot, i64),
+    // An object with one number is placed, which may be written or not.
+    Place(bool),
+    Freeze(Spot),
+    // All goes that this object doesn't lead to.
+    Sweep(Spot),
+    // The pieces are made ready.
+    Settle,
+}
+
+fn happens(alloc: Global, heap: &mut LeafHeap, what: Change) -> bool {
+    match what {
+        Change::Nothing => true,
+        Change::Write(spot, value) => set_number(heap, at_spot(spot), 0, value),
+        Change::Place(mutable) => place_kind(heap, 1, mutable),
+        Change::Freeze(spot) => freeze(heap, at_spot(spot)),
+        Change::Sweep(root) => mark_and_sweep(alloc, heap, &[at_spot(root)], &[], 1).is_some(),
+        Change::Settle => heap.settle().is_ok(),
+    }
+}
+
+// Two objects with a number each, 7 and 9, of which the second one can be written.
+const TWO: [Put; 3] = [Put::Chunk(0, 1), Put::Object(0, 1, 0), Put::Object(0, 1, 1)];
+
+// The numbers that a view shows of objects at the first three places of chunk 0.
+type Numbers = [Option<i64>; 3];
+
+fn shown(heap: &LeafHeap) -> Option<Numbers> {
+    let view = heap.view(None).ok()?;
+    Some([
+        shown_int(&view, at(0, 0), 0),
+        shown_int(&view, at(0, 3), 0),
+        shown_int(&view, at(0, 6), 0),
+    ])
+}
+
+// What views show of the two objects, settled, before these changes and after them.
+fn shown_around(alloc: Global, changes: &[Change]) -> Option<(Numbers, Numbers)> {
+    let mut heap = frozen_heap(alloc, &TWO, at(0, 0), 7)?;
+    if !set_number(&mut heap, at(0, 3), 0, 9) || heap.settle().is_err() {
+        return None;
+    }
+    let before = shown(&heap)?;
+    for &what in changes {
+        if !happens(alloc, &mut heap, what) {
+            return None;
+        }
+    }
+    Some((before, shown(&heap)?))
+}
+
+const FIRST_SHOWN: Numbers = [Some(7), None, None];
+
+const CHANGES: &[(&[Change], Numbers)] = &[
+    (&[Change::Nothing], FIRST_SHOWN),
+    (&[Change::Settle], FIRST_SHOWN),
+    (&[Change::Write((0, 3), 5)], FIRST_SHOWN),
+    (
+        &[Change::Write((0, 3), 5), Change::Freeze((0, 3))],
+        [Some(7), Some(5), None],
+    ),
+    (&[Change::Freeze((0, 3))], [Some(7), Some(9), None]),
+    (
+        &[Change::Freeze((0, 3)), Change::Write((0, 3), 5)],
+        [Some(7), Some(5), None],
+    ),
+    (&[Change::Place(true)], FIRST_SHOWN),
+    (&[Change::Place(false)], [Some(7), None, Some(0)]),
+    (
+        &[Change::Place(true), Change::Settle, Change::Freeze((0, 6))],
+        [Some(7), None, Some(0)],
+    ),
+    (&[Change::Sweep((0, 0))], FIRST_SHOWN),
+    (&[Change::Sweep((0, 3))], [None; 3]),
+];
+
+fn shows_changes(alloc: Global, changes: &[Change], after: Numbers) -> bool {
+    shown_around(alloc, changes) == Some((FIRST_SHOWN, after))
+}
+
+// Pieces that were made ready don't outlast a change of what they show.
+#[test]
+fn views_show_what_changed(rt: HostRuntime) {
+    for &(changes, after) in CHANGES {
+        assert!(rt; shows_changes(rt.alloc(), changes, after));
+    }
 }

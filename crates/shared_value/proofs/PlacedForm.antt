@@ -55,7 +55,7 @@ module _ (h : Heap) (F : Formed h) (i : ℕ) (c : Cell) (b : Birth) (born : c.ma
   abbrev table : ℕ → Option ℕ
   table n = option_map (λ j. 2 ^ 63 - j) (place_in h.chunks n)
 
-  keeps : IsKept h.chunks h.current h.reserved (counted (held_words h.chunks)) (counted (object_count h.chunks)) (counted (small_words h.chunks)) (2 ^ 63) table (length h.chunks)
+  keeps : IsKept h.chunks [] h.current h.reserved (counted (held_words h.chunks)) (counted (object_count h.chunks)) (counted (small_words h.chunks)) (2 ^ 63) table (length h.chunks)
   keeps = record {
     current = F.shaped.current;
     reserved = F.shaped.reserved;
@@ -67,13 +67,14 @@ module _ (h : Heap) (F : Formed h) (i : ℕ) (c : Cell) (b : Birth) (born : c.ma
     moved = omega arith;
     table = λ n. refl;
     each = refl;
+    shown = tt;
   }
 
   inside : i < length h.chunks
-  inside = heap.fits_in h _ _ _ _ _ _ keeps (size_of c) i fits (omega arith)
+  inside = heap.fits_in h _ _ _ _ _ _ _ keeps (size_of c) i fits (omega arith)
 
   room : words_in K.cells + size_of c ≤ K.size
-  room = heap.fits_room h _ _ _ _ _ _ keeps (size_of c) i fits (omega arith)
+  room = heap.fits_room h _ _ _ _ _ _ _ keeps (size_of c) i fits (omega arith)
 
   there : chunk_at pushed i ≡ fuller
   there = get_or-set_same h.chunks i fuller no_chunk inside
@@ -89,7 +90,7 @@ module _ (h : Heap) (F : Formed h) (i : ℕ) (c : Cell) (b : Birth) (born : c.ma
 
   tidy_then : IsTidy fuller
   tidy_then =
-      let S = settled_placed h _ _ _ _ _ _ keeps i c fits (ap moved_to born) K (get_or_default h.chunks i no_chunk K inside) (record { tidy = formed_tidy h F; apart = F.shaped.apart }) in
+      let S = settled_placed h _ _ _ _ _ _ _ keeps i c fits (ap moved_to born) K (get_or_default h.chunks i no_chunk K inside) (record { tidy = formed_tidy h F; apart = F.shaped.apart }) in
       subst IsTidy there (All-get_or IsTidy pushed i no_chunk (omega (arith, inside, as_long)) S.tidy)
 
   -- it stands behind the others
@@ -104,7 +105,7 @@ module _ (h : Heap) (F : Formed h) (i : ℕ) (c : Cell) (b : Birth) (born : c.ma
   large_then big = elim (cases_lt 1024 (size_of c)) [
     | inl l ↦
         let f = heap.fits_large h (size_of c) i fits l in
-        let none : K.cells ≡ [] = (heap.reserved_in h _ _ _ _ _ _ keeps i f.0).1.1 in
+        let none : K.cells ≡ [] = (heap.reserved_in h _ _ _ _ _ _ _ keeps i f.0).1.1 in
         let size : K.size ≡ 1024 * units (size_of c) = f.1 in
         inr (
           seen K.number 0 b c,
@@ -112,7 +113,7 @@ module _ (h : Heap) (F : Formed h) (i : ℕ) (c : Cell) (b : Birth) (born : c.ma
           refl,
           omega (arith, size),
         )
-    | inr le ↦ absurd (big (heap.current_in h _ _ _ _ _ _ keeps i (heap.fits_small h (size_of c) i fits le).0).1)
+    | inr le ↦ absurd (big (heap.current_in h _ _ _ _ _ _ _ keeps i (heap.fits_small h (size_of c) i fits le).0).1)
   ]
 
   formed_there : IsFormed fuller

@@ -1,6 +1,7 @@
-use Rattle.std.proofs.Common.{◌≡◌, take}
+use Rattle.std.proofs.Common.{◌≡◌, map, take}
+use Rattle.std.specs.Arc.{arc_value}
 use Rattle.alloc_path.specs.View.{level_of}
 use Rattle.alloc_path.proofs.shelf.pieces_of.Given as goal
 
-abbrev pub invariant-loop-chunk : goal.invariant-loop-chunk
-invariant-loop-chunk l = l.pieces.items ≡ level_of (take l.chunk-index l.chunks)
+abbrev pub invariant-loop-i : goal.invariant-loop-i
+invariant-loop-i l = map arc_value l.pieces.items ≡ level_of (take l.i l.chunks)

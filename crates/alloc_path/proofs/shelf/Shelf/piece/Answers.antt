@@ -1,13 +1,17 @@
-use Rattle.std.proofs.Common.{◌≤◌, ◌^◌, ◌∙◌, arith, length, refl, sym}
+use Rattle.std.proofs.Common.{◌≤◌, ◌^◌, ◌∙◌, Some, ap, arith, length, map, refl, sym}
+use Rattle.std.proofs.lemmas.List.{length-map}
 use Rattle.std.proofs.lemmas.Option.{slice_get_read}
+use Rattle.std.specs.Arc.{arc_value}
 use Rattle.alloc_path.proofs.ViewLemmas as view
 use Rattle.alloc_path.proofs.shelf.Shelf.piece.Goals as goal
 
 pub returns-in-None : goal.returns-in-None
-returns-in-None c = rw (← c.self.view_is) (sym (view.none_there c.self.inside.pieces.items c.args.number (c.in-None.ensures.value ∙ c.self.invariant c.args.number)))
+returns-in-None c = rw (← c.self.view_is) (sym (view.none_there (map arc_value c.self.inside.pieces.items) c.args.number (c.in-None.ensures.value ∙ c.self.invariant c.args.number)))
 
 pub returns-in-Some : goal.returns-in-Some
 returns-in-Some c =
-    let small : length c.self.inside.pieces.items ≤ 2 ^ 63 = omega (arith, c.self.inside.pieces.small) in
-    let at = view.some_there c.self.inside.pieces.items c.args.number c.in-Some.before.now small (c.in-Some.ensures.value ∙ c.self.invariant c.args.number) in
-    rw (← c.self.view_is) (sym (at.is ∙ slice_get_read c.self.inside.pieces.items _ _ _ refl at.inside c.index.ensures))
+    let few = c.self.inside.pieces.small in
+    let len = length-map c.self.inside.pieces.items arc_value in
+    let small : length (map arc_value c.self.inside.pieces.items) ≤ 2 ^ 63 = omega arith in
+    let at = view.some_there (map arc_value c.self.inside.pieces.items) c.args.number c.in-Some.before.now small (c.in-Some.ensures.value ∙ c.self.invariant c.args.number) in
+    rw (← c.self.view_is) (sym (at.is ∙ (slice_get_read (map arc_value c.self.inside.pieces.items) _ _ (arc_value c.index.result.now) refl at.inside (view.read_mapped arc_value c.self.inside.pieces.items _ c.index.result.now c.index.ensures) ∙ ap Some (sym c.deref.ensures))))

@@ -22,9 +22,9 @@ pub invariant_of-self : goal.invariant_of-self
 invariant_of-self c =
     let o = rw (← c.self.view_is) at c.requires.object in
     let found = (heap.place_found c.self.inside.chunks.items c.args.object.chunk c.args.place (rw (← c.self.view_is) at c.requires.place)).0 in
-    rw c.forward.ensures
-    (heap.own_kept c.self.inside.chunks.items c.args.object c.args.place c.index_mut-chunk.result.now o found c.index_mut-chunk.ensures.value
-    _ _ _ _ _ _ _ _ c.self.invariant (with_mark (cell_at c.index_mut-chunk.result.now.cells c.args.object.offset) (Moved c.args.to)) (λ n. sym (heap.held_object (cell_at c.index_mut-chunk.result.now.cells c.args.object.offset).mark n (rw (heap.own_cell c.self.inside.chunks.items c.args.object c.args.place c.index_mut-chunk.result.now o found c.index_mut-chunk.ensures.value) at o))) refl)
+    rw (c.forget.ensures, c.forward.ensures)
+    (heap.own_changed c.self.inside.chunks.items c.args.object c.args.place c.index_mut-chunk.result.now o found c.index_mut-chunk.ensures.value
+    _ _ _ _ _ _ _ _ _ c.self.invariant (with_mark (cell_at c.index_mut-chunk.result.now.cells c.args.object.offset) (Moved c.args.to)) (λ n. sym (heap.held_object (cell_at c.index_mut-chunk.result.now.cells c.args.object.offset).mark n (rw (heap.own_cell c.self.inside.chunks.items c.args.object c.args.place c.index_mut-chunk.result.now o found c.index_mut-chunk.ensures.value) at o))) refl)
 
 pub returns : goal.returns
 returns c =

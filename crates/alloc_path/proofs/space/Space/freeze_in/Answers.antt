@@ -22,9 +22,9 @@ pub invariant_of-self : goal.invariant_of-self
 invariant_of-self c =
     let o = rw (← c.self.view_is) at c.requires.object in
     let found = (heap.place_found c.self.inside.chunks.items c.args.object.chunk c.args.place (rw (← c.self.view_is) at c.requires.place)).0 in
-    rw c.freeze.ensures
-    (heap.own_kept c.self.inside.chunks.items c.args.object c.args.place c.index_mut-chunk.result.now o found c.index_mut-chunk.ensures.value
-    _ _ _ _ _ _ _ _ c.self.invariant (frozen (cell_at c.index_mut-chunk.result.now.cells c.args.object.offset)) (λ n. refl) refl)
+    rw (c.forget.ensures, c.freeze.ensures)
+    (heap.own_changed c.self.inside.chunks.items c.args.object c.args.place c.index_mut-chunk.result.now o found c.index_mut-chunk.ensures.value
+    _ _ _ _ _ _ _ _ _ c.self.invariant (frozen (cell_at c.index_mut-chunk.result.now.cells c.args.object.offset)) (λ n. refl) refl)
 
 pub returns : goal.returns
 returns c =

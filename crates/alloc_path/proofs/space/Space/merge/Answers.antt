@@ -3,6 +3,7 @@ use Rattle.std.specs.Prelude.{nat_eq}
 use Rattle.std.specs.HashMap.{get, hash_map_len}
 use Rattle.object_layout.specs.Chunks.{chunk_at, one_each, small_part}
 use Rattle.alloc_path.specs.Heap.{counted}
+use Rattle.kept_pieces.proofs.PieceLists as lists
 use Rattle.alloc_path.proofs.HeapLemmas as heap
 use Rattle.alloc_path.proofs.space.Space.merge.Goals as goal
 
@@ -45,6 +46,16 @@ index_chunks-requires-2-clause-new c = λ i l.
     rw c.deref-2.ensures.value
     (heap.none_kept (rs ++ ks) (c.self.inside.base + length rs) (chunk_at ls i).number _ (half (chunk_at ls i).number) (heap.apart_across ls (rs ++ ks) apart i inside))
 
+pub put_before-requires-clause-left : goal.put_before-requires-clause-left
+put_before-requires-clause-left c =
+    let few = lists.few c.left.inside.pieces.pieces c.left.inside.chunks.items c.left.invariant.shown in
+    omega arith
+
+pub put_before-requires-clause-right : goal.put_before-requires-clause-right
+put_before-requires-clause-right c =
+    let few = lists.few c.right.inside.pieces.pieces c.right.inside.chunks.items c.right.invariant.shown in
+    omega arith
+
 pub invariant_of-self : goal.invariant_of-self
 invariant_of-self c =
     let before : c.len.result ≡ length c.left.inside.chunks.items = omega arith in
@@ -59,9 +70,12 @@ invariant_of-self c =
     let words = rw c.saturating_add-2.ensures at c.saturating_add-self-inside-2.ensures in
     let objects = heap.sum_merged one_each c.left.inside.chunks.items c.right.inside.chunks.items c.self.inside.chunks.items _ _ _ _ c.left.invariant.objects c.right.invariant.objects c.self.invariant.objects (rw c.saturating_add-3.ensures at c.saturating_add-self-inside-3.ensures) in
     let small = heap.sum_merged small_part c.left.inside.chunks.items c.right.inside.chunks.items c.self.inside.chunks.items _ _ _ _ c.left.invariant.small c.right.invariant.small c.self.invariant.small (rw c.saturating_add-4.ensures at c.saturating_add-self-inside-4.ensures) in
-    rw (c.put_before.ensures.items, c.behind-self-inside.ensures, c.behind-self-inside-2.ensures, before, before-2, right, left)
-    (heap.merged_kept c.left.inside.chunks.items c.right.inside.chunks.items c.self.inside.chunks.items _ _ _ _ _ _ _ c.self.inside.base _ _ c.self.invariant
-    c.left.invariant.words c.right.invariant.words c.left.invariant.within c.right.invariant.within (get nat_eq c.index_chunks.new.table) (get nat_eq c.index_chunks-2.new.table) _ _ _ refl first second each words _ _ objects small)
+    let lefts : c.len-5.result ≡ length c.left.inside.chunks.items = omega arith in
+    let rights : c.len-6.result ≡ length c.right.inside.chunks.items = omega arith in
+    let shown = lists.joined_shown c.self.inside.pieces c.left.inside.pieces.pieces c.right.inside.pieces.pieces c.left.inside.chunks.items c.right.inside.chunks.items c.self.inside.chunks.items c.left.invariant.shown c.right.invariant.shown c.self.invariant.shown in
+    rw (c.put_before-2.ensures.items, c.put_before.ensures, c.behind-self-inside.ensures, c.behind-self-inside-2.ensures, before, before-2, right, left, lefts, rights)
+    (heap.merged_kept c.left.inside.chunks.items c.right.inside.chunks.items c.self.inside.chunks.items _ _ _ _ _ _ _ _ c.self.inside.base _ _ c.self.invariant
+    c.left.invariant.words c.right.invariant.words c.left.invariant.within c.right.invariant.within (get nat_eq c.index_chunks.new.table) (get nat_eq c.index_chunks-2.new.table) _ _ _ refl first second each words _ _ objects small _ shown)
 
 pub returns : goal.returns
 returns c =
@@ -70,5 +84,5 @@ returns c =
     let both = c.saturating_add.ensures in
     let all = c.saturating_add-self-inside.ensures in
     let since : c.saturating_add-self-inside.result ≡ counted (c.self.inside.since + (c.left.inside.since + c.right.inside.since)) = omega arith in
-    rw (← c.left.view_is, ← c.right.view_is, ← c.self.view_is, c.put_before.ensures.items, c.behind-self-inside.ensures, c.behind-self-inside-2.ensures, left, right, since)
+    rw (← c.left.view_is, ← c.right.view_is, ← c.self.view_is, c.put_before-2.ensures.items, c.behind-self-inside.ensures, c.behind-self-inside-2.ensures, left, right, since)
     (record { merged = refl })

@@ -25,9 +25,9 @@ pub invariant_of-self : goal.invariant_of-self
 invariant_of-self c =
     let o = rw (← c.self.view_is) at c.requires in
     let found = rw (← c.self.view_is) at c.own_place-i.ensures in
-    rw c.set_birth.ensures
-    (heap.own_kept c.self.inside.chunks.items c.args.object c.own_place-i.result c.index_mut-chunk.result.now o found c.index_mut-chunk.ensures.value
-    _ _ _ _ _ _ _ _ c.self.invariant (with_mark (cell_at c.index_mut-chunk.result.now.cells c.args.object.offset) (Born c.args.birth)) (λ n. sym (heap.held_object (cell_at c.index_mut-chunk.result.now.cells c.args.object.offset).mark n (rw (heap.own_cell c.self.inside.chunks.items c.args.object c.own_place-i.result c.index_mut-chunk.result.now o found c.index_mut-chunk.ensures.value) at o))) refl)
+    rw (c.forget.ensures, c.set_birth.ensures)
+    (heap.own_changed c.self.inside.chunks.items c.args.object c.own_place-i.result c.index_mut-chunk.result.now o found c.index_mut-chunk.ensures.value
+    _ _ _ _ _ _ _ _ _ c.self.invariant (with_mark (cell_at c.index_mut-chunk.result.now.cells c.args.object.offset) (Born c.args.birth)) (λ n. sym (heap.held_object (cell_at c.index_mut-chunk.result.now.cells c.args.object.offset).mark n (rw (heap.own_cell c.self.inside.chunks.items c.args.object c.own_place-i.result c.index_mut-chunk.result.now o found c.index_mut-chunk.ensures.value) at o))) refl)
 
 pub returns : goal.returns
 returns c =

@@ -20,13 +20,19 @@ set_ref-requires-clause-field c =
     let field = rw (← c.self.view_is) at c.requires.field in
     rw (heap.own_cell c.self.inside.chunks.items c.args.object c.args.place c.index_mut-chunk.result.now o found c.index_mut-chunk.ensures.value) at field
 
+pub forget_written-requires : goal.forget_written-requires
+forget_written-requires c =
+    let o = rw (← c.self.view_is) at (chunks.object_with_ref c.args.self.now.chunks c.args.object c.args.field c.requires.field) in
+    let found = (heap.place_found c.self.inside.chunks.items c.args.object.chunk c.args.place (rw (← c.self.view_is) at c.requires.place)).0 in
+    rw (heap.own_cell c.self.inside.chunks.items c.args.object c.args.place c.index_mut-chunk.result.now o found c.index_mut-chunk.ensures.value) at o
+
 pub invariant_of-self : goal.invariant_of-self
 invariant_of-self c =
     let o = rw (← c.self.view_is) at (chunks.object_with_ref c.args.self.now.chunks c.args.object c.args.field c.requires.field) in
     let found = (heap.place_found c.self.inside.chunks.items c.args.object.chunk c.args.place (rw (← c.self.view_is) at c.requires.place)).0 in
-    rw c.set_ref.ensures
-    (heap.own_kept c.self.inside.chunks.items c.args.object c.args.place c.index_mut-chunk.result.now o found c.index_mut-chunk.ensures.value
-    _ _ _ _ _ _ _ _ c.self.invariant (with_ref (cell_at c.index_mut-chunk.result.now.cells c.args.object.offset) c.args.field c.args.value) (λ n. refl) (place.size_of-with_ref (cell_at c.index_mut-chunk.result.now.cells c.args.object.offset) c.args.field c.args.value))
+    rw (c.forget_written.ensures, c.set_ref.ensures)
+    (heap.own_written c.self.inside.chunks.items c.args.object c.args.place c.index_mut-chunk.result.now o found c.index_mut-chunk.ensures.value
+    _ _ _ _ _ _ _ _ _ c.self.invariant (with_ref (cell_at c.index_mut-chunk.result.now.cells c.args.object.offset) c.args.field c.args.value) refl refl (place.size_of-with_ref (cell_at c.index_mut-chunk.result.now.cells c.args.object.offset) c.args.field c.args.value))
 
 pub returns : goal.returns
 returns c =
