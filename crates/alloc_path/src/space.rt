@@ -183,6 +183,13 @@ impl Space {
         self.pieces.settle(&self.chunks)
     }
 
+    // Lets all pieces go, before all chunks change.
+    pub(crate) fn forget_pieces(&mut self)
+        ensures { self.new ≡ self.old }
+    {
+        self.pieces.forget_all();
+    }
+
     /// Adds an empty chunk without memory, where there are places for it. A small one is filled from
     /// then on; a large one is reserved for a large object of just its units.
     pub fn add_spare(&mut self, chunk: Chunk)
