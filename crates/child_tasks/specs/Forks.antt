@@ -14,6 +14,7 @@ use Rattle.write_barrier.specs.Stored.{Content, content_at}
 use Rattle.fork_join.specs.declared.forks.Child.{Child}
 use Rattle.fork_join.specs.Forked.{new_child}
 use Rattle.task_machine.specs.declared.part.Private.{Private}
+pub use Rattle.task_machine.specs.Run.{is_fork, is_par}
 use Rattle.shared_value.specs.declared.rest.Rest.{Rest}
 use Rattle.shared_value.specs.declared.rest.Work.TheVariants.{Calls}
 use Rattle.shared_value.specs.World.{World, accounts, rest_at}
@@ -24,14 +25,6 @@ use Rattle.child_tasks.specs.declared.fork.Forking.{Forking}
 use Rattle.child_tasks.specs.declared.fork.Forking.TheVariants.{Forked, Over}
 
 -- ---- WHEN IT COMES
-
-abbrev pub is_par : Instr → Bool
-is_par (Par left right) = true
-is_par _ = false
-
-abbrev pub is_fork : Option Line → Bool
-is_fork None = false
-is_fork (Some line) = is_par line.instr
 
 abbrev pub is_fork_by : ProgramText → Option Task → Bool
 is_fork_by p None = false
