@@ -19,15 +19,16 @@ use write_barrier::SetOf;
 const NIL: Option<Addr> = None;
 
 // The root before its first step.
-fn root(alloc: Global, program: &Program) -> Rest
-    ensures { result ≡ first_rest program.now result.heap.slots result.heap.spare }
+fn root(alloc: Global, program: &Program) -> Result<Rest, AllocError>
+    ensures { IfOk result (λ r. r ≡ first_rest program.now r.heap.slots r.heap.spare) }
 {
-    Rest {
-        work: Work::Calls(Frames::start(alloc, program.main(), &[0; 16], &[NIL; 16])),
+    let frames = Frames::start(alloc, program.main(), &[0; 16], &[NIL; 16])?;
+    Ok(Rest {
+        work: Work::Calls(frames),
         heap: LeafHeap::new(alloc),
         view: View::none(),
         allocations: 0,
-    }
+    })
 }
 
 /// What goes with the root before the first entry.
@@ -35,7 +36,7 @@ pub fn first_homes(alloc: Global, program: &Program) -> Result<Listed<Option<Res
     ensures { IfOk result (λ homes. (r : RestOf) × (r ≡ first_rest program.now r.heap.slots r.heap.spare) × (homes ≡ Some r ∷ [])) }
 {
     let mut homes = Listed::new(alloc);
-    homes.push(Some(root(alloc, program)))?;
+    homes.push(Some(root(alloc, program)?))?;
     Ok(homes)
 }
 

@@ -24,14 +24,14 @@ struct Case {
 }
 
 // A frame with these references.
-fn frame_of(alloc: Global, registers: &[(u32, Spot)]) -> Frames {
-    let mut frames = one_frame(alloc);
+fn frame_of(alloc: Global, registers: &[(u32, Spot)]) -> Option<Frames> {
+    let mut frames = one_frame(alloc)?;
     for &(register, spot) in registers {
         if register < 16 {
             frames.set_reference(register, Some(at_spot(spot)));
         }
     }
-    frames
+    Some(frames)
 }
 
 fn has_registers(frames: &Frames, registers: &[(u32, Spot)]) -> bool {
@@ -80,7 +80,7 @@ fn is_left(heap: &LeafHeap, frames: &Frames, case: &Case) -> bool {
 // Both of a case; None without memory.
 fn outcome(alloc: Global, case: &Case) -> Option<(bool, bool)> {
     let mut heap = heap_of(alloc, case.heap)?;
-    let mut frames = frame_of(alloc, case.registers);
+    let mut frames = frame_of(alloc, case.registers)?;
     let collected = is_collected(alloc, &mut heap, &mut frames, case);
     Some((collected, is_left(&heap, &frames, case)))
 }

@@ -23,13 +23,13 @@ const RIGHT: Option<Addr> = Some(Addr {
 const NOTHING: Outcome = (0, None);
 
 // A frame with numbers and references in the registers 0, 1 and 15.
-fn frame(alloc: Global) -> Frames {
-    let mut frames = one_frame(alloc);
+fn frame(alloc: Global) -> Option<Frames> {
+    let mut frames = one_frame(alloc)?;
     for (register, number) in [(0, 10), (1, 11), (15, 25)] {
         frames.set_int(register, number);
     }
     frames.set_reference(15, LEFT);
-    frames
+    Some(frames)
 }
 
 // Whether a child is of this number, and stands before the first instruction of its function with the registers of such a
@@ -54,7 +54,8 @@ fn begin_in_new_tree(alloc: Global) -> Option<(bool, bool)> {
     let Ok(mut tree) = Tree::new(alloc) else {
         return None;
     };
-    begin(alloc, &mut tree, &frame(alloc))
+    let top = frame(alloc)?;
+    begin(alloc, &mut tree, &top)
 }
 
 #[test]
@@ -72,7 +73,8 @@ fn three_levels(alloc: Global) -> Option<Tree> {
     let Ok(mut tree) = Tree::new(alloc) else {
         return None;
     };
-    if fork_both(alloc, &mut tree, &one_frame(alloc)) {
+    let top = one_frame(alloc)?;
+    if fork_both(alloc, &mut tree, &top) {
         Some(tree)
     } else {
         None
@@ -153,7 +155,7 @@ fn taken_over(family: &mut Family, top: &mut Frames) -> Option<(Registers, Taken
 
 // The same of a new family.
 fn taken_over_in_new_family(alloc: Global) -> Option<(Registers, Taken)> {
-    let mut top = frame(alloc);
+    let mut top = frame(alloc)?;
     let mut family = Family::new(alloc)?;
     taken_over(&mut family, &mut top)
 }
@@ -211,10 +213,9 @@ fn are_joined(family: &mut Family, top: &mut Frames, noted: Noted) -> bool {
 
 // The same of a new family.
 fn are_joined_in_new_family(alloc: Global, noted: Noted) -> bool {
-    let mut top = one_frame(alloc);
-    match Family::new(alloc) {
-        Some(mut family) => are_joined(&mut family, &mut top, noted),
-        None => false,
+    match (one_frame(alloc), Family::new(alloc)) {
+        (Some(mut top), Some(mut family)) => are_joined(&mut family, &mut top, noted),
+        _ => false,
     }
 }
 
@@ -246,10 +247,9 @@ fn are_lifted(family: &mut Family, top: &mut Frames) -> bool {
 
 // The same of a new family.
 fn are_lifted_in_new_family(alloc: Global) -> bool {
-    let mut top = one_frame(alloc);
-    match Family::new(alloc) {
-        Some(mut family) => are_lifted(&mut family, &mut top),
-        None => false,
+    match (one_frame(alloc), Family::new(alloc)) {
+        (Some(mut top), Some(mut family)) => are_lifted(&mut family, &mut top),
+        _ => false,
     }
 }
 

@@ -12,8 +12,8 @@ const THERE: Option<Addr> = Some(Addr {
 });
 
 // A frame of the function 4 whose registers are empty.
-fn started(alloc: Global) -> Frames {
-    Frames::start(alloc, 4, &[0; 16], &[NOWHERE; 16])
+fn started(alloc: Global) -> Option<Frames> {
+    Frames::start(alloc, 4, &[0; 16], &[NOWHERE; 16]).ok()
 }
 
 // Whether so many calls have a place.
@@ -26,11 +26,17 @@ fn can_push(frames: &mut Frames, calls: u32) -> bool {
     true
 }
 
+// Whether 999 calls have a place, how deep the frames then are, whether one call more is too deep, and the function that runs.
+fn at_the_limit(alloc: Global) -> Option<(bool, u32, bool, u32)> {
+    let mut frames = started(alloc)?;
+    let (pushed, depth) = (can_push(&mut frames, 999), frames.depth());
+    let deep = frames.push(6) == Err(NotPushed::Deep);
+    Some((pushed, depth, deep, frames.fun()))
+}
+
 #[test]
 fn to_the_limit(rt: HostRuntime) {
-    let mut frames = started(rt.alloc());
-    assert!(rt; can_push(&mut frames, 999) && frames.depth() == 1000);
-    assert!(rt; frames.push(6) == Err(NotPushed::Deep) && frames.fun() == 5);
+    assert!(rt; at_the_limit(rt.alloc()) == Some((true, 1000, true, 5)));
 }
 
 // A number register, a reference register, and the top frame's function, its next instruction and its depth.
@@ -63,12 +69,16 @@ fn call(frames: &mut Frames) -> Option<(Top, Top)> {
     Some((within, top(frames)))
 }
 
+fn first_call(alloc: Global) -> Option<(Top, Top)> {
+    let mut frames = started(alloc)?;
+    call(&mut frames)
+}
+
 // A call begins with the registers of its caller, and leaves them as they were.
 #[test]
 fn registers_of_a_call(rt: HostRuntime) {
-    let mut frames = started(rt.alloc());
     let expected = ((-7, THERE, 8, 0, 2), (-7, THERE, 4, 2, 1));
-    assert!(rt; call(&mut frames) == Some(expected));
+    assert!(rt; first_call(rt.alloc()) == Some(expected));
 }
 
 // Register 1 of the top frame, and of the oldest one, once that was written, read in two ways; and register 4 of the top
@@ -92,9 +102,15 @@ fn written(
     Some((above, below, among, frames.reference(4)))
 }
 
+fn written_at_first(
+    alloc: Global,
+) -> Option<(Option<Addr>, Option<Addr>, Option<Addr>, Option<Addr>)> {
+    let mut frames = started(alloc)?;
+    written(&mut frames)
+}
+
 // The oldest frame is frame 0.
 #[test]
 fn references_of_each(rt: HostRuntime) {
-    let mut frames = started(rt.alloc());
-    assert!(rt; written(&mut frames) == Some((None, THERE, THERE, THERE)));
+    assert!(rt; written_at_first(rt.alloc()) == Some((None, THERE, THERE, THERE)));
 }

@@ -22,8 +22,8 @@ pub fn at_spot(spot: Spot) -> Addr {
 }
 
 // One frame whose registers are all nil.
-pub fn one_frame(alloc: Global) -> Frames {
-    Frames::start(alloc, 0, &[0; 16], &[NOWHERE; 16])
+pub fn one_frame(alloc: Global) -> Option<Frames> {
+    Frames::start(alloc, 0, &[0; 16], &[NOWHERE; 16]).ok()
 }
 
 // Adds an empty chunk, and says whether it did.

@@ -63,7 +63,7 @@ const HOLE: Case = Case {
 
 // The counts of a collection of such a heap.
 fn collected(alloc: Global, heap: &mut LeafHeap) -> Option<(u32, u32, u32)> {
-    let mut frames = one_frame(alloc);
+    let mut frames = one_frame(alloc)?;
     frames.set_reference(0, Some(at(0, 0)));
     let moved = collect(alloc, heap, &mut frames, &[], 20)?;
     Some((moved.taken, moved.given, moved.left))

@@ -116,7 +116,8 @@ fn nearer_chunks_hide_others(rt: HostRuntime) {
 fn seen_by_children(alloc: Global) -> Option<(Option<i64>, Option<i64>)> {
     let mut tree = Tree::new(alloc).ok()?;
     let heap = upper(alloc)?;
-    let (left, right) = forked(alloc, &mut tree, 0, &heap, None, &one_frame(alloc))?;
+    let top = one_frame(alloc)?;
+    let (left, right) = forked(alloc, &mut tree, 0, &heap, None, &top)?;
     Some((
         shown_int(&left.view, at(5, 0), 0),
         shown_int(&right.view, at(5, 0), 0),

@@ -66,7 +66,8 @@ fn family(alloc: Global) -> Option<Tree> {
     let Ok(mut tree) = Tree::new(alloc) else {
         return None;
     };
-    if has_forked(alloc, &mut tree, 0, &one_frame(alloc)) {
+    let top = one_frame(alloc)?;
+    if has_forked(alloc, &mut tree, 0, &top) {
         Some(tree)
     } else {
         None

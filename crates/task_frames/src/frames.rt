@@ -1,6 +1,6 @@
 // A stack of frames, never empty and never more than 1,000 deep.
 
-ghost use Rattle.std.specs.Prelude.{◌≡◌, ◌+◌, ◌<◌, ◌≤◌, ◌↔◌, [], length, OnOk, OnErr, Err, Some, slice_get};
+ghost use Rattle.std.specs.Prelude.{◌≡◌, ◌+◌, ◌<◌, ◌≤◌, ◌↔◌, [], length, IfOk, OnOk, OnErr, Err, Some, slice_get};
 ghost use Rattle.task_frames.specs.Stack.{Stack, branched, depth_of, frames_of, reference_at, pushed, IsPopped, references_of, references_written, with_next, with_int, with_reference, with_reference_at};
 
 use object_layout::Addr;
@@ -29,10 +29,12 @@ pub enum NotPushed {
 }
 
 /// The frames of a task, of which the top one runs. The others wait for a return.
+///
+/// The top frame lies behind a pointer, so that frames are moved without their registers.
 #[derive(Drop)]
 pub struct Frames {
     below: Vec<Frame>,
-    top: Frame,
+    top: Box<Frame>,
 }
 
 impl Model for Frames {
@@ -41,7 +43,7 @@ impl Model for Frames {
 
     ghost Value = { Stack };
 
-    ghost view = { λ f. record { below = f.below.items; top = f.top } };
+    ghost view = { λ f. record { below = f.below.items; top = f.top.value } };
 
     ghost invariant = { λ f. length f.below.items < 1000 };
 }
@@ -63,33 +65,48 @@ fn ref_at(refs: &[Option<Addr>; 16], i: u32) -> Option<Addr>
 }
 
 impl Frames {
-    /// One frame, before the first instruction of a function, with these registers.
-    pub fn start(alloc: Global, fun: u32, ints: &[i64; 16], refs: &[Option<Addr>; 16]) -> Frames
-        ensures { result ≡ record { below = []; top = record { function = fun; next = 0; ints = ints.now; refs = refs.now } } }
+    // The only frame of a task.
+    fn only(alloc: Global, frame: Frame) -> Result<Frames, AllocError>
+        ensures { IfOk result (λ f. f ≡ record { below = []; top = frame }) }
     {
-        Frames {
-            below: Vec::new(alloc),
-            top: Frame {
+        match Box::new(alloc, frame) {
+            Ok(top) => Ok(Frames {
+                below: Vec::new(alloc),
+                top,
+            }),
+            Err(_) => Err(AllocError),
+        }
+    }
+
+    /// One frame, before the first instruction of a function, with these registers.
+    pub fn start(
+        alloc: Global,
+        fun: u32,
+        ints: &[i64; 16],
+        refs: &[Option<Addr>; 16],
+    ) -> Result<Frames, AllocError>
+        ensures { IfOk result (λ f. f ≡ record { below = []; top = record { function = fun; next = 0; ints = ints.now; refs = refs.now } }) }
+    {
+        Frames::only(
+            alloc,
+            Frame {
                 function: fun,
                 next: 0,
                 ints: *ints,
                 refs: *refs,
             },
-        }
+        )
     }
 
     /// One frame, before the first instruction of a function, with the registers of this top frame: what
-    /// a fork gives each child. It takes no memory.
-    pub fn branch(&self, alloc: Global, fun: u32) -> Frames
-        ensures { result ≡ branched self.now fun }
+    /// a fork gives each child.
+    pub fn branch(&self, alloc: Global, fun: u32) -> Result<Frames, AllocError>
+        ensures { IfOk result (λ f. f ≡ branched self.now fun) }
     {
-        let mut top = self.top;
+        let mut top = *self.top;
         top.function = fun;
         top.next = 0;
-        Frames {
-            below: Vec::new(alloc),
-            top,
-        }
+        Frames::only(alloc, top)
     }
 
     /// A frame for a call of a function: all registers of the top frame are copied into it.
@@ -103,7 +120,7 @@ impl Frames {
         if self.below.len() >= MOST_BELOW {
             return Err(NotPushed::Deep);
         }
-        if self.below.push(self.top).is_err() {
+        if self.below.push(*self.top).is_err() {
             return Err(NotPushed::NoMemory);
         }
         self.top.function = fun;
@@ -117,7 +134,7 @@ impl Frames {
         ensures { IsPopped self.old self.new }
     {
         if let Some(frame) = self.below.pop() {
-            self.top = frame;
+            *self.top = frame;
         }
     }
 

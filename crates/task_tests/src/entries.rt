@@ -147,7 +147,7 @@ fn handed_over(part: Private) -> (usize, u32) {
 
 // The same of a root that has room for a chunk and is given one without memory.
 fn with_spare_chunk(alloc: Global, program: &Program) -> Option<(usize, u32)> {
-    let mut part = Private::root(alloc, program, 4096, 1022);
+    let mut part = Private::root(alloc, program, 4096, 1022).ok()?;
     match (part.make_room(1), Chunk::new(alloc, 7, 1)) {
         (Ok(()), Ok(chunk)) => {
             part.add_spare_chunk(chunk);
