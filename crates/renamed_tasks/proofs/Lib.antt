@@ -9,3 +9,4 @@ pub mod Owners
 pub mod Follows
 pub mod Stepped
 pub mod Runs
+pub mod Named

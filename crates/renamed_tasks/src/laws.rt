@@ -1,5 +1,6 @@
 // Laws of renamings, each the contract of a function that does nothing.
 
+ghost use Rattle.renamed_tasks.specs.PlaceLaw.{PlacesAreNames};
 ghost use Rattle.renamed_tasks.specs.Laws.{SwapsRename, WalksAreCarried, PlacesAreCarried, StepsAreCarried, RunsAreCarried};
 
 /// To exchange the children of two forks is a renaming.
@@ -25,4 +26,9 @@ pub fn steps_are_carried()
 /// And so do any further steps: the numbers of tasks mean nothing to a program.
 pub fn runs_are_carried()
     ensures { RunsAreCarried }
+{}
+
+/// Each task has one place in the tree of forks, and no two have the same.
+pub fn places_are_names()
+    ensures { PlacesAreNames }
 {}

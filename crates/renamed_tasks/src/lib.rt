@@ -5,5 +5,6 @@
 mod laws;
 
 pub use laws::{
-    places_are_carried, runs_are_carried, steps_are_carried, swaps_rename, walks_are_carried,
+    places_are_carried, places_are_names, runs_are_carried, steps_are_carried, swaps_rename,
+    walks_are_carried,
 };
