@@ -1,17 +1,15 @@
 -- Of accesses of one strand and kind the first is enough.
-use Rattle.std.proofs.Common.{◌≡◌, ℕ, zero, suc, ◌<◌, Bool, true, false, cond, not, ◌==◌, ◌||◌, ◌&&◌, Option, Some, None, List, [], ◌∷◌, ◌++◌, length, slice_get, filter, ◌⊎◌, inl, inr, refl, ap, sym, subst, ◌∙◌, arith, append_assoc, append-nil, eqb-true}
+use Rattle.std.proofs.Common.{◌≡◌, ℕ, zero, suc, ◌<◌, Bool, true, false, cond, not, ◌==◌, ◌||◌, ◌&&◌, Some, None, List, [], ◌∷◌, ◌++◌, length, slice_get, filter, ◌⊎◌, inl, inr, refl, ap, sym, subst, ◌∙◌, append_assoc, append-nil, eqb-true}
 use Rattle.std.specs.Bool.{beq}
-use Rattle.std.specs.List.{list_any}
 use Rattle.std.proofs.lemmas.Bool.{or_cases, both_ways}
 use Rattle.indexmap.specs.IndexSet.{insert_key}
 use Rattle.listed.proofs.Members.{In, in_append_left, in_append_right, in_append_cases, got_front, got_within, in_from_kept}
-use Rattle.hh_model.specs.declared.data.Strand.{Strand}
 use Rattle.race_report.specs.declared.data.Access.{Access}
 use Rattle.race_report.specs.declared.data.Seen.{Seen}
 use Rattle.race_report.specs.declared.data.Open.{Open}
 use Rattle.race_report.specs.Ways.{Way, way_of, same_way, ways_of, has_alike}
 use Rattle.race_report.specs.Labels.{label_precedes}
-use Rattle.race_report.specs.Watch.{clash, clashes, first_clash, with_first, with_access}
+use Rattle.race_report.specs.Watch.{clashes, first_clash, with_first, with_access}
 
 -- THE FIRST OF EACH
 

@@ -1,6 +1,5 @@
 -- Objects have few fields where the limit has 32 bits.
-use Rattle.std.proofs.Common.{◌≡◌, ◌<◌, ◌≤◌, ◌^◌, ℕ, List, length, max, sym, subst, arith}
-use Rattle.hh_model.specs.declared.data.Object.{Object}
+use Rattle.std.proofs.Common.{◌<◌, ◌≤◌, ◌^◌, length, max, sym, subst, arith}
 use Rattle.hh_model.specs.declared.data.State.{State}
 use Rattle.hh_model.specs.Machine.{Progress, IsReached}
 use Rattle.hh_model.specs.Counts.{SizesIn, SizesAreBounded}

@@ -21,7 +21,7 @@ use Rattle.run_ledger.specs.declared.data.RunEnd.TheVariants.{Machine, Pool}
 use Rattle.run_ledger.specs.Heaps.{emptied, forked_heap, fresh, heap_at, in_use, let_go, with_heap, with_heap_at, within}
 use Rattle.run_ledger.specs.Steps.{allocated_by, allocated_in, join_heaps, moved_on, moved_to, settled, stepped_to, task_step, task_steps}
 use Rattle.run_ledger.specs.Entries.{after, after_kind, chunk_units, with_chunk}
-use Rattle.run_ledger.specs.Journals.{after_all, ledger_of, opening, tasks_of}
+use Rattle.run_ledger.specs.Journals.{after_all, end_of, machine_of, opening, tasks_of}
 use Rattle.run_ledger.proofs.Machine.{heap_machine, machine_is_run}
 use Rattle.race_report.specs.declared.data.Access.{Access}
 use Rattle.race_report.specs.Accesses.{accesses}
@@ -114,7 +114,10 @@ all_alike : (p : ProgramText) (s : Limits) (journal : List Event) (l : Ledger) �
 all_alike p s [] l E = E
 all_alike p s (e ∷ es) l E = all_alike p s es (after p s l e) (kind_alike p s l e.worker e.kind E)
 
+pub machine_ended : (p : ProgramText) (s : Limits) (journal : List Event) (e : End) → end_of p s journal ≡ Some (Machine e) → (machine_of p s journal).end ≡ Some e
+machine_ended p s journal e h =
+    ap (λ (m : State). m.end) (sym (machine_is_run p s journal)) ∙ all_alike p s journal (opening p s) (λ x q. absurd cc) e h
+
 pub raceless_journals_are_disentangled : RacelessJournalsAreDisentangled
 raceless_journals_are_disentangled p s journal t owner report h =
-    let ended : (ledger_of p s journal).machine.end ≡ Some (Entangled t owner) = all_alike p s journal (opening p s) (λ e q. absurd cc) (Entangled t owner) h in
-    raceless_is_disentangled p (field_limit s.version) (tasks_of journal) t owner (inr report) (ap (λ (m : State). m.end) (sym (machine_is_run p s journal)) ∙ ended)
+    raceless_is_disentangled p (field_limit s.version) (tasks_of journal) t owner (inr report) (machine_ended p s journal (Entangled t owner) h)

@@ -17,10 +17,11 @@ use Rattle.race_report.specs.declared.data.Field.{Field}
 use Rattle.race_report.specs.declared.data.Access.{Access}
 use Rattle.race_report.specs.declared.data.Race.{Race}
 use Rattle.race_report.specs.declared.data.Seen.{Seen}
+use Rattle.race_report.specs.declared.data.Sight.{Sight}
 use Rattle.race_report.specs.declared.data.Open.{Open}
 use Rattle.race_report.specs.declared.data.Watch.{Watch}
 use Rattle.race_report.specs.declared.data.Watch.TheVariants.{Open as Waits, Found}
-use Rattle.race_report.specs.Accesses.{accesses}
+use Rattle.race_report.specs.Sights.{looked}
 use Rattle.race_report.specs.Labels.{label_precedes}
 use Rattle.race_report.specs.Races.{IsPair, RaceAt}
 use Rattle.race_report.specs.Report.{IsReport, race_key}
@@ -104,25 +105,25 @@ and_tells true true h = absurd cc
 and_tells true false h = (refl, refl)
 and_tells false b h = absurd cc
 
-module _ (p : ProgramText) (limit : ℕ) (ts : List ℕ) where
+module _ (sight : Sight) (p : ProgramText) (limit : ℕ) (ts : List ℕ) where
   abbrev edges : List Edge
   edges = (run p limit ts).edges
 
   abbrev all : List Access
-  all = accesses p limit ts
+  all = looked sight p limit ts
 
   abbrev ss : List Seen
-  ss = seen p limit ts
+  ss = seen sight p limit ts
 
   K : Kept (start p limit)
   K = start_kept p limit
 
   mapped : map (λ (v : Seen). v.access) ss ≡ all
-  mapped = seen_accesses p (start p limit) ts
+  mapped = seen_accesses sight p (start p limit) ts
 
   tells : (i j : ℕ) (u v : Seen) → i < j → slice_get ss i ≡ Some u → slice_get ss j ≡ Some v → (label_precedes u.label v.label ≡ true → Precedes edges u.access.strand v.access.strand) × (Precedes edges u.access.strand v.access.strand → label_precedes u.label v.label ≡ true)
   tells i j u v lt eu ev =
-      let e = seen_tells p (start p limit) K ts u v i j lt eu ev in
+      let e = seen_tells sight p (start p limit) K ts u v i j lt eu ev in
       let right = (run_kept p (start p limit) ts K).tree.right u.access.strand v.access.strand in
       ((λ h. right.0 (sym e ∙ h)), (λ w. e ∙ right.1 w))
 
@@ -226,32 +227,32 @@ race_places (Found x ∷ ws) zero (suc j) r s lt e e' = let k = race_place ws j 
 race_places (Found x ∷ ws) (suc i) (suc j) r s lt e e' = let k = race_places ws i j r s (omega arith) e e' in (suc k.0, suc k.1, let l = k.2 in omega arith, k.3, k.4)
 
 -- accesses of one strand precede the same later ones
-strands_tell : (p : ProgramText) (limit : ℕ) (ts : List ℕ) → StrandsTell (seen p limit ts)
-strands_tell p limit ts i k j u w v li lk eu ew ev same =
-    seen_tells p (start p limit) (start_kept p limit) ts u v i j li eu ev
+strands_tell : (sight : Sight) (p : ProgramText) (limit : ℕ) (ts : List ℕ) → StrandsTell (seen sight p limit ts)
+strands_tell sight p limit ts i k j u w v li lk eu ew ev same =
+    seen_tells sight p (start p limit) (start_kept p limit) ts u v i j li eu ev
     ∙ ap (λ s. precedes (run p limit ts).edges s v.access.strand) same
-    ∙ sym (seen_tells p (start p limit) (start_kept p limit) ts w v k j lk ew ev)
+    ∙ sym (seen_tells sight p (start p limit) (start_kept p limit) ts w v k j lk ew ev)
 
 in_place : {A : Type 0} (xs : List A) (x : A) → In xs x → (i : ℕ) × (slice_get xs i ≡ Some x)
 in_place [] x h = absurd h
 in_place (y ∷ xs) x (inl e) = (0, ap (λ z. Some z) e)
 in_place (y ∷ xs) x (inr h) = let k = in_place xs x h in (suc k.0, k.1)
 
-module _ (p : ProgramText) (limit : ℕ) (ts : List ℕ) (kept : BTreeMap Key Watch) (ordered : tree.IsOrdered key_cmp kept)
-    (is : (q : Key) → tree.get key_cmp kept q ≡ kept_from q None (seen p limit ts)) where
+module _ (sight : Sight) (p : ProgramText) (limit : ℕ) (ts : List ℕ) (kept : BTreeMap Key Watch) (ordered : tree.IsOrdered key_cmp kept)
+    (is : (q : Key) → tree.get key_cmp kept q ≡ kept_from q None (seen sight p limit ts)) where
   -- a race that is kept is the pair of a field, which is the key's
   pub record Told (q : Key) (r : Race) : Type 0 where
     pub u : Access
     pub v : Access
-    pub pair : IsPair (run p limit ts).edges (accesses p limit ts) v.field u v
+    pub pair : IsPair (run p limit ts).edges (looked sight p limit ts) v.field u v
     pub same : r ≡ race_of u v
     pub at : key_of v.field ≡ q
 
-  told_by : (q : Key) (r : Race) → Good q (seen p limit ts) (Some (Found r)) → Told q r
-  told_by q r G = record { u = G.0.access; v = G.1.access; pair = pair_from p limit ts q G.0 G.1 G.2; same = G.3; at = G.2.clash.key_v }
+  told_by : (q : Key) (r : Race) → Good q (seen sight p limit ts) (Some (Found r)) → Told q r
+  told_by q r G = record { u = G.0.access; v = G.1.access; pair = pair_from sight p limit ts q G.0 G.1 G.2; same = G.3; at = G.2.clash.key_v }
 
   told_at : (q : Key) (r : Race) → tree.get key_cmp kept q ≡ Some (Found r) → Told q r
-  told_at q r e = told_by q r (subst (Good q (seen p limit ts)) (sym (is q) ∙ e) (kept_good q (seen p limit ts) (strands_tell p limit ts)))
+  told_at q r e = told_by q r (subst (Good q (seen sight p limit ts)) (sym (is q) ∙ e) (kept_good q (seen sight p limit ts) (strands_tell sight p limit ts)))
 
   told_place : (k : ℕ) (r : Race) → slice_get (tree.values kept) k ≡ Some (Found r) → (q : Key) × Told q r × (slice_get (tree.keys kept) k ≡ Some q)
   told_place k r e =
@@ -259,16 +260,16 @@ module _ (p : ProgramText) (limit : ℕ) (ts : List ℕ) (kept : BTreeMap Key Wa
       let got : tree.get key_cmp kept m.0.0 ≡ Some m.0.1 = btree_map_get_place key_total kept k m.0.0 m.0.1 ordered m.1 in
       (m.0.0, told_at m.0.0 r (got ∙ ap (λ w. Some w) m.2), got_map (λ (x : Key × Watch). x.0) kept.entries k m.0 m.1)
 
-  each : (r : Race) → Contains (races_in (tree.values kept)) r → (field : Field) × (u : Access) × (v : Access) × IsPair (run p limit ts).edges (accesses p limit ts) field u v × (r ≡ race_of u v)
+  each : (r : Race) → Contains (races_in (tree.values kept)) r → (field : Field) × (u : Access) × (v : Access) × IsPair (run p limit ts).edges (looked sight p limit ts) field u v × (r ≡ race_of u v)
   each r c =
       let at = in_place (tree.values kept) (Found r) (race_in (tree.values kept) r (in_from_contains (races_in (tree.values kept)) r c)) in
       let t = (told_place at.0 r at.1).1 in
       (t.v.field, t.u, t.v, t.pair, t.same)
 
   abbrev Has : Field → Type 0
-  Has field = (w : Access) × (z : Access) × IsPair (run p limit ts).edges (accesses p limit ts) field w z × Contains (races_in (tree.values kept)) (race_of w z)
+  Has field = (w : Access) × (z : Access) × IsPair (run p limit ts).edges (looked sight p limit ts) field w z × Contains (races_in (tree.values kept)) (race_of w z)
 
-  has_by : (field : Field) (i j : ℕ) (u v : Seen) → Clash (key_of field) (seen p limit ts) i j u v → (w : Option Watch) → kept_from (key_of field) None (seen p limit ts) ≡ w → Good (key_of field) (seen p limit ts) w → Has field
+  has_by : (field : Field) (i j : ℕ) (u v : Seen) → Clash (key_of field) (seen sight p limit ts) i j u v → (w : Option Watch) → kept_from (key_of field) None (seen sight p limit ts) ≡ w → Good (key_of field) (seen sight p limit ts) w → Has field
   has_by field i j u v C None e G = absurd (G i u C.first C.key_u)
   has_by field i j u v C (Some (Waits o)) e W = absurd (W.none i j u v C)
   has_by field i j u v C (Some (Found r)) e G =
@@ -277,14 +278,14 @@ module _ (p : ProgramText) (limit : ℕ) (ts : List ℕ) (kept : BTreeMap Key Wa
       let there : slice_get (tree.values kept) place.0 ≡ Some (Found r) = got_map (λ (x : Key × Watch). x.1) kept.entries place.0 (place.1, Found r) place.2 in (
         t.u,
         t.v,
-        subst (λ f. IsPair (run p limit ts).edges (accesses p limit ts) f t.u t.v) (key_tells t.v.field field t.at) t.pair,
+        subst (λ f. IsPair (run p limit ts).edges (looked sight p limit ts) f t.u t.v) (key_tells t.v.field field t.at) t.pair,
         subst (Contains (races_in (tree.values kept))) t.same (contains_from_in (races_in (tree.values kept)) r (in_races (tree.values kept) r (got_in (tree.values kept) place.0 (Found r) there))),
       )
 
-  every : (field : Field) (i j : ℕ) (u v : Access) → RaceAt (run p limit ts).edges (accesses p limit ts) field i j u v → Has field
+  every : (field : Field) (i j : ℕ) (u v : Access) → RaceAt (run p limit ts).edges (looked sight p limit ts) field i j u v → Has field
   every field i j u v R =
-      let C = clash_at p limit ts field i j u v R in
-      has_by field i j C.0 C.1 C.2 (kept_from (key_of field) None (seen p limit ts)) refl (kept_good (key_of field) (seen p limit ts) (strands_tell p limit ts))
+      let C = clash_at sight p limit ts field i j u v R in
+      has_by field i j C.0 C.1 C.2 (kept_from (key_of field) None (seen sight p limit ts)) refl (kept_good (key_of field) (seen sight p limit ts) (strands_tell sight p limit ts))
 
   key_is : (q : Key) (r : Race) → Told q r → race_key r ≡ q
   key_is q r T = ap race_key T.same ∙ (race_field T.u T.v ∙ T.at)
@@ -298,5 +299,5 @@ module _ (p : ProgramText) (limit : ℕ) (ts : List ℕ) (kept : BTreeMap Key Wa
       let less : key_cmp (get_or (tree.keys kept) at.0 x.0) (get_or (tree.keys kept) at.1 x.0) ≡ Less = Less-from_sorted key_cmp (tree.keys kept) at.0 at.1 x.0 ordered at.2 size in
       ap₂ key_cmp (key_is x.0 r x.1 ∙ sym (got_or_at (tree.keys kept) at.0 x.0 x.0 x.2)) (key_is y.0 s y.1 ∙ sym (got_or_at (tree.keys kept) at.1 y.0 x.0 y.2)) ∙ less
 
-  pub reported : IsReport (run p limit ts).edges (accesses p limit ts) (races_in (tree.values kept))
+  pub reported : IsReport (run p limit ts).edges (looked sight p limit ts) (races_in (tree.values kept))
   reported = record { each = each; every = every; rising = rising }

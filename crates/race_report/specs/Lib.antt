@@ -1,4 +1,5 @@
 pub mod Accesses
+pub mod Sights
 pub mod Few
 pub mod Races
 pub mod Labels

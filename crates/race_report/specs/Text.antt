@@ -17,11 +17,14 @@ field_words r = decimal r.task ∷ decimal r.count ∷ kind_word r.is_ref ∷ de
 abbrev pub spaced : List (List ℕ) → List ℕ
 spaced words = join_with_byte 32 words
 
--- the field, then the tasks and the lines of both accesses
-abbrev pub race_line : Race → List ℕ
-race_line r =
-    line (codes "race" ∷ spaced (field_words r) ∷ codes "tasks" ∷ decimal r.first.0 ∷ decimal r.second.0
+-- a word, the field, then the tasks and the lines of both accesses
+abbrev pub pair_line : List ℕ → Race → List ℕ
+pair_line word r =
+    line (word ∷ spaced (field_words r) ∷ codes "tasks" ∷ decimal r.first.0 ∷ decimal r.second.0
     ∷ codes "lines" ∷ decimal r.first.1 ∷ decimal r.second.1 ∷ [])
+
+abbrev pub race_line : Race → List ℕ
+race_line = pair_line (codes "race")
 
 -- a line for each race, and the end line with their number
 abbrev pub races_text : List Race → List ℕ

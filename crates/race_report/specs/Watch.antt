@@ -15,7 +15,9 @@ use Rattle.race_report.specs.declared.data.Bound.{Bound}
 use Rattle.race_report.specs.declared.data.Open.{Open}
 use Rattle.race_report.specs.declared.data.Watch.{Watch}
 use Rattle.race_report.specs.declared.data.Watch.TheVariants.{Open as Waits, Found}
-use Rattle.race_report.specs.Accesses.{access_of, with_some}
+use Rattle.race_report.specs.declared.data.Sight.{Sight}
+use Rattle.race_report.specs.Accesses.{with_some}
+use Rattle.race_report.specs.Sights.{looked_of}
 use Rattle.race_report.specs.Ways.{has_alike}
 use Rattle.race_report.specs.Labels.{allows, bound, joined_bound, label_of, label_precedes}
 
@@ -25,15 +27,15 @@ abbrev pub labelled : List Strand → Option Access → Option Seen
 labelled label None = None
 labelled label (Some a) = Some (record { access = a; label = label })
 
-abbrev pub seen_of : ProgramText → State → ℕ → Option Seen
-seen_of p m t = labelled (label_of m.tasks t) (access_of p m t)
+abbrev pub seen_of : Sight → ProgramText → State → ℕ → Option Seen
+seen_of sight p m t = labelled (label_of m.tasks t) (looked_of sight p m t)
 
-abbrev pub seen_from : ProgramText → State → List ℕ → List Seen
-seen_from p m [] = []
-seen_from p m (t ∷ ts) = with_some (seen_of p m t) (seen_from p (step p m t) ts)
+abbrev pub seen_from : Sight → ProgramText → State → List ℕ → List Seen
+seen_from sight p m [] = []
+seen_from sight p m (t ∷ ts) = with_some (seen_of sight p m t) (seen_from sight p (step p m t) ts)
 
-abbrev pub seen : ProgramText → ℕ → List ℕ → List Seen
-seen p limit ts = seen_from p (start p limit) ts
+abbrev pub seen : Sight → ProgramText → ℕ → List ℕ → List Seen
+seen sight p limit ts = seen_from sight p (start p limit) ts
 
 -- ONE FIELD
 

@@ -28,6 +28,17 @@ pub struct Access {
     pub swaps: bool,
 }
 
+/// What a run is looked through for.
+#[derive(Clone, Copy)]
+pub enum Sight {
+    /// All accesses of fields.
+    Fields,
+    /// Those by compare and swap alone, counted like all others.
+    Swaps,
+    /// Prints, counted like writes to one field.
+    Prints,
+}
+
 /// Two accesses of a field that race: for each its task and line.
 #[derive(Clone, Copy)]
 pub struct Race {

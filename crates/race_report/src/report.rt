@@ -5,9 +5,10 @@ ghost use Rattle.run_trace.specs.Settings.{field_limit};
 ghost use Rattle.run_ledger.specs.Journals.{first_refused, refused_as_run, machine_of, tasks_of};
 ghost use Rattle.run_journal.specs.Replay.{ReplayFails};
 ghost use Rattle.race_report.specs.Accesses.{accesses};
+ghost use Rattle.race_report.specs.Sights.{looked};
 ghost use Rattle.race_report.specs.Report.{IsReport};
 
-use crate::data::Race;
+use crate::data::{Race, Sight};
 use crate::scan::scan;
 use crate::watch::races_in;
 use hh_lang::Program;
@@ -15,18 +16,26 @@ use run_journal::{ReplayError, model_replay, replayed};
 use run_trace::{Entry, Settings};
 use std::alloc::{AllocError, Global};
 
-// The races of a journal without refused entries.
-fn races_of(
+/// Of a journal without refused entries, looked through for something: for each field for which two race their pair, in
+/// the order of the fields, as for `races`.
+pub fn races_of(
     alloc: Global,
+    sight: Sight,
     program: &Program,
     settings: Settings,
     journal: &[Entry],
 ) -> Result<Vec<Race>, AllocError>
     requires { first_refused program.now settings journal.now ≡ None }
-    ensures { IfOk result (λ races. IsReport (machine_of program.now settings journal.now).edges (accesses program.now (field_limit settings.version) (tasks_of journal.now)) races.items) }
+    ensures { IfOk result (λ races. IsReport (machine_of program.now settings journal.now).edges (looked sight program.now (field_limit settings.version) (tasks_of journal.now)) races.items) }
 {
     let _workers = settings.workers();
-    let kept = scan(alloc, program, settings.version().field_limit(), journal)?;
+    let kept = scan(
+        alloc,
+        sight,
+        program,
+        settings.version().field_limit(),
+        journal,
+    )?;
     races_in(alloc, &kept)
 }
 
@@ -59,7 +68,7 @@ pub fn races(
     ensures fails { IfErr result (ReplayFails (first_refused program.now settings journal.now)) }
 {
     check_journal(alloc, program, settings, journal)?;
-    match races_of(alloc, program, settings, journal) {
+    match races_of(alloc, Sight::Fields, program, settings, journal) {
         Ok(races) => Ok(races),
         Err(AllocError) => Err(ReplayError::NoMemory),
     }
@@ -77,7 +86,7 @@ pub fn races_of_run(
     ensures fails { IfErr result (ReplayFails (refused_as_run program.now settings journal.now)) }
 {
     let _end = model_replay(alloc, program, settings, journal)?;
-    match races_of(alloc, program, settings, journal) {
+    match races_of(alloc, Sight::Fields, program, settings, journal) {
         Ok(races) => Ok(races),
         Err(AllocError) => Err(ReplayError::NoMemory),
     }

@@ -8,9 +8,9 @@ ghost use Rattle.race_report.specs.Accesses.{with_some};
 ghost use Rattle.race_report.specs.Watch.{Key, key_cmp, kept_from, seen, seen_from, seen_of};
 ghost use Rattle.race_report.specs.Scan.{Follows};
 
-use crate::access::access_of;
-use crate::data::{Seen, Watch};
+use crate::data::{Seen, Sight, Watch};
 use crate::label::label_of;
+use crate::sight::looked_of;
 use crate::watch::keep;
 use hh_lang::Program;
 use hh_model::{Machine, State, StepError, sizes_are_bounded};
@@ -26,22 +26,23 @@ fn field_limit(state: &State) -> u32
     state.field_limit
 }
 
-/// The access of the next step of a task is kept, if it makes one.
+/// What the next step of a task makes of what is looked for is kept, if it makes any.
 fn look(
     alloc: Global,
+    sight: Sight,
     program: &Program,
     machine: &Machine,
     kept: &mut BTreeMap<((u32, u32), (u32, u32)), Watch>,
     t: u32,
 ) -> Result<(), AllocError>
     requires { machine.now.steps < 2 ^ 30 }
-    ensures { OnOk result ((q : Key) → tree.get key_cmp kept.new q ≡ kept_from q (tree.get key_cmp kept.old q) (with_some (seen_of program.now machine.now.state t) [])) }
+    ensures { OnOk result ((q : Key) → tree.get key_cmp kept.new q ≡ kept_from q (tree.get key_cmp kept.old q) (with_some (seen_of sight program.now machine.now.state t) [])) }
 {
     sizes_are_bounded();
     machine.reached();
     let state = machine.state();
     field_limit(state);
-    match access_of(program, state, t) {
+    match looked_of(sight, program, state, t) {
         Some(access) => {
             let label = label_of(alloc, state, t)?;
             keep(alloc, kept, Seen { access, label })
@@ -67,6 +68,7 @@ fn take(machine: &mut Machine, t: u32) -> Result<(), AllocError>
 /// So many steps of a task.
 fn take_steps(
     alloc: Global,
+    sight: Sight,
     program: &Program,
     machine: &mut Machine,
     kept: &mut BTreeMap<((u32, u32), (u32, u32)), Watch>,
@@ -77,10 +79,10 @@ fn take_steps(
     requires few { machine.old.steps + k < 2 ^ 30 }
     ensures program { machine.new.program ≡ machine.old.program }
     ensures few { machine.new.steps ≤ machine.old.steps + k }
-    ensures follows { OnOk result (Follows program.now machine.old.state (tree.get key_cmp kept.old) machine.new.state (tree.get key_cmp kept.new) (replicate k t)) }
+    ensures follows { OnOk result (Follows sight program.now machine.old.state (tree.get key_cmp kept.old) machine.new.state (tree.get key_cmp kept.new) (replicate k t)) }
 {
     for i in 0..k {
-        look(alloc, program, machine, kept, t)?;
+        look(alloc, sight, program, machine, kept, t)?;
         take(machine, t)?;
     }
     Ok(())
@@ -106,6 +108,7 @@ fn steps_in(kind: Kind) -> Steps
 /// The steps of a journal.
 fn take_entries(
     alloc: Global,
+    sight: Sight,
     program: &Program,
     machine: &mut Machine,
     kept: &mut BTreeMap<((u32, u32), (u32, u32)), Watch>,
@@ -113,11 +116,11 @@ fn take_entries(
 ) -> Result<(), AllocError>
     requires program { machine.old.program ≡ program.now }
     requires few { machine.old.steps + length (tasks_of journal.now) < 2 ^ 30 }
-    ensures { OnOk result ((q : Key) → tree.get key_cmp kept.new q ≡ kept_from q (tree.get key_cmp kept.old q) (seen_from program.now machine.old.state (tasks_of journal.now))) }
+    ensures { OnOk result ((q : Key) → tree.get key_cmp kept.new q ≡ kept_from q (tree.get key_cmp kept.old q) (seen_from sight program.now machine.old.state (tasks_of journal.now))) }
 {
     for entry in journal {
         let ran = steps_in(entry.kind());
-        take_steps(alloc, program, machine, kept, ran.task, ran.count)?;
+        take_steps(alloc, sight, program, machine, kept, ran.task, ran.count)?;
     }
     Ok(())
 }
@@ -125,31 +128,33 @@ fn take_entries(
 /// The steps of a journal, from the start.
 fn scan_onto(
     alloc: Global,
+    sight: Sight,
     program: &Program,
     field_limit: u32,
     kept: &mut BTreeMap<((u32, u32), (u32, u32)), Watch>,
     journal: &[Entry],
 ) -> Result<(), AllocError>
     requires { length (tasks_of journal.now) < 2 ^ 30 }
-    ensures { OnOk result ((q : Key) → tree.get key_cmp kept.new q ≡ kept_from q (tree.get key_cmp kept.old q) (seen program.now field_limit (tasks_of journal.now))) }
+    ensures { OnOk result ((q : Key) → tree.get key_cmp kept.new q ≡ kept_from q (tree.get key_cmp kept.old q) (seen sight program.now field_limit (tasks_of journal.now))) }
 {
     let mut machine = Machine::start(alloc, program, field_limit)?;
-    take_entries(alloc, program, &mut machine, kept, journal)
+    take_entries(alloc, sight, program, &mut machine, kept, journal)
 }
 
 /// What is kept of each field after the steps of a journal.
 pub(crate) fn scan(
     alloc: Global,
+    sight: Sight,
     program: &Program,
     field_limit: u32,
     journal: &[Entry],
 ) -> Result<BTreeMap<((u32, u32), (u32, u32)), Watch>, AllocError>
     requires { length (tasks_of journal.now) < 2 ^ 30 }
-    ensures kept { IfOk result (λ kept. (q : Key) → tree.get key_cmp kept q ≡ kept_from q None (seen program.now field_limit (tasks_of journal.now))) }
+    ensures kept { IfOk result (λ kept. (q : Key) → tree.get key_cmp kept q ≡ kept_from q None (seen sight program.now field_limit (tasks_of journal.now))) }
     ensures ordered { IfOk result (λ kept. tree.IsOrdered key_cmp kept) }
 {
     let mut kept = BTreeMap::new(alloc);
-    scan_onto(alloc, program, field_limit, &mut kept, journal)?;
+    scan_onto(alloc, sight, program, field_limit, &mut kept, journal)?;
     let _count = kept.len();
     Ok(kept)
 }

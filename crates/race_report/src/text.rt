@@ -5,7 +5,7 @@ ghost use Rattle.std.specs.String.{string_bytes};
 ghost use Rattle.std.specs.List.{flat_map};
 ghost use Rattle.std.specs.Fmt.{decimal};
 ghost use Rattle.run_ledger.specs.Text.{end_line};
-ghost use Rattle.race_report.specs.Text.{kind_word, field_words, spaced, race_line, races_text};
+ghost use Rattle.race_report.specs.Text.{kind_word, field_words, spaced, pair_line, races_text};
 
 use crate::data::Race;
 use std::alloc::{AllocError, Global};
@@ -25,31 +25,31 @@ fn field_text(alloc: Global, race: &Race) -> Result<String, AllocError>
     format!(in alloc; "{} {} {word} {}", race.task, race.count, race.index)
 }
 
-// The line of a race.
-fn race_text(alloc: Global, race: &Race) -> Result<String, AllocError>
-    ensures { IfOk result (λ text. string_bytes text ≡ race_line race.now) }
+// The line of a race, with a word in front.
+fn race_text(alloc: Global, word: &str, race: &Race) -> Result<String, AllocError>
+    ensures { IfOk result (λ text. string_bytes text ≡ pair_line word.now race.now) }
 {
     let field = field_text(alloc, race)?;
     let (first, first_line) = race.first;
     let (second, second_line) = race.second;
-    format!(in alloc; "race {field} tasks {first} {second} lines {first_line} {second_line}\n")
+    format!(in alloc; "{word} {field} tasks {first} {second} lines {first_line} {second_line}\n")
 }
 
-// Adds the line of a race.
-fn add_race(alloc: Global, text: &mut Vec<u8>, race: &Race) -> Result<(), AllocError>
-    ensures { OnOk result (text.new.items ≡ text.old.items ++ race_line race.now) }
+// Adds the line of a race, with a word in front.
+fn add_race(alloc: Global, text: &mut Vec<u8>, word: &str, race: &Race) -> Result<(), AllocError>
+    ensures { OnOk result (text.new.items ≡ text.old.items ++ pair_line word.now race.now) }
 {
-    let line = race_text(alloc, race)?;
+    let line = race_text(alloc, word, race)?;
     text.extend_from_slice(line.as_bytes())
 }
 
-// The lines of races.
-fn race_lines(alloc: Global, races: &[Race]) -> Result<Vec<u8>, AllocError>
-    ensures { IfOk result (λ text. text.items ≡ flat_map race_line races.now) }
+/// A line for each race, with a word in front.
+pub fn pair_lines(alloc: Global, word: &str, races: &[Race]) -> Result<Vec<u8>, AllocError>
+    ensures { IfOk result (λ text. text.items ≡ flat_map (pair_line word.now) races.now) }
 {
     let mut text = Vec::new(alloc);
     for race in races {
-        add_race(alloc, &mut text, race)?;
+        add_race(alloc, &mut text, word, race)?;
     }
     Ok(text)
 }
@@ -65,7 +65,7 @@ fn count_text(alloc: Global, count: usize) -> Result<String, AllocError>
 pub fn races_text(alloc: Global, races: &[Race]) -> Result<Vec<u8>, AllocError>
     ensures { IfOk result (λ text. text.items ≡ races_text races.now) }
 {
-    let mut text = race_lines(alloc, races)?;
+    let mut text = pair_lines(alloc, "race", races)?;
     let line = count_text(alloc, races.len())?;
     text.extend_from_slice(line.as_bytes())?;
     Ok(text)

@@ -8,5 +8,5 @@ abbrev pub invariant-loop-entry : goal.invariant-loop-entry
 invariant-loop-entry l = record {
   program : l.machine.program ≡ l.program;
   few : l.machine.steps + length (tasks_of (drop l.entry-index l.journal)) ≤ l.initial.machine.steps + length (tasks_of l.journal);
-  kept : (q : Key) → kept_from q (tree.get key_cmp l.kept q) (seen_from l.program l.machine.state (tasks_of (drop l.entry-index l.journal))) ≡ kept_from q (tree.get key_cmp l.initial.kept q) (seen_from l.program l.initial.machine.state (tasks_of l.journal));
+  kept : (q : Key) → kept_from q (tree.get key_cmp l.kept q) (seen_from l.sight l.program l.machine.state (tasks_of (drop l.entry-index l.journal))) ≡ kept_from q (tree.get key_cmp l.initial.kept q) (seen_from l.sight l.program l.initial.machine.state (tasks_of l.journal));
 }

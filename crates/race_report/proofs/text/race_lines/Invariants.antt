@@ -1,7 +1,0 @@
-use Rattle.std.proofs.Common.{◌≡◌, take}
-use Rattle.std.specs.List.{flat_map}
-use Rattle.race_report.specs.Text.{race_line}
-use Rattle.race_report.proofs.text.race_lines.Given as goal
-
-abbrev pub invariant-loop-race : goal.invariant-loop-race
-invariant-loop-race l = l.text.items ≡ flat_map race_line (take l.race-index l.races)

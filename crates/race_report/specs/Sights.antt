@@ -1,0 +1,75 @@
+-- What a run is looked through for: accesses of fields; those by compare and swap alone, counted like all others; or prints.
+use Rattle.std.specs.Prelude.{ℕ, Bool, true, false, Option, Some, None, List, [], ◌∷◌, slice_get, if◌then◌else◌}
+use Rattle.hh_lang.specs.declared.instr.Instr.{Instr}
+use Rattle.hh_lang.specs.declared.instr.Instr.TheVariants.{Out}
+use Rattle.hh_lang.specs.declared.program.Line.{Line}
+use Rattle.hh_lang.specs.Form.{ProgramText}
+use Rattle.hh_model.specs.declared.data.Strand.{Strand}
+use Rattle.hh_model.specs.declared.data.Task.{Task}
+use Rattle.hh_model.specs.declared.data.State.{State}
+use Rattle.hh_model.specs.Step.{can_step, fetched, start, step, strand_of}
+use Rattle.race_report.specs.declared.data.Field.{Field}
+use Rattle.race_report.specs.declared.data.Access.{Access}
+use Rattle.race_report.specs.declared.data.Sight.{Sight}
+use Rattle.race_report.specs.declared.data.Sight.TheVariants.{Fields, Swaps, Prints}
+use Rattle.race_report.specs.Accesses.{access, access_of, accesses_from, with_some}
+
+-- COMPARE AND SWAPS
+
+-- counted like an access that none makes
+abbrev pub plain : Access → Access
+plain a = record a { swaps = false }
+
+abbrev pub swap_if : Bool → Access → Option Access
+swap_if true a = Some (plain a)
+swap_if false a = None
+
+abbrev pub swap_of : Option Access → Option Access
+swap_of None = None
+swap_of (Some a) = swap_if a.swaps a
+
+-- those of these accesses that compare and swaps make, each counted like another access
+abbrev pub swaps_of : List Access → List Access
+swaps_of [] = []
+swaps_of (a ∷ rest) = with_some (swap_if a.swaps a) (swaps_of rest)
+
+-- PRINTS count as writes to one field, the same for all
+
+abbrev pub print_field : Field
+print_field = record { name = record { task = 0; count = 0 }; is_number = false; index = 0 }
+
+abbrev pub said_by : Strand → ℕ → Instr → Option Access
+said_by s line (Out x) = access s line true false (Some print_field)
+said_by s line _ = None
+
+abbrev pub line_said : ℕ → Task → Option Line → Option Access
+line_said t x None = None
+line_said t x (Some line) = said_by (strand_of t x) line.number line.instr
+
+abbrev pub task_said : ProgramText → ℕ → Option Task → Option Access
+task_said p t None = None
+task_said p t (Some x) = line_said t x (fetched p x.top)
+
+-- what the next step of a task prints, where it can take one and prints
+abbrev pub said_of : ProgramText → State → ℕ → Option Access
+said_of p m t = if can_step m t then task_said p t (slice_get m.tasks t) else None
+
+abbrev pub said_from : ProgramText → State → List ℕ → List Access
+said_from p m [] = []
+said_from p m (t ∷ ts) = with_some (said_of p m t) (said_from p (step p m t) ts)
+
+-- ALL
+
+abbrev pub looked_of : Sight → ProgramText → State → ℕ → Option Access
+looked_of Fields p m t = access_of p m t
+looked_of Swaps p m t = swap_of (access_of p m t)
+looked_of Prints p m t = said_of p m t
+
+abbrev pub looked_from : Sight → ProgramText → State → List ℕ → List Access
+looked_from Fields p m ts = accesses_from p m ts
+looked_from Swaps p m ts = swaps_of (accesses_from p m ts)
+looked_from Prints p m ts = said_from p m ts
+
+-- what steps of these tasks make of what is looked for, in this order
+abbrev pub looked : Sight → ProgramText → ℕ → List ℕ → List Access
+looked sight p limit ts = looked_from sight p (start p limit) ts

@@ -1,0 +1,72 @@
+// What the next step of a task makes of what is looked for.
+
+ghost use Rattle.std.specs.Prelude.{◌≡◌, ◌<◌, ◌^◌};
+ghost use Rattle.race_report.specs.Few.{AreFew};
+ghost use Rattle.race_report.specs.Sights.{swap_of, said_of, looked_of};
+
+use crate::access::access_of;
+use crate::data::{Access, Field, Sight};
+use hh_lang::{Instr, Program};
+use hh_model::{Name, State, Strand};
+
+// All prints count as writes to this one field.
+const PRINT_FIELD: Field = Field {
+    name: Name { task: 0, count: 0 },
+    is_number: false,
+    index: 0,
+};
+
+// An access by a compare and swap, counted like another.
+fn swap_of(access: Option<Access>) -> Option<Access>
+    ensures { result ≡ swap_of access }
+{
+    match access {
+        None => None,
+        Some(access) => {
+            if access.swaps {
+                Some(Access {
+                    swaps: false,
+                    ..access
+                })
+            } else {
+                None
+            }
+        }
+    }
+}
+
+// What the next step of a task prints.
+fn said_of(program: &Program, state: &State, t: u32) -> Option<Access>
+    ensures { result ≡ said_of program.now state.now t }
+{
+    if !state.can_step(t) {
+        return None;
+    }
+    let task = state.tasks.get(t as usize)?;
+    let line = program.line(task.top.function, task.top.next)?;
+    match line.instr {
+        Instr::Out(_) => Some(Access {
+            strand: Strand {
+                task: t,
+                joins: task.joins,
+            },
+            line: line.number,
+            field: PRINT_FIELD,
+            writes: true,
+            swaps: false,
+        }),
+        _ => None,
+    }
+}
+
+/// What the next step of a task makes of what is looked for.
+pub(crate) fn looked_of(sight: Sight, program: &Program, state: &State, t: u32) -> Option<Access>
+    requires { AreFew state.now.store }
+    ensures { result ≡ looked_of sight program.now state.now t }
+{
+    match sight {
+        Sight::Fields => access_of(program, state, t),
+        Sight::Swaps => swap_of(access_of(program, state, t)),
+        Sight::Prints => said_of(program, state, t),
+    }
+}
