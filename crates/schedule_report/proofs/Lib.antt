@@ -1,0 +1,4 @@
+pub mod Empty
+pub mod Swapped
+pub mod Printed
+pub mod Verdicts

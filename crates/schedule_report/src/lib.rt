@@ -1,0 +1,13 @@
+// What one run of a program says of all its schedules: the pairs that the graph doesn't put in order, or that every
+// schedule comes to the same.
+#![tactic(auto)]
+
+mod data;
+mod laws;
+mod report;
+mod text;
+
+pub use data::{Clashes, Verdict};
+pub use laws::{agreeing_runs_speak_for_all, verdicts_are_exact};
+pub use report::clashes_of_run;
+pub use text::clashes_text;
