@@ -2,3 +2,4 @@ pub mod Loops
 pub mod Made
 pub mod Steps
 pub mod Slices
+pub mod Held

@@ -8,7 +8,6 @@ use Rattle.hh_lang.specs.Form.{ProgramText}
 use Rattle.run_trace.specs.Entry.{Event}
 use Rattle.run_trace.specs.Settings.{Limits}
 use Rattle.run_ledger.specs.declared.data.Ledger.{Ledger}
-use Rattle.run_ledger.specs.Heaps.{in_use}
 use Rattle.run_ledger.specs.Entries.{after}
 use Rattle.run_ledger.specs.declared.data.RefusedAt.{RefusedAt}
 use Rattle.run_ledger.specs.declared.data.RunEnd.{RunEnd}
@@ -20,6 +19,7 @@ use Rattle.run_journal.proofs.Replays.{cut}
 use Rattle.quoted_text.specs.Quoted.{quoted}
 use Rattle.json_text.specs.Json.{Json, Word, NoMember, Member, Members, json, further, more_member, more_members}
 use Rattle.json_text.proofs.Texts.{arrays_are_joined}
+use Rattle.run_timeline.specs.Words.{counts_of}
 use Rattle.run_timeline.specs.Events.{process, lane, arrow_begins, arrow_ends, arguments, two_numbers, event, end_time}
 use Rattle.run_timeline.specs.Entries.{entry_events, forked, task_name, task_begins}
 use Rattle.run_timeline.specs.Timeline.{events_from, events_of, lanes, timeline}
@@ -28,7 +28,7 @@ use Rattle.run_timeline.proofs.Made.{span_made, event_made}
 
 module _ (p : ProgramText) (s : Limits) (l : Ledger) (seats : List ℕ) (n : ℕ) (journal : List Event) (i : ℕ) (e : Event) (lt : i < length journal) (is : e ≡ get_or journal i e) where
   abbrev here : List Json
-  here = entry_events p (length l.machine.tasks) (in_use l) (after p s l e) (get_or seats e.worker 0) n e
+  here = entry_events p (counts_of l) (after p s l e) (get_or seats e.worker 0) n e
 
   abbrev later : List Json
   later = events_from p s (after p s l e) (slice_set seats e.worker n) (n + 1) (drop (i + 1) journal)
@@ -82,16 +82,17 @@ forked_told made there n w before now later ne e f =
     rw q (two_told (arrow_begins (codes "fork") made n w) (arrow_begins (codes "fork") (made + 1) n w) before now later e f)
 
 -- the events of one entry
-pub entered_told : (v : Json) (ts cs es : List Json) (before a b c d : List ℕ) → a ≡ before ++ further v → b ≡ a ++ flat_map further ts → c ≡ b ++ flat_map further cs → d ≡ c ++ flat_map further es
-    → d ≡ before ++ flat_map further ((v ∷ ts) ++ cs ++ es)
-entered_told v ts cs es before a b c d ea eb ec ed =
-    ed ∙ ap (λ x. x ++ flat_map further es) (ec ∙ ap (λ x. x ++ flat_map further cs) (eb ∙ ap (λ x. x ++ flat_map further ts) ea))
-    ∙ five before (further v) (flat_map further ts) (flat_map further cs) (flat_map further es)
-    ∙ ap (λ x. before ++ (x ++ flat_map further es)) (sym (flat_map-append further (v ∷ ts) cs))
-    ∙ ap (λ x. before ++ x) (sym (flat_map-append further ((v ∷ ts) ++ cs) es))
+pub entered_told : (v : Json) (ts cs ws es : List Json) (before a b c d f : List ℕ) → a ≡ before ++ further v → b ≡ a ++ flat_map further ts → c ≡ b ++ flat_map further cs → d ≡ c ++ flat_map further ws
+    → f ≡ d ++ flat_map further es → f ≡ before ++ flat_map further ((v ∷ ts) ++ cs ++ ws ++ es)
+entered_told v ts cs ws es before a b c d f ea eb ec ed ef =
+    ef ∙ ap (λ x. x ++ flat_map further es) (ed ∙ ap (λ x. x ++ flat_map further ws) (ec ∙ ap (λ x. x ++ flat_map further cs) (eb ∙ ap (λ x. x ++ flat_map further ts) ea)))
+    ∙ six before (further v) (flat_map further ts) (flat_map further cs) (flat_map further ws) (flat_map further es)
+    ∙ ap (λ x. before ++ ((x ++ flat_map further ws) ++ flat_map further es)) (sym (flat_map-append further (v ∷ ts) cs))
+    ∙ ap (λ x. before ++ (x ++ flat_map further es)) (sym (flat_map-append further ((v ∷ ts) ++ cs) ws))
+    ∙ ap (λ x. before ++ x) (sym (flat_map-append further (((v ∷ ts) ++ cs) ++ ws) es))
   where
-    five : (z a b c d : List ℕ) → (((z ++ a) ++ b) ++ c) ++ d ≡ z ++ (((a ++ b) ++ c) ++ d)
-    five z a b c d = simp append_assoc
+    six : (z a b c d e : List ℕ) → ((((z ++ a) ++ b) ++ c) ++ d) ++ e ≡ z ++ ((((a ++ b) ++ c) ++ d) ++ e)
+    six z a b c d e = simp append_assoc
 
 -- a task's first taking
 pub first_told : (t q line there n w : ℕ) (name before a b c : List ℕ) → name ≡ task_name t → line ≡ there → a ≡ before ++ span_head (codes "b") name (codes "task") t n w

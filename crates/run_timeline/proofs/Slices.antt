@@ -17,8 +17,10 @@ use Rattle.run_ledger.specs.Heaps.{in_use}
 use Rattle.run_ledger.specs.Entries.{after}
 use Rattle.run_ledger.specs.Journals.{opening}
 use Rattle.json_text.specs.Json.{Json}
+use Rattle.run_timeline.specs.declared.words.Counts.{Counts}
+use Rattle.run_timeline.specs.Words.{counts_of, words_held}
 use Rattle.run_timeline.specs.Events.{arrow_begins, arrow_ends}
-use Rattle.run_timeline.specs.Entries.{slice, told_by, taken, first_taken, forked, ended, ended_by, joined, counter, counted, run_ended, entry_events}
+use Rattle.run_timeline.specs.Entries.{slice, told_by, taken, first_taken, forked, ended, ended_by, joined, chunks_counted, counter, counted, run_ended, words_counted, entry_events}
 use Rattle.run_timeline.specs.Timeline.{events_from, events_of, no_entry}
 use Rattle.run_timeline.specs.Laws.{is_slice, SlicesAreEntries}
 
@@ -84,10 +86,10 @@ none_told p made m n w (More t k) = refl
 none_told p made m n w (Sweep t given) = refl
 none_told p made m n w Fuel = refl
 
-none_counted : (before now n : ℕ) → slices (counted before now n) ≡ 0
-none_counted before now n = go (now == before)
+none_counted : (name unit : List ℕ) (before now n : ℕ) → slices (counted name unit before now n) ≡ 0
+none_counted name unit before now n = go (now == before)
   where
-    go : (b : Bool) → slices (cond b [] (counter now n ∷ [])) ≡ 0
+    go : (b : Bool) → slices (cond b [] (counter name unit now n ∷ [])) ≡ 0
     go true = refl
     go false = refl
 
@@ -95,23 +97,26 @@ none_run_ended : (p : ProgramText) (m : State) (n w : ℕ) (e : Option RunEnd) �
 none_run_ended p m n w None = refl
 none_run_ended p m n w (Some e) = refl
 
-one_slice : (p : ProgramText) (made used : ℕ) (l : Ledger) (before n : ℕ) (e : Event) → slices (entry_events p made used l before n e) ≡ 1
-one_slice p made used l before n e =
-    let ts = told_by p made l.machine n e.worker e.kind in
-    let cs = counted used (in_use l) n in
+one_slice : (p : ProgramText) (was : Counts) (l : Ledger) (before n : ℕ) (e : Event) → slices (entry_events p was l before n e) ≡ 1
+one_slice p was l before n e =
+    let ts = told_by p was.tasks l.machine n e.worker e.kind in
+    let cs = chunks_counted was.chunks (in_use l) n in
+    let ws = words_counted was.words (words_held l) n in
     let es = run_ended p l.machine n e.worker l.end in
-    let a = none_told p made l.machine n e.worker e.kind in
-    let b = none_counted used (in_use l) n in
+    let a = none_told p was.tasks l.machine n e.worker e.kind in
+    let b = none_counted (codes "chunks in use") (codes "chunks") was.chunks (in_use l) n in
+    let d = none_counted (codes "words held") (codes "words") was.words (words_held l) n in
     let c = none_run_ended p l.machine n e.worker l.end in
-    let x = slices-append ((slice before n e ∷ ts) ++ cs) es in
+    let x = slices-append (((slice before n e ∷ ts) ++ cs) ++ ws) es in
+    let z = slices-append ((slice before n e ∷ ts) ++ cs) ws in
     let y = slices-append (slice before n e ∷ ts) cs in
-    omega (arith, a, b, c, x, y)
+    omega (arith, a, b, c, d, x, y, z)
 
 each_one : (p : ProgramText) (s : Limits) (l : Ledger) (seats : List ℕ) (n : ℕ) (journal : List Event) → slices (events_from p s l seats n journal) ≡ length journal
 each_one p s l seats n [] = refl
 each_one p s l seats n (e ∷ es) =
-    let here = entry_events p (length l.machine.tasks) (in_use l) (after p s l e) (get_or seats e.worker 0) n e in
-    let a = one_slice p (length l.machine.tasks) (in_use l) (after p s l e) (get_or seats e.worker 0) n e in
+    let here = entry_events p (counts_of l) (after p s l e) (get_or seats e.worker 0) n e in
+    let a = one_slice p (counts_of l) (after p s l e) (get_or seats e.worker 0) n e in
     let b = each_one p s (after p s l e) (slice_set seats e.worker n) (n + 1) es in
     let x = slices-append here (events_from p s (after p s l e) (slice_set seats e.worker n) (n + 1) es) in
     omega (arith, a, b, x)

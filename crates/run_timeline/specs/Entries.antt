@@ -18,6 +18,8 @@ use Rattle.run_ledger.specs.declared.data.Ledger.{Ledger}
 use Rattle.run_ledger.specs.Heaps.{in_use}
 use Rattle.run_ledger.specs.Text.{end_words}
 use Rattle.json_text.specs.Json.{Json, Members, Number, Word, NoMember, Member}
+use Rattle.run_timeline.specs.declared.words.Counts.{Counts}
+use Rattle.run_timeline.specs.Words.{words_held}
 use Rattle.run_timeline.specs.Events.{event, arguments, one_number, two_numbers, end_time, span, arrow_begins, arrow_ends}
 
 -- THE ENTRY ITSELF
@@ -132,13 +134,19 @@ told_by p made m n w _ = []
 
 -- COUNTERS
 
--- the chunks in use
-abbrev pub counter : ℕ → ℕ → Json
-counter now n = event (codes "chunks in use") (codes "pool") (codes "C") (end_time n) 0 (arguments (one_number (codes "chunks") now))
+-- of this name, in these units: the chunks in use, or the words held
+abbrev pub counter : List ℕ → List ℕ → ℕ → ℕ → Json
+counter name unit now n = event name (codes "pool") (codes "C") (end_time n) 0 (arguments (one_number unit now))
 
--- they are told where they became others
-abbrev pub counted : ℕ → ℕ → ℕ → List Json
-counted before now n = if now == before then [] else counter now n ∷ []
+-- it is told where it became another
+abbrev pub counted : List ℕ → List ℕ → ℕ → ℕ → ℕ → List Json
+counted name unit before now n = if now == before then [] else counter name unit now n ∷ []
+
+abbrev pub chunks_counted : ℕ → ℕ → ℕ → List Json
+chunks_counted = counted (codes "chunks in use") (codes "chunks")
+
+abbrev pub words_counted : ℕ → ℕ → ℕ → List Json
+words_counted = counted (codes "words held") (codes "words")
 
 -- THE END
 
@@ -159,10 +167,11 @@ run_ended p m n w (Some e) = run_end p m n w e ∷ []
 
 -- ALL OF AN ENTRY
 
--- of the entry of this number, whose worker's entry before had that one: in front of it so many tasks were made and so
--- many chunks in use, and behind it the accounts are these
-abbrev pub entry_events : ProgramText → ℕ → ℕ → Ledger → ℕ → ℕ → Event → List Json
-entry_events p made used l before n e =
-    (slice before n e ∷ told_by p made l.machine n e.worker e.kind)
-    ++ counted used (in_use l) n
+-- of the entry of this number, whose worker's entry before had that one: in front of it the accounts had these counts, and
+-- behind it they are these
+abbrev pub entry_events : ProgramText → Counts → Ledger → ℕ → ℕ → Event → List Json
+entry_events p was l before n e =
+    (slice before n e ∷ told_by p was.tasks l.machine n e.worker e.kind)
+    ++ chunks_counted was.chunks (in_use l) n
+    ++ words_counted was.words (words_held l) n
     ++ run_ended p l.machine n e.worker l.end

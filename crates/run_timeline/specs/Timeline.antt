@@ -1,13 +1,13 @@
 -- A run as a timeline.
-use Rattle.std.specs.Prelude.{ℕ, zero, suc, ◌+◌, List, [], ◌∷◌, ◌++◌, codes, length, get_or, slice_set, replicate}
+use Rattle.std.specs.Prelude.{ℕ, zero, suc, ◌+◌, List, [], ◌∷◌, ◌++◌, codes, get_or, slice_set, replicate}
 use Rattle.run_trace.specs.Entry.{Event}
 use Rattle.run_trace.specs.Settings.{Limits}
 use Rattle.hh_lang.specs.Form.{ProgramText}
 use Rattle.run_ledger.specs.declared.data.Ledger.{Ledger}
-use Rattle.run_ledger.specs.Heaps.{in_use}
 use Rattle.run_ledger.specs.Entries.{after}
 use Rattle.run_ledger.specs.Journals.{opening}
 use Rattle.json_text.specs.Json.{Json, Array, Object, Word, NoMember, Member, json, values}
+use Rattle.run_timeline.specs.Words.{counts_of}
 use Rattle.run_timeline.specs.Events.{process, lane}
 use Rattle.run_timeline.specs.Entries.{entry_events}
 
@@ -15,7 +15,7 @@ use Rattle.run_timeline.specs.Entries.{entry_events}
 abbrev pub events_from : ProgramText → Limits → Ledger → List ℕ → ℕ → List Event → List Json
 events_from p s l seats n [] = []
 events_from p s l seats n (e ∷ es) =
-    entry_events p (length l.machine.tasks) (in_use l) (after p s l e) (get_or seats e.worker 0) n e
+    entry_events p (counts_of l) (after p s l e) (get_or seats e.worker 0) n e
     ++ events_from p s (after p s l e) (slice_set seats e.worker n) (n + 1) es
 
 -- no worker has made an entry

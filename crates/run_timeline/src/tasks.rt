@@ -311,39 +311,40 @@ pub(crate) fn add_told(
     }
 }
 
-// Adds the counter of the chunks in use.
-fn add_counter(alloc: Global, text: &mut Vec<u8>, used: u64, number: u32) -> Result<(), AllocError>
-    ensures { OnOk result (text.new.items ≡ text.old.items ++ further (counter used number)) }
+// Adds a counter.
+fn add_counter(
+    alloc: Global,
+    text: &mut Vec<u8>,
+    name: &[u8],
+    unit: &[u8],
+    now: u64,
+    number: u32,
+) -> Result<(), AllocError>
+    ensures { OnOk result (text.new.items ≡ text.old.items ++ further (counter name.now unit.now now number)) }
 {
     add_comma(text)?;
-    begin_event(
-        alloc,
-        text,
-        b"chunks in use",
-        b"pool",
-        b"C",
-        number as u64 * 1000,
-        0,
-    )?;
+    begin_event(alloc, text, name, b"pool", b"C", number as u64 * 1000, 0)?;
     begin_arguments(text)?;
-    first_number(alloc, text, b"chunks", used)?;
+    first_number(alloc, text, unit, now)?;
     end_arguments(text)
 }
 
-/// Adds the counter of the chunks in use, where they became others.
+/// Adds a counter, where it became another.
 pub(crate) fn add_counted(
     alloc: Global,
     text: &mut Vec<u8>,
+    name: &[u8],
+    unit: &[u8],
     before: u64,
     now: u64,
     number: u32,
 ) -> Result<(), AllocError>
-    ensures { OnOk result (text.new.items ≡ text.old.items ++ flat_map further (counted before now number)) }
+    ensures { OnOk result (text.new.items ≡ text.old.items ++ flat_map further (counted name.now unit.now before now number)) }
 {
     if now == before {
         return Ok(());
     }
-    add_counter(alloc, text, now, number)
+    add_counter(alloc, text, name, unit, now, number)
 }
 
 // Adds the members of the end's event.

@@ -4,11 +4,11 @@ ghost use Rattle.std.specs.Prelude.{◌≡◌, ◌<◌, ◌≤◌, ◌^◌, ◌-
 ghost use Rattle.std.specs.List.{flat_map};
 ghost use Rattle.json_text.specs.Json.{further};
 ghost use Rattle.run_trace.specs.Settings.{AreLimits};
-ghost use Rattle.run_ledger.specs.Heaps.{in_use};
 ghost use Rattle.run_ledger.specs.Entries.{refusal, after};
 ghost use Rattle.run_ledger.specs.Journals.{opening, ledger_of, first_refused, refused_as_run};
 ghost use Rattle.run_journal.specs.Book.{FailsFor};
 ghost use Rattle.run_journal.specs.Replay.{ReplayFails};
+ghost use Rattle.run_timeline.specs.Words.{counts_of, words_held};
 ghost use Rattle.run_timeline.specs.Entries.{entry_events};
 ghost use Rattle.run_timeline.specs.Timeline.{events_of, lanes, timeline};
 ghost use Rattle.run_timeline.specs.Pieces.{beginning, ending};
@@ -16,6 +16,7 @@ ghost use Rattle.run_timeline.specs.Pieces.{beginning, ending};
 use crate::entry::add_slice;
 use crate::events::{add_lane, add_process};
 use crate::tasks::{add_counted, add_run_ended, add_told};
+use crate::words::{Counts, cleared_words, objects_by, words_behind};
 use hh_lang::Program;
 use run_journal::{ApplyError, Book, ReplayError};
 use run_ledger::{Refused, RefusedAt};
@@ -25,22 +26,24 @@ use std::alloc::{AllocError, Global};
 /// A text of so many entries has no place in memory.
 const ENTRY_LIMIT: usize = 4294967295;
 
-// Adds the events of an entry that was entered, in front of which so many tasks were made and so many chunks in use.
+// Adds the events of an entry that was entered, in front of which the accounts had these counts, and behind which so
+// many words are held.
 fn add_entered(
     alloc: Global,
     text: &mut Vec<u8>,
     program: &Program,
     book: &Book,
-    made: u64,
-    used: u64,
+    was: Counts,
+    held: u64,
     before: u32,
     number: u32,
     entry: Entry,
 ) -> Result<(), AllocError>
     requires open { book.now.stopped ≡ false }
-    requires few { made + 1 < 2 ^ 64 }
+    requires few { was.tasks + 1 < 2 ^ 64 }
+    requires held { held ≡ words_held book.now.ledger }
     requires first { 0 < number }
-    ensures { OnOk result (text.new.items ≡ text.old.items ++ flat_map further (entry_events program.now made used book.now.ledger before number entry)) }
+    ensures { OnOk result (text.new.items ≡ text.old.items ++ flat_map further (entry_events program.now was book.now.ledger before number entry)) }
 {
     add_slice(alloc, text, before, number, entry.worker(), entry.kind())?;
     add_told(
@@ -48,12 +51,30 @@ fn add_entered(
         text,
         program,
         book.state(),
-        made,
+        was.tasks,
         number,
         entry.worker(),
         entry.kind(),
     )?;
-    add_counted(alloc, text, used, book.in_use(), number)?;
+    let chunks = book.in_use();
+    add_counted(
+        alloc,
+        text,
+        b"chunks in use",
+        b"chunks",
+        was.chunks,
+        chunks,
+        number,
+    )?;
+    add_counted(
+        alloc,
+        text,
+        b"words held",
+        b"words",
+        was.words,
+        held,
+        number,
+    )?;
     add_run_ended(
         alloc,
         text,
@@ -65,34 +86,60 @@ fn add_entered(
     )
 }
 
-// Enters an entry, and adds its events.
+// Enters an entry, and says how many words are held behind it.
+fn apply(book: &mut Book, held: u64, entry: Entry) -> Result<u64, ApplyError>
+    requires open { book.old.stopped ≡ false }
+    requires held { held ≡ words_held book.old.ledger }
+    ensures legal { OnOk result (refusal book.old.program book.old.limits book.old.ledger entry ≡ None) }
+    ensures entered { OnOk result (book.new ≡ record book.old { ledger = after book.old.program book.old.limits book.old.ledger entry }) }
+    ensures held { IfOk result (λ words. words ≡ words_held (after book.old.program book.old.limits book.old.ledger entry)) }
+    ensures fails { IfErr result (FailsFor (refusal book.old.program book.old.limits book.old.ledger entry)) }
+{
+    let kind = entry.kind();
+    let cleared = cleared_words(book, kind);
+    let objects = objects_by(book.state(), kind);
+    book.legal();
+    book.apply(entry)?;
+    match words_behind(book, kind, held, cleared, objects) {
+        Some(words) => Ok(words),
+        None => Err(ApplyError::NoMemory),
+    }
+}
+
+// Enters an entry, adds its events, and says how many words are held behind it.
 fn enter(
     alloc: Global,
     text: &mut Vec<u8>,
     program: &Program,
     book: &mut Book,
+    held: u64,
     before: u32,
     number: u32,
     entry: Entry,
-) -> Result<(), ApplyError>
+) -> Result<u64, ApplyError>
     requires open { book.old.stopped ≡ false }
     requires program { book.old.program ≡ program.now }
+    requires held { held ≡ words_held book.old.ledger }
     requires first { 0 < number }
     ensures legal { OnOk result (refusal book.old.program book.old.limits book.old.ledger entry ≡ None) }
     ensures entered { OnOk result (book.new ≡ record book.old { ledger = after book.old.program book.old.limits book.old.ledger entry }) }
-    ensures events { OnOk result (text.new.items ≡ text.old.items ++ flat_map further (entry_events program.now (length book.old.ledger.machine.tasks) (in_use book.old.ledger) (after book.old.program book.old.limits book.old.ledger entry) before number entry)) }
+    ensures events { OnOk result (text.new.items ≡ text.old.items ++ flat_map further (entry_events program.now (counts_of book.old.ledger) (after book.old.program book.old.limits book.old.ledger entry) before number entry)) }
+    ensures held { IfOk result (λ words. words ≡ words_held (after book.old.program book.old.limits book.old.ledger entry)) }
     ensures fails { IfErr result (FailsFor (refusal book.old.program book.old.limits book.old.ledger entry)) }
 {
-    let made = book.tasks() as u64;
-    if made == u64::MAX {
+    let was = Counts {
+        tasks: book.tasks() as u64,
+        chunks: book.in_use(),
+        words: held,
+    };
+    if was.tasks == u64::MAX {
         return Err(ApplyError::NoMemory);
     }
-    let used = book.in_use();
-    book.apply(entry)?;
+    let words = apply(book, held, entry)?;
     match add_entered(
-        alloc, text, program, book, made, used, before, number, entry,
+        alloc, text, program, book, was, words, before, number, entry,
     ) {
-        Ok(()) => Ok(()),
+        Ok(()) => Ok(words),
         Err(AllocError) => Err(ApplyError::NoMemory),
     }
 }
@@ -116,11 +163,22 @@ fn enter_all(
     ensures fails { IfErr result (ReplayFails (first_refused book.old.program book.old.limits journal.now)) }
 {
     let mut seats = [0u32; 64];
+    let mut held: u64 = 0;
     let mut index: u32 = 1;
     for entry in journal {
         let worker = entry.worker() as usize;
-        match enter(alloc, text, program, book, seats[worker], index, *entry) {
-            Ok(()) => {
+        match enter(
+            alloc,
+            text,
+            program,
+            book,
+            held,
+            seats[worker],
+            index,
+            *entry,
+        ) {
+            Ok(words) => {
+                held = words;
                 seats[worker] = index;
                 index += 1;
             }

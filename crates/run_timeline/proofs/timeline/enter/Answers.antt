@@ -7,4 +7,4 @@ use Rattle.run_timeline.proofs.timeline.enter.Goals as goal
 pub returns-in-Ok-clause-events : goal.returns-in-Ok-clause-events
 returns-in-Ok-clause-events c =
     c.in-Ok.ensures
-    ∙ (λ j. c.args.text.now.items ++ flat_map further (entry_events c.args.program.now (c.tasks-made.ensures j) (c.in_use-used.ensures j) (c.in_ok-apply.ensures.entered j).ledger c.args.before c.args.number c.args.entry))
+    ∙ (λ j. c.args.text.now.items ++ flat_map further (entry_events c.args.program.now (record { tasks = c.tasks.ensures j; chunks = c.in_use.ensures j; words = c.requires.held j }) (c.in_ok-words.ensures.entered j).ledger c.args.before c.args.number c.args.entry))

@@ -2,6 +2,7 @@ use Rattle.std.proofs.Common.{◌≡◌, ◌+◌, ◌++◌, drop, false}
 use Rattle.std.specs.List.{flat_map}
 use Rattle.run_ledger.specs.Journals.{after_all, ledger_of, first_refused_from, first_refused}
 use Rattle.json_text.specs.Json.{further}
+use Rattle.run_timeline.specs.Words.{words_held}
 use Rattle.run_timeline.specs.Timeline.{events_from, events_of}
 use Rattle.run_timeline.proofs.timeline.enter_all.Given as goal
 
@@ -11,6 +12,7 @@ invariant-loop-entry l = record {
   limits : l.book.limits ≡ l.fn.book.limits;
   stopped : l.book.stopped ≡ false;
   index : l.index ≡ l.entry-index + 1;
+  held : l.held ≡ words_held l.book.ledger;
   accounts : after_all l.book.program l.book.limits l.book.ledger (drop l.entry-index l.journal) ≡ ledger_of l.book.program l.book.limits l.journal;
   refused : first_refused_from l.book.program l.book.limits l.book.ledger l.index (drop l.entry-index l.journal) ≡ first_refused l.book.program l.book.limits l.journal;
   text :

@@ -1,0 +1,107 @@
+// The words that are held, kept from entry to entry.
+
+ghost use Rattle.std.specs.Prelude.{◌≡◌, ◌+◌, ◌-◌, ◌<◌, false, IfSome};
+ghost use Rattle.run_report.specs.Totals.{cleared_words};
+ghost use Rattle.run_timeline.specs.Words.{objects_made, words_made, objects_by, words_by};
+
+use hh_model::{Name, State};
+use ledger_heaps::words_at;
+use run_journal::Book;
+use run_trace::Kind;
+
+/// Counts of accounts.
+#[derive(Clone, Copy)]
+pub struct Counts {
+    /// The tasks made.
+    pub tasks: u64,
+    /// The chunks in use, in units.
+    pub chunks: u64,
+    /// The words held.
+    pub words: u64,
+}
+
+/// The words of the heap that an entry collects or sweeps, and 0 for another entry.
+pub(crate) fn cleared_words(book: &Book, kind: Kind) -> u64
+    requires { book.now.stopped ≡ false }
+    ensures { result ≡ cleared_words book.now.ledger kind }
+{
+    match kind {
+        Kind::End(task, _, _, _) => book.words(task),
+        Kind::Sweep(task, _) => book.words(task),
+        _ => 0,
+    }
+}
+
+// How many objects a task has made.
+fn objects_made(state: &State, task: u32) -> usize
+    ensures { result ≡ objects_made state.now task }
+{
+    match state.store.get(task as usize) {
+        None => 0,
+        Some(row) => row.len(),
+    }
+}
+
+/// For an entry of steps how many objects its task has made, and 0 for another entry.
+pub(crate) fn objects_by(state: &State, kind: Kind) -> usize
+    ensures { result ≡ objects_by kind state.now }
+{
+    match kind {
+        Kind::Ran(task, _) => objects_made(state, task),
+        _ => 0,
+    }
+}
+
+// The words of so many objects of a task from one on; None where a number has no place for them.
+fn words_made(state: &State, task: u32, first: usize, count: usize) -> Option<u64>
+    ensures { IfSome result (λ words. words ≡ words_made state.now task first count) }
+{
+    let mut words: u64 = 0;
+    for k in 0..count {
+        let at = first.checked_add(k)?;
+        let Ok(count) = u32::try_from(at) else {
+            return None;
+        };
+        words = words.checked_add(words_at(state, Name { task, count }) as u64)?;
+    }
+    Some(words)
+}
+
+// The words of the objects of an entry's steps, behind the first so many of its task; None where a number has no place
+// for them.
+fn words_by(state: &State, kind: Kind, first: usize) -> Option<u64>
+    ensures { IfSome result (λ words. words ≡ words_by kind first state.now) }
+{
+    match kind {
+        Kind::Ran(task, _) => {
+            let made = objects_made(state, task);
+            words_made(state, task, first, made.saturating_sub(first))
+        }
+        _ => Some(0),
+    }
+}
+
+// The words held, with some more and then without some; None where a number has no place for them.
+fn words_after(held: u64, more: u64, lost: u64) -> Option<u64>
+    ensures { IfSome result (λ words. words ≡ held + more - lost) }
+{
+    let sum = held.checked_add(more)?;
+    Some(sum.saturating_sub(lost))
+}
+
+/// The words held behind an entry that was entered, before which so many words were held, so many by its task's heap, and
+/// its task had made so many objects; None where a number has no place for them.
+pub(crate) fn words_behind(
+    book: &Book,
+    kind: Kind,
+    held: u64,
+    cleared: u64,
+    objects: usize,
+) -> Option<u64>
+    requires { book.now.stopped ≡ false }
+    ensures { IfSome result (λ words. words ≡ held + words_by kind objects book.now.ledger.machine - (cleared - cleared_words book.now.ledger kind)) }
+{
+    let lost = cleared.saturating_sub(cleared_words(book, kind));
+    let more = words_by(book.state(), kind, objects)?;
+    words_after(held, more, lost)
+}
