@@ -1,4 +1,3 @@
-pub mod Inputs
 pub mod Texts
 pub mod Runs
 pub mod Traces

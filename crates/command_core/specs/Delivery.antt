@@ -11,7 +11,7 @@ use Rattle.command_core.specs.declared.answer.Ran.{Ran}
 use Rattle.command_core.specs.declared.wanted.Wanted.{Wanted}
 use Rattle.command_core.specs.declared.wanted.Wanted.TheVariants.{Before, Amid}
 use Rattle.command_core.specs.Answers.{AnswersLine, AnswersWords, LeavesLine, LeavesNone}
-use Rattle.command_core.specs.Input.{WroteSome}
+use Rattle.all_bytes.specs.Bytes.{WroteSome}
 
 -- nothing was written, and nothing is handed back
 abbrev pub DeliversNothing : Ran → Option (List ℕ) → Option (List ℕ) → Type 0

@@ -1,6 +1,6 @@
--- The inputs of commands: whose bytes they are, and how many of them are read.
-use Rattle.std.specs.Prelude.{◌≡◌, ℕ, ◌+◌, Bool, true, false, List, [], ◌++◌, Option, Some, None, length, take}
-use Rattle.outside_io.specs.Told.{Gives, with_more}
+-- The inputs of commands: whose bytes they are, and how many of them are read at most.
+use Rattle.std.specs.Prelude.{ℕ, Bool, true, false, List, [], Option, Some, None}
+use Rattle.all_bytes.specs.Bytes.{told}
 use Rattle.image_check.specs.Fault.{image_limit}
 use Rattle.command_line.specs.declared.line.CommandLine.{CommandLine}
 use Rattle.command_line.specs.declared.line.CommandLine.TheVariants.{Check, Run, Replay, Model, Races, Image, Make, Verify}
@@ -31,11 +31,6 @@ abbrev pub reads : Option CommandLine → Bool
 reads None = false
 reads (Some line) = is_reading line
 
--- the bytes that a source tells: those of the file, or, where none is named, those that are left
-abbrev pub told : Option (List ℕ) → (List ℕ → Option (List ℕ)) → Option (List ℕ) → Option (List ℕ)
-told left named None = left
-told left named (Some file) = named file
-
 -- the bytes that a source tells for a command; `make` reads none
 abbrev pub told_for : Option (List ℕ) → (List ℕ → Option (List ℕ)) → CommandLine → Option (List ℕ)
 told_for left named (Check file) = told left named file
@@ -46,15 +41,3 @@ told_for left named (Races file limits) = told left named file
 told_for left named (Image file limits) = told left named file
 told_for left named (Make seed size run) = Some []
 told_for left named (Verify file) = told left named file
-
--- the input: all of the bytes, or the first ones as far as one past the limit
-abbrev pub input_of : ℕ → List ℕ → List ℕ
-input_of limit whole = take (limit + 1) whole
-
--- a call of a source gave so many bytes more
-abbrev pub Grows : Option (List ℕ) → Option (List ℕ) → List ℕ → List ℕ → ℕ → Type 0
-Grows left after old new count = (given : List ℕ) × (new ≡ old ++ given) × (length given ≡ count) × Gives left after given
-
--- a first part of these bytes was written
-abbrev pub WroteSome : Option (List ℕ) → Option (List ℕ) → List ℕ → Type 0
-WroteSome before after bytes = (count : ℕ) × (after ≡ with_more before (take count bytes))

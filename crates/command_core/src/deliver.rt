@@ -1,29 +1,15 @@
 // Writes an answer.
 
-ghost use Rattle.std.specs.Prelude.{◌≡◌, OnOk, OnErr};
+ghost use Rattle.std.specs.Prelude.{◌≡◌};
 ghost use Rattle.outside_io.specs.Fault.{HasRisen};
-ghost use Rattle.outside_io.specs.Told.{with_more};
-ghost use Rattle.command_core.specs.Input.{WroteSome};
 ghost use Rattle.command_core.specs.Delivery.{IsAnswered, Delivered, Gives, HandsNothing};
 
 use crate::answer::{Answer, Ran, Status};
 use crate::wanted::Wanted;
+use all_bytes::write_all;
 use listed::Listed;
 use outside_io::{Failed, Sink};
 use std::alloc::Global;
-
-// Writes all bytes to a sink.
-fn write_all<K: Sink>(sink: &mut K, bytes: &[u8]) -> Result<(), Failed>
-    ensures all { OnOk result (K.written sink.new ≡ with_more (K.written sink.old) bytes.now) }
-    ensures some { OnErr result (WroteSome (K.written sink.old) (K.written sink.new) bytes.now) }
-    ensures failed { OnErr result (HasRisen (K.faults sink.old) (K.faults sink.new)) }
-{
-    let mut at = 0;
-    while at < bytes.len() {
-        at += sink.put(&bytes[at..])?;
-    }
-    Ok(())
-}
 
 /// What is handed back where nothing was answered.
 pub(crate) fn nothing(alloc: Global, status: Status) -> Ran

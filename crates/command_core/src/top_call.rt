@@ -3,13 +3,14 @@
 ghost use Rattle.std.specs.Prelude.{◌≡◌, ◌≢◌, ◌≤◌, ◌+◌, drop, length, map, Some, None, List, ℕ, true, false, string_bytes};
 ghost use Rattle.outside_io.specs.Fault.{HasRisen};
 ghost use Rattle.command_line.specs.CommandLine.{command_line, HasSize};
-ghost use Rattle.command_core.specs.Input.{limit_of, is_reading, told_for, input_of, reads};
+ghost use Rattle.all_bytes.specs.Bytes.{input_of};
+ghost use Rattle.command_core.specs.Input.{limit_of, is_reading, told_for, reads};
 ghost use Rattle.command_core.specs.Delivery.{DeliversLine, DeliversWords};
 
 use crate::answer::{Ran, Status};
 use crate::answers::answer_line;
 use crate::deliver::{deliver, nothing, wanted};
-use crate::input::{ReadError, read_input};
+use crate::input::read_input;
 use crate::refusals::words_refused;
 use command_line::{CommandLine, read_command_line};
 use outside_io::{Gate, Sink, Source};
