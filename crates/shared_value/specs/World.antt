@@ -19,6 +19,7 @@ use Rattle.heap_tree.specs.Node.{Node}
 use Rattle.remembered_set.specs.declared.remembered.Source.{Source}
 use Rattle.write_barrier.specs.declared.sets.SetOf.{SetOf}
 use Rattle.inner_mark_gc.specs.Marks.{Marks}
+pub use Rattle.core_relation.specs.First.{no_home}
 use Rattle.core_relation.specs.Value.{Begun, Frame as SeenFrame, Home, Noted, Source as SeenSource, Value}
 use Rattle.core_relation.specs.Whole.{Node as SeenNode, State as SeenState, Totals}
 use Rattle.core_relation.specs.Whole.{Ready as IsReady, Out as IsOut, Waits, HasEnded, HasJoined}
@@ -73,9 +74,6 @@ frame_of f = record { function = f.function; next = f.next; ints = f.ints; refs 
 -- the top frame, and then those that wait, the oldest first
 abbrev pub frames_of : Stack → List SeenFrame
 frames_of s = frame_of s.top ∷ map frame_of s.below
-
-abbrev pub no_home : Home
-no_home = record { chunks = []; room = 0; since = 0; count = 0; frames = []; result = (pos 0, None); begun = None; view = [] }
 
 -- a leaf collection that a part has begun, if it has
 abbrev pub begun_of : Option BegunPart → Option Begun
