@@ -4,11 +4,11 @@ use Rattle.std.specs.Prelude.{option_map}
 use Rattle.std.proofs.Math.Path.{fun_ext}
 use Rattle.std.proofs.lemmas.Bool.{cases_eq, cases_lt, eq-eqb, ne_eqb}
 use Rattle.heap_tree.specs.declared.state.State.{State}
-use Rattle.heap_tree.specs.declared.state.State.TheVariants.{Ready, Waiting}
+use Rattle.heap_tree.specs.declared.state.State.TheVariants.{Waiting}
 use Rattle.heap_tree.specs.Node.{Node, parent_in, parent_of, set_at, state_of, with_state, child_of, forked}
 use Rattle.heap_tree.specs.Pairs.{ArePaired, sibling}
-use Rattle.heap_tree.specs.Laws.{ForkMakes, ForksMake, PairsStay, StateChanges, StatesChange}
-use Rattle.heap_tree.proofs.ListLemmas.{got_front, got_last, got_past, same_view}
+use Rattle.heap_tree.specs.Laws.{ForkMakes, ForksMake, PairsStay, StatesChange}
+use Rattle.heap_tree.proofs.ListLemmas.{got_front, got_last, same_view}
 
 -- ---- a change of state
 

@@ -5,3 +5,4 @@ pub mod CostLemmas
 pub mod GrowLemmas
 pub mod TreeLemmas
 pub mod ChangeLemmas
+pub mod PairLemmas

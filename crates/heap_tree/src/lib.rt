@@ -2,6 +2,7 @@
 #![tactic(auto)]
 
 mod count;
+mod entries;
 mod laws;
 mod links;
 mod state;

@@ -1,10 +1,11 @@
 // What the tree keeps of each task, and the climb along its links.
 
-ghost use Rattle.std.specs.Prelude.{◌≡◌, ◌+◌, ◌-◌, ◌*◌, ◌^◌, ◌<◌, ◌≤◌, ℕ, length, vec_len, vec_capacity, slice_get, slice_set, IfSome, Some};
+ghost use Rattle.std.specs.Prelude.{◌≡◌, ◌+◌, ◌-◌, ◌*◌, ◌^◌, ◌<◌, ◌≤◌, ℕ, length, slice_get, Some};
 ghost use Rattle.heap_tree.specs.Walk.{ancestor};
 ghost use Rattle.heap_tree.specs.Links.{parent_at, depth_at, jump_at, IsLinked, next_jump, IsNextLink};
 
 use crate::count::LinkCount;
+use crate::entries::Entries;
 use crate::state::State;
 use std::sync::ledger::Ledger;
 
@@ -21,25 +22,19 @@ pub struct Entry {
 }
 
 /// The entry of a task.
-pub fn entry_at(entries: &[Entry], t: u32) -> Entry
+pub fn entry_at(entries: &Entries, t: u32) -> Entry
     requires { t < length entries.now }
     ensures { slice_get entries.now t ≡ Some result }
 {
-    entries[t as usize]
-}
-
-/// Gives a task another state.
-pub fn change_state(entries: &mut Vec<Entry>, t: u32, state: State)
-    requires { t < vec_len entries.old }
-    ensures put { IfSome (slice_get entries.old.items t) (λ e. entries.new.items ≡ slice_set entries.old.items t (record e { state = state })) }
-    ensures room { vec_capacity entries.new ≡ vec_capacity entries.old }
-{
-    entries[t as usize].state = state;
+    match entries.get(t) {
+        Some(entry) => entry,
+        None => unreachable!(),
+    }
 }
 
 /// The task that the far link of a child of `t` leads to: past the two next far links where these are
 /// equally long, else to `t`.
-pub fn jump_below(entries: &[Entry], t: u32) -> u32
+pub fn jump_below(entries: &Entries, t: u32) -> u32
     requires linked { IsLinked entries.now }
     requires made { t < length entries.now }
     ensures { result ≡ next_jump (depth_at entries.now) (jump_at entries.now) t }
@@ -55,7 +50,7 @@ pub fn jump_below(entries: &[Entry], t: u32) -> u32
 }
 
 // Follows one link up: the far one where it doesn't lead past the depth, else the one to the parent.
-fn step_up<L: Ledger>(entries: &[Entry], at: u32, depth: u32, links: &mut LinkCount<L>) -> u32
+fn step_up<L: Ledger>(entries: &Entries, at: u32, depth: u32, links: &mut LinkCount<L>) -> u32
     requires linked { IsLinked entries.now }
     requires made { at < length entries.now }
     requires deeper { depth < depth_at entries.now at }
@@ -80,7 +75,7 @@ fn step_up<L: Ledger>(entries: &[Entry], at: u32, depth: u32, links: &mut LinkCo
 
 /// The task at a depth on the path from `t` to the root. The links that it follows are no more than three
 /// times the logarithm of the depth of `t` plus one, to base 2 and rounded down.
-pub fn climb<L: Ledger>(entries: &[Entry], t: u32, depth: u32, links: &mut LinkCount<L>) -> u32
+pub fn climb<L: Ledger>(entries: &Entries, t: u32, depth: u32, links: &mut LinkCount<L>) -> u32
     requires linked { IsLinked entries.now }
     requires made { t < length entries.now }
     requires within { depth ≤ depth_at entries.now t }

@@ -1,11 +1,12 @@
 // The tree: its tasks by number, forks, and paths.
 
-ghost use Rattle.std.specs.Prelude.{◌≡◌, ◌+◌, ◌-◌, ◌*◌, ◌^◌, ℕ, ◌<◌, ◌≤◌, ◌↔◌, ◌∷◌, [], ◌++◌, length, vec_len, vec_capacity, slice_get, slice_set, IfSome, IfOk, OnOk, OnErr, IsTrue, Some, None, true};
+ghost use Rattle.std.specs.Prelude.{◌≡◌, ◌+◌, ◌-◌, ◌*◌, ◌^◌, ℕ, ◌<◌, ◌≤◌, ◌↔◌, ◌∷◌, [], ◌++◌, length, slice_get, slice_set, IfSome, IfOk, OnOk, OnErr, IsTrue, Some, None, true};
 ghost use Rattle.heap_tree.specs.Walk.{ancestor, IsUpFrom};
 ghost use Rattle.heap_tree.specs.Node.{root_node, parent_of, state_of, depth_of, is_on_path, with_state, forked, IsTree};
 
 use crate::count::LinkCount;
-use crate::links::{Entry, change_state, climb, entry_at, jump_below};
+use crate::entries::Entries;
+use crate::links::{Entry, climb, entry_at, jump_below};
 use crate::state::State;
 use std::alloc::{AllocError, Global};
 use std::marker::{Brand, Model};
@@ -14,7 +15,7 @@ use std::sync::ledger::{Blank, Ledger};
 /// The tasks made so far, each with its parent and its state. The root is task 0.
 #[derive(Drop)]
 pub struct Tree {
-    entries: Vec<Entry>,
+    entries: Entries,
 }
 
 impl Model for Tree {
@@ -24,20 +25,22 @@ impl Model for Tree {
 
     ghost Value = { List Node };
 
-    ghost view = { λ t. map node_of t.entries.items };
+    ghost view = { λ t. map node_of t.entries };
 
-    ghost invariant = { λ t. IsLinked t.entries.items };
+    ghost invariant = { λ t. IsLinked t.entries };
 }
 
-// Lets a task wait, and puts two children behind the others.
-fn put_children(entries: &mut Vec<Entry>, t: u32, child: Entry)
-    requires made { t < vec_len entries.old }
-    requires room { vec_len entries.old + 2 ≤ vec_capacity entries.old }
-    ensures { IfSome (slice_get entries.old.items t) (λ e. entries.new.items ≡ slice_set entries.old.items t (record e { state = State.Waiting }) ++ child ∷ (child ∷ [])) }
+// Puts two children behind the others, and lets the task wait that forks them. For want of memory nothing changes.
+fn put_children(entries: &mut Entries, t: u32, child: Entry) -> Result<(), AllocError>
+    requires made { t < length entries.old }
+    requires parent { child.parent ≡ Some t }
+    requires shallow { child.depth < 2 ^ 16 }
+    ensures ok { OnOk result (IfSome (slice_get entries.old t) (λ e. entries.new ≡ slice_set entries.old t (record e { state = State.Waiting }) ++ child ∷ (child ∷ []))) }
+    ensures err { OnErr result (entries.new ≡ entries.old) }
 {
-    change_state(entries, t, State::Waiting);
-    entries.push_reserved(child);
-    entries.push_reserved(child);
+    entries.push_two(child, t)?;
+    entries.set_state(t, State::Waiting);
+    Ok(())
 }
 
 impl Tree {
@@ -45,15 +48,9 @@ impl Tree {
     pub fn new(alloc: Global) -> Result<Tree, AllocError>
         ensures { IfOk result (λ tree. tree ≡ root_node ∷ []) }
     {
-        let root = Entry {
-            parent: None,
-            depth: 0,
-            jump: 0,
-            state: State::Ready,
-        };
-        let mut entries = Vec::new(alloc);
-        entries.push(root)?;
-        Ok(Tree { entries })
+        Ok(Tree {
+            entries: Entries::new(alloc, State::Ready),
+        })
     }
 
     /// How many tasks were made. Their numbers are those below it.
@@ -61,7 +58,7 @@ impl Tree {
         ensures count { result ≡ length self.now }
         ensures tree { IsTree self.now }
     {
-        self.entries.len() as u32
+        self.entries.len()
     }
 
     /// Makes two children of a task, the left one first, with the next two numbers. They are ready, and the
@@ -74,15 +71,14 @@ impl Tree {
         ensures ok { OnOk result (self.new ≡ forked self.old t) }
         ensures err { OnErr result (self.new ≡ self.old) }
     {
-        self.entries.reserve(2)?;
-        let left = self.entries.len() as u32;
+        let left = self.entries.len();
         let child = Entry {
             parent: Some(t),
             depth: entry_at(&self.entries, t).depth + 1,
             jump: jump_below(&self.entries, t),
             state: State::Ready,
         };
-        put_children(&mut self.entries, t, child);
+        put_children(&mut self.entries, t, child)?;
         Ok((left, left + 1))
     }
 
@@ -91,14 +87,14 @@ impl Tree {
         requires { t < length self.old }
         ensures { self.new ≡ with_state self.old t state }
     {
-        change_state(&mut self.entries, t, state);
+        self.entries.set_state(t, state);
     }
 
     /// The state of a task; None where no task of this number was made.
     pub fn state(&self, t: u32) -> Option<State>
         ensures { result ≡ state_of self.now t }
     {
-        let entry = self.entries.get(t as usize)?;
+        let entry = self.entries.get(t)?;
         Some(entry.state)
     }
 
@@ -106,7 +102,7 @@ impl Tree {
     pub fn parent(&self, t: u32) -> Option<u32>
         ensures { result ≡ parent_of self.now t }
     {
-        let entry = self.entries.get(t as usize)?;
+        let entry = self.entries.get(t)?;
         entry.parent
     }
 

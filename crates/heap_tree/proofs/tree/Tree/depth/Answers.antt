@@ -4,6 +4,6 @@ use Rattle.heap_tree.proofs.tree.Tree.depth.Goals as goal
 
 pub returns : goal.returns
 returns c =
-    let es = c.self.inside.entries.items in
-    let got : slice_get es c.args.t ≡ Some c.entry_at.result = rw (← c.deref.ensures.value) c.entry_at.ensures in
+    let es = c.self.inside.entries in
+    let got : slice_get es c.args.t ≡ Some c.entry_at.result = c.entry_at.ensures in
     depth_answer c.args.self.now es c.self.view_is c.self.invariant c.args.t c.entry_at.result c.requires got

@@ -1,4 +1,4 @@
-use Rattle.std.proofs.Common.{◌≡◌, ℕ, vec_len, ◌+◌, ◌<◌, length, Some, refl, ap, ◌∙◌, arith}
+use Rattle.std.proofs.Common.{ℕ, ◌+◌, ◌<◌, Some, refl, ap, arith}
 use Rattle.heap_tree.specs.declared.links.Entry.{Entry}
 use Rattle.heap_tree.specs.declared.state.State.TheVariants.{Ready, Out}
 use Rattle.heap_tree.proofs.TreeLemmas.{made_from_state, made_entry, fork_shallow, depth_answer, fork_answer}
@@ -7,45 +7,49 @@ use Rattle.heap_tree.proofs.tree.Tree.fork.Goals as goal
 pub overflow_add-child : goal.overflow_add-child
 overflow_add-child c =
     let made = made_from_state c.args.self.now c.args.t Out c.requires.out in
-    let got = rw (c.deref.ensures.value, c.reserve.ensures.items) at c.entry_at.ensures in
-    let low : c.entry_at.result.depth < 1000 = fork_shallow c.args.self.now c.self.inside.entries.items c.self.view_is c.self.invariant c.args.t c.entry_at.result made got c.requires.shallow in
+    let got = c.entry_at.ensures in
+    let low : c.entry_at.result.depth < 1000 = fork_shallow c.args.self.now c.self.inside.entries c.self.view_is c.self.invariant c.args.t c.entry_at.result made got c.requires.shallow in
+    omega arith
+
+pub put_children-requires-clause-shallow : goal.put_children-requires-clause-shallow
+put_children-requires-clause-shallow c =
+    let made = made_from_state c.args.self.now c.args.t Out c.requires.out in
+    let got = c.entry_at.ensures in
+    let low : c.entry_at.result.depth < 1000 = fork_shallow c.args.self.now c.self.inside.entries c.self.view_is c.self.invariant c.args.t c.entry_at.result made got c.requires.shallow in
     omega arith
 
 pub jump_below-requires-clause-made : goal.jump_below-requires-clause-made
 jump_below-requires-clause-made c =
     let made = made_from_state c.args.self.now c.args.t Out c.requires.out in
-    rw (c.deref-2.ensures.value, c.reserve.ensures.items) (made_entry c.args.self.now c.self.inside.entries.items c.self.view_is c.self.invariant c.args.t made)
+    (made_entry c.args.self.now c.self.inside.entries c.self.view_is c.self.invariant c.args.t made)
 
 pub put_children-requires-clause-made : goal.put_children-requires-clause-made
 put_children-requires-clause-made c =
     let made = made_from_state c.args.self.now c.args.t Out c.requires.out in
-    let within : c.args.t < length c.self.inside.entries.items = made_entry c.args.self.now c.self.inside.entries.items c.self.view_is c.self.invariant c.args.t made in
-    let same : length c.deref.result.now ≡ length c.self.inside.entries.items = ap length (c.deref.ensures.value ∙ c.reserve.ensures.items) in
-    let len : length c.deref.result.now ≡ vec_len c.reserve.new.self = c.deref.ensures.len in
-    omega arith
+    made_entry c.args.self.now c.self.inside.entries c.self.view_is c.self.invariant c.args.t made
 
 pub invariant_of-self-2 : goal.invariant_of-self-2
 invariant_of-self-2 c =
     let v = c.args.self.now in
-    let es = c.self.inside.entries.items in
+    let es = c.self.inside.entries in
     let t = c.args.t in
     let made = made_from_state v t Out c.requires.out in
-    let got = rw (c.deref.ensures.value, c.reserve.ensures.items) at c.entry_at.ensures in
+    let got = c.entry_at.ensures in
     let deep = depth_answer v es c.self.view_is c.self.invariant t c.entry_at.result made got in
-    let jump = rw (c.deref-2.ensures.value, c.reserve.ensures.items) at c.jump_below.ensures in
-    let put = rw c.reserve.ensures.items at c.put_children.ensures in
+    let jump = c.jump_below.ensures in
+    let put = c.in_ok-put_children.ensures.ok in
     let child : Entry = record { parent = Some t; depth = c.entry_at.result.depth + 1; jump = c.jump_below.result; state = Ready } in
-    (fork_answer v es c.put_children.new.entries.items t child c.self.view_is c.self.invariant made c.requires.few refl (ap (λ (m : ℕ). m + 1) deep) jump refl put).0
+    (fork_answer v es c.put_children.new.entries t child c.self.view_is c.self.invariant made c.requires.few refl (ap (λ (m : ℕ). m + 1) deep) jump refl put).0
 
 pub returns-clause-ok : goal.returns-clause-ok
 returns-clause-ok c =
     let v = c.args.self.now in
-    let es = c.self.inside.entries.items in
+    let es = c.self.inside.entries in
     let t = c.args.t in
     let made = made_from_state v t Out c.requires.out in
-    let got = rw (c.deref.ensures.value, c.reserve.ensures.items) at c.entry_at.ensures in
+    let got = c.entry_at.ensures in
     let deep = depth_answer v es c.self.view_is c.self.invariant t c.entry_at.result made got in
-    let jump = rw (c.deref-2.ensures.value, c.reserve.ensures.items) at c.jump_below.ensures in
-    let put = rw c.reserve.ensures.items at c.put_children.ensures in
+    let jump = c.jump_below.ensures in
+    let put = c.in_ok-put_children.ensures.ok in
     let child : Entry = record { parent = Some t; depth = c.entry_at.result.depth + 1; jump = c.jump_below.result; state = Ready } in
-    (fork_answer v es c.put_children.new.entries.items t child c.self.view_is c.self.invariant made c.requires.few refl (ap (λ (m : ℕ). m + 1) deep) jump refl put).1
+    (fork_answer v es c.put_children.new.entries t child c.self.view_is c.self.invariant made c.requires.few refl (ap (λ (m : ℕ). m + 1) deep) jump refl put).1

@@ -5,26 +5,26 @@ use Rattle.heap_tree.proofs.tree.Tree.on_path_counted.Goals as goal
 
 pub returns-then-depth-entry_at-clause-value : goal.returns-then-depth-entry_at-clause-value
 returns-then-depth-entry_at-clause-value g c =
-    let got = rw c.deref.ensures.value at c.entry_at-depth.ensures in
-    let up = rw c.deref-then-depth-entry_at.ensures.value at c.climb.ensures.up in
-    on_path_answer c.args.self.now c.self.inside.entries.items c.self.view_is c.self.invariant c.args.reader c.args.owner c.climb.result c.entry_at-depth.result.depth c.entry_at-depth.result got refl up
+    let got = c.entry_at-depth.ensures in
+    let up = c.climb.ensures.up in
+    on_path_answer c.args.self.now c.self.inside.entries c.self.view_is c.self.invariant c.args.reader c.args.owner c.climb.result c.entry_at-depth.result.depth c.entry_at-depth.result got refl up
 
 pub returns-then-depth-entry_at-clause-walk : goal.returns-then-depth-entry_at-clause-walk
 returns-then-depth-entry_at-clause-walk g c =
-    walk_answer c.args.self.now c.self.inside.entries.items c.self.view_is c.self.invariant c.args.reader c.args.owner _ (returns-then-depth-entry_at-clause-value g c)
+    walk_answer c.args.self.now c.self.inside.entries c.self.view_is c.self.invariant c.args.reader c.args.owner _ (returns-then-depth-entry_at-clause-value g c)
 
 pub returns-else-depth-entry_at-clause-value : goal.returns-else-depth-entry_at-clause-value
 returns-else-depth-entry_at-clause-value g c =
-    let got_a = rw c.deref.ensures.value at c.entry_at-depth.ensures in
-    let got_t = rw c.deref-2.ensures.value at c.entry_at.ensures in
+    let got_a = c.entry_at-depth.ensures in
+    let got_t = c.entry_at.ensures in
     lt-leb c.entry_at-depth.result.depth c.entry_at.result.depth c.if-depth-entry_at.false
-    ∙ sym (off_path_answer c.args.self.now c.self.inside.entries.items c.self.view_is c.self.invariant c.args.reader c.args.owner c.entry_at-depth.result c.entry_at.result got_a got_t c.if-depth-entry_at.false)
+    ∙ sym (off_path_answer c.args.self.now c.self.inside.entries c.self.view_is c.self.invariant c.args.reader c.args.owner c.entry_at-depth.result c.entry_at.result got_a got_t c.if-depth-entry_at.false)
 
 pub returns-else-depth-entry_at-clause-walk : goal.returns-else-depth-entry_at-clause-walk
 returns-else-depth-entry_at-clause-walk g c =
-    walk_answer c.args.self.now c.self.inside.entries.items c.self.view_is c.self.invariant c.args.reader c.args.owner _ (returns-else-depth-entry_at-clause-value g c)
+    walk_answer c.args.self.now c.self.inside.entries c.self.view_is c.self.invariant c.args.reader c.args.owner _ (returns-else-depth-entry_at-clause-value g c)
 
 pub returns-then-depth-entry_at-clause-cost : goal.returns-then-depth-entry_at-clause-cost
 returns-then-depth-entry_at-clause-cost g c =
-    let cost = rw c.deref-then-depth-entry_at.ensures.value at c.climb.ensures.cost in
-    cost_seen c.args.self.now c.self.inside.entries.items c.self.view_is c.self.invariant c.args.reader c.requires.reader (λ (log : ℕ). c.climb.new.links ≤ c.args.links.now + 3 * log) cost
+    let cost = c.climb.ensures.cost in
+    cost_seen c.args.self.now c.self.inside.entries c.self.view_is c.self.invariant c.args.reader c.requires.reader (λ (log : ℕ). c.climb.new.links ≤ c.args.links.now + 3 * log) cost

@@ -3,8 +3,8 @@ use Rattle.heap_tree.proofs.tree.Tree.set_state.Goals as goal
 
 pub invariant_of-self : goal.invariant_of-self
 invariant_of-self c =
-    (state_answer c.args.self.now c.self.inside.entries.items c.change_state.new.entries.items c.args.t c.args.state c.self.view_is c.self.invariant c.requires c.change_state.ensures.put).0
+    (state_answer c.args.self.now c.self.inside.entries c.set_state.new.self c.args.t c.args.state c.self.view_is c.self.invariant c.requires c.set_state.ensures).0
 
 pub returns : goal.returns
 returns c =
-    (state_answer c.args.self.now c.self.inside.entries.items c.change_state.new.entries.items c.args.t c.args.state c.self.view_is c.self.invariant c.requires c.change_state.ensures.put).1
+    (state_answer c.args.self.now c.self.inside.entries c.set_state.new.self c.args.t c.args.state c.self.view_is c.self.invariant c.requires c.set_state.ensures).1
