@@ -1,10 +1,9 @@
 -- Sources that are noted stand once.
-use Rattle.std.proofs.Common.{◌≡◌, ℕ, Bool, true, false, cond, ◌||◌, List, [], ◌∷◌, ◌++◌, fold, refl, sym, ap, ◌∙◌, subst, eqb, eqb-true, eq-eqb}
+use Rattle.std.proofs.Common.{◌≡◌, ℕ, Bool, true, false, cond, ◌||◌, List, [], ◌∷◌, ◌++◌, refl, sym, ap, ◌∙◌, eqb, eqb-true, eq-eqb}
 use Rattle.std.specs.Prelude.{◌&&◌}
-use Rattle.std.proofs.lemmas.Bool.{cases_Bool, false≢true}
-use Rattle.object_layout.specs.declared.word.Addr.{Addr}
+use Rattle.std.proofs.lemmas.Bool.{false≢true}
 use Rattle.remembered_set.specs.declared.remembered.Source.{Source}
-use Rattle.remembered_set.specs.Sources.{has_source, noted, same_source, IsKept, StandOnce}
+use Rattle.remembered_set.specs.Sources.{has_source, noted, same_source, StandOnce}
 
 left : (a b : Bool) → (a && b) ≡ true → a ≡ true
 left true b e = refl

@@ -1,13 +1,13 @@
 -- What is read once sources are rewritten.
-use Rattle.std.proofs.Common.{◌≡◌, ℕ, zero, suc, ◌<◌, Bool, true, false, cond, ◌||◌, ◌&&◌, List, [], ◌∷◌, fold, length, set, get_or, ◌⊎◌, inl, inr, refl, sym, ap, ◌∙◌, subst, eqb, Option, Some, None, arith}
+use Rattle.std.proofs.Common.{◌≡◌, ℕ, ◌<◌, Bool, true, false, cond, ◌||◌, List, [], ◌∷◌, fold, length, get_or, inl, inr, refl, sym, ap, ◌∙◌, subst, Option, Some, None}
 use Rattle.std.specs.Prelude.{◌≢◌, slice_set, unwrap_or}
-use Rattle.std.proofs.lemmas.Bool.{cases_Bool, cases_eq, false≢true}
+use Rattle.std.proofs.lemmas.Bool.{cases_Bool, false≢true}
 use Rattle.std.proofs.lemmas.List.{get_or-set_same, get_or-set_other}
 use Rattle.object_layout.specs.declared.word.Addr.{Addr}
 use Rattle.remembered_set.specs.declared.remembered.Source.{Source}
 use Rattle.remembered_set.specs.Sources.{has_source, same_source, StandOnce}
 use Rattle.remembered_set.specs.Moved.{held_by, led_by, new_of, new_reference, redirected, written, AreFields}
-use Rattle.remembered_set.specs.Laws.{IsRewritten, RewriteIsRead}
+use Rattle.remembered_set.specs.Laws.{RewriteIsRead}
 use Rattle.remembered_set.proofs.Noting.{same_is, same_self}
 use Rattle.remembered_set.proofs.SourceLemmas as sources
 

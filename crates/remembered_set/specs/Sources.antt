@@ -1,5 +1,5 @@
 -- The down-pointers that a heap remembers.
-use Rattle.std.specs.Prelude.{◌≡◌, ℕ, Bool, false, List, [], ◌∷◌, ◌++◌, ◌==◌, ◌&&◌, if◌then◌else◌, fold, filter, not}
+use Rattle.std.specs.Prelude.{◌≡◌, ℕ, Bool, false, Option, Some, None, List, [], ◌∷◌, ◌++◌, ◌==◌, ◌&&◌, if◌then◌else◌, fold, filter, not}
 use Rattle.std.specs.List.{list_any}
 use Rattle.object_layout.specs.Content.{Content}
 pub use Rattle.object_layout.specs.Chunks.{has_chunk}
@@ -12,6 +12,11 @@ pub record Notes : Type 0 where
   pub slots : ℕ
   pub spare : ℕ
   pub numbers : ℕ
+
+-- those of a table, where there is one
+abbrev pub notes_in : Option Notes → Notes
+notes_in None = record { sources = []; slots = 0; spare = 0; numbers = 0 }
+notes_in (Some n) = n
 
 -- one field of one object
 abbrev pub same_source : Source → Source → Bool

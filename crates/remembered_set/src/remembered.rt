@@ -1,16 +1,15 @@
-// A remembered set: each down-pointer's source once, in the order in which they were noted.
+// A remembered set, which takes no memory until it is to hold something.
 
-ghost use Rattle.std.specs.Prelude.{◌≡◌, ℕ, ◌+◌, ◌-◌, ◌<◌, ◌≤◌, [], ◌++◌, filter, fold, IfOk, OnErr, OnOk, length, nat_eq, not, vec_capacity, vec_len};
-ghost use Rattle.std.specs.HashSet.{contains, hash_set_len, spare};
-ghost use Rattle.remembered_set.specs.declared.remembered.Source.{Source};
-ghost use Rattle.remembered_set.specs.Sources.{has_chunk, has_source, lifted, noted, same_source, IsKept, StandOnce};
-ghost use Rattle.remembered_set.specs.Moved.{into_by, redirected, targets_of, AreFields, AreInOrder, ArePlaces};
+ghost use Rattle.std.specs.Prelude.{◌≡◌, ◌+◌, ◌<◌, ◌≤◌, [], fold, IfOk, None, OnErr, OnOk, length};
+ghost use Rattle.remembered_set.specs.Sources.{lifted, noted, notes_in, StandOnce};
+ghost use Rattle.remembered_set.specs.Moved.{redirected, targets_of, AreFields, AreInOrder, ArePlaces};
 
-use crate::moved::new_of;
+use crate::table::Table;
 use object_layout::{Addr, Chunk, Words};
+use out_of_line::Apart;
 use std::alloc::{AllocError, Global};
-use std::collections::HashSet;
 use std::marker::Model;
+use std::mem;
 
 /// A reference field of an object: where the object lies, and which of its references it is.
 #[derive(Clone, Copy, PartialEq, Eq, Hash)]
@@ -23,21 +22,28 @@ pub struct Source {
 /// overwritten; what it holds is read when it is needed.
 #[derive(Drop)]
 pub struct Remembered {
-    sources: Vec<Source>,
-    known: HashSet<Source>,
-    numbers: HashSet<u32>,
+    alloc: Global,
+    // None where it holds nothing, and has no places.
+    table: Option<Apart<Table>>,
 }
 
 impl Model for Remembered {
-    ghost use Rattle.std.specs.Prelude.{◌+◌, ◌-◌, vec_capacity, vec_len};
-    ghost use Rattle.std.specs.HashSet.{contains, hash_set_len, spare};
-    ghost use Rattle.remembered_set.specs.Sources.{same_source, IsKept, Notes};
+    ghost use Rattle.remembered_set.specs.Sources.{notes_in, Notes};
 
     ghost Value = { Notes };
 
-    ghost view = { λ r. record { sources = r.sources.items; slots = vec_capacity r.sources - vec_len r.sources; spare = spare r.known; numbers = hash_set_len r.numbers + spare r.numbers } };
+    ghost view = { λ r. notes_in r.table };
+}
 
-    ghost invariant = { λ r. IsKept r.sources.items (contains same_source r.known) };
+// The table that there is, or a new one.
+fn opened(alloc: Global, table: Option<Apart<Table>>) -> Result<Apart<Table>, AllocError>
+    ensures same { IfOk result (λ t. t.sources ≡ (notes_in table).sources) }
+    ensures none { OnErr result (table ≡ None) }
+{
+    match table {
+        Some(table) => Ok(table),
+        None => Ok(Apart::new(alloc, Table::new(alloc))?),
+    }
 }
 
 impl Remembered {
@@ -45,11 +51,7 @@ impl Remembered {
     pub fn new(alloc: Global) -> Remembered
         ensures { result.sources ≡ [] }
     {
-        Remembered {
-            sources: Vec::new(alloc),
-            known: HashSet::new(alloc),
-            numbers: HashSet::new(alloc),
-        }
+        Remembered { alloc, table: None }
     }
 
     /// The sources in the order in which they were noted.
@@ -57,7 +59,10 @@ impl Remembered {
         ensures sources { result.now ≡ self.now.sources }
         ensures once { StandOnce self.now.sources }
     {
-        &self.sources
+        match &self.table {
+            Some(table) => table.get().sources(),
+            None => &[],
+        }
     }
 
     /// Makes places for so many sources more, and for a lift to a heap of so many chunks.
@@ -67,9 +72,13 @@ impl Remembered {
         ensures spare { OnOk result (sources ≤ self.new.spare) }
         ensures numbers { OnOk result (chunks ≤ self.new.numbers) }
     {
-        self.sources.reserve(sources as usize)?;
-        self.known.reserve(sources as usize)?;
-        self.numbers.reserve(chunks as usize)
+        if sources == 0 && chunks == 0 {
+            return Ok(());
+        }
+        let mut table = opened(self.alloc, mem::replace(&mut self.table, None))?;
+        let made = table.get_mut().make_room(sources, chunks);
+        self.table = Some(table);
+        made
     }
 
     /// Notes a source, unless it is known.
@@ -90,7 +99,11 @@ impl Remembered {
         ensures slots { self.old.slots ≤ self.new.slots + 1 }
         ensures spare { self.old.spare ≤ self.new.spare + 1 }
     {
-        note_in(&mut self.sources, &mut self.known, source);
+        let Some(mut table) = mem::replace(&mut self.table, None) else {
+            unreachable!()
+        };
+        table.get_mut().note_spare(source);
+        self.table = Some(table);
     }
 
     /// What the sources hold now, as far as it points into these chunks: the addresses in the
@@ -104,18 +117,10 @@ impl Remembered {
         requires { AreFields W.refs_at words.now self.now.sources }
         ensures { IfOk result (λ v. v.items ≡ targets_of W.refs_at words.now heap.now self.now.sources) }
     {
-        if self.sources.is_empty() {
-            return Ok(Vec::new(alloc));
+        match &self.table {
+            Some(table) => table.get().targets(alloc, words, heap),
+            None => Ok(Vec::new(alloc)),
         }
-        let mut numbers = HashSet::new(alloc);
-        numbers.reserve(heap.len())?;
-        number_chunks(&mut numbers, heap);
-        let mut targets = Vec::new(alloc);
-        for source in &self.sources {
-            let held = words.ref_field(source.object, source.field);
-            push_target(&mut targets, held, &numbers)?;
-        }
-        Ok(targets)
     }
 
     /// Leads each source that still holds an old address to the new one, and leaves the others. The
@@ -126,8 +131,8 @@ impl Remembered {
         requires places { ArePlaces moved.now }
         ensures { words.new ≡ fold (redirected W.refs_at W.with_ref_at moved.now) words.old self.now.sources }
     {
-        for source in &self.sources {
-            redirect(words, *source, moved);
+        if let Some(table) = &self.table {
+            table.get().rewrite(words, moved);
         }
     }
 
@@ -142,97 +147,10 @@ impl Remembered {
         ensures spare { self.old.spare ≤ self.new.spare + length from.sources }
         ensures numbers { self.old.numbers ≤ self.new.numbers }
     {
-        number_chunks(&mut self.numbers, parent);
-        note_all(
-            &mut self.sources,
-            &mut self.known,
-            &self.numbers,
-            &from.sources,
-        );
+        let Some(mut table) = mem::replace(&mut self.table, None) else {
+            return;
+        };
+        table.get_mut().lift(from.sources(), parent);
+        self.table = Some(table);
     }
-}
-
-// Adds a reference to a list, if it points into a chunk of one of these numbers.
-fn push_target(
-    targets: &mut Vec<Addr>,
-    held: Option<Addr>,
-    numbers: &HashSet<u32>,
-) -> Result<(), AllocError>
-    ensures { OnOk result (targets.new.items ≡ targets.old.items ++ into_by (contains nat_eq numbers.now) held) }
-{
-    if let Some(target) = held {
-        if numbers.contains(&target.chunk) {
-            targets.push(target)?;
-        }
-    }
-    Ok(())
-}
-
-// Notes a source in a list and its table, unless it is known.
-fn note_in(sources: &mut Vec<Source>, known: &mut HashSet<Source>, source: Source)
-    requires slots { vec_len sources.old < vec_capacity sources.old }
-    requires spare { 0 < spare known.old }
-    requires kept { IsKept sources.old.items (contains same_source known.old) }
-    ensures noted { sources.new.items ≡ noted sources.old.items source }
-    ensures known { (s : Source) → contains same_source known.new s ≡ has_source sources.new.items s }
-    ensures once { StandOnce sources.new.items }
-    ensures slots { vec_capacity sources.old - vec_len sources.old ≤ vec_capacity sources.new - vec_len sources.new + 1 }
-    ensures spare { spare known.old ≤ spare known.new + 1 }
-{
-    if let Ok(true) = known.insert(source) {
-        sources.push_reserved(source);
-    }
-}
-
-// Notes those of these sources whose object doesn't lie in a chunk of one of these numbers.
-fn note_all(
-    sources: &mut Vec<Source>,
-    known: &mut HashSet<Source>,
-    numbers: &HashSet<u32>,
-    from: &[Source],
-)
-    requires slots { length from.now ≤ vec_capacity sources.old - vec_len sources.old }
-    requires spare { length from.now ≤ spare known.old }
-    requires kept { IsKept sources.old.items (contains same_source known.old) }
-    ensures noted { sources.new.items ≡ fold noted sources.old.items (filter (λ s. not (contains nat_eq numbers.now s.object.chunk)) from.now) }
-    ensures kept { IsKept sources.new.items (contains same_source known.new) }
-    ensures slots { vec_capacity sources.old - vec_len sources.old ≤ vec_capacity sources.new - vec_len sources.new + length from.now }
-    ensures spare { spare known.old ≤ spare known.new + length from.now }
-{
-    for source in from {
-        if !numbers.contains(&source.object.chunk) {
-            note_in(sources, known, *source);
-        }
-    }
-}
-
-// Makes a set the numbers of these chunks.
-fn number_chunks(numbers: &mut HashSet<u32>, chunks: &[Chunk])
-    requires { length chunks.now ≤ hash_set_len numbers.old + spare numbers.old }
-    ensures known { (number : ℕ) → contains nat_eq numbers.new number ≡ has_chunk chunks.now number }
-    ensures room { hash_set_len numbers.old + spare numbers.old ≤ hash_set_len numbers.new + spare numbers.new }
-{
-    numbers.clear();
-    for chunk in chunks {
-        let number = chunk.number();
-        if !numbers.contains(&number) {
-            let _ = numbers.insert(number);
-        }
-    }
-}
-
-// Leads a source that still holds an old address to the new one.
-fn redirect<W: Words>(words: &mut W, source: Source, moved: &[(Addr, Addr)])
-    requires field { source.field < length (W.refs_at words.old source.object) }
-    requires order { AreInOrder moved.now }
-    requires places { ArePlaces moved.now }
-    ensures { words.new ≡ redirected W.refs_at W.with_ref_at moved.now words.old source }
-{
-    let Some(old) = words.ref_field(source.object, source.field) else {
-        return;
-    };
-    let Some(new) = new_of(moved, old) else {
-        return;
-    };
-    words.set_ref_field(source.object, source.field, Some(new));
 }

@@ -1,6 +1,6 @@
 use Rattle.std.proofs.Common.{◌≡◌, drop, fold}
 use Rattle.remembered_set.specs.Moved.{redirected, AreFields}
-use Rattle.remembered_set.proofs.remembered.Remembered.rewrite.Given as goal
+use Rattle.remembered_set.proofs.table.Table.rewrite.Given as goal
 
 abbrev pub invariant-loop-source : goal.invariant-loop-source
 invariant-loop-source g l = record {

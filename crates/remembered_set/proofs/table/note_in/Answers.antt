@@ -2,7 +2,7 @@ use Rattle.std.proofs.Common.{◌≡◌, rules, subst, sym, arith}
 use Rattle.std.proofs.lemmas.Grind.{common_steps}
 use Rattle.remembered_set.specs.Sources.{noted, StandOnce}
 use Rattle.remembered_set.proofs.Noting.{once_noted}
-use Rattle.remembered_set.proofs.remembered.note_in.Goals as goal
+use Rattle.remembered_set.proofs.table.note_in.Goals as goal
 
 pub returns-in-Ok-true-clause-once : goal.returns-in-Ok-true-clause-once
 returns-in-Ok-true-clause-once c =

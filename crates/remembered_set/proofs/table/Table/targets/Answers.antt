@@ -6,7 +6,7 @@ use Rattle.remembered_set.specs.declared.remembered.Source.{Source}
 use Rattle.remembered_set.specs.Sources.{has_chunk}
 use Rattle.remembered_set.proofs.MovedLemmas.{read_at}
 use Rattle.remembered_set.proofs.SourceLemmas as lemma
-use Rattle.remembered_set.proofs.remembered.Remembered.targets.Goals as goal
+use Rattle.remembered_set.proofs.table.Table.targets.Goals as goal
 
 abbrev none : Source
 none = record { object = record { chunk = 0; offset = 0 }; field = 0 }

@@ -3,7 +3,7 @@ use Rattle.std.specs.List.{list_any}
 use Rattle.std.proofs.lemmas.List.{take_all}
 use Rattle.object_layout.specs.Content.{Content}
 use Rattle.object_layout.proofs.Owning.{found_any}
-use Rattle.remembered_set.proofs.remembered.number_chunks.Goals as goal
+use Rattle.remembered_set.proofs.table.number_chunks.Goals as goal
 
 pub returns-clause-known : goal.returns-clause-known
 returns-clause-known c = λ n.

@@ -1,6 +1,6 @@
 use Rattle.std.proofs.Common.{◌≡◌, ◌++◌, drop}
 use Rattle.remembered_set.specs.Moved.{targets_of, AreFields}
-use Rattle.remembered_set.proofs.remembered.Remembered.targets.Given as goal
+use Rattle.remembered_set.proofs.table.Table.targets.Given as goal
 
 abbrev pub invariant-loop-source : goal.invariant-loop-source
 invariant-loop-source g l = record {

@@ -2,7 +2,7 @@ use Rattle.std.proofs.Common.{◌+◌, drop}
 use Rattle.std.proofs.lemmas.List.{drop_more}
 use Rattle.remembered_set.specs.declared.remembered.Source.{Source}
 use Rattle.remembered_set.proofs.SourceLemmas as lemma
-use Rattle.remembered_set.proofs.remembered.Remembered.rewrite.Goals as goal
+use Rattle.remembered_set.proofs.table.Table.rewrite.Goals as goal
 
 abbrev none : Source
 none = record { object = record { chunk = 0; offset = 0 }; field = 0 }

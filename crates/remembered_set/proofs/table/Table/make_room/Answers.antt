@@ -1,6 +1,6 @@
 use Rattle.std.proofs.Common.{◌∙◌, subst, sym}
 use Rattle.remembered_set.specs.Sources.{StandOnce}
-use Rattle.remembered_set.proofs.remembered.Remembered.make_room.Goals as goal
+use Rattle.remembered_set.proofs.table.Table.make_room.Goals as goal
 
 pub invariant_of-self-2 : goal.invariant_of-self-2
 invariant_of-self-2 c = record {

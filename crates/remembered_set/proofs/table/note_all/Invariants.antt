@@ -3,7 +3,7 @@ use Rattle.std.specs.Prelude.{filter, nat_eq, not, vec_capacity, vec_len}
 use Rattle.std.specs.HashSet.{contains, spare}
 use Rattle.remembered_set.specs.declared.remembered.Source.{Source}
 use Rattle.remembered_set.specs.Sources.{noted, same_source, IsKept}
-use Rattle.remembered_set.proofs.remembered.note_all.Given as goal
+use Rattle.remembered_set.proofs.table.note_all.Given as goal
 
 abbrev pub invariant-loop-source : goal.invariant-loop-source
 invariant-loop-source l = record {

@@ -3,7 +3,7 @@ use Rattle.std.specs.Prelude.{nat_eq}
 use Rattle.std.specs.HashSet.{contains, hash_set_len, spare}
 use Rattle.std.specs.List.{list_any}
 use Rattle.object_layout.specs.Content.{Content}
-use Rattle.remembered_set.proofs.remembered.number_chunks.Given as goal
+use Rattle.remembered_set.proofs.table.number_chunks.Given as goal
 
 abbrev pub invariant-loop-chunk : goal.invariant-loop-chunk
 invariant-loop-chunk l = record {

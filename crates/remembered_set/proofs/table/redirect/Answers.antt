@@ -1,6 +1,6 @@
 use Rattle.std.proofs.Common.{◌∙◌, None, sym}
 use Rattle.remembered_set.proofs.MovedLemmas as lemma
-use Rattle.remembered_set.proofs.remembered.redirect.Goals as goal
+use Rattle.remembered_set.proofs.table.redirect.Goals as goal
 
 pub set_ref_field-requires-clause-place : goal.set_ref_field-requires-clause-place
 set_ref_field-requires-clause-place g c =
