@@ -83,8 +83,8 @@ pub fn take_remembered(alloc: Global, sets: &mut Vec<SetOf>, t: u32) -> Remember
     set.remembered
 }
 
-/// How many chunks the heap of a task has that no worker holds.
-pub fn chunks_at(homes: &Listed<Option<Rest>>, t: u32) -> usize
+// How many chunks the heap of a task has that no worker holds.
+fn chunks_at(homes: &Listed<Option<Rest>>, t: u32) -> usize
     requires { t < length homes.now }
     ensures { result ≡ chunk_count (rest_at homes.now t) }
 {
@@ -94,16 +94,16 @@ pub fn chunks_at(homes: &Listed<Option<Rest>>, t: u32) -> usize
     }
 }
 
-/// How many fields the set of a task remembers.
-pub fn sources_of(sets: &Vec<SetOf>, t: u32) -> usize
+// How many fields the set of a task remembers.
+fn sources_of(sets: &Vec<SetOf>, t: u32) -> usize
     requires { t < length sets.now.items }
     ensures { result ≡ length (sources_at sets.now.items t) }
 {
     sets[t as usize].remembered.sources().len()
 }
 
-/// A number of places; more than 32 bits count are more than can be reserved.
-pub fn places(left: usize, right: usize) -> Result<u32, AllocError>
+// A number of places; more than 32 bits count are more than can be reserved.
+fn places(left: usize, right: usize) -> Result<u32, AllocError>
     ensures { IfOk result (λ n. n ≡ left + right) }
 {
     let Some(both) = left.checked_add(right) else {
@@ -115,12 +115,8 @@ pub fn places(left: usize, right: usize) -> Result<u32, AllocError>
     }
 }
 
-/// Makes places in the heap of a task that no worker holds.
-pub fn make_home_places(
-    homes: &mut Listed<Option<Rest>>,
-    t: u32,
-    chunks: u32,
-) -> Result<(), AllocError>
+// Makes places in the heap of a task that no worker holds.
+fn make_home_places(homes: &mut Listed<Option<Rest>>, t: u32, chunks: u32) -> Result<(), AllocError>
     requires made { t < length homes.old }
     ensures many { length homes.new ≡ length homes.old }
     ensures others { (u : ℕ) → u ≢ t → rest_at homes.new u ≡ rest_at homes.old u }
@@ -135,8 +131,8 @@ pub fn make_home_places(
     made
 }
 
-/// Makes places in the set of a task.
-pub fn make_set_places(sets: &mut Vec<SetOf>, t: u32, sources: u32) -> Result<(), AllocError>
+// Makes places in the set of a task.
+fn make_set_places(sets: &mut Vec<SetOf>, t: u32, sources: u32) -> Result<(), AllocError>
     requires made { t < length sets.old.items }
     ensures many { length sets.new.items ≡ length sets.old.items }
     ensures same { (u : ℕ) → content_at sets.new.items u ≡ content_at sets.old.items u }
@@ -144,6 +140,54 @@ pub fn make_set_places(sets: &mut Vec<SetOf>, t: u32, sources: u32) -> Result<()
 {
     let set = &mut sets[t as usize];
     set.remembered.make_room(sources, 0)
+}
+
+// How many places the home and the set of a task need for all that two of its children bring: a part, and its sibling, which has
+// ended.
+fn places_for(
+    homes: &Listed<Option<Rest>>,
+    sets: &Vec<SetOf>,
+    part: &Private,
+) -> Result<(u32, u32), AllocError>
+    requires child { 0 < part.now.task }
+    requires few { part.now.task < 2 ^ 31 }
+    requires other { sibling part.now.task < length homes.now }
+    requires own_set { part.now.task < length sets.now.items }
+    requires other_set { sibling part.now.task < length sets.now.items }
+    ensures chunks { IfOk result (λ n. n.0 ≡ length part.now.heap.chunks + chunk_count (rest_at homes.now (sibling part.now.task))) }
+    ensures sources { IfOk result (λ n. n.1 ≡ length (sources_at sets.now.items part.now.task) + length (sources_at sets.now.items (sibling part.now.task))) }
+{
+    let other = sibling_of(part.task);
+    let chunks = places(part.heap.chunks().len(), chunks_at(homes, other))?;
+    let sources = places(sources_of(sets, part.task), sources_of(sets, other))?;
+    Ok((chunks, sources))
+}
+
+/// Makes places in the home and in the set of a task for all that two of its children bring: a part, and its sibling, which has
+/// ended. Nothing else changes.
+pub fn make_places(
+    homes: &mut Listed<Option<Rest>>,
+    sets: &mut Vec<SetOf>,
+    part: &Private,
+    parent: u32,
+) -> Result<(), AllocError>
+    requires child { 0 < part.now.task }
+    requires few { part.now.task < 2 ^ 31 }
+    requires made { parent < length homes.old }
+    requires other { sibling part.now.task < length homes.old }
+    requires own { part.now.task < length homes.old }
+    requires sets { length sets.old.items ≡ length homes.old }
+    ensures many { length homes.new ≡ length homes.old }
+    ensures others { (u : ℕ) → u ≢ parent → rest_at homes.new u ≡ rest_at homes.old u }
+    ensures same { IsSameRest (rest_at homes.old parent) (rest_at homes.new parent) }
+    ensures many_sets { length sets.new.items ≡ length sets.old.items }
+    ensures same_sets { (u : ℕ) → content_at sets.new.items u ≡ content_at sets.old.items u }
+    ensures home_room { OnOk result (IfSome (rest_at homes.new parent) (λ r. (length part.now.heap.chunks + chunk_count (rest_at homes.old (sibling part.now.task)) ≤ r.heap.slots) × (length part.now.heap.chunks + chunk_count (rest_at homes.old (sibling part.now.task)) ≤ r.heap.spare))) }
+    ensures set_room { OnOk result (IfSome (slice_get sets.new.items parent) (λ s. (length (sources_at sets.old.items part.now.task) + length (sources_at sets.old.items (sibling part.now.task)) ≤ s.remembered.slots) × (length (sources_at sets.old.items part.now.task) + length (sources_at sets.old.items (sibling part.now.task)) ≤ s.remembered.spare))) }
+{
+    let (chunks, sources) = places_for(homes, sets, part)?;
+    make_home_places(homes, parent, chunks)?;
+    make_set_places(sets, parent, sources)
 }
 
 /// The left child and the right one.

@@ -1,0 +1,7 @@
+use Rattle.std.proofs.Common.{refl}
+use Rattle.shared_value.specs.World.{rest_at}
+use Rattle.child_tasks.proofs.JoinPlaces.{same_itself}
+use Rattle.child_tasks.proofs.join.make_places.Goals as goal
+
+pub returns-in_err-chunks-clause-same : goal.returns-in_err-chunks-clause-same
+returns-in_err-chunks-clause-same c = same_itself (rest_at c.args.homes.now c.args.parent) (rest_at c.args.homes.now c.args.parent) refl
