@@ -1,27 +1,30 @@
 // What a leaf collection needs as it begins.
 
-ghost use Rattle.std.specs.Prelude.{◌≡◌, ◌<◌, ◌≤◌, [], ◌++◌, IfOk, length, map};
+ghost use Rattle.std.specs.Prelude.{◌≡◌, ◌+◌, ◌<◌, ◌≤◌, ◌^◌, [], ◌++◌, IfOk, None, OnErr, Some, length, map, vec_len};
+ghost use Rattle.chunk_pool.specs.Chunks.{units_in_use, TakesAll};
 ghost use Rattle.alloc_path.specs.Heap.{with_places};
 ghost use Rattle.leaf_copy_gc.specs.Lists.{AreReserved};
 ghost use Rattle.shared_value.specs.LeafBegin.{number_of};
 
 use alloc_path::LeafHeap;
+use chunk_pool::{NotTaken, Pool};
 use leaf_copy_gc::ToChunks;
 use listed::{Listed, Roomy};
 use object_layout::{Addr, Chunk};
 use std::alloc::{AllocError, Global};
+use task_machine::{Begun, Private};
 
-/// What a collection needs beside its chunks: a copy of its roots, a list for the numbers of the chunks, and what is reserved
-/// for copying.
+// What a collection needs beside its chunks: a copy of its roots, a list for the numbers of the chunks, and what is reserved
+// for copying.
 #[derive(Drop)]
-pub struct Prepared {
-    pub roots: Listed<Addr>,
-    pub numbers: Roomy<u32>,
-    pub to: ToChunks,
+struct Prepared {
+    roots: Listed<Addr>,
+    numbers: Roomy<u32>,
+    to: ToChunks,
 }
 
-/// Takes all memory that a collection into so many chunks needs.
-pub fn prepare(
+// Takes all memory that a collection into so many chunks needs.
+fn prepare(
     alloc: Global,
     roots: &[Addr],
     heap: &mut LeafHeap,
@@ -41,12 +44,49 @@ pub fn prepare(
     Ok(Prepared { roots, numbers, to })
 }
 
-/// Puts down the numbers of chunks.
-pub fn note_numbers(numbers: &mut Roomy<u32>, chunks: &[Chunk])
+// Puts down the numbers of chunks.
+fn note_numbers(numbers: &mut Roomy<u32>, chunks: &[Chunk])
     requires { length chunks.now ≤ numbers.old.room }
     ensures { numbers.new.items ≡ numbers.old.items ++ map number_of chunks.now }
 {
     for chunk in chunks {
         numbers.push_reserved(chunk.number());
     }
+}
+
+/// Takes so many chunks for a collection of a part, and all memory that it needs, and lets the part begin it from these roots.
+/// For want of memory nothing changes but the places of the part's heap.
+pub fn begin_with(
+    alloc: Global,
+    pool: &mut Pool,
+    part: &mut Private,
+    roots: &[Addr],
+    count: u32,
+) -> Result<ToChunks, AllocError>
+    requires idle { part.old.begun ≡ None }
+    requires few { count < 2 ^ 22 }
+    requires free { pool.old.limit < units_in_use pool.old + count → ⊥ }
+    ensures same { OnErr result (pool.new ≡ pool.old) }
+    ensures back { OnErr result (part.new ≡ record part.old { heap = with_places part.old.heap part.new.heap.slots part.new.heap.spare }) }
+    ensures taken { IfOk result (λ to. TakesAll pool.old pool.new part.old.task count [] to.chunks.items) }
+    ensures begun { IfOk result (λ to. part.new ≡ record part.old { heap = with_places part.old.heap part.new.heap.slots part.new.heap.spare; begun = Some (record { roots = roots.now; news = map number_of to.chunks.items }) }) }
+    ensures reserved { IfOk result (λ to. AreReserved part.new.heap (vec_len to.chunks) to) }
+{
+    let prepared = prepare(alloc, roots, &mut part.heap, count)?;
+    let Prepared {
+        roots: kept,
+        mut numbers,
+        mut to,
+    } = prepared;
+    match pool.take_all(part.task, count, &mut to.chunks) {
+        Ok(()) => {}
+        Err(NotTaken::NoMemory) => return Err(AllocError),
+        Err(NotTaken::Full) => unreachable!(),
+    }
+    note_numbers(&mut numbers, &to.chunks);
+    part.begin_collection(Begun {
+        roots: kept,
+        news: numbers.into_listed(),
+    });
+    Ok(to)
 }

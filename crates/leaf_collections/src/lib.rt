@@ -8,5 +8,5 @@ mod leaf_end;
 
 pub use chunk::{cause_by, units_for};
 pub use enough::{chunks_for, due_cause};
-pub use leaf_begin::{Prepared, note_numbers, prepare};
+pub use leaf_begin::begin_with;
 pub use leaf_end::{give_all, lead};
