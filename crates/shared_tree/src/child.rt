@@ -11,8 +11,8 @@ ghost use Rattle.child_tasks.specs.Joins.{HasPlaces, IsUnchanged, SameButPlaces}
 
 use crate::shared::Shared;
 use child_tasks::{
-    chunks_at, in_order, is_ended, join_children, leave_other, leave_own, make_home_places,
-    make_set_places, places, put_remembered, sibling_of, sources_of, take_remembered, take_rest,
+    in_order, is_ended, join_children, leave_other, leave_own, make_places, put_remembered,
+    sibling_of, take_remembered, take_rest,
 };
 use heap_tree::State;
 use own_steps::at_end;
@@ -58,15 +58,7 @@ impl Shared {
     {
         self.stands();
         let _ = worker;
-        let other = sibling_of(part.task);
-        let chunks = places(part.heap.chunks().len(), chunks_at(&self.homes, other))?;
-        let sources = places(
-            sources_of(&self.sets, part.task),
-            sources_of(&self.sets, other),
-        )?;
-        make_home_places(&mut self.homes, parent, chunks)?;
-        make_set_places(&mut self.sets, parent, sources)?;
-        Ok(())
+        make_places(&mut self.homes, &mut self.sets, part, parent)
     }
 
     // Enters the end of a child whose sibling has ended: both join their parent, which has places for what they bring.

@@ -6,15 +6,14 @@ ghost use Rattle.shared_value.specs.Fits.{Fits, OthersFit};
 ghost use Rattle.shared_value.specs.LeafBegin.{HasBegun};
 
 use crate::shared::Shared;
-use chunk_pool::NotTaken;
-use leaf_collections::{Prepared, chunks_for, due_cause, note_numbers, prepare};
+use leaf_collections::{begin_with, chunks_for, due_cause};
 use leaf_copy_gc::ToChunks;
 use object_layout::Addr;
 use run_ledger::Refused;
 use run_trace::{Entry, Kind};
 use shared_value::{NotEntered, first_cause, words_asked};
 use std::alloc::AllocError;
-use task_machine::{Begun, Private};
+use task_machine::Private;
 
 impl Shared {
     // Why the entry is refused.
@@ -60,22 +59,8 @@ impl Shared {
         self.stands();
         let roots = self.roots(worker, part)?;
         let count = chunks_for(part.heap.small_words()) as u32;
-        let prepared = prepare(*self.sets.allocator(), &roots, &mut part.heap, count)?;
-        let Prepared {
-            roots: kept,
-            mut numbers,
-            mut to,
-        } = prepared;
-        match self.pool.take_all(task, count, &mut to.chunks) {
-            Ok(()) => {}
-            Err(NotTaken::NoMemory) => return Err(AllocError),
-            Err(NotTaken::Full) => unreachable!(),
-        }
-        note_numbers(&mut numbers, &to.chunks);
-        part.begin_collection(Begun {
-            roots: kept,
-            news: numbers.into_listed(),
-        });
+        let alloc = *self.sets.allocator();
+        let to = begin_with(alloc, &mut self.pool, part, &roots, count)?;
         self.journal
             .push_reserved(Entry::new(worker, Kind::Begin(task)));
         Ok((roots, to))
