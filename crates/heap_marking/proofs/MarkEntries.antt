@@ -1,6 +1,6 @@
 -- Entries that mark a heap: why they are refused, and what they leave.
-use Rattle.std.proofs.Common.{◌≡◌, ◌==◌, ◌↔◌, ℕ, zero, suc, ◌+◌, ◌-◌, ◌^◌, ◌<◌, ◌≤◌, arith, All, Bool, true, false, min, Option, Some, None, List, [], ◌∷◌, length, is_none, is_some, slice_get, slice_set, take, inl, inr, refl, ap, sym, ◌∙◌, le-leb}
-use Rattle.std.specs.Prelude.{slice_index_or}
+use Rattle.std.proofs.Common.{◌≡◌, ◌==◌, ◌↔◌, ℕ, zero, suc, ◌+◌, ◌-◌, ◌^◌, ◌<◌, ◌≤◌, arith, All, Bool, true, false, min, Option, Some, None, List, [], ◌∷◌, length, is_none, is_some, slice_get, slice_set, take, inl, inr, refl, ap, sym, subst, ◌∙◌, le-leb}
+use Rattle.std.specs.Prelude.{IfSome, slice_index_or}
 use Rattle.std.proofs.lemmas.Bool.{cases_lt}
 use Rattle.std.proofs.lemmas.Option.{get_or_from_slice_get}
 use Rattle.listed.proofs.Members.{got_other, got_same, got_within}
@@ -46,7 +46,7 @@ use Rattle.shared_value.proofs.TaskTaken.{put_there}
 use Rattle.shared_value.proofs.RootsByAccounts.{home_chunks}
 use Rattle.heap_marking.specs.MarkCauses.{marking_cause, waiting_cause, words_cause}
 use Rattle.heap_marking.specs.Marking.{marked_more}
-use Rattle.heap_marking.specs.Starts.{starts_of}
+use Rattle.heap_marking.specs.Starts.{IsBegun, starts_by, starts_in, starts_of}
 use Rattle.heap_marking.proofs.MarkBegun.{marks_begin}
 use Rattle.heap_marking.proofs.MarkCauses.{marks_refuse}
 use Rattle.heap_marking.proofs.MarkCounts.{marks_count}
@@ -163,6 +163,23 @@ mark_holds w I t on free r there = starts_held w I on t r there (homes.wait w I 
 
 pub mark_fields : (w : World) (I : IsWorld w) (t : ℕ) (on : (accounts w).end ≡ None) → waiting_cause w t ≡ None → AreFields refs_in (heaps_of w) (sources_of (slice_get w.sets t))
 mark_fields w I t on free = let r = homes.rest w I on t free in fields_there w I on t r.0 r.1 (homes.wait w I on t free)
+
+-- it begins at objects of the heap
+pub mark_starts : (w : World) (I : IsWorld w) (t : ℕ) (on : (accounts w).end ≡ None) → waiting_cause w t ≡ None → IfSome (rest_at w.homes t) (λ r. All (IsHeld r.heap.chunks) (starts_in (heaps_of w) (sources_of (slice_get w.sets t)) r))
+mark_starts w I t on free = by (rest_at w.homes t) refl
+  where
+    by : (o : Option Rest) → rest_at w.homes t ≡ o → IfSome o (λ r. All (IsHeld r.heap.chunks) (starts_in (heaps_of w) (sources_of (slice_get w.sets t)) r))
+    by None e = tt
+    by (Some r) e = subst (λ xs. All (IsHeld r.heap.chunks) xs) (ap (starts_by (heaps_of w) (sources_of (slice_get w.sets t))) e) (mark_holds w I t on free r e)
+
+-- and goes on to just the snapshot
+pub mark_begun : (w : World) (I : IsWorld w) (t : ℕ) (on : (accounts w).end ≡ None) → waiting_cause w t ≡ None → (m : Marks) → IfSome (rest_at w.homes t) (λ r. IsBegun r.heap.chunks (starts_in (heaps_of w) (sources_of (slice_get w.sets t)) r) m)
+    → (m.marked ≡ 0) × GoesOn (value_of w) t (heap_of (accounts w) t).snapshot m
+mark_begun w I t on free m B =
+    let r = homes.rest w I on t free in
+    let P : Option Rest → Type 0 = λ o. IfSome o (λ x. IsBegun x.heap.chunks (starts_in (heaps_of w) (sources_of (slice_get w.sets t)) x) m) in
+    let b : IsBegun r.0.heap.chunks (starts_in (heaps_of w) (sources_of (slice_get w.sets t)) r.0) m = subst P r.1 B in
+    (b.none, mark_goes w I t on free r.0 r.1 m b.own (λ f kept e. b.marking f kept (e ∙ ap (starts_by (heaps_of w) (sources_of (slice_get w.sets t))) r.1)))
 
 -- WHAT THEY LEAVE
 

@@ -1,11 +1,15 @@
 -- Where the marking of a heap begins: at what its remembered fields hold of it, and at what its task's registers do.
-use Rattle.std.specs.Prelude.{ℕ, Option, Some, None, List, [], ◌++◌, slice_get}
+use Rattle.std.specs.Prelude.{◌≡◌, ◌↔◌, ℕ, Option, Some, None, List, [], ◌++◌, slice_get}
 use Rattle.std.specs.List.{flat_map}
 use Rattle.object_layout.specs.declared.word.Addr.{Addr}
+use Rattle.object_layout.specs.Content.{Content}
+use Rattle.object_layout.specs.Graph.{IsHeld}
 use Rattle.task_frames.specs.Stack.{frames_of}
 use Rattle.remembered_set.specs.declared.remembered.Source.{Source}
 use Rattle.remembered_set.specs.Moved.{into, targets_of}
 use Rattle.leaf_copy_gc.specs.Survivors.{held_by}
+use Rattle.inner_mark_gc.specs.Marks.{IsMarking, IsOf, Marks}
+use Rattle.inner_mark_gc.specs.Snapshot.{Fork}
 use Rattle.shared_value.specs.declared.heaps.Heaps.{Heaps}
 use Rattle.shared_value.specs.declared.rest.Rest.{Rest}
 use Rattle.shared_value.specs.declared.rest.Work.{Work}
@@ -29,3 +33,9 @@ starts_by heaps sources (Some r) = starts_in heaps sources r
 
 abbrev pub starts_of : World → ℕ → List Addr
 starts_of w t = starts_by (heaps_of w) (sources_of (slice_get w.sets t)) (rest_at w.homes t)
+
+-- a marking of these chunks that has found these roots, and marked nothing yet
+pub record IsBegun (ks : List Content) (roots : List Addr) (m : Marks) : Type 0 where
+  pub none : m.marked ≡ 0
+  pub own : (kept : List Addr) → IsOf ks kept m
+  pub marking : (f : Fork) (kept : List Addr) → f.roots ≡ roots → ((a : Addr) → IsHeld f.heap a ↔ IsHeld ks a) → IsMarking f kept m

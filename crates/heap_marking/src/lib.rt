@@ -16,5 +16,5 @@ pub use laws::{
 };
 pub use mark_places::{is_marking, put_marking};
 pub use pace::{Fork, Pace, Previous, is_joined, paces_stay};
-pub use starts::starts_by;
+pub use starts::begin_marking;
 pub use sweep::{drop_unmarked, forget_kept};

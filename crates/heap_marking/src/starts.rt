@@ -1,19 +1,25 @@
-// Where the marking of a heap begins.
+// Where the marking of a heap begins, and how it does.
 
-ghost use Rattle.std.specs.Prelude.{◌≡◌, ◌++◌, IfOk, OnOk, slice_get};
+ghost use Rattle.std.specs.Prelude.{◌≡◌, ◌++◌, All, IfOk, IfSome, IsSome, OnOk, slice_get};
 ghost use Rattle.std.specs.List.{flat_map};
+ghost use Rattle.object_layout.specs.Graph.{IsHeld};
 ghost use Rattle.task_frames.specs.Stack.{frames_of};
 ghost use Rattle.remembered_set.specs.Moved.{into, AreFields};
 ghost use Rattle.leaf_copy_gc.specs.Survivors.{held_by};
 ghost use Rattle.shared_value.specs.RestingHeaps.{refs_in};
 ghost use Rattle.shared_value.specs.Roots.{sources_of};
 ghost use Rattle.shared_value.specs.World.{rest_at};
-ghost use Rattle.heap_marking.specs.Starts.{starts_by, starts_in};
+ghost use Rattle.shared_value.specs.declared.heaps.Heaps.{Heaps as HeapsOf};
+ghost use Rattle.heap_marking.specs.Starts.{starts_in, IsBegun};
 
 use alloc_path::LeafHeap;
+use chunk_pool::Pool;
+use inner_mark_gc::Marking;
+use listed::Listed;
 use object_layout::Addr;
 use shared_value::{Heaps, Rest, Work, targets_in};
 use std::alloc::{AllocError, Global};
+use std::mem;
 use task_frames::Frames;
 use write_barrier::SetOf;
 
@@ -80,18 +86,48 @@ fn starts_in(
     Ok(starts)
 }
 
-/// The same of the task's rest, if it is there.
-pub fn starts_by(
-    alloc: Global,
-    sets: &[SetOf],
-    heaps: &Heaps,
-    task: u32,
-) -> Result<Vec<Addr>, AllocError>
-    requires { AreFields refs_in heaps.now (sources_of (slice_get sets.now task)) }
-    ensures { IfOk result (λ v. v.items ≡ starts_by heaps.now (sources_of (slice_get sets.now task)) (rest_at heaps.now.homes task)) }
+// A marking that has marked nothing yet, of the heap of a task at rest.
+fn begun_in(alloc: Global, sets: &[SetOf], heaps: &Heaps, task: u32) -> Result<Marking, AllocError>
+    requires there { IsSome (rest_at heaps.now.homes task) }
+    requires fields { AreFields refs_in heaps.now (sources_of (slice_get sets.now task)) }
+    requires held { IfSome (rest_at heaps.now.homes task) (λ r. All (IsHeld r.heap.chunks) (starts_in heaps.now (sources_of (slice_get sets.now task)) r)) }
+    ensures { IfOk result (λ m. IfSome (rest_at heaps.now.homes task) (λ r. IsBegun r.heap.chunks (starts_in heaps.now (sources_of (slice_get sets.now task)) r) m)) }
 {
     match heaps.homes.get(task as usize) {
-        Some(Some(rest)) => starts_in(alloc, sets, heaps, task, rest),
-        _ => Ok(Vec::new(alloc)),
+        Some(Some(rest)) => {
+            let starts = starts_in(alloc, sets, heaps, task, rest)?;
+            Marking::begin(alloc, &rest.heap, &starts)
+        }
+        _ => unreachable!(),
     }
+}
+
+/// A marking that has marked nothing yet, of the heap of a task at rest: it begins at what the heap's remembered fields hold
+/// now, and at what the task's registers do.
+pub fn begin_marking(
+    alloc: Global,
+    sets: &[SetOf],
+    homes: &mut Listed<Option<Rest>>,
+    pool: &mut Pool,
+    task: u32,
+) -> Result<Marking, AllocError>
+    requires there { IsSome (rest_at homes.old task) }
+    requires fields { let heaps : HeapsOf = record { homes = homes.old; pool = pool.old } in AreFields refs_in heaps (sources_of (slice_get sets.now task)) }
+    requires held { let heaps : HeapsOf = record { homes = homes.old; pool = pool.old } in IfSome (rest_at homes.old task) (λ r. All (IsHeld r.heap.chunks) (starts_in heaps (sources_of (slice_get sets.now task)) r)) }
+    ensures homes { homes.new ≡ homes.old }
+    ensures pool { pool.new ≡ pool.old }
+    ensures begun { let heaps : HeapsOf = record { homes = homes.old; pool = pool.old } in IfOk result (λ m. IfSome (rest_at homes.old task) (λ r. IsBegun r.heap.chunks (starts_in heaps (sources_of (slice_get sets.now task)) r) m)) }
+{
+    let heaps = Heaps {
+        homes: mem::replace(homes, Listed::new(alloc)),
+        pool: mem::replace(pool, Pool::new(alloc, 0)),
+    };
+    let marking = begun_in(alloc, sets, &heaps, task);
+    let Heaps {
+        homes: rests,
+        pool: chunks,
+    } = heaps;
+    *homes = rests;
+    *pool = chunks;
+    marking
 }

@@ -9,7 +9,7 @@ ghost use Rattle.shared_value.specs.World.{accounts, value_of};
 ghost use Rattle.heap_marking.specs.MarkCauses.{words_cause};
 
 use crate::shared::Shared;
-use heap_marking::{is_marking, put_marking, waiting_cause, words_cause};
+use heap_marking::{begin_marking, is_marking, put_marking, waiting_cause, words_cause};
 use inner_mark_gc::Marking;
 use run_ledger::Refused;
 use run_trace::{Entry, Kind};
@@ -44,11 +44,9 @@ impl Shared {
     {
         self.stands();
         let _ = worker;
-        let starts = self.starts(t)?;
-        match self.homes.at(t as usize) {
-            Some(rest) => Marking::begin(*self.sets.allocator(), &rest.heap, &starts),
-            None => unreachable!(),
-        }
+        let alloc = *self.sets.allocator();
+        let (homes, pool) = (&mut self.homes, &mut self.pool);
+        begin_marking(alloc, &self.sets, homes, pool, t)
     }
 
     // Makes the entry.

@@ -1,76 +1,63 @@
-use Rattle.std.proofs.Common.{◌≡◌, ◌↔◌, ℕ, ◌<◌, All, IfOk, Result, Ok, Err, Some, None, List, length, ap, sym, subst, ◌∙◌}
+use Rattle.std.proofs.Common.{◌≡◌, ℕ, All, IfOk, Result, Ok, Err, None, List, slice_get, is_some, ap, sym, subst, ◌∙◌}
+use Rattle.std.specs.Prelude.{IfSome}
 use Rattle.run_trace.specs.declared.entry.Kind.TheVariants.{Mark}
 use Rattle.run_ledger.specs.Heaps.{heap_of}
-use Rattle.object_layout.specs.declared.word.Addr.{Addr}
 use Rattle.object_layout.specs.Graph.{IsHeld}
-use Rattle.inner_mark_gc.specs.Marks.{IsMarking, IsOf}
-use Rattle.inner_mark_gc.specs.Snapshot.{Fork}
+use Rattle.remembered_set.specs.Moved.{AreFields}
+use Rattle.write_barrier.specs.declared.sets.SetOf.{SetOf}
+use Rattle.inner_mark_gc.specs.Marks.{Marks}
 use Rattle.core_relation.specs.Marking.{GoesOn}
-use Rattle.shared_value.specs.World.{World, accounts, flat, rest_at, value_of}
+use Rattle.shared_value.specs.declared.rest.Rest.{Rest}
+use Rattle.shared_value.specs.RestingHeaps.{refs_in}
+use Rattle.shared_value.specs.Roots.{heaps_of, sources_of}
+use Rattle.shared_value.specs.World.{World, accounts, rest_at, value_of}
 use Rattle.shared_value.specs.Stands.{IsWorld}
 use Rattle.shared_value.proofs.EntryMade.{entry_on}
 use Rattle.heap_marking.specs.MarkCauses.{waiting_cause}
-use Rattle.heap_marking.specs.Starts.{starts_of}
-use Rattle.heap_marking.proofs.MarkEntries.{mark_goes, mark_holds, mark_waits}
-use Rattle.heap_marking.proofs.WaitingHome.{never_gone, within}
+use Rattle.heap_marking.specs.Starts.{IsBegun, starts_in}
+use Rattle.heap_marking.proofs.MarkEntries.{mark_begun, mark_fields, mark_starts, mark_waits}
+use Rattle.heap_marking.proofs.WaitingHome.{rest}
 use Rattle.shared_tree.specs.contracts.shared.Shared.{the_view}
 use Rattle.shared_tree.proofs.shared.Shared.marking_of.Goals as goal
 
-both_ok : {A E : Type 0} (P Q S : A → Type 0) (r : Result A E) → ((a : A) → P a → Q a → S a) → IfOk r P → IfOk r Q → IfOk r S
-both_ok P Q S (Ok a) f p q = f a p q
-both_ok P Q S (Err e) f p q = p
-
-pub starts-requires-clause-waits : goal.starts-requires-clause-waits
-starts-requires-clause-waits c = mark_waits c.args.self.now c.stands.ensures c.args.worker c.args.t c.requires.free
-
-pub at-requires : goal.at-requires
-at-requires c =
-    let z : World = c.args.self.now in
+pub begin_marking-requires : goal.begin_marking-requires
+begin_marking-requires c =
+    let w : World = the_view c.self.inside in
     let k : ℕ = c.args.worker in
     let t : ℕ = c.args.t in
-    let Z : IsWorld z = c.stands.ensures in
-    let on : (accounts z).end ≡ None = entry_on z (record { worker = k; kind = Mark t }) c.requires.free in
-    let free : waiting_cause z t ≡ None = mark_waits z Z k t c.requires.free in
-    let same : the_view c.self.inside ≡ z = c.self.view_is ∙ c.starts.ensures.same in
-    subst (λ (y : World). t < length y.homes) (sym same) (within z Z on t free)
+    let free : waiting_cause w t ≡ None = ap (λ (z : World). waiting_cause z t) c.self.view_is ∙ mark_waits c.args.self.now c.stands.ensures k t c.requires.free in
+    let on : (accounts w).end ≡ None = ap (λ (z : World). (accounts z).end) c.self.view_is ∙ entry_on c.args.self.now (record { worker = k; kind = Mark t }) c.requires.free in
+    let sets : c.deref.result.now ≡ w.sets = c.deref.ensures.value in
+    record {
+      there = ap is_some (rest w c.self.invariant on t free).1;
+      fields = subst (λ (xs : List SetOf). AreFields refs_in (heaps_of w) (sources_of (slice_get xs t))) (sym sets) (mark_fields w c.self.invariant t on free);
+      held = subst (λ (xs : List SetOf). IfSome (rest_at w.homes t) (λ (r : Rest). All (IsHeld r.heap.chunks) (starts_in (heaps_of w) (sources_of (slice_get xs t)) r))) (sym sets) (mark_starts w c.self.invariant t on free);
+    }
 
-pub begin-requires : goal.begin-requires
-begin-requires c =
-    let z : World = c.args.self.now in
+-- what follows from what a call hands out
+done : {A E : Type 0} (P S : A → Type 0) (r : Result A E) → ((a : A) → P a → S a) → IfOk r P → IfOk r S
+done P S (Ok a) f p = f a p
+done P S (Err e) f p = p
+
+pub returns-clause-none : goal.returns-clause-none
+returns-clause-none c =
+    let w : World = the_view c.self.inside in
     let k : ℕ = c.args.worker in
     let t : ℕ = c.args.t in
-    let Z : IsWorld z = c.stands.ensures in
-    let on : (accounts z).end ≡ None = entry_on z (record { worker = k; kind = Mark t }) c.requires.free in
-    let free : waiting_cause z t ≡ None = mark_waits z Z k t c.requires.free in
-    let same : the_view c.self.inside ≡ z = c.self.view_is ∙ c.starts.ensures.same in
-    let there : rest_at z.homes t ≡ Some c.in-Some.rest = ap (λ (y : World). rest_at y.homes t) (sym same) ∙ (ap flat c.at.ensures ∙ c.in-Some.is) in
-    let starts : c.deref.result.now ≡ starts_of z t = c.deref.ensures.value ∙ c.in_ok-starts.ensures.starts in
-    subst (λ (xs : List Addr). All (IsHeld c.in-Some.rest.heap.chunks) xs) (sym starts) (mark_holds z Z t on free c.in-Some.rest there)
-
-pub unreachable-requires : goal.unreachable-requires
-unreachable-requires c =
-    let z : World = c.args.self.now in
-    let k : ℕ = c.args.worker in
-    let t : ℕ = c.args.t in
-    let Z : IsWorld z = c.stands.ensures in
-    let on : (accounts z).end ≡ None = entry_on z (record { worker = k; kind = Mark t }) c.requires.free in
-    let free : waiting_cause z t ≡ None = mark_waits z Z k t c.requires.free in
-    let same : the_view c.self.inside ≡ z = c.self.view_is ∙ c.starts.ensures.same in
-    never_gone z Z on t free (ap (λ (y : World). rest_at y.homes t) (sym same) ∙ (ap flat c.at.ensures ∙ c.in-None.is))
+    let free : waiting_cause w t ≡ None = ap (λ (z : World). waiting_cause z t) c.self.view_is ∙ mark_waits c.args.self.now c.stands.ensures k t c.requires.free in
+    let on : (accounts w).end ≡ None = ap (λ (z : World). (accounts z).end) c.self.view_is ∙ entry_on c.args.self.now (record { worker = k; kind = Mark t }) c.requires.free in
+    done (λ (m : Marks). IfSome (rest_at w.homes t) (λ (r : Rest). IsBegun r.heap.chunks (starts_in (heaps_of w) (sources_of (slice_get c.deref.result.now t)) r) m)) (λ m. m.marked ≡ 0) c.begin_marking.result
+    (λ m B. (mark_begun w c.self.invariant t on free m (subst (λ (xs : List SetOf). IfSome (rest_at w.homes t) (λ (r : Rest). IsBegun r.heap.chunks (starts_in (heaps_of w) (sources_of (slice_get xs t)) r) m)) c.deref.ensures.value B)).0)
+    c.begin_marking.ensures.begun
 
 pub returns-clause-goes : goal.returns-clause-goes
 returns-clause-goes c =
-    let z : World = c.args.self.now in
+    let w : World = the_view c.self.inside in
     let k : ℕ = c.args.worker in
     let t : ℕ = c.args.t in
-    let Z : IsWorld z = c.stands.ensures in
-    let on : (accounts z).end ≡ None = entry_on z (record { worker = k; kind = Mark t }) c.requires.free in
-    let free : waiting_cause z t ≡ None = mark_waits z Z k t c.requires.free in
-    let same : the_view c.self.inside ≡ z = c.self.view_is ∙ c.starts.ensures.same in
-    let there : rest_at z.homes t ≡ Some c.in-Some.rest = ap (λ (y : World). rest_at y.homes t) (sym same) ∙ (ap flat c.at.ensures ∙ c.in-Some.is) in
-    let starts : c.deref.result.now ≡ starts_of z t = c.deref.ensures.value ∙ c.in_ok-starts.ensures.starts in
-    both_ok (λ m. (kept : List Addr) → IsOf c.in-Some.rest.heap.chunks kept m)
-    (λ m. (f : Fork) (kept : List Addr) → f.roots ≡ c.deref.result.now → ((a : Addr) → IsHeld f.heap a ↔ IsHeld c.in-Some.rest.heap.chunks a) → IsMarking f kept m)
-    (λ m. GoesOn (value_of z) t (heap_of (accounts z) t).snapshot m) c.begin.result
-    (λ m own marking. mark_goes z Z t on free c.in-Some.rest there m own (λ f kept e. marking f kept (e ∙ sym starts)))
-    c.begin.ensures.own c.begin.ensures.marking
+    let free : waiting_cause w t ≡ None = ap (λ (z : World). waiting_cause z t) c.self.view_is ∙ mark_waits c.args.self.now c.stands.ensures k t c.requires.free in
+    let on : (accounts w).end ≡ None = ap (λ (z : World). (accounts z).end) c.self.view_is ∙ entry_on c.args.self.now (record { worker = k; kind = Mark t }) c.requires.free in
+    subst (λ (z : World). IfOk c.begin_marking.result (λ m. GoesOn (value_of z) t (heap_of (accounts z) t).snapshot m)) c.self.view_is
+    (done (λ (m : Marks). IfSome (rest_at w.homes t) (λ (r : Rest). IsBegun r.heap.chunks (starts_in (heaps_of w) (sources_of (slice_get c.deref.result.now t)) r) m)) (λ m. GoesOn (value_of w) t (heap_of (accounts w) t).snapshot m) c.begin_marking.result
+    (λ m B. (mark_begun w c.self.invariant t on free m (subst (λ (xs : List SetOf). IfSome (rest_at w.homes t) (λ (r : Rest). IsBegun r.heap.chunks (starts_in (heaps_of w) (sources_of (slice_get xs t)) r) m)) c.deref.ensures.value B)).1)
+    c.begin_marking.ensures.begun)
