@@ -67,13 +67,6 @@ impl Paced {
         shared
     }
 
-    /// The shared value, to be read.
-    pub fn shared(&self) -> &Shared
-        ensures { result.now ≡ self.now }
-    {
-        &self.shared
-    }
-
     /// Its journal is paced.
     pub fn is_paced(&self)
         ensures { is_paced self.now.program self.now.settings self.now.journal.items ≡ true }
