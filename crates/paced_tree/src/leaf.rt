@@ -1,10 +1,11 @@
 // Chunks and leaf collections of parts are entered.
 
-ghost use Rattle.std.specs.Prelude.{◌≡◌, ◌<◌, OnErr, OnOk, IfOk};
+ghost use Rattle.std.specs.Prelude.{◌≡◌, ◌<◌, OnErr, OnOk, IfErr, IfOk};
 ghost use Rattle.shared_value.specs.Entered.{cause_of, refused, Answers, Enters, IsSamePart};
 ghost use Rattle.shared_value.specs.Fits.{Fits, OthersFit};
 ghost use Rattle.shared_value.specs.LeafBegin.{HasBegun};
 ghost use Rattle.leaf_collections.specs.LeafEnd.{end_event, ended, FitsCopied};
+ghost use Rattle.shared_tree.specs.Ends.{end_cause};
 ghost use Rattle.paced_tree.specs.Owed.{Pays};
 
 use crate::noting::note_other;
@@ -13,7 +14,7 @@ use leaf_copy_gc::{Moved, ToChunks};
 use object_layout::Addr;
 use run_ledger::Refused;
 use run_trace::Kind;
-use shared_tree::NotEntered;
+use shared_tree::{NotEnded, NotEntered};
 use task_machine::Private;
 
 impl Paced {
@@ -71,13 +72,19 @@ impl Paced {
 
     /// The leaf collection of a part ends, once its heap was copied: fields that still hold old addresses are led to the new
     /// ones, and the chunks that nothing needs are given back. It takes no memory.
-    pub fn leaf_end(&mut self, worker: u32, part: &mut Private, moved: Moved) -> Result<(), Refused>
+    pub fn leaf_end(
+        &mut self,
+        worker: u32,
+        part: &mut Private,
+        moved: Moved,
+    ) -> Result<(), NotEnded>
         requires room { 0 < self.old.journal.room }
         requires fits { FitsCopied self.old worker part.old moved }
         requires pays { Pays self.old (end_event worker part.old moved) }
-        ensures refused { cause_of result ≡ refused self.old (end_event worker part.old moved) }
+        ensures refused { end_cause result ≡ refused self.old (end_event worker part.old moved) }
         ensures same { OnErr result (self.new ≡ self.old) }
         ensures back { OnErr result (part.new ≡ part.old) }
+        ensures moved { IfErr result (λ e. e.moved ≡ moved) }
         ensures part { OnOk result (part.new ≡ ended part.old) }
         ensures enters { OnOk result (Enters self.old self.new (end_event worker part.old moved)) }
         ensures fits { OnOk result (Fits self.new worker part.new) }
@@ -89,7 +96,7 @@ impl Paced {
                 note_other(&mut self.paces, worker);
                 Ok(())
             }
-            Err(cause) => Err(cause),
+            Err(failed) => Err(failed),
         }
     }
 

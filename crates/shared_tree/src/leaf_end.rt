@@ -1,9 +1,10 @@
 // The leaf collection of a part ends.
 
-ghost use Rattle.std.specs.Prelude.{◌≡◌, ◌<◌, OnErr, OnOk, None};
-ghost use Rattle.shared_value.specs.Entered.{cause_of, refused, Enters};
+ghost use Rattle.std.specs.Prelude.{◌≡◌, ◌<◌, IfErr, OnErr, OnOk, None};
+ghost use Rattle.shared_value.specs.Entered.{refused, Enters};
 ghost use Rattle.shared_value.specs.Fits.{Fits, OthersFit};
 ghost use Rattle.leaf_collections.specs.LeafEnd.{end_event, ended, FitsCopied};
+ghost use Rattle.shared_tree.specs.Ends.{end_cause};
 
 use crate::shared::Shared;
 use chunk_pool::Pool;
@@ -15,6 +16,13 @@ use run_trace::{Entry, Kind};
 use shared_value::{Heaps, first_cause};
 use std::mem;
 use task_machine::Private;
+
+/// Why a leaf collection didn't end, and what copying came to.
+#[derive(Drop)]
+pub struct NotEnded {
+    pub cause: Refused,
+    pub moved: Moved,
+}
 
 impl Shared {
     // Makes the entry.
@@ -52,19 +60,25 @@ impl Shared {
 
     /// The leaf collection of a part ends, once its heap was copied: fields that still hold old addresses are led to the new
     /// ones, and the chunks that nothing needs are given back. It takes no memory.
-    pub fn leaf_end(&mut self, worker: u32, part: &mut Private, moved: Moved) -> Result<(), Refused>
+    pub fn leaf_end(
+        &mut self,
+        worker: u32,
+        part: &mut Private,
+        moved: Moved,
+    ) -> Result<(), NotEnded>
         requires room { 0 < self.old.journal.room }
         requires fits { FitsCopied self.old worker part.old moved }
-        ensures refused { cause_of result ≡ refused self.old (end_event worker part.old moved) }
+        ensures refused { end_cause result ≡ refused self.old (end_event worker part.old moved) }
         ensures same { OnErr result (self.new ≡ self.old) }
         ensures back { OnErr result (part.new ≡ part.old) }
+        ensures moved { IfErr result (λ e. e.moved ≡ moved) }
         ensures part { OnOk result (part.new ≡ ended part.old) }
         ensures enters { OnOk result (Enters self.old self.new (end_event worker part.old moved)) }
         ensures fits { OnOk result (Fits self.new worker part.new) }
         ensures others { OnOk result (OthersFit self.old self.new worker) }
     {
         match first_cause(self.end, self.steps, self.settings, worker, false) {
-            Some(cause) => Err(cause),
+            Some(cause) => Err(NotEnded { cause, moved }),
             None => {
                 self.enter_leaf_end(worker, part, moved);
                 Ok(())

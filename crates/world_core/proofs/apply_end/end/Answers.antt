@@ -1,5 +1,5 @@
 use Rattle.std.proofs.Common.{ap, sym, ◌∙◌}
-use Rattle.shared_value.specs.Entered.{cause_of}
+use Rattle.shared_tree.specs.Ends.{end_cause}
 use Rattle.world_core.proofs.Entries.{not_refused}
 use Rattle.world_core.proofs.HandCauses.{copy_fits, end_free}
 use Rattle.world_core.proofs.apply_end.end.Goals as goal
@@ -9,5 +9,5 @@ leaf_end-requires-clause-fits c = copy_fits c.args.shared.now c.args.worker c.ar
 
 pub unreachable-requires : goal.unreachable-requires
 unreachable-requires c =
-    not_refused _ c.in-Err.field-0 (end_free c.args.shared.now c.args.worker c.stands.ensures c.requires.first c.args.part c.args.moved (copy_fits c.args.shared.now c.args.worker c.args.part c.args.moved c.stands.ensures c.requires.holds))
-    (sym c.leaf_end.ensures.refused ∙ ap cause_of c.in-Err.is)
+    not_refused _ c.in-Err.field-0.cause (end_free c.args.shared.now c.args.worker c.stands.ensures c.requires.first c.args.part c.args.moved (copy_fits c.args.shared.now c.args.worker c.args.part c.args.moved c.stands.ensures c.requires.holds))
+    (sym c.leaf_end.ensures.refused ∙ ap end_cause c.in-Err.is)

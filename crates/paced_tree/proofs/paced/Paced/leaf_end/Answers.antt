@@ -18,7 +18,7 @@ pub returns-in-Ok-clause-refused : goal.returns-in-Ok-clause-refused
 returns-in-Ok-clause-refused c = subst (λ (z : World). None ≡ refused z (end_event c.args.worker c.args.part.now c.args.moved)) c.self.view_is c.in-Ok.ensures.refused
 
 pub returns-in-Err-clause-refused : goal.returns-in-Err-clause-refused
-returns-in-Err-clause-refused c = subst (λ (z : World). Some c.in-Err.cause ≡ refused z (end_event c.args.worker c.args.part.now c.args.moved)) c.self.view_is c.in-Err.ensures.refused
+returns-in-Err-clause-refused c = subst (λ (z : World). Some c.in-Err.failed.cause ≡ refused z (end_event c.args.worker c.args.part.now c.args.moved)) c.self.view_is c.in-Err.ensures.refused
 
 pub returns-in-Ok-clause-others : goal.returns-in-Ok-clause-others
 returns-in-Ok-clause-others c = subst (λ (z : World). OthersFit z c.leaf_end.new.self c.args.worker) c.self.view_is c.in-Ok.ensures.others

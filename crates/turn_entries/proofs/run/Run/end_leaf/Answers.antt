@@ -1,7 +1,7 @@
 use Rattle.std.proofs.Common.{refl, ap, sym, ◌∙◌}
 use Rattle.run_trace.specs.declared.entry.Kind.{Kind}
 use Rattle.run_trace.specs.declared.entry.Kind.TheVariants.{End}
-use Rattle.shared_value.specs.Entered.{cause_of}
+use Rattle.shared_tree.specs.Ends.{end_cause}
 use Rattle.turn_entries.proofs.Free.{end_free, not_refused}
 use Rattle.turn_entries.proofs.Going.{may_ended}
 use Rattle.turn_entries.proofs.Turning.{one}
@@ -9,7 +9,7 @@ use Rattle.turn_entries.proofs.run.Run.end_leaf.Goals as goal
 
 pub unreachable-requires : goal.unreachable-requires
 unreachable-requires c =
-    not_refused _ c.in-Err.field-0 (end_free c.args.self.paced c.args.worker c.args.copied.part c.args.copied.moved c.stands.ensures c.requires.free c.requires.fits) (sym c.leaf_end.ensures.refused ∙ ap cause_of c.in-Err.is)
+    not_refused _ c.in-Err.field-0.cause (end_free c.args.self.paced c.args.worker c.args.copied.part c.args.copied.moved c.stands.ensures c.requires.free c.requires.fits) (sym c.leaf_end.ensures.refused ∙ ap end_cause c.in-Err.is)
 
 pub returns : goal.returns
 returns c = λ ready.
