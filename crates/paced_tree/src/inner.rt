@@ -33,13 +33,14 @@ impl Paced {
         ensures enters { OnOk result (Enters self.old self.new (record { worker = worker; kind = Kind.Mark t })) }
         ensures fits { OnOk result (AllFit self.old self.new) }
     {
-        self.shared.stands();
+        let shared = self.shared.get_mut();
+        shared.stands();
         if reserve_mark(&mut self.paces, worker).is_err() {
-            return Err(no_place(&self.shared, worker, t));
+            return Err(no_place(shared, worker, t));
         }
-        match self.shared.mark(worker, t) {
+        match shared.mark(worker, t) {
             Ok(()) => {
-                note_mark(&self.shared, &mut self.paces, worker, t);
+                note_mark(shared, &mut self.paces, worker, t);
                 Ok(())
             }
             Err(cause) => Err(cause),
@@ -58,8 +59,9 @@ impl Paced {
         ensures enters { OnOk result (Enters self.old self.new (record { worker = worker; kind = Kind.More t n })) }
         ensures fits { OnOk result (AllFit self.old self.new) }
     {
-        self.shared.stands();
-        match self.shared.some(worker, t, n) {
+        let shared = self.shared.get_mut();
+        shared.stands();
+        match shared.some(worker, t, n) {
             Ok(count) => {
                 note_other(&mut self.paces, worker);
                 Ok(count)
@@ -77,8 +79,9 @@ impl Paced {
         ensures enters { OnOk result (Enters self.old self.new (record { worker = worker; kind = Kind.Sweep t given })) }
         ensures fits { OnOk result (AllFit self.old self.new) }
     {
-        self.shared.stands();
-        match self.shared.sweep(worker, t, given) {
+        let shared = self.shared.get_mut();
+        shared.stands();
+        match shared.sweep(worker, t, given) {
             Ok(()) => {
                 note_other(&mut self.paces, worker);
                 Ok(())

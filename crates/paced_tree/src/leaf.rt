@@ -32,8 +32,9 @@ impl Paced {
         ensures fits { Fits self.new worker part.new }
         ensures others { OnOk result (OthersFit self.old self.new worker) }
     {
-        self.shared.stands();
-        match self.shared.chunk(worker, part) {
+        let shared = self.shared.get_mut();
+        shared.stands();
+        match shared.chunk(worker, part) {
             Ok(()) => {
                 note_other(&mut self.paces, worker);
                 Ok(())
@@ -60,8 +61,9 @@ impl Paced {
         ensures fits { Fits self.new worker part.new }
         ensures others { OnOk result (OthersFit self.old self.new worker) }
     {
-        self.shared.stands();
-        match self.shared.leaf_begin(worker, part) {
+        let shared = self.shared.get_mut();
+        shared.stands();
+        match shared.leaf_begin(worker, part) {
             Ok(begun) => {
                 note_other(&mut self.paces, worker);
                 Ok(begun)
@@ -90,8 +92,9 @@ impl Paced {
         ensures fits { OnOk result (Fits self.new worker part.new) }
         ensures others { OnOk result (OthersFit self.old self.new worker) }
     {
-        self.shared.stands();
-        match self.shared.leaf_end(worker, part, moved) {
+        let shared = self.shared.get_mut();
+        shared.stands();
+        match shared.leaf_end(worker, part, moved) {
             Ok(()) => {
                 note_other(&mut self.paces, worker);
                 Ok(())
@@ -114,8 +117,9 @@ impl Paced {
         ensures fits { Fits self.new worker part.new }
         ensures others { OnOk result (OthersFit self.old self.new worker) }
     {
-        self.shared.stands();
-        match self.shared.put_off(worker, part) {
+        let shared = self.shared.get_mut();
+        shared.stands();
+        match shared.put_off(worker, part) {
             Ok(()) => {
                 note_other(&mut self.paces, worker);
                 Ok(())

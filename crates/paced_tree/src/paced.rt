@@ -17,6 +17,7 @@ ghost use Rattle.paced_tree.specs.Owed.{owed_by};
 use crate::noting::idle_paces;
 use hh_lang::Program;
 use listed::Listed;
+use out_of_line::Apart;
 use run_ledger::{Owed, Refused, RunEnd};
 use run_trace::{Entry, Settings};
 use shared_tree::{Pace, Shared};
@@ -28,7 +29,8 @@ use task_machine::Private;
 /// tasks, or ends the run for spent fuel.
 #[derive(Drop)]
 pub struct Paced {
-    pub(crate) shared: Shared,
+    /// Behind a pointer, since it goes out of the turn and back at each entry.
+    pub(crate) shared: Apart<Shared>,
     /// What is kept of each worker's entries.
     pub(crate) paces: Listed<Pace>,
 }
@@ -44,6 +46,16 @@ impl Model for Paced {
     ghost invariant = { λ p. KeepsPaces p.shared p.paces };
 }
 
+// The shared value behind a pointer. For want of memory it is dropped.
+fn put_apart(alloc: Global, shared: Shared) -> Result<Apart<Shared>, AllocError>
+    ensures { IfOk result (λ s. s ≡ shared) }
+{
+    match Apart::new(alloc, shared) {
+        Ok(shared) => Ok(shared),
+        Err(_) => Err(AllocError),
+    }
+}
+
 impl Paced {
     /// Before the first entry.
     pub fn new(alloc: Global, program: &Program, settings: Settings) -> Result<Paced, AllocError>
@@ -55,7 +67,11 @@ impl Paced {
     {
         let shared = Shared::new(alloc, program, settings)?;
         let paces = idle_paces(alloc, settings.workers())?;
-        Ok(Paced { shared, paces })
+        let apart = put_apart(alloc, shared)?;
+        Ok(Paced {
+            shared: apart,
+            paces,
+        })
     }
 
     /// The shared value alone.
@@ -64,7 +80,7 @@ impl Paced {
         ensures paced { is_paced result.program result.settings result.journal.items ≡ true }
     {
         let Paced { shared, .. } = self;
-        shared
+        shared.into_inner()
     }
 
     /// Its journal is paced.
@@ -80,7 +96,7 @@ impl Paced {
         ensures room { OnOk result (0 < self.new.journal.room) }
         ensures fit { (k : ℕ) (p : Part) → Fits self.old k p → Fits self.new k p }
     {
-        self.shared.reserve()
+        self.shared.get_mut().reserve()
     }
 
     /// No more entries are to be made, since some worker has met want of memory. No other call depends on it, and none changes it.
@@ -88,14 +104,14 @@ impl Paced {
         ensures same { self.new ≡ record self.old { halted = true } }
         ensures fits { AllFit self.old self.new }
     {
-        self.shared.halt();
+        self.shared.get_mut().halt();
     }
 
     /// Whether some worker has met want of memory.
     pub fn halted(&self) -> bool
         ensures { result ≡ self.now.halted }
     {
-        self.shared.halted()
+        self.shared.get().halted()
     }
 
     /// What the worker's next entry has to be.
@@ -104,63 +120,63 @@ impl Paced {
         requires goes { (accounts self.now).end ≡ None }
         ensures { result ≡ owed_by self.now worker }
     {
-        self.shared.owed(self.paces.at(worker as usize))
+        self.shared.get().owed(self.paces.at(worker as usize))
     }
 
     /// It stands for its journal, which is legal.
     pub fn stands(&self)
         ensures { IsWorld self.now }
     {
-        self.shared.stands();
+        self.shared.get().stands();
     }
 
     /// The program that is run.
     pub fn program(&self) -> &Program
         ensures { result.now ≡ self.now.program }
     {
-        self.shared.program()
+        self.shared.get().program()
     }
 
     /// The limits of the run.
     pub fn settings(&self) -> Settings
         ensures { result ≡ self.now.settings }
     {
-        self.shared.settings()
+        self.shared.get().settings()
     }
 
     /// How the run has ended, if it has.
     pub fn ended(&self) -> Option<RunEnd>
         ensures { result ≡ (accounts self.now).end }
     {
-        self.shared.ended()
+        self.shared.get().ended()
     }
 
     /// The entries made so far.
     pub fn journal(&self) -> &[Entry]
         ensures { result.now ≡ self.now.journal.items }
     {
-        self.shared.journal()
+        self.shared.get().journal()
     }
 
     /// What was written out.
     pub fn outputs(&self) -> &[i64]
         ensures { result.now ≡ (accounts self.now).machine.outputs }
     {
-        self.shared.outputs()
+        self.shared.get().outputs()
     }
 
     /// The steps taken.
     pub fn steps(&self) -> u64
         ensures { result ≡ (accounts self.now).steps }
     {
-        self.shared.steps()
+        self.shared.get().steps()
     }
 
     /// The chunks in use.
     pub fn in_use(&self) -> u32
         ensures { result ≡ in_use (accounts self.now) }
     {
-        self.shared.in_use()
+        self.shared.get().in_use()
     }
 
     /// Why a worker may make no entry but the end for spent fuel: the run has ended, its fuel is spent, or there is no
@@ -168,7 +184,7 @@ impl Paced {
     pub fn refused_first(&self, worker: u32) -> Option<Refused>
         ensures { result ≡ first_cause self.now.end self.now.steps self.now.settings worker false }
     {
-        self.shared.refused_first(worker)
+        self.shared.get().refused_first(worker)
     }
 
     /// Whether the free chunks are enough for a leaf collection of a part.
@@ -177,7 +193,7 @@ impl Paced {
         requires fresh { part.now.fresh ≡ 0 }
         ensures { result ≡ is_pool_enough self.now.settings (accounts self.now) part.now.task }
     {
-        self.shared.pool_enough(part)
+        self.shared.get().pool_enough(part)
     }
 
     /// How many units of 1,024 words a sweep of a marked heap gives back.
@@ -187,6 +203,6 @@ impl Paced {
         requires none_left { left_in (heap_of (accounts self.now) t) ≡ 0 }
         ensures { result ≡ sweep_number (accounts self.now).machine (heap_of (accounts self.now) t) }
     {
-        self.shared.would_give(t)
+        self.shared.get().would_give(t)
     }
 }

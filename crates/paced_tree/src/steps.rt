@@ -40,8 +40,9 @@ impl Paced {
         ensures fits { IfOk result (λ p. Fits self.new worker p) }
         ensures others { OnOk result (OthersFit self.old self.new worker) }
     {
-        self.shared.stands();
-        match self.shared.took(worker, t) {
+        let shared = self.shared.get_mut();
+        shared.stands();
+        match shared.took(worker, t) {
             Ok(part) => {
                 note_other(&mut self.paces, worker);
                 Ok(part)
@@ -65,11 +66,12 @@ impl Paced {
         ensures fits { IfOk result (λ p. Fits self.new worker p) }
         ensures others { OnOk result (OthersFit self.old self.new worker) }
     {
-        self.shared.stands();
+        let shared = self.shared.get_mut();
+        shared.stands();
         let task = part.task;
-        match self.shared.ran_private(worker, part) {
+        match shared.ran_private(worker, part) {
             Ok(part) => {
-                note_ran(&self.shared, &mut self.paces, worker, task, 0);
+                note_ran(shared, &mut self.paces, worker, task, 0);
                 Ok(part)
             }
             Err(failed) => Err(failed),
@@ -89,11 +91,12 @@ impl Paced {
         ensures back { IfErr result (λ e. e.part ≡ part) }
         ensures answered { IfOk result (RanTo self.old self.new worker part) }
     {
-        self.shared.stands();
+        let shared = self.shared.get_mut();
+        shared.stands();
         let task = part.task;
-        match self.shared.ran(worker, part) {
+        match shared.ran(worker, part) {
             Ok(ran) => {
-                note_ran(&self.shared, &mut self.paces, worker, task, left_in(&ran));
+                note_ran(shared, &mut self.paces, worker, task, left_in(&ran));
                 Ok(ran)
             }
             Err(failed) => Err(failed),
@@ -108,7 +111,8 @@ impl Paced {
         ensures enters { OnOk result (Enters self.old self.new (record { worker = worker; kind = Kind.Fuel })) }
         ensures all { OnOk result (AllFit self.old self.new) }
     {
-        self.shared.stands();
-        self.shared.fuel(worker)
+        let shared = self.shared.get_mut();
+        shared.stands();
+        shared.fuel(worker)
     }
 }

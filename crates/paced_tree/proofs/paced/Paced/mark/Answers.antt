@@ -1,4 +1,4 @@
-use Rattle.std.proofs.Common.{◌≡◌, None, sym, subst, inr}
+use Rattle.std.proofs.Common.{◌≡◌, None, sym, subst, inr, ◌∙◌}
 use Rattle.run_trace.specs.Entry.{Event}
 use Rattle.run_trace.specs.declared.entry.Kind.TheVariants.{Mark}
 use Rattle.shared_value.specs.World.{World}
@@ -11,38 +11,38 @@ use Rattle.paced_tree.proofs.Noted.{paced_then}
 use Rattle.paced_tree.proofs.paced.Paced.mark.Goals as goal
 
 pub invariant_of-self : goal.invariant_of-self
-invariant_of-self c = marks_kept c.self.inside.shared c.self.inside.paces c.reserve_mark.new.paces c.args.worker c.reserve_mark.ensures.same c.self.invariant
+invariant_of-self c = marks_kept c.get_mut-shared.result.now c.self.inside.paces c.reserve_mark.new.paces c.args.worker c.reserve_mark.ensures.same (subst (λ (z : World). KeepsPaces z c.self.inside.paces) (sym c.get_mut-shared.ensures.value) c.self.invariant)
 
 pub returns-then-is_err-clause-refused : goal.returns-then-is_err-clause-refused
-returns-then-is_err-clause-refused c = subst (λ (z : World). IsCaused c.no_place.result (refused z (record { worker = c.args.worker; kind = Mark c.args.t }))) c.self.view_is c.no_place.ensures
+returns-then-is_err-clause-refused c = subst (λ (z : World). IsCaused c.no_place.result (refused z (record { worker = c.args.worker; kind = Mark c.args.t }))) (c.get_mut-shared.ensures.value ∙ c.self.view_is) c.no_place.ensures
 
 pub note_mark-requires-clause-goes : goal.note_mark-requires-clause-goes
-note_mark-requires-clause-goes c = mark_goes c.self.inside.shared c.mark.new.self c.args.worker c.args.t c.stands.ensures c.in-Ok.ensures.enters c.in-Ok.ensures.refused
+note_mark-requires-clause-goes c = mark_goes c.get_mut-shared.result.now c.mark.new.self c.args.worker c.args.t c.stands.ensures c.in-Ok.ensures.enters c.in-Ok.ensures.refused
 
 pub note_mark-requires-clause-waits : goal.note_mark-requires-clause-waits
-note_mark-requires-clause-waits c = mark_waits c.self.inside.shared c.mark.new.self c.args.worker c.args.t c.stands.ensures c.in-Ok.ensures.enters c.in-Ok.ensures.refused
+note_mark-requires-clause-waits c = mark_waits c.get_mut-shared.result.now c.mark.new.self c.args.worker c.args.t c.stands.ensures c.in-Ok.ensures.enters c.in-Ok.ensures.refused
 
 pub note_mark-requires-clause-marked : goal.note_mark-requires-clause-marked
-note_mark-requires-clause-marked c = mark_marked c.self.inside.shared c.mark.new.self c.args.worker c.args.t c.stands.ensures c.in-Ok.ensures.enters c.in-Ok.ensures.refused
+note_mark-requires-clause-marked c = mark_marked c.get_mut-shared.result.now c.mark.new.self c.args.worker c.args.t c.stands.ensures c.in-Ok.ensures.enters c.in-Ok.ensures.refused
 
 pub invariant_of-self-in-Ok : goal.invariant_of-self-in-Ok
 invariant_of-self-in-Ok c =
-    let w : World = c.self.inside.shared in
+    let w : World = c.get_mut-shared.result.now in
     let e : Event = record { worker = c.args.worker; kind = Mark c.args.t } in
-    let K : KeepsPaces w c.reserve_mark.new.paces = marks_kept w c.self.inside.paces c.reserve_mark.new.paces c.args.worker c.reserve_mark.ensures.same c.self.invariant in
+    let K : KeepsPaces w c.reserve_mark.new.paces = marks_kept w c.self.inside.paces c.reserve_mark.new.paces c.args.worker c.reserve_mark.ensures.same (subst (λ (z : World). KeepsPaces z c.self.inside.paces) (sym c.get_mut-shared.ensures.value) c.self.invariant) in
     paced_then w c.mark.new.self e c.reserve_mark.new.paces c.note_mark.new.paces c.stands.ensures K c.in-Ok.ensures.enters c.in-Ok.ensures.refused
-    (inr (subst (λ (z : World). Pays z e) (sym c.self.view_is) c.requires.pays)) c.note_mark.ensures.many (λ on. c.note_mark.ensures)
+    (inr (subst (λ (z : World). Pays z e) (sym (c.get_mut-shared.ensures.value ∙ c.self.view_is)) c.requires.pays)) c.note_mark.ensures.many (λ on. c.note_mark.ensures)
 
 pub invariant_of-self-in-Err : goal.invariant_of-self-in-Err
 invariant_of-self-in-Err c =
-    let K : KeepsPaces c.self.inside.shared c.reserve_mark.new.paces = marks_kept c.self.inside.shared c.self.inside.paces c.reserve_mark.new.paces c.args.worker c.reserve_mark.ensures.same c.self.invariant in
+    let K : KeepsPaces c.get_mut-shared.result.now c.reserve_mark.new.paces = marks_kept c.get_mut-shared.result.now c.self.inside.paces c.reserve_mark.new.paces c.args.worker c.reserve_mark.ensures.same (subst (λ (z : World). KeepsPaces z c.self.inside.paces) (sym c.get_mut-shared.ensures.value) c.self.invariant) in
     subst (λ (z : World). KeepsPaces z c.reserve_mark.new.paces) (sym c.in-Err.ensures.same) K
 
 pub returns-in-Ok-clause-refused : goal.returns-in-Ok-clause-refused
-returns-in-Ok-clause-refused c = subst (λ (z : World). refused z (record { worker = c.args.worker; kind = Mark c.args.t }) ≡ None) c.self.view_is c.in-Ok.ensures.refused
+returns-in-Ok-clause-refused c = subst (λ (z : World). refused z (record { worker = c.args.worker; kind = Mark c.args.t }) ≡ None) (c.get_mut-shared.ensures.value ∙ c.self.view_is) c.in-Ok.ensures.refused
 
 pub returns-in-Ok-clause-fits : goal.returns-in-Ok-clause-fits
-returns-in-Ok-clause-fits c = subst (λ (z : World). AllFit z c.mark.new.self) c.self.view_is c.in-Ok.ensures.fits
+returns-in-Ok-clause-fits c = subst (λ (z : World). AllFit z c.mark.new.self) (c.get_mut-shared.ensures.value ∙ c.self.view_is) c.in-Ok.ensures.fits
 
 pub returns-in-Err-clause-refused : goal.returns-in-Err-clause-refused
-returns-in-Err-clause-refused c = subst (λ (z : World). IsCaused c.in-Err.cause (refused z (record { worker = c.args.worker; kind = Mark c.args.t }))) c.self.view_is c.in-Err.ensures.refused
+returns-in-Err-clause-refused c = subst (λ (z : World). IsCaused c.in-Err.cause (refused z (record { worker = c.args.worker; kind = Mark c.args.t }))) (c.get_mut-shared.ensures.value ∙ c.self.view_is) c.in-Err.ensures.refused

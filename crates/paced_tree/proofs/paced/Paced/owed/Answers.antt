@@ -1,10 +1,10 @@
 use Rattle.std.proofs.Common.{◌≡◌, None, ap, sym, subst, ◌∙◌}
 use Rattle.shared_value.specs.World.{World, accounts}
-use Rattle.paced_tree.specs.Owed.{noted_of, owed_by}
+use Rattle.paced_tree.specs.Owed.{KeepsPaces, noted_of, owed_by}
 use Rattle.paced_tree.proofs.paced.Paced.owed.Goals as goal
 
 pub returns : goal.returns
 returns c =
-    let w : World = c.self.inside.shared in
-    let on : (accounts w).end ≡ None = subst (λ (z : World). (accounts z).end ≡ None) (sym c.self.view_is) c.requires.goes in
-    c.owed.ensures (noted_of w c.args.worker) (c.self.invariant.keeps on c.args.worker c.at.result.now c.at.ensures) ∙ ap (λ (z : World). owed_by z c.args.worker) c.self.view_is
+    let w : World = c.get.result.now in
+    let on : (accounts w).end ≡ None = subst (λ (z : World). (accounts z).end ≡ None) (sym (c.get.ensures ∙ c.self.view_is)) c.requires.goes in
+    c.owed.ensures (noted_of w c.args.worker) ((subst (λ (z : World). KeepsPaces z c.self.inside.paces) (sym c.get.ensures) c.self.invariant).keeps on c.args.worker c.at.result.now c.at.ensures) ∙ ap (λ (z : World). owed_by z c.args.worker) (c.get.ensures ∙ c.self.view_is)

@@ -1,4 +1,4 @@
-use Rattle.std.proofs.Common.{◌≡◌, Some, None, sym, subst, inr}
+use Rattle.std.proofs.Common.{◌≡◌, Some, None, sym, subst, inr, ◌∙◌}
 use Rattle.std.specs.Prelude.{option_map}
 use Rattle.run_trace.specs.Entry.{Event}
 use Rattle.run_trace.specs.declared.entry.Kind.TheVariants.{Ran}
@@ -7,25 +7,28 @@ use Rattle.shared_value.specs.World.{World}
 use Rattle.shared_value.specs.declared.answer.NotEntered.TheVariants.{Refuses}
 use Rattle.shared_value.specs.Entered.{refused}
 use Rattle.shared_value.specs.Fits.{Fits, OthersFit}
-use Rattle.paced_tree.specs.Owed.{Pays}
+use Rattle.paced_tree.specs.Owed.{KeepsPaces, Pays}
 use Rattle.paced_tree.proofs.Noted.{paced_then}
 use Rattle.paced_tree.proofs.paced.Paced.ran_private.Goals as goal
 
 pub ran_private-requires-clause-fits : goal.ran_private-requires-clause-fits
-ran_private-requires-clause-fits c = subst (λ (z : World). Fits z c.args.worker c.args.part) (sym c.self.view_is) c.requires.fits
+ran_private-requires-clause-fits c = subst (λ (z : World). Fits z c.args.worker c.args.part) (sym (c.get_mut-shared.ensures.value ∙ c.self.view_is)) c.requires.fits
 
 pub invariant_of-self : goal.invariant_of-self
 invariant_of-self c =
     let e : Event = record { worker = c.args.worker; kind = Ran c.args.part.task c.args.part.fresh } in
-    paced_then c.self.inside.shared c.ran_private.new.self e c.self.inside.paces c.note_ran.new.paces c.stands.ensures c.self.invariant c.in-Ok.ensures.enters c.in-Ok.ensures.refused
-    (inr (subst (λ (z : World). Pays z e) (sym c.self.view_is) c.requires.pays)) c.note_ran.ensures.many (λ on. c.note_ran.ensures.noted on c.args.part.fresh)
+    paced_then c.get_mut-shared.result.now c.ran_private.new.self e c.self.inside.paces c.note_ran.new.paces c.stands.ensures (subst (λ (z : World). KeepsPaces z c.self.inside.paces) (sym c.get_mut-shared.ensures.value) c.self.invariant) c.in-Ok.ensures.enters c.in-Ok.ensures.refused
+    (inr (subst (λ (z : World). Pays z e) (sym (c.get_mut-shared.ensures.value ∙ c.self.view_is)) c.requires.pays)) c.note_ran.ensures.many (λ on. c.note_ran.ensures.noted on c.args.part.fresh)
 
 pub returns-in-Ok-clause-refused : goal.returns-in-Ok-clause-refused
-returns-in-Ok-clause-refused c = subst (λ (z : World). refused z (record { worker = c.args.worker; kind = Ran c.args.part.task c.args.part.fresh }) ≡ None) c.self.view_is c.in-Ok.ensures.refused
+returns-in-Ok-clause-refused c = subst (λ (z : World). refused z (record { worker = c.args.worker; kind = Ran c.args.part.task c.args.part.fresh }) ≡ None) (c.get_mut-shared.ensures.value ∙ c.self.view_is) c.in-Ok.ensures.refused
 
 pub returns-in-Ok-clause-others : goal.returns-in-Ok-clause-others
-returns-in-Ok-clause-others c = subst (λ (z : World). OthersFit z c.ran_private.new.self c.args.worker) c.self.view_is c.in-Ok.ensures.others
+returns-in-Ok-clause-others c = subst (λ (z : World). OthersFit z c.ran_private.new.self c.args.worker) (c.get_mut-shared.ensures.value ∙ c.self.view_is) c.in-Ok.ensures.others
 
 pub returns-in-Err-clause-refused : goal.returns-in-Err-clause-refused
 returns-in-Err-clause-refused c =
-    subst (λ (z : World). option_map (λ (cause : Refused). Refuses cause) (refused z (record { worker = c.args.worker; kind = Ran c.args.part.task c.args.part.fresh })) ≡ Some c.in-Err.failed.cause) c.self.view_is c.in-Err.ensures.refused
+    subst (λ (z : World). option_map (λ (cause : Refused). Refuses cause) (refused z (record { worker = c.args.worker; kind = Ran c.args.part.task c.args.part.fresh })) ≡ Some c.in-Err.failed.cause) (c.get_mut-shared.ensures.value ∙ c.self.view_is) c.in-Err.ensures.refused
+
+pub invariant_of-self-in-Err : goal.invariant_of-self-in-Err
+invariant_of-self-in-Err c = subst (λ (z : World). KeepsPaces z c.self.inside.paces) (sym (c.in-Err.ensures.same ∙ c.get_mut-shared.ensures.value)) c.self.invariant
