@@ -1,7 +1,6 @@
 -- The copy of a part whose collection has begun.
-use Rattle.std.proofs.Common.{◌≡◌, ℕ, ◌+◌, ◌*◌, ◌/◌, ◌≤◌, All, List, length, map, refl, ap, sym, subst, ◌∙◌}
+use Rattle.std.proofs.Common.{◌≡◌, ℕ, All, List, map, ap, sym, subst}
 use Rattle.hh_lang.specs.Form.{ProgramText}
-use Rattle.object_layout.specs.declared.word.Addr.{Addr}
 use Rattle.object_layout.specs.Content.{Content}
 use Rattle.alloc_path.specs.Heap.{Heap}
 use Rattle.task_frames.specs.Stack.{Stack}
@@ -13,7 +12,7 @@ use Rattle.ledger_steps.specs.Accounts.{aside}
 use Rattle.task_machine.specs.declared.part.Begun.{Begun}
 use Rattle.task_machine.specs.declared.part.Private.{Private}
 use Rattle.shared_value.specs.Fits.{Fits}
-use Rattle.shared_value.specs.LeafBegin.{HasBegun, number_of}
+use Rattle.shared_value.specs.LeafBegin.{number_of}
 use Rattle.shared_value.specs.World.{World, accounts, value_of}
 use Rattle.shared_value.proofs.StepsEntered.{status}
 use Rattle.leaf_collections.specs.LeafEnd.{FitsCopied}

@@ -1,5 +1,5 @@
 -- A desk before and after a turn.
-use Rattle.std.proofs.Common.{◌≡◌, ◌≢◌, ◌⊎◌, inl, inr, ℕ, suc, ◌+◌, ◌^◌, ◌<◌, ◌≤◌, ◌==◌, Bool, true, false, cond, List, [], ◌∷◌, ◌++◌, length, refl, sym, ap, ap₂, ◌∙◌, subst, arith, Option, Some, None, length-append, unwrap_or}
+use Rattle.std.proofs.Common.{◌≡◌, inl, inr, ℕ, suc, ◌+◌, ◌^◌, ◌<◌, ◌≤◌, ◌==◌, Bool, true, false, cond, List, [], ◌∷◌, length, refl, sym, ap, ap₂, ◌∙◌, subst, arith, Option, Some, length-append, unwrap_or}
 use Rattle.std.specs.declared.snapshot.Snapshot.{Snapshot}
 use Rattle.atomic_table.specs.Seated.{TableId}
 use Rattle.hh_lang.specs.Form.{ProgramText}
@@ -9,11 +9,10 @@ use Rattle.run_trace.specs.declared.entry.Kind.{Kind}
 use Rattle.task_machine.specs.declared.part.Private.{Private}
 use Rattle.shared_value.specs.Fits.{Fits}
 use Rattle.shared_value.specs.Stands.{IsWorld}
-use Rattle.shared_value.specs.World.{World, accounts}
+use Rattle.shared_value.specs.World.{World}
 use Rattle.turn_lock.specs.Journal.{entries_by}
-use Rattle.turn_lock.specs.Seats.{view, Extends, GaveOne, HasNoTurn, HasTurn, IsAlike, Knows, SameWorker, own_entries, with_given, with_taken}
+use Rattle.turn_lock.specs.Seats.{view, Extends, GaveOne, HasNoTurn, HasTurn, IsAlike, Knows, SameWorker, own_entries, with_taken}
 use Rattle.turn_lock.proofs.Laws.{own_of_taken}
-use Rattle.turn_entries.specs.declared.act.Acted.TheVariants.{Entered, Same}
 use Rattle.turn_entries.specs.declared.held.Collecting.{Collecting}
 use Rattle.turn_entries.specs.declared.held.Copied.{Copied}
 use Rattle.turn_entries.specs.declared.held.Next.{Next}
@@ -22,12 +21,12 @@ use Rattle.turn_entries.specs.declared.held.Ready.{Ready}
 use Rattle.turn_entries.specs.declared.held.Ready.TheVariants.{Paused as HasPaused, Copied as IsCopied, Found, Wanting}
 use Rattle.turn_entries.specs.declared.run.Run.{Run}
 use Rattle.turn_entries.specs.declared.run.Setup.{Setup}
-use Rattle.turn_entries.specs.Acts.{Acts, Follows, WhyNone}
+use Rattle.turn_entries.specs.Acts.{Follows, WhyNone}
 use Rattle.turn_entries.specs.Parts.{BringsTo, ComesWith, GoesWith, Keeps, Sight, TakesFrom, WasCopied}
 use Rattle.turn_entries.specs.Values.{EntersOne, FitsKept, IsSame, is_over, journal_of, setup_of, worker_of}
 use Rattle.turn_entries.proofs.Turning.{ended_over}
 use Rattle.worker_run.specs.declared.desk.Desk.{Desk}
-use Rattle.worker_run.specs.Desks.{GivesOne, HasEntry, HasGiven, HasStopped, IsDesk, SameDesk, TakesTurn, entries_of}
+use Rattle.worker_run.specs.Desks.{GivesOne, HasEntry, HasStopped, IsDesk, SameDesk, TakesTurn, entries_of}
 
 some_one : {A : Type 0} (a b : A) → Some a ≡ Some b → a ≡ b
 some_one a b e = ap (λ o. unwrap_or o a) e

@@ -1,3 +1,5 @@
 mod Copying
+mod Finding
 mod Rows
 mod Giving
+mod Rounding

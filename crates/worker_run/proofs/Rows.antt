@@ -1,30 +1,29 @@
 -- Desks and their seats.
-use Rattle.std.proofs.Common.{◌≡◌, ℕ, zero, suc, ◌<◌, ◌^◌, true, slice_index_or, slice_set, List, [], ◌∷◌, ◌++◌, length, map, take, drop, take_all, drop_of_length-le, option_map, slice_get, get_or, remove, refl, sym, ap, ◌∙◌, subst, arith, Option, Some, None, append_assoc, append-nil, true≢false, is_some, unwrap_or}
+use Rattle.std.proofs.Common.{◌≡◌, ℕ, zero, suc, ◌<◌, ◌^◌, true, List, [], ◌∷◌, ◌++◌, length, map, take, drop, take_all, drop_of_length-le, option_map, slice_get, get_or, remove, refl, sym, ap, ◌∙◌, subst, arith, Option, Some, None, append_assoc, append-nil, true≢false, is_some, unwrap_or}
 use Rattle.std.proofs.lemmas.Option.{slice_get_within, slice_get-get_or, slice_get-map}
 use Rattle.std.proofs.lemmas.List.{map-append, length-map}
-use Rattle.std.specs.declared.snapshot.Snapshot.{Snapshot}
 use Rattle.atomic_table.specs.Seated.{TableId}
 use Rattle.atomic_table.specs.declared.shared.Seat.{Seat}
 use Rattle.hh_lang.specs.Form.{ProgramText}
 use Rattle.run_trace.specs.Entry.{Event}
 use Rattle.run_trace.specs.Settings.{Limits}
-use Rattle.run_ledger.specs.Journals.{is_legal}
+use Rattle.run_ledger.specs.declared.data.RunEnd.{RunEnd}
+use Rattle.run_ledger.specs.Journals.{end_of, is_legal}
 use Rattle.run_ledger.specs.Pace.{is_paced}
-use Rattle.task_machine.specs.declared.part.Private.{Private}
 use Rattle.shared_value.specs.Stands.{IsWorld}
-use Rattle.shared_value.specs.World.{World}
+use Rattle.shared_value.specs.World.{World, accounts}
 use Rattle.turn_lock.specs.Journal.{entries_by}
-use Rattle.turn_lock.specs.Seats.{view, HasNoTurn, HasOwnEntries, SameWorker, own_entries, AreNewSeats, AreAllSeats, IsLeftBy}
+use Rattle.turn_lock.specs.Seats.{view, HasNoTurn, HasOwnEntries, SameWorker, AreNewSeats, AreAllSeats, IsLeftBy}
 use Rattle.turn_lock.proofs.Laws.{first_there, new_are_all, kept_are_all}
-use Rattle.steal_scheduler.specs.declared.hand.Hand.{Hand}
-use Rattle.steal_scheduler.specs.Hands.{AreNewHands, thefts}
 use Rattle.turn_entries.specs.declared.run.Run.{Run}
 use Rattle.turn_entries.specs.declared.run.Setup.{Setup}
 use Rattle.turn_entries.specs.Parts.{Sight}
 use Rattle.turn_entries.specs.Values.{FitsKept, journal_of, setup_of, worker_of}
 use Rattle.worker_run.specs.declared.desk.Desk.{Desk}
-use Rattle.worker_run.specs.Desks.{AreAllDesks, AreHands, AreNewDesks, HasOfEach, HaveStopped, IsDesk, SameDesk, entries_of}
-use Rattle.worker_run.specs.Outcomes.{IsRun, WasGivenBack}
+use Rattle.worker_run.specs.declared.end.Finish.{Finish}
+use Rattle.worker_run.specs.Desks.{AreAllDesks, AreNewDesks, AreOpened, HasOfEach, HaveSeen, HaveStopped, IsDesk, SameDesk, entries_of}
+use Rattle.worker_run.specs.Outcomes.{IsRun, WasGivenBack, finish_of}
+use Rattle.worker_run.specs.Rounds.{AllGoRound}
 
 abbrev pub Chair : Type 0
 Chair = Seat (Option Run) Sight
@@ -49,6 +48,10 @@ rest_of (z ∷ zs) x h e k y at = at
 
 pub none_new : (s : Limits) → AreNewDesks s []
 none_new s = λ k d at. absurd (some_apart d at)
+
+pub none_left : {A : Type 0} (l : List A) → length l ≡ 0 → l ≡ []
+none_left [] e = refl
+none_left (x ∷ xs) e = absurd (omega (arith, e))
 
 -- one more at the end
 pub all_more : {A : Type 0} (P : ℕ → A → Type 0) (xs : List A) (x : A) → ((k : ℕ) (y : A) → slice_get xs k ≡ Some y → P k y) → P (length xs) x → (k : ℕ) (y : A) → slice_get (xs ++ x ∷ []) k ≡ Some y → P k y
@@ -80,6 +83,7 @@ seat_of d = d.seat
 pub kept_desks : (z : TableId) (p : ProgramText) (s : Limits) (before after : List Desk) → AreAllDesks z p s before → length after ≡ length before
     → ((k : ℕ) (d e : Desk) → slice_get before k ≡ Some d → slice_get after k ≡ Some e → IsDesk z p e × SameDesk d e) → AreAllDesks z p s after
 kept_desks z p s before after all long kept = record {
+  count = long ∙ all.count;
   seats = kept_are_all z (map seat_of before) (map seat_of after) all.seats (length-map after seat_of ∙ (long ∙ sym (length-map before seat_of)))
       (λ k x y at to. let d = from_place seat_of before k x at in let e = from_place seat_of after k y to in let one = kept k d.0 e.0 d.1 e.1 in
       (subst (HasNoTurn z) e.2 one.0.idle, subst (λ (t : Chair). SameWorkerOf x t) e.2 (subst (λ (t : Chair). SameWorkerOf t e.0.seat) d.2 one.1.seat)));
@@ -94,6 +98,7 @@ kept_desks z p s before after all long kept = record {
 pub new_desks : (z : TableId) (v : Sight) (n : ℕ) (p : ProgramText) (s : Limits) (seats : List Chair) (desks : List Desk) → 0 < n → n ≡ s.workers → s.workers < 2 ^ 32 → v.seen ≡ [] → v.joined ≡ [] → v.setup ≡ Some (record { program = p; settings = s }) → AreNewSeats z v n seats
     → map (λ d. d.seat) desks ≡ seats → AreNewDesks s desks → AreAllDesks z p s desks
 new_desks z v n p s seats desks some workers few none_seen none_joined under new same fresh = record {
+  count = sym (length-map desks seat_of) ∙ (ap length same ∙ (new.0 ∙ workers));
   seats = subst (AreAllSeats z) (sym same) (new_are_all z v n seats some none_joined new);
   each_desk = λ k d e. let t = new.1 k d.seat (at k d e) in let f = fresh k d e in (
     record {
@@ -125,6 +130,12 @@ module _ (z : TableId) (p : ProgramText) (s : Limits) (desks : List Desk) (seats
   pub of_each : HasOwnEntries journal_of worker_of FitsKept setup_of value seats → HasOfEach (journal_of value) desks
   of_each own = λ k d e. let same = own k d.seat (seat_there k d e) in (same, (all.each_desk k d e).0.gave ∙ ap length (sym same))
 
+  pub have_seen : IsLeftBy journal_of worker_of FitsKept setup_of value seats → HaveSeen (journal_of value) desks
+  have_seen left = record {
+    begins = λ k d e. left.begins k d.seat (seat_there k d e);
+    whole = (let l = left.longest in let d = from_place seat_of desks l.0 l.1 (ap (λ (x : List Chair). slice_get x l.0) (sym is) ∙ l.2) in (l.0, d.0, d.1, ap (λ (c : Chair). (view c).seen) d.2 ∙ l.3));
+  }
+
   setup_at_end : IsLeftBy journal_of worker_of FitsKept setup_of value seats → setup_of value ≡ record { program = p; settings = s }
   setup_at_end left =
       let some = all.seats.some_seat in let long = length-map desks seat_of in let d = first_there desks (omega (arith, some, long)) in
@@ -137,12 +148,18 @@ module _ (z : TableId) (p : ProgramText) (s : Limits) (desks : List Desk) (seats
   program_at_end left = ap (λ (x : Setup). x.program) (setup_at_end left)
 
 -- what the desks gave back, where the value handed on has the same journal
-pub was_given : (z : TableId) (p : ProgramText) (s : Limits) (desks : List Desk) (w last : World) → AreAllDesks z p s desks → HaveStopped desks → HasOfEach w.journal.items desks → last ≡ w → WasGivenBack p s last.journal.items
-was_given z p s desks w last all stopped each same = record {
+pub was_given : (z : TableId) (p : ProgramText) (s : Limits) (first desks : List Desk) (w last : World) → AreAllDesks z p s first → AreOpened s first → AreAllDesks z p s desks → AllGoRound p first desks → HaveStopped desks
+    → HaveSeen w.journal.items desks → HasOfEach w.journal.items desks → last ≡ w → WasGivenBack p s last.journal.items
+was_given z p s first desks w last all_first opened all rounds stopped seen each same = record {
   turn = z;
+  first = first;
+  all_first = all_first;
+  opened = opened;
   desks = desks;
   all = all;
+  rounds = rounds;
   stopped = stopped;
+  seen = subst (λ (x : World). HaveSeen x.journal.items desks) (sym same) seen;
   of_each = subst (λ (x : World). HasOfEach x.journal.items desks) (sym same) each;
 }
 
@@ -156,11 +173,7 @@ is_run p s w I program settings paced = record {
   stands = I;
 }
 
--- hands of which the first was used
-pub set_first : (n : ℕ) (hands : List Hand) (old x : Hand) → 0 < length hands → old ≡ slice_index_or hands 0 old → length (thefts x) ≡ length (thefts old) → AreNewHands n hands → AreHands n (slice_set hands 0 x)
-set_first n [] old x some is same new = absurd (omega arith)
-set_first n (y ∷ ys) old x some is same new = (new.count, each)
-  where
-    each : (k : ℕ) (h : Hand) → slice_get (x ∷ ys) k ≡ Some h → length (thefts h) ≡ n
-    each zero h at = subst (λ (g : Hand). length (thefts g) ≡ n) (some_one x h at) (same ∙ (new.each_hand 0 old (ap Some (sym is))).workers)
-    each (suc k) h at = (new.each_hand (suc k) h at).workers
+-- how it finished, where its end was told
+pub told_finish : (p : ProgramText) (s : Limits) (w : World) (f : Finish) (e : Option RunEnd) → IsRun p s w → e ≡ (accounts w).end → f ≡ finish_of e → f ≡ finish_of (end_of p s w.journal.items)
+told_finish p s w f e run is told =
+    subst (λ (q : ProgramText). f ≡ finish_of (end_of q s w.journal.items)) run.program (subst (λ (l : Limits). f ≡ finish_of (end_of w.program l w.journal.items)) run.settings (told ∙ ap finish_of is))

@@ -6,7 +6,7 @@ use Rattle.run_trace.specs.Entry.{Event}
 use Rattle.run_trace.specs.declared.entry.Kind.{Kind}
 use Rattle.run_trace.specs.Settings.{Limits}
 use Rattle.shared_value.specs.Stands.{IsWorld}
-use Rattle.turn_lock.specs.Journal.{entries_by}
+use Rattle.turn_lock.specs.Journal.{NoneBy, entries_by}
 use Rattle.turn_lock.specs.Seats.{view, own_entries, AreAllSeats, HasNoTurn, HasTurn, Knows, SameWorker}
 use Rattle.steal_scheduler.specs.declared.hand.Hand.{Hand}
 use Rattle.steal_scheduler.specs.Hands.{thefts}
@@ -17,6 +17,7 @@ use Rattle.turn_entries.specs.declared.run.Run.{Run}
 use Rattle.turn_entries.specs.Acts.{Acts}
 use Rattle.turn_entries.specs.Values.{journal_of, setup_of, worker_of, is_over, EntersOne, FitsKept}
 use Rattle.worker_run.specs.declared.desk.Desk.{Desk}
+use Rattle.worker_run.specs.Tasks.{HaveRoot}
 
 -- the entries of its own that the desk's seat has seen
 abbrev pub entries_of : Desk → List Event
@@ -51,8 +52,13 @@ GivesOne old new = (e : Event) × (entries_of new ≡ entries_of old ++ e ∷ []
 abbrev pub DoesOnce : Desk → Desk → Run → Run → Ready → Next → Type 0
 DoesOnce old new taken given ready next = (Acts taken old.worker ready (Entered given next) × GivesOne old new) ⊎ (Acts taken old.worker ready (Same given next) × (entries_of new ≡ entries_of old))
 
+-- a turn changes of a desk its seat and its count alone
+abbrev pub KeepsPlace : Desk → Desk → Type 0
+KeepsPlace old new = new ≡ record old { seat = new.seat; given = new.given }
+
 -- ONE TURN of a worker that comes with this and goes on so
 pub record TakesTurn (old new : Desk) (ready : Ready) (next : Next) : Type 0 where
+  pub place : KeepsPlace old new
   pub taken : Run
   pub knows : Knows journal_of worker_of FitsKept setup_of taken (view old.seat)
   pub given : Run
@@ -68,14 +74,20 @@ pub record HasStopped (d : Desk) : Type 0 where
 abbrev pub HaveStopped : List Desk → Type 0
 HaveStopped desks = (k : ℕ) (d : Desk) → slice_get desks k ≡ Some d → HasStopped d
 
--- the desks of all workers within these limits, in their order
+-- the desks of all workers within these limits, one for each, in their order
 pub record AreAllDesks (z : TableId) (p : ProgramText) (s : Limits) (desks : List Desk) : Type 0 where
+  pub count : length desks ≡ s.workers
   pub seats : AreAllSeats z (map (λ d. d.seat) desks)
   pub each_desk : (k : ℕ) (d : Desk) → slice_get desks k ≡ Some d → IsDesk z p d × (d.worker ≡ k) × (d.settings ≡ s)
 
 -- of each worker the journal has just the entries that its desk gave back, each once
 abbrev pub HasOfEach : List Event → List Desk → Type 0
 HasOfEach journal desks = (k : ℕ) (d : Desk) → slice_get desks k ≡ Some d → (entries_by worker_of k journal ≡ entries_of d) × (d.given ≡ length (entries_by worker_of k journal))
+
+-- of each desk's worker the seat has seen all entries, and some seat has seen the whole journal
+pub record HaveSeen (journal : List Event) (desks : List Desk) : Type 0 where
+  pub begins : (k : ℕ) (d : Desk) → slice_get desks k ≡ Some d → (rest : List Event) × (journal ≡ (view d.seat).seen ++ rest) × NoneBy worker_of k rest
+  pub whole : (k : ℕ) × (d : Desk) × (slice_get desks k ≡ Some d) × ((view d.seat).seen ≡ journal)
 
 -- the worker has put a task, or looked for one
 pub record ChangesHand (old new : Desk) : Type 0 where
@@ -92,6 +104,11 @@ AreHands n hands = (length hands ≡ n) × ((k : ℕ) (h : Hand) → slice_get h
 -- a desk for each worker within these limits, in their order; nothing was given back yet
 abbrev pub AreNewDesks : Limits → List Desk → Type 0
 AreNewDesks s desks = (k : ℕ) (d : Desk) → slice_get desks k ≡ Some d → (d.worker ≡ k) × (d.settings ≡ s) × (d.given ≡ 0) × (length (thefts d.hand) ≡ s.workers)
+
+-- the desks as a run begins
+pub record AreOpened (s : Limits) (desks : List Desk) : Type 0 where
+  pub new : AreNewDesks s desks
+  pub hands : HaveRoot s.workers (map (λ d. d.hand) desks)
 
 -- the desk has the turn, and the value to give back has one entry more than the one taken, which the desk doesn't count yet
 pub record HasEntry (z : TableId) (p : ProgramText) (d : Desk) (value : Run) : Type 0 where

@@ -1,2 +1,4 @@
 pub mod Desks
 pub mod Outcomes
+pub mod Rounds
+pub mod Tasks

@@ -5,14 +5,15 @@ use Rattle.hh_lang.specs.Form.{ProgramText}
 use Rattle.run_trace.specs.Entry.{Event}
 use Rattle.run_trace.specs.Settings.{Limits}
 use Rattle.run_ledger.specs.declared.data.RunEnd.{RunEnd}
-use Rattle.run_ledger.specs.Journals.{end_of, is_legal}
+use Rattle.run_ledger.specs.Journals.{is_legal}
 use Rattle.run_ledger.specs.Pace.{is_paced}
 use Rattle.shared_value.specs.Stands.{IsWorld}
 use Rattle.shared_value.specs.World.{World}
 use Rattle.worker_run.specs.declared.desk.Desk.{Desk}
 use Rattle.worker_run.specs.declared.end.Finish.{Finish}
 use Rattle.worker_run.specs.declared.end.Finish.TheVariants.{Ended, NoMemory}
-use Rattle.worker_run.specs.Desks.{AreAllDesks, HasOfEach, HaveStopped}
+use Rattle.worker_run.specs.Desks.{AreAllDesks, AreOpened, HasOfEach, HaveSeen, HaveStopped}
+use Rattle.worker_run.specs.Rounds.{AllGoRound}
 
 -- how a run finished whose journal has this end, or none
 abbrev pub finish_of : Option RunEnd → Finish
@@ -27,11 +28,16 @@ pub record IsRun (p : ProgramText) (s : Limits) (w : World) : Type 0 where
   pub paced : is_paced p s w.journal.items ≡ true
   pub stands : IsWorld w
 
--- WHAT THE WORKERS GAVE BACK: at one turn each worker of a run of this program within these limits had a desk, where it took turns
--- until the run was over; of each the journal has just the entries that its desk gave back, each once
+-- WHAT THE WORKERS GAVE BACK: at one turn each worker of a run of this program within these limits had a desk, and the first had
+-- put the root; there each went round until the run was over; of each the journal has just the entries that its desk gave back, each once
 pub record WasGivenBack (p : ProgramText) (s : Limits) (journal : List Event) : Type 0 where
   pub turn : TableId
+  pub first : List Desk
+  pub all_first : AreAllDesks turn p s first
+  pub opened : AreOpened s first
   pub desks : List Desk
   pub all : AreAllDesks turn p s desks
+  pub rounds : AllGoRound p first desks
   pub stopped : HaveStopped desks
+  pub seen : HaveSeen journal desks
   pub of_each : HasOfEach journal desks

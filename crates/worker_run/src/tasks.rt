@@ -1,6 +1,7 @@
 //! How a worker finds a task, and where it puts those that are ready.
-ghost use Rattle.std.specs.Prelude.{◌≡◌, ◌<◌, ◌^◌, length};
+ghost use Rattle.std.specs.Prelude.{◌<◌, ◌^◌, length, IfErr, OnOk};
 ghost use Rattle.steal_scheduler.specs.Hands.{thefts};
+ghost use Rattle.worker_run.specs.Tasks.{Finds, KeepsHand, Puts, PutsBoth, PutsFewer};
 
 use std::alloc::AllocError;
 use std::sync::Wait;
@@ -9,26 +10,25 @@ use steal_scheduler::Hand;
 /// The newest own task; else one stolen from the others, in order of their numbers from the own one upwards, round.
 pub(crate) fn find<R: Wait>(rt: &R, hand: &mut Hand, worker: u32) -> Option<u32>
     requires { length (thefts hand.old) < 2 ^ 32 }
-    ensures { length (thefts hand.new) ≡ length (thefts hand.old) }
+    ensures { Finds worker hand.old hand.new result }
 {
-    let own = hand.next_own();
-    if own.is_some() {
-        return own;
+    if let Some(task) = hand.next_own() {
+        return Some(task);
     }
     let workers = hand.workers() as u64;
     for k in 1..workers {
         let victim = (u64::from(worker) + k) % workers;
-        let stolen = hand.steal_from(rt, victim as u32);
-        if stolen.is_some() {
-            return stolen;
+        if let Some(task) = hand.steal_from(rt, victim as u32) {
+            return Some(task);
         }
     }
     None
 }
 
-/// Puts a task on the own deque.
+/// Puts a task on the own deque. For want of memory the hand is as before.
 pub(crate) fn put(hand: &mut Hand, task: u32) -> Result<(), AllocError>
-    ensures { length (thefts hand.new) ≡ length (thefts hand.old) }
+    ensures ok { OnOk result (Puts hand.old hand.new task) }
+    ensures err { IfErr result (λ _. KeepsHand hand.old hand.new) }
 {
     match hand.put(task) {
         Ok(()) => Ok(()),
@@ -36,9 +36,11 @@ pub(crate) fn put(hand: &mut Hand, task: u32) -> Result<(), AllocError>
     }
 }
 
-/// Puts both children of a fork on the own deque, the left one on top.
+/// Puts both children of a fork on the own deque, the left one on top. Where memory is wanting the right one may have been
+/// put.
 pub(crate) fn put_both(hand: &mut Hand, left: u32, right: u32) -> Result<(), AllocError>
-    ensures { length (thefts hand.new) ≡ length (thefts hand.old) }
+    ensures ok { OnOk result (PutsBoth hand.old hand.new left right) }
+    ensures err { IfErr result (λ _. PutsFewer hand.old hand.new right) }
 {
     put(hand, right)?;
     put(hand, left)

@@ -4,7 +4,7 @@ ghost use Rattle.shared_value.specs.Fits.{Fits};
 ghost use Rattle.turn_lock.specs.Seats.{view};
 ghost use Rattle.turn_lock.specs.Turn.{identity};
 ghost use Rattle.turn_entries.specs.Parts.{ComesWith, GoesWith, TakesFrom};
-ghost use Rattle.worker_run.specs.Desks.{GivesOne, HasEntry, HasGiven, IsDesk, SameDesk, TakesTurn};
+ghost use Rattle.worker_run.specs.Desks.{GivesOne, HasEntry, HasGiven, IsDesk, KeepsPlace, SameDesk, TakesTurn};
 
 use crate::desk::Desk;
 use hh_lang::Program;
@@ -26,6 +26,7 @@ fn give_entry(
     requires kept { IfSome kept (λ s. Fits run.paced desk.old.worker s.now.value) }
     ensures desk { IsDesk (identity turn.now) program.now desk.new }
     ensures same { SameDesk desk.old desk.new }
+    ensures place { KeepsPlace desk.old desk.new }
     ensures part { (view desk.new.seat).part ≡ option_map (λ s. s.now) kept.entry }
     ensures gave { HasGiven desk.new run }
     ensures one { GivesOne desk.old desk.new }
@@ -42,6 +43,7 @@ fn give(turn: &Turn<Run>, desk: &mut Desk, program: &Program, run: Run, next: Ne
     requires takes { TakesFrom run.paced desk.old.worker next }
     ensures desk { IsDesk (identity turn.now) program.now desk.new }
     ensures same { SameDesk desk.old desk.new }
+    ensures place { KeepsPlace desk.old desk.new }
     ensures kept { result ≡ next }
     ensures next { GoesWith program.now desk.old.worker (view desk.new.seat) result }
     ensures gave { HasGiven desk.new run }

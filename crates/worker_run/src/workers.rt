@@ -2,8 +2,10 @@
 ghost use Rattle.std.specs.Prelude.{◌≡◌, ◌<◌, ◌≤◌, ◌^◌, [], map, IfNone, IfOk, IfSome, vec_len, vec_capacity};
 ghost use Rattle.run_ledger.specs.Journals.{end_of};
 ghost use Rattle.turn_lock.specs.Turn.{identity};
-ghost use Rattle.worker_run.specs.Desks.{AreAllDesks, AreHands, AreNewDesks, HasOfEach, HasStopped, HaveStopped, IsDesk, SameDesk};
+ghost use Rattle.worker_run.specs.Desks.{AreAllDesks, AreHands, AreNewDesks, AreOpened, HasOfEach, HasStopped, HaveSeen, HaveStopped, IsDesk, SameDesk};
 ghost use Rattle.worker_run.specs.Outcomes.{finish_of, IsRun, WasGivenBack};
+ghost use Rattle.worker_run.specs.Rounds.{AllGoRound, GoesRound};
+ghost use Rattle.worker_run.specs.Tasks.{HaveRoot};
 
 use crate::bell::Bell;
 use crate::desk::Desk;
@@ -17,7 +19,7 @@ use std::sync::Wait;
 use std::thread;
 use std::thread::Threads;
 use steal_scheduler::{Deques, Hand};
-use turn_entries::{Paced, Run, Shared};
+use turn_entries::{Next, Paced, Run, Shared};
 use turn_lock::{Seat, Turn};
 
 /// Each worker works at its desk in a thread of its own, until the run is over.
@@ -32,6 +34,7 @@ pub fn all_work<R: Threads + Wait + Sync, G: Gate>(
 )
     requires { AreAllDesks (identity turn.now) program.now settings desks.old }
     ensures all { AreAllDesks (identity turn.now) program.now settings desks.new }
+    ensures rounds { AllGoRound program.now desks.old desks.new }
     ensures over { HaveStopped desks.new }
 {
     let _ = settings;
@@ -45,7 +48,7 @@ pub fn all_work<R: Threads + Wait + Sync, G: Gate>(
         threads,
         &|_: usize, desk: &mut Desk|
             requires { IsDesk (identity turn.now) program.now desk.now }
-            ensures { IsDesk (identity turn.entry.now) program.entry.now desk.exit.now × SameDesk desk.entry.now desk.exit.now × HasStopped desk.exit.now }
+            ensures { IsDesk (identity turn.entry.now) program.entry.now desk.exit.now × SameDesk desk.entry.now desk.exit.now × GoesRound program.entry.now desk.entry.now Next.Idle desk.exit.now Next.Stop × HasStopped desk.exit.now }
         { work(rt, turn, bell, gate, program, desk) },
     );
 }
@@ -61,6 +64,7 @@ fn desks_of(
     requires workers { vec_len seats ≡ settings.workers }
     requires few { settings.workers < 2 ^ 32 }
     ensures seats { IfOk result (λ v. map (λ d. d.seat) v.items ≡ seats.items) }
+    ensures hands { IfOk result (λ v. map (λ d. d.hand) v.items ≡ hands.items) }
     ensures new { IfOk result (λ v. AreNewDesks settings v.items) }
 {
     let mut desks = Vec::new(alloc);
@@ -106,6 +110,7 @@ pub fn close(
     requires none { seats.items ≡ [] }
     requires room { vec_len desks ≤ vec_capacity seats }
     ensures of_each { HasOfEach result.journal.items desks.items }
+    ensures seen { HaveSeen result.journal.items desks.items }
     ensures program { result.program ≡ program.now }
     ensures settings { result.settings ≡ settings }
 {
@@ -118,7 +123,7 @@ pub fn close(
 // The hands of so many workers. The root is put with the first.
 fn new_hands(alloc: Global, workers: u32) -> Result<Vec<Hand>, AllocError>
     requires { 0 < workers }
-    ensures { IfOk result (λ hands. AreHands workers hands.items) }
+    ensures { IfOk result (λ hands. HaveRoot workers hands.items) }
 {
     let mut hands = Deques::new(alloc, workers)?;
     match hands[0].put(0) {
@@ -127,13 +132,14 @@ fn new_hands(alloc: Global, workers: u32) -> Result<Vec<Hand>, AllocError>
     }
 }
 
-/// The turn of the value before its first entry, and the desks of all workers.
+/// The turn of the value before its first entry, and the desks of all workers. The first one's hand has put the root.
 pub fn opened(
     alloc: Global,
     program: &Program,
     settings: Settings,
 ) -> Result<(Turn<Run>, Vec<Desk>), AllocError>
-    ensures { IfOk result (λ t. AreAllDesks (identity t.0) program.now settings t.1.items) }
+    ensures all { IfOk result (λ t. AreAllDesks (identity t.0) program.now settings t.1.items) }
+    ensures new { IfOk result (λ t. AreOpened settings t.1.items) }
 {
     let paced = Paced::new(alloc, program, settings)?;
     let workers = settings.workers();

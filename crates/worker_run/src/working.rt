@@ -2,8 +2,10 @@
 ghost use Rattle.std.specs.Prelude.{◌≡◌, IfNone, IfSome};
 ghost use Rattle.turn_lock.specs.Seats.{view};
 ghost use Rattle.turn_lock.specs.Turn.{identity};
-ghost use Rattle.turn_entries.specs.Parts.{BringsNothing, ComesWith, GoesWith};
+ghost use Rattle.turn_entries.specs.Parts.{ComesWith, GoesWith};
 ghost use Rattle.worker_run.specs.Desks.{ChangesHand, FewThefts, HasStopped, IsDesk, SameDesk};
+ghost use Rattle.worker_run.specs.Rounds.{GoesRound};
+ghost use Rattle.worker_run.specs.Tasks.{Looks, Prepares, Shares, SharesBoth};
 
 use crate::bell::Bell;
 use crate::desk::Desk;
@@ -20,7 +22,7 @@ use turn_lock::Turn;
 fn look<R: Wait>(rt: &R, bell: &Bell, desk: &mut Desk) -> Ready
     requires { FewThefts desk.old }
     ensures hand { ChangesHand desk.old desk.new }
-    ensures found { BringsNothing result }
+    ensures found { Looks desk.old.worker desk.old.hand desk.new.hand result }
 {
     desk.heard = bell.rings(rt);
     Ready::Found(find(rt, &mut desk.hand, desk.worker))
@@ -30,25 +32,27 @@ fn look<R: Wait>(rt: &R, bell: &Bell, desk: &mut Desk) -> Ready
 fn share_both<R: Wait>(rt: &R, bell: &Bell, desk: &mut Desk, left: u32, right: u32) -> Ready
     requires { FewThefts desk.old }
     ensures hand { ChangesHand desk.old desk.new }
-    ensures found { BringsNothing result }
+    ensures shared { SharesBoth desk.old.worker left right desk.old.hand desk.new.hand result }
 {
-    if put_both(&mut desk.hand, left, right).is_err() {
-        return Ready::Wanting;
+    match put_both(&mut desk.hand, left, right) {
+        Ok(()) => {
+            bell.ring_once(rt);
+            look(rt, bell, desk)
+        }
+        Err(_) => Ready::Wanting,
     }
-    bell.ring_once(rt);
-    look(rt, bell, desk)
 }
 
 // The worker puts a task that runs again where others find it, and looks for one.
 fn share<R: Wait>(rt: &R, bell: &Bell, desk: &mut Desk, task: u32) -> Ready
     requires { FewThefts desk.old }
     ensures hand { ChangesHand desk.old desk.new }
-    ensures found { BringsNothing result }
+    ensures shared { Shares desk.old.worker task desk.old.hand desk.new.hand result }
 {
-    if put(&mut desk.hand, task).is_err() {
-        return Ready::Wanting;
+    match put(&mut desk.hand, task) {
+        Ok(()) => look(rt, bell, desk),
+        Err(_) => Ready::Wanting,
     }
-    look(rt, bell, desk)
 }
 
 /// What the worker comes for its next turn with; None where it stops.
@@ -64,7 +68,8 @@ pub fn prepare<R: Wait, G: Gate>(
     requires few { FewThefts desk.old }
     ensures hand { ChangesHand desk.old desk.new }
     ensures comes { IfSome result (ComesWith program.now desk.old.worker (view desk.old.seat)) }
-    ensures stops { IfNone result (next ≡ Next.Stop) }
+    ensures tasks { IfSome result (Prepares program.now desk.old.worker next desk.old.hand desk.new.hand) }
+    ensures stops { IfNone result ((next ≡ Next.Stop) × (desk.new ≡ desk.old)) }
 {
     match next {
         Next::Running(part) => Some(run_part(part, program, gate, desk.worker)),
@@ -111,6 +116,7 @@ pub fn work<R: Wait, G: Gate>(
     requires desk { IsDesk (identity turn.now) program.now desk.old }
     ensures desk { IsDesk (identity turn.now) program.now desk.new }
     ensures same { SameDesk desk.old desk.new }
+    ensures rounds { GoesRound program.now desk.old Next.Idle desk.new Next.Stop }
     ensures over { HasStopped desk.new }
 {
     let mut next = Next::Idle;

@@ -1,6 +1,4 @@
-use Rattle.std.proofs.Common.{◌≡◌, ◌-◌, ◌+◌, ◌≤◌, ◌∙◌, arith}
-use Rattle.task_machine.specs.declared.part.Paused.{Paused}
-use Rattle.task_machine.specs.declared.part.Paused.TheVariants.{Spent}
+use Rattle.std.proofs.Common.{◌-◌, ◌+◌, ◌≤◌, arith}
 use Rattle.turn_entries.proofs.Stepping.{few_then, fits_some, grows}
 use Rattle.worker_run.proofs.local.run_part.Goals as goal
 

@@ -1,9 +1,12 @@
 use Rattle.std.proofs.Common.{◌≡◌, length}
-use Rattle.steal_scheduler.specs.Hands.{thefts}
+use Rattle.steal_scheduler.specs.Hands.{SameHand, TookNone, thefts}
+use Rattle.worker_run.specs.Tasks.{TriedBefore}
 use Rattle.worker_run.proofs.tasks.find.Given as goal
 
 abbrev pub invariant-loop-k : goal.invariant-loop-k
 invariant-loop-k g l = record {
-  same : length (thefts l.hand) ≡ length (thefts l.fn.hand);
+  same : SameHand l.fn.hand l.hand;
+  own : TookNone l.fn.hand l.hand;
+  tried : TriedBefore l.worker l.k (thefts l.fn.hand) (thefts l.hand);
   workers : l.workers ≡ length (thefts l.fn.hand);
 }

@@ -1,7 +1,7 @@
-use Rattle.std.proofs.Common.{refl, ap, sym, ◌∙◌, inl, inr}
+use Rattle.std.proofs.Common.{refl}
 use Rattle.turn_lock.specs.Seats.{view}
 use Rattle.turn_lock.specs.Turn.{identity}
-use Rattle.worker_run.proofs.Giving.{alike, brings, goes_with_none, has_entry, takes_from}
+use Rattle.worker_run.proofs.Giving.{alike, brings, has_entry, takes_from}
 use Rattle.worker_run.proofs.turn.take_turn.Goals as goal
 
 pub act-requires-clause-brings : goal.act-requires-clause-brings

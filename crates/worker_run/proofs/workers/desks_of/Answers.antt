@@ -1,15 +1,16 @@
-use Rattle.std.proofs.Common.{rules, List, ℕ, suc, ◌≡◌, ◌+◌, ◌<◌, ◌≤◌, ◌++◌, ◌∷◌, [], ap, ◌∙◌, refl, map, length, length-append, subst, slice_get, Some, sym, arith, vec_len, ◌^◌}
+use Rattle.std.proofs.Common.{rules, List, suc, ◌≡◌, ◌+◌, ◌<◌, ◌++◌, ◌∷◌, [], ap, ◌∙◌, refl, map, length, length-append, subst, slice_get, Some, sym, arith, vec_len, ◌^◌, append-nil}
 use Rattle.steal_scheduler.specs.declared.hand.Hand.{Hand}
 use Rattle.steal_scheduler.specs.Hands.{thefts}
 use Rattle.worker_run.specs.declared.desk.Desk.{Desk}
 use Rattle.worker_run.specs.Desks.{AreNewDesks}
-use Rattle.worker_run.proofs.Rows.{Chair, all_more, first_of, moved_on, none_new, rest_of}
+use Rattle.worker_run.proofs.Rows.{Chair, all_more, first_of, moved_on, none_left, none_new, rest_of}
 use Rattle.worker_run.proofs.workers.desks_of.Goals as goal
 
 pub loop-settings-init : goal.loop-settings-init
 loop-settings-init c = record {
   seats = ap (λ (l : List Desk). map (λ (d : Desk). d.seat) l ++ c.args.seats.items) c.new-desks.ensures.items;
   new = subst (AreNewDesks c.args.settings) (sym c.new-desks.ensures.items) (none_new c.args.settings);
+  held = ap (λ (l : List Desk). map (λ (d : Desk). d.hand) l ++ c.args.hands.items) c.new-desks.ensures.items;
   hands = λ k h at. c.requires.hands.1 k h at ∙ c.requires.workers;
   worker = sym (ap length c.new-desks.ensures.items);
   room = (let e = c.requires.hands.0 in search (rules, e));
@@ -43,6 +44,8 @@ loop-settings-preserved c =
     record {
       seats = ap (λ (l : List Desk). map (λ (d : Desk). d.seat) l ++ c.remove-seat.new.self.items) made ∙ (ap (λ (l : List Chair). map (λ (d : Desk). d.seat) (c.loop-settings.desks.items ++ desk ∷ []) ++ l) c.remove-seat.ensures.items
           ∙ (moved_on (λ (d : Desk). d.seat) c.loop-settings.desks.items c.loop-settings.seats.items desk c.remove-seat.result refl some c.remove-seat.ensures.value ∙ inv.seats));
+      held = ap (λ (l : List Desk). map (λ (d : Desk). d.hand) l ++ c.remove-hand.new.self.items) made ∙ (ap (λ (l : List Hand). map (λ (d : Desk). d.hand) (c.loop-settings.desks.items ++ desk ∷ []) ++ l) c.remove-hand.ensures.items
+          ∙ (moved_on (λ (d : Desk). d.hand) c.loop-settings.desks.items c.loop-settings.hands.items desk hand refl more c.remove-hand.ensures.value ∙ inv.held));
       new = subst (AreNewDesks c.args.settings) (sym made)
           (all_more (λ k (d : Desk). (d.worker ≡ k) × (d.settings ≡ c.args.settings) × (d.given ≡ 0) × (length (thefts d.hand) ≡ c.args.settings.workers)) c.loop-settings.desks.items desk inv.new
           (inv.worker, refl, refl, inv.hands 0 hand (first_of c.loop-settings.hands.items hand more c.remove-hand.ensures.value)));
@@ -51,6 +54,13 @@ loop-settings-preserved c =
       room = search rules;
       few = search rules;
     }
+
+pub returns-clause-hands : goal.returns-clause-hands
+returns-clause-hands c =
+    let inv = c.loop-settings.invariant in
+    let room = inv.room in
+    let none : length c.loop-settings.hands.items ≡ 0 = search (rules, room) in
+    sym (append-nil (map (λ (d : Desk). d.hand) c.loop-settings.desks.items)) ∙ (ap (λ (l : List Hand). map (λ (d : Desk). d.hand) c.loop-settings.desks.items ++ l) (sym (none_left c.loop-settings.hands.items none)) ∙ inv.held)
 
 pub returns-clause-new : goal.returns-clause-new
 returns-clause-new c = c.loop-settings.invariant.new

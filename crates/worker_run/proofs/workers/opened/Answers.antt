@@ -1,14 +1,30 @@
-use Rattle.std.proofs.Common.{rules, ◌≡◌, ◌<◌, ◌^◌, Some, refl, sym, ap, ◌∙◌, arith}
+use Rattle.std.proofs.Common.{rules, ℕ, ◌≡◌, ◌<◌, ◌^◌, Some, refl, sym, ap, subst, vec_len, ◌∙◌}
 use Rattle.turn_lock.specs.Seats.{opening_view}
 use Rattle.turn_lock.specs.Turn.{identity}
 use Rattle.turn_entries.specs.declared.run.Run.{Run}
 use Rattle.turn_entries.specs.Values.{journal_of, setup_of}
+use Rattle.worker_run.specs.Desks.{AreHands}
+use Rattle.worker_run.specs.Tasks.{HaveRoot}
+use Rattle.worker_run.proofs.Finding.{root_hands}
 use Rattle.worker_run.proofs.Giving.{same_text}
 use Rattle.worker_run.proofs.Rows.{new_desks}
 use Rattle.worker_run.proofs.workers.opened.Goals as goal
 
-pub returns : goal.returns
-returns c =
+pub desks_of-requires-clause-hands : goal.desks_of-requires-clause-hands
+desks_of-requires-clause-hands c =
+    let many : c.workers-workers.result ≡ vec_len c.in_ok-turn.seats = search rules in
+    subst (λ (n : ℕ). AreHands n c.in_ok-hands.hands.items) many (root_hands c.workers-workers.result c.in_ok-hands.hands.items c.in_ok-hands.ensures)
+
+pub returns-clause-new : goal.returns-clause-new
+returns-clause-new c =
+    let many : c.workers-workers.result ≡ c.args.settings.workers = c.workers-workers.ensures.value in
+    record {
+      new = c.in_ok-desks.ensures.new;
+      hands = subst (HaveRoot c.args.settings.workers) (sym c.in_ok-desks.ensures.hands) (subst (λ (n : ℕ). HaveRoot n c.in_ok-hands.hands.items) many c.in_ok-hands.ensures);
+    }
+
+pub returns-clause-all : goal.returns-clause-all
+returns-clause-all c =
     let opening : Run = c.new-2.result in
     let s = c.args.settings in
     let many = c.workers-workers.ensures.value in

@@ -2,7 +2,8 @@ use Rattle.std.proofs.Common.{rules, ◌≡◌, ◌++◌, List, take, drop, leng
 use Rattle.shared_value.specs.World.{World}
 use Rattle.turn_lock.specs.Turn.{identity}
 use Rattle.worker_run.specs.declared.desk.Desk.{Desk}
-use Rattle.worker_run.specs.Desks.{HasOfEach}
+use Rattle.worker_run.specs.Desks.{HasOfEach, HaveSeen}
+use Rattle.worker_run.specs.Rounds.{AllGoRound}
 use Rattle.worker_run.proofs.Rows.{is_run, was_given, whole_written}
 use Rattle.worker_run.proofs.workers.run_all.Goals as goal
 
@@ -18,5 +19,6 @@ returns-clause-gave g c =
     let many : c.in_ok-turn.desks.len ≡ length opened = search rules in
     let same : length desks ≡ length opened = search rules in
     let whole : take c.in_ok-turn.desks.len (desks ++ drop (length desks) opened) ≡ desks = whole_written c.in_ok-turn.desks.len desks opened same many in
-    was_given (identity c.in_ok-turn.turn) c.args.program.now c.args.settings desks c.close.result c.into_shared-shared.result c.all_work.ensures.all c.all_work.ensures.over
-    (subst (HasOfEach c.close.result.journal.items) whole c.close.ensures.of_each) c.into_shared-shared.ensures.same
+    let was : c.as_mut_slice.result.now ≡ opened = search rules in
+    was_given (identity c.in_ok-turn.turn) c.args.program.now c.args.settings opened desks c.close.result c.into_shared-shared.result c.in_ok-turn.ensures.all c.in_ok-turn.ensures.new c.all_work.ensures.all (subst (λ (ds : List Desk). AllGoRound c.args.program.now ds desks) was c.all_work.ensures.rounds) c.all_work.ensures.over
+    (subst (HaveSeen c.close.result.journal.items) whole c.close.ensures.seen) (subst (HasOfEach c.close.result.journal.items) whole c.close.ensures.of_each) c.into_shared-shared.ensures.same

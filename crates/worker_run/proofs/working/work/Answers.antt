@@ -1,5 +1,17 @@
-use Rattle.std.proofs.Common.{arith}
+use Rattle.std.proofs.Common.{arith, rules}
+use Rattle.turn_entries.specs.declared.held.Next.TheVariants.{Idle}
+use Rattle.worker_run.proofs.Rounding.{one_more}
 use Rattle.worker_run.proofs.working.work.Goals as goal
 
 pub prepare-requires-clause-few : goal.prepare-requires-clause-few
-prepare-requires-clause-few g c κs within = let d = c.loop.invariant.0 in let a = d.thieves in let b = d.few in omega (arith, a, b)
+prepare-requires-clause-few g c κs within = let d = c.loop.invariant.desk in let a = d.thieves in let b = d.few in omega (arith, a, b)
+
+pub loop-preserved : goal.loop-preserved
+loop-preserved g c = record {
+  desk = search rules;
+  same = search rules;
+  goes = search rules;
+  stops = search rules;
+  rounds = one_more c.args.program.now c.args.desk.now Idle c.loop.desk c.loop.next c.take_turn-next.new.desk c.take_turn-next.result c.loop.invariant.rounds
+      (record { ready = c.in-Some-prepare.ready; between = c.prepare.new.desk; changes = c.prepare.ensures.hand; prepares = c.in-Some-prepare.ensures.tasks; turn = c.take_turn-next.ensures.turn });
+}

@@ -1,10 +1,17 @@
 use Rattle.std.proofs.Common.{◌≡◌}
 use Rattle.turn_lock.specs.Seats.{view}
 use Rattle.turn_lock.specs.Turn.{identity}
-use Rattle.turn_entries.specs.declared.held.Next.TheVariants.{Stop}
+use Rattle.turn_entries.specs.declared.held.Next.TheVariants.{Idle, Stop}
 use Rattle.turn_entries.specs.Parts.{GoesWith}
 use Rattle.worker_run.specs.Desks.{HasStopped, IsDesk, SameDesk}
+use Rattle.worker_run.specs.Rounds.{GoesRound}
 use Rattle.worker_run.proofs.working.work.Given as goal
 
 abbrev pub invariant-loop : goal.invariant-loop
-invariant-loop g l = IsDesk (identity l.turn) l.program l.desk × SameDesk l.fn.desk l.desk × GoesWith l.program l.desk.worker (view l.desk.seat) l.next × (l.next ≡ Stop → HasStopped l.desk)
+invariant-loop g l = record {
+  desk : IsDesk (identity l.turn) l.program l.desk;
+  same : SameDesk l.fn.desk l.desk;
+  goes : GoesWith l.program l.desk.worker (view l.desk.seat) l.next;
+  stops : l.next ≡ Stop → HasStopped l.desk;
+  rounds : GoesRound l.program l.fn.desk Idle l.desk l.next;
+}

@@ -1,0 +1,155 @@
+-- What becomes of tasks at a worker's hand.
+use Rattle.std.proofs.Common.{◌≡◌, ◌≢◌, ◌⊎◌, inl, inr, ℕ, zero, suc, ◌+◌, ◌-◌, ◌*◌, ◌/◌, ◌%◌, ◌<◌, ◌≤◌, List, [], ◌∷◌, length, slice_get, slice_index_or, slice_set, get_or, refl, sym, ap, ◌∙◌, subst, arith, Option, Some, None}
+use Rattle.std.proofs.Math.Nat.{mul-le-mul_left}
+use Rattle.std.proofs.lemmas.Bool.{cases_order}
+use Rattle.std.proofs.lemmas.Option.{slice_get_within, slice_get-get_or}
+use Rattle.hh_lang.specs.Form.{ProgramText}
+use Rattle.steal_scheduler.specs.declared.hand.Hand.{Hand}
+use Rattle.steal_scheduler.specs.declared.theft.Theft.{Theft}
+use Rattle.steal_scheduler.specs.Hands.{AreNewHands, ChangesAt, KeepsOwn, SameHand, TookNone, empty_pops, thefts}
+use Rattle.steal_scheduler.specs.Thefts.{SameTheft, StoleNone}
+use Rattle.turn_entries.specs.declared.held.Ready.{Ready}
+use Rattle.turn_entries.specs.declared.held.Ready.TheVariants.{Paused as HasPaused, Copied as IsCopied, Found, Wanting}
+use Rattle.turn_entries.specs.Parts.{ComesWith, Sight}
+use Rattle.worker_run.specs.Desks.{AreHands}
+use Rattle.worker_run.specs.Tasks.{Finds, HaveRoot, Looks, Puts, PutsBoth, PutsFewer, Shares, SharesBoth, TriedBefore, after_it}
+
+-- ---- GOING ROUND
+
+-- less than a whole round leads elsewhere
+elsewhere : (a d n : ℕ) → 0 < d → d < n → (a + d) % n ≡ a % n → ⊥
+elsewhere a d n some less e = elim (cases_order (a / n) ((a + d) / n)) [
+  | inl same ↦ (let h = ap (λ q. n * q) same in omega (arith, h, e, some, less, rest a, rest (a + d)))
+  | inr (inl more) ↦ (let h = mul-le-mul_left n more in let m = by_suc n (a / n) in omega (arith, h, m, e, some, less, rest a, rest (a + d)))
+  | inr (inr fewer) ↦ (let h = mul-le-mul_left n fewer in let m = by_suc n ((a + d) / n) in omega (arith, h, m, e, some, less, rest a, rest (a + d)))
+]
+  where
+    by_suc : (n q : ℕ) → n * suc q ≡ n * q + n
+    by_suc n q = omega arith
+
+    rest : (x : ℕ) → n * (x / n) + x % n ≡ x
+    rest x = omega arith
+
+apart : (k n i j : ℕ) → i < j → j < n → after_it k n i ≡ after_it k n j → ⊥
+apart k n i j less within e = elsewhere (k + i) (j - i) n (omega arith) (omega arith) (ap (λ x. x % n) (sums k i j less) ∙ sym e)
+  where
+    sums : (k i j : ℕ) → i < j → k + i + (j - i) ≡ k + j
+    sums k i j h = omega arith
+
+-- ---- THEFTS
+
+pub none_tried : (k : ℕ) (old : List Theft) → TriedBefore k 1 old old
+none_tried k old = record { count = refl; vain = λ i some less. absurd (omega arith); others = λ v ne. refl }
+
+pub tried_more : (k j : ℕ) (old mid new : List Theft) → TriedBefore k j old mid → 0 < j → j < length old → length new ≡ length mid → ChangesAt mid new (after_it k (length old) j) StoleNone → TriedBefore k (j + 1) old new
+tried_more k j old mid new T some within long change = record {
+  count = long ∙ T.count;
+  vain = λ i low less t u was is. at i low (cases_order i j) less t u was is;
+  others = λ v ne. change.others v (ne j some (omega arith)) ∙ T.others v (λ i low less. ne i low (omega (arith, less)));
+}
+  where
+    at : (i : ℕ) → 0 < i → (i ≡ j) ⊎ ((i < j) ⊎ (j < i)) → i < j + 1 → (t u : Theft) → slice_get old (after_it k (length old) i) ≡ Some t → slice_get new (after_it k (length old) i) ≡ Some u → SameTheft t u × StoleNone t u
+    at i low (inl e) less t u was is = change.at_victim t u
+        (T.others (after_it k (length old) j) (λ x l s same. apart k (length old) x j s within (sym same)) ∙ subst (λ x. slice_get old (after_it k (length old) x) ≡ Some t) e was)
+        (subst (λ x. slice_get new (after_it k (length old) x) ≡ Some u) e is)
+    at i low (inr (inl before)) less t u was is = T.vain i low before t u was (sym (change.others (after_it k (length old) i) (λ same. apart k (length old) i j before within same)) ∙ is)
+    at i low (inr (inr beyond)) less t u was is = absurd (omega (arith, beyond, less))
+
+pub tried_all : (k j : ℕ) (old new : List Theft) → TriedBefore k j old new → length old ≤ j → (1 ≤ length old → j ≤ length old) → TriedBefore k (length old) old new
+tried_all k j [] [] T all most = record { count = refl; vain = λ i some less. absurd (omega (arith, some, less)); others = λ v ne. refl }
+tried_all k j [] (x ∷ xs) T all most = absurd (let e = T.count in omega (arith, e))
+tried_all k j (t ∷ ts) new T all most = let e : j ≡ length (t ∷ ts) = (let m = most (omega arith) in omega (arith, m, all)) in subst (λ x. TriedBefore k x (t ∷ ts) new) e T
+
+-- own tasks were none before, and the hand changed at its thefts alone
+pub none_then : (a b c : Hand) → TookNone a b → KeepsOwn b c → empty_pops c ≡ empty_pops b → TookNone a c
+none_then a b c N K e = record {
+  list_was = N.list_was;
+  list_is = K.list_is ∙ N.list_is;
+  view_is = K.view_is ∙ N.view_is;
+  index_falls = (let x = N.index_falls in let y = K.index_is in omega (arith, x, y));
+  empty_pops_rose = e ∙ N.empty_pops_rose;
+  was_empty = N.was_empty;
+}
+
+pub same_then : (a b c : Hand) → SameHand a b → SameHand b c → SameHand a c
+same_then a b c S T = record { deque = T.deque ∙ S.deque; port = T.port ∙ S.port; room = (let x = S.room in let y = T.room in omega (arith, x, y)); workers = T.workers ∙ S.workers }
+
+-- ---- WHAT THE CALLS TELL
+
+pub finds_same : (k : ℕ) (a b : Hand) (o : Option ℕ) → Finds k a b o → SameHand a b
+finds_same k a b (Some task) (inl f) = f.same
+finds_same k a b (Some task) (inr s) = s.same
+finds_same k a b None f = f.same
+
+pub looks_same : (k : ℕ) (a b : Hand) (ready : Ready) → Looks k a b ready → length (thefts b) ≡ length (thefts a)
+looks_same k a b (HasPaused part why) h = absurd h
+looks_same k a b (IsCopied c) h = absurd h
+looks_same k a b (Found o) h = (finds_same k a b o h).workers
+looks_same k a b Wanting h = absurd h
+
+pub both_same : (a b : Hand) (left right : ℕ) → PutsBoth a b left right → length (thefts b) ≡ length (thefts a)
+both_same a b left right P = P.2.same.workers ∙ P.1.same.workers
+
+pub fewer_same : (a b : Hand) (right : ℕ) → PutsFewer a b right → length (thefts b) ≡ length (thefts a)
+fewer_same a b right (inl K) = K.same.workers
+fewer_same a b right (inr P) = P.2.same.workers ∙ P.1.same.workers
+
+pub looks_then_both : (k left right : ℕ) (a b c : Hand) (ready : Ready) → PutsBoth a b left right → Looks k b c ready → SharesBoth k left right a c ready
+looks_then_both k left right a b c (HasPaused part why) P h = absurd h
+looks_then_both k left right a b c (IsCopied d) P h = absurd h
+looks_then_both k left right a b c (Found o) P h = (b, P, h)
+looks_then_both k left right a b c Wanting P h = absurd h
+
+pub looks_then : (k task : ℕ) (a b c : Hand) (ready : Ready) → Puts a b task → Looks k b c ready → Shares k task a c ready
+looks_then k task a b c (HasPaused part why) P h = absurd h
+looks_then k task a b c (IsCopied d) P h = absurd h
+looks_then k task a b c (Found o) P h = (b, P, h)
+looks_then k task a b c Wanting P h = absurd h
+
+pub comes_looking : (p : ProgramText) (k : ℕ) (v : Sight) (a b : Hand) (ready : Ready) → Looks k a b ready → ComesWith p k v ready
+comes_looking p k v a b (HasPaused part why) h = absurd h
+comes_looking p k v a b (IsCopied c) h = absurd h
+comes_looking p k v a b (Found o) h = tt
+comes_looking p k v a b Wanting h = absurd h
+
+pub comes_sharing_both : (p : ProgramText) (k left right : ℕ) (v : Sight) (a b : Hand) (ready : Ready) → SharesBoth k left right a b ready → ComesWith p k v ready
+comes_sharing_both p k left right v a b (HasPaused part why) h = absurd h
+comes_sharing_both p k left right v a b (IsCopied c) h = absurd h
+comes_sharing_both p k left right v a b (Found o) h = tt
+comes_sharing_both p k left right v a b Wanting h = tt
+
+pub comes_sharing : (p : ProgramText) (k task : ℕ) (v : Sight) (a b : Hand) (ready : Ready) → Shares k task a b ready → ComesWith p k v ready
+comes_sharing p k task v a b (HasPaused part why) h = absurd h
+comes_sharing p k task v a b (IsCopied c) h = absurd h
+comes_sharing p k task v a b (Found o) h = tt
+comes_sharing p k task v a b Wanting h = tt
+
+-- ---- THE FIRST HANDS
+
+pub root_put : (n : ℕ) (before : List Hand) (h g : Hand) → 0 < length before → h ≡ slice_index_or before 0 h → Puts h g 0 → AreNewHands n before → HaveRoot n (slice_set before 0 g)
+root_put n [] h g some is P new = absurd (omega arith)
+root_put n (x ∷ xs) h g some is P new = record {
+  count = new.count;
+  before = x ∷ xs;
+  were_new = new;
+  root = λ a b was now. subst (λ (y : Hand). Puts y b 0) (is ∙ some_one x a was) (subst (λ (y : Hand). Puts h y 0) (some_one g b now) P);
+  others = other;
+}
+  where
+    some_one : (a b : Hand) → Some a ≡ Some b → a ≡ b
+    some_one a b e = cc
+
+    other : (j : ℕ) → j ≢ 0 → slice_get (g ∷ xs) j ≡ slice_get (x ∷ xs) j
+    other zero ne = absurd (ne refl)
+    other (suc j) ne = refl
+
+pub root_hands : (n : ℕ) (hands : List Hand) → HaveRoot n hands → AreHands n hands
+root_hands n hands R = (R.count, each)
+  where
+    each : (k : ℕ) (h : Hand) → slice_get hands k ≡ Some h → length (thefts h) ≡ n
+    each zero h at =
+        let within = slice_get_within hands 0 h at in
+        let long : length R.before ≡ length hands = R.were_new.count ∙ sym R.count in
+        let was : slice_get R.before 0 ≡ Some (get_or R.before 0 h) = slice_get-get_or R.before 0 h (omega (arith, within, long)) in
+        (R.root (get_or R.before 0 h) h was at).same.workers ∙ (R.were_new.each_hand 0 (get_or R.before 0 h) was).workers
+    each (suc k) h at = (R.were_new.each_hand (suc k) h (sym (R.others (suc k) (λ e. absurd (omega (arith, e)))) ∙ at)).workers
