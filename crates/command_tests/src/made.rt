@@ -153,3 +153,40 @@ fn workers_share_made_programs(rt: HostRuntime) {
 fn workers_share_a_large_program(rt: HostRuntime) {
     assert!(rt; is_made_and_shared(&rt, LARGE_SHARED));
 }
+
+// A made program whose accesses are in order, and what all its runs begin with: its outputs, and how many tasks and steps
+// they come to.
+const IN_ORDER: (&str, &[u8]) = ("7 60", b"31503\nreport tasks 59 steps 6936 turns ");
+
+const CROWDS: &[&str] = &[
+    "--workers 1 --report",
+    "--workers 2 --report",
+    "--workers 4 --report",
+    "--workers 64 --report",
+];
+
+// Whether a run of a program is done and begins with this.
+fn begins<R: AllocGlobal + Threads + Wait + Sync>(
+    rt: &R,
+    options: &str,
+    program: &[u8],
+    first: &[u8],
+) -> bool {
+    let mut sink = sink_of(rt.alloc());
+    let code = status_with(rt, ("run", options), program, &mut sink);
+    code == Some(0) && sink.written().starts_with(first)
+}
+
+// Whatever the workers' course, the runs of a program in order agree.
+#[test]
+fn all_schedules_agree(rt: HostRuntime) {
+    let mut made = sink_of(rt.alloc());
+    let code = status_with(&rt, ("make", IN_ORDER.0), &[], &mut made);
+    assert!(rt; code == Some(0));
+    for &options in CROWDS {
+        assert!(rt;
+            begins(&rt, options, made.written(), IN_ORDER.1),
+            "{options}"
+        );
+    }
+}

@@ -13,15 +13,15 @@ use Rattle.program_reader.specs.Cause.{text_of_cause}
 use Rattle.trace_input.specs.declared.input.TraceInput.{TraceInput}
 use Rattle.view_core.specs.declared.shown.Shown.{Shown}
 use Rattle.view_core.specs.declared.runs.RunView.{RunView}
-use Rattle.view_core.specs.Shown.{image_line, source_line, run_text, limits_for, ShowsWhole, ShowsTrace}
+use Rattle.view_core.specs.Shown.{image_line, source_line, limits_for, ShowsJournal, ShowsWhole, ShowsTrace}
 
 -- what is shown of a journal, which is the trace's, within its limits
 pub trace_told : (v : RunView) (l : Limits) (t : TraceInput) (s : Limits) (journal : List Event) (r : Option RefusedAt) (w : Shown) → s ≡ limits_for l t → journal ≡ t.trace.entries
-    → refused_as_run t.program s journal ≡ r → ShowsWhole (run_text v t.program s journal) r w → ShowsTrace v l t w
+    → refused_as_run t.program s journal ≡ r → ShowsWhole (ShowsJournal v t.program s journal) r w → ShowsTrace v l t w
 trace_told v l t s journal r w settings entries is h =
-    subst (λ x. ShowsWhole (run_text v t.program x t.trace.entries) (refused_as_run t.program x t.trace.entries) w) settings
-    (subst (λ j. ShowsWhole (run_text v t.program s j) (refused_as_run t.program s j) w) entries
-    (subst (λ o. ShowsWhole (run_text v t.program s journal) o w) (sym is) h))
+    subst (λ x. ShowsWhole (ShowsJournal v t.program x t.trace.entries) (refused_as_run t.program x t.trace.entries) w) settings
+    (subst (λ j. ShowsWhole (ShowsJournal v t.program s j) (refused_as_run t.program s j) w) entries
+    (subst (λ o. ShowsWhole (ShowsJournal v t.program s journal) o w) (sym is) h))
 
 pub source_is : (r : Refused) (cause : List ℕ) → cause ≡ text_of_cause r.cause
     → codes "end: source refused line " ++ (decimal r.line ++ 32 ∷ (cause ++ 10 ∷ [])) ≡ source_line r

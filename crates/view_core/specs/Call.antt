@@ -2,9 +2,9 @@
 use Rattle.std.specs.Prelude.{◌≡◌, ◌⊎◌, ℕ, Bool, true, false, List, [], Option, Some}
 use Rattle.outside_io.specs.Told.{with_more}
 use Rattle.all_bytes.specs.Bytes.{told, WroteSome}
-use Rattle.view_line.specs.ViewLine.{Asked, AsksUsage, AsksHeaps, AsksTimeline, AsksTasks}
+use Rattle.view_line.specs.ViewLine.{Asked, AsksUsage, AsksHeaps, AsksTimeline, AsksTasks, AsksSchedules}
 use Rattle.view_core.specs.declared.shown.Status.{Status}
-use Rattle.view_core.specs.declared.shown.Status.TheVariants.{Done, ReadFault, WriteFault, NoMemory}
+use Rattle.view_core.specs.declared.shown.Status.TheVariants.{Done, Differ, ReadFault, WriteFault, NoMemory}
 use Rattle.view_core.specs.declared.shown.Shown.{Shown}
 
 -- the bytes that a source tells for a view; the usage reads none
@@ -13,6 +13,7 @@ told_for left named AsksUsage = Some []
 told_for left named (AsksHeaps file p limit) = told left named file
 told_for left named (AsksTimeline r) = told left named r.0
 told_for left named (AsksTasks r) = told left named r.0
+told_for left named (AsksSchedules r) = told left named r.0
 
 -- what standard output and standard error took
 pub record Streams : Type 0 where
@@ -25,6 +26,7 @@ Wrote named status before after bytes = ((status ≡ named) × (after ≡ with_m
 
 abbrev pub is_picture : Status → Bool
 is_picture Done = true
+is_picture Differ = true
 is_picture _ = false
 
 -- to standard output, or to standard error

@@ -20,12 +20,16 @@ use Rattle.trace_input.specs.Input.{input_fault, IsInput}
 use Rattle.heap_graph.specs.Graph.{graph_of}
 use Rattle.run_timeline.specs.Timeline.{timeline}
 use Rattle.task_table.specs.Table.{table}
-use Rattle.view_line.specs.ViewLine.{Asked, AsksUsage, AsksHeaps, AsksTimeline, AsksTasks}
+use Rattle.schedule_report.specs.declared.data.Clashes.{Clashes}
+use Rattle.schedule_report.specs.Schedules.{IsAnswer, verdict_of}
+use Rattle.schedule_report.specs.Text.{clashes_text}
+use Rattle.view_line.specs.ViewLine.{Asked, AsksUsage, AsksHeaps, AsksTimeline, AsksTasks, AsksSchedules}
 use Rattle.view_core.specs.declared.shown.Status.{Status}
 use Rattle.view_core.specs.declared.shown.Status.TheVariants.{Done, Source, Trace, Image}
 use Rattle.view_core.specs.declared.shown.Shown.{Shown}
 use Rattle.view_core.specs.declared.runs.RunView.{RunView}
-use Rattle.view_core.specs.declared.runs.RunView.TheVariants.{Timeline, Tasks}
+use Rattle.view_core.specs.declared.runs.RunView.TheVariants.{Timeline, Tasks, Schedules}
+use Rattle.view_core.specs.Status.{status_of_verdict}
 
 -- this text, with this status
 pub record Says (named : Status) (bytes : List ℕ) (s : Shown) : Type 0 where
@@ -58,22 +62,35 @@ ShowsHeaps p limit input = ShowsImage p limit input (image_fault input)
 
 -- RUNS
 
--- what each view of a run draws
-abbrev pub run_text : RunView → ProgramText → Limits → List Event → List ℕ
-run_text Timeline = timeline
-run_text Tasks = table
+-- the run didn't end by the return of main
+abbrev pub not_whole : List ℕ
+not_whole = end_line (codes "no whole run" ∷ [])
 
--- the text of a journal of a whole run, or its first refused entry, or that it is short
-abbrev pub ShowsWhole : List ℕ → Option RefusedAt → Shown → Type 0
-ShowsWhole bytes None = Says Done bytes
-ShowsWhole bytes (Some r) = Says Trace (refused_line r)
+-- the pairs of a whole run that aren't in order, and what they say of all schedules
+abbrev pub SaysSchedules : Option Clashes → Shown → Type 0
+SaysSchedules None = Says Trace not_whole
+SaysSchedules (Some c) = Says (status_of_verdict (verdict_of c)) (clashes_text c)
+
+abbrev pub ShowsSchedules : ProgramText → Limits → List Event → Shown → Type 0
+ShowsSchedules p s journal w = (answer : Option Clashes) × IsAnswer p s journal answer × SaysSchedules answer w
+
+-- what each view shows of a run
+abbrev pub ShowsJournal : RunView → ProgramText → Limits → List Event → Shown → Type 0
+ShowsJournal Timeline p s journal = Says Done (timeline p s journal)
+ShowsJournal Tasks p s journal = Says Done (table p s journal)
+ShowsJournal Schedules p s journal = ShowsSchedules p s journal
+
+-- that of a journal that has an end, or its first refused entry, or that it is short
+abbrev pub ShowsWhole : (Shown → Type 0) → Option RefusedAt → Shown → Type 0
+ShowsWhole P None = P
+ShowsWhole P (Some r) = Says Trace (refused_line r)
 
 -- the limits, with the version that the trace names
 abbrev pub limits_for : Limits → TraceInput → Limits
 limits_for s t = record s { version = t.trace.version }
 
 abbrev pub ShowsTrace : RunView → Limits → TraceInput → Shown → Type 0
-ShowsTrace v s t = ShowsWhole (run_text v t.program (limits_for s t) t.trace.entries) (refused_as_run t.program (limits_for s t) t.trace.entries)
+ShowsTrace v s t = ShowsWhole (ShowsJournal v t.program (limits_for s t) t.trace.entries) (refused_as_run t.program (limits_for s t) t.trace.entries)
 
 abbrev pub ShowsFault : InputFault → Shown → Type 0
 ShowsFault (SourceFault r) = Says Source (source_line r)
@@ -102,7 +119,7 @@ ShowsRun v s input = ShowsWithin (nat_le (length input) trace_limit) v s input
 -- ALL
 
 abbrev pub usage : List ℕ
-usage = codes "usage: hhview heaps [FILE] [--path T] [--limit N]\n       hhview timeline [FILE] [OPTIONS]\n       hhview tasks [FILE] [OPTIONS]\nOPTIONS are those of hheap replay: --workers N, --fuel N, --chunks N, --leaf N, --inner N\n"
+usage = codes "usage: hhview heaps [FILE] [--path T] [--limit N]\n       hhview timeline [FILE] [OPTIONS]\n       hhview tasks [FILE] [OPTIONS]\n       hhview schedules [FILE] [OPTIONS]\nOPTIONS are those of hheap replay: --workers N, --fuel N, --chunks N, --leaf N, --inner N\n"
 
 -- what is shown of an input
 abbrev pub ShowsView : Asked → List ℕ → Shown → Type 0
@@ -110,3 +127,4 @@ ShowsView AsksUsage input = Says Done usage
 ShowsView (AsksHeaps file p limit) input = ShowsHeaps p limit input
 ShowsView (AsksTimeline r) input = ShowsRun Timeline r.1 input
 ShowsView (AsksTasks r) input = ShowsRun Tasks r.1 input
+ShowsView (AsksSchedules r) input = ShowsRun Schedules r.1 input

@@ -1,7 +1,9 @@
 -- Statuses, whose numbers are those of hheap.
 use Rattle.std.specs.Prelude.{ℕ}
+use Rattle.schedule_report.specs.declared.data.Verdict.{Verdict}
+use Rattle.schedule_report.specs.declared.data.Verdict.TheVariants.{Agree, AgreeButForPrints, MayDiffer}
 use Rattle.view_core.specs.declared.shown.Status.{Status}
-use Rattle.view_core.specs.declared.shown.Status.TheVariants.{Done, Words, Source, ReadFault, WriteFault, NoMemory, Trace, Image}
+use Rattle.view_core.specs.declared.shown.Status.TheVariants.{Done, Words, Source, ReadFault, WriteFault, NoMemory, Trace, Differ, Image}
 
 abbrev pub code_of_status : Status → ℕ
 code_of_status Done = 0
@@ -11,4 +13,10 @@ code_of_status ReadFault = 8
 code_of_status WriteFault = 9
 code_of_status NoMemory = 10
 code_of_status Trace = 11
+code_of_status Differ = 12
 code_of_status Image = 13
+
+abbrev pub status_of_verdict : Verdict → Status
+status_of_verdict Agree = Done
+status_of_verdict AgreeButForPrints = Done
+status_of_verdict (MayDiffer n) = Differ

@@ -41,6 +41,7 @@ fn read_for<S: Source>(alloc: Global, source: &mut S, view: &View) -> Result<Vec
         } => read_file(alloc, source, name_of(file), TRACE_LIMIT),
         View::Timeline { traced } => read_file(alloc, source, name_of(&traced.file), TRACE_LIMIT),
         View::Tasks { traced } => read_file(alloc, source, name_of(&traced.file), TRACE_LIMIT),
+        View::Schedules { traced } => read_file(alloc, source, name_of(&traced.file), TRACE_LIMIT),
     }
 }
 
@@ -59,6 +60,7 @@ fn is_picture(status: Status) -> bool
 {
     match status {
         Status::Done => true,
+        Status::Differ => true,
         _ => false,
     }
 }

@@ -5,6 +5,7 @@ mod call;
 mod heaps;
 mod refusals;
 mod runs;
+mod schedules;
 mod shown;
 mod views;
 

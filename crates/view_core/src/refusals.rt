@@ -2,7 +2,7 @@
 
 ghost use Rattle.std.specs.Prelude.{◌≡◌, IfOk, string_bytes};
 ghost use Rattle.run_ledger.specs.Text.{refused_line};
-ghost use Rattle.view_core.specs.Shown.{Says, ShowsFault, words_line, image_line, source_line, bad_line, too_long};
+ghost use Rattle.view_core.specs.Shown.{Says, ShowsFault, words_line, image_line, source_line, bad_line, not_whole, too_long};
 
 use crate::shown::{Shown, Status, says};
 use image_check::Fault;
@@ -81,6 +81,14 @@ pub(crate) fn input_refused(alloc: Global, fault: InputFault) -> Result<Shown, A
         InputFault::Source(refused) => source_refused(alloc, refused),
         InputFault::BadLine(line) => line_refused(alloc, line),
     }
+}
+
+/// The refusal of a run that didn't end by the return of main.
+pub(crate) fn run_not_whole(alloc: Global) -> Result<Shown, AllocError>
+    ensures { IfOk result (Says Status.Trace not_whole) }
+{
+    let text = format!(in alloc; "end: no whole run\n")?;
+    Ok(says(Status::Trace, text))
 }
 
 /// The refusal of a trace that isn't one of a whole run.

@@ -3,9 +3,10 @@
 ghost use Rattle.std.specs.Prelude.{◌≡◌, None, OnOk, IfOk, IfErr};
 ghost use Rattle.run_ledger.specs.Journals.{refused_as_run};
 ghost use Rattle.run_journal.specs.Replay.{ReplayFails};
-ghost use Rattle.view_core.specs.Shown.{run_text, ShowsTrace, ShowsRun};
+ghost use Rattle.view_core.specs.Shown.{ShowsJournal, ShowsTrace, ShowsRun};
 
 use crate::refusals::{entry_refused, input_refused, too_long};
+use crate::schedules::show_schedules;
 use crate::shown::{Shown, picture};
 use hh_lang::Program;
 use run_journal::ReplayError;
@@ -23,23 +24,25 @@ pub(crate) const TRACE_LIMIT: usize = 16777216;
 pub enum RunView {
     Timeline,
     Tasks,
+    Schedules,
 }
 
-// What a view draws of a journal.
-fn text_of_run(
+// Shows a view of a journal.
+fn show_journal(
     alloc: Global,
     view: RunView,
     program: &Program,
     settings: Settings,
     journal: &[Entry],
-) -> Result<Vec<u8>, ReplayError>
+) -> Result<Shown, ReplayError>
     ensures whole { OnOk result (refused_as_run program.now settings journal.now ≡ None) }
-    ensures text { IfOk result (λ text. text.items ≡ run_text view program.now settings journal.now) }
+    ensures shown { IfOk result (ShowsJournal view program.now settings journal.now) }
     ensures fails { IfErr result (ReplayFails (refused_as_run program.now settings journal.now)) }
 {
     match view {
-        RunView::Timeline => timeline_text(alloc, program, settings, journal),
-        RunView::Tasks => table_text(alloc, program, settings, journal),
+        RunView::Timeline => Ok(picture(timeline_text(alloc, program, settings, journal)?)),
+        RunView::Tasks => Ok(picture(table_text(alloc, program, settings, journal)?)),
+        RunView::Schedules => show_schedules(alloc, program, settings, journal),
     }
 }
 
@@ -55,8 +58,8 @@ fn show_trace(
     let TraceInput { program, trace } = read;
     let settings = settings.with_version(trace.version);
     let journal = trace.entries.as_slice();
-    match text_of_run(alloc, view, program, settings, journal) {
-        Ok(text) => Ok(picture(text)),
+    match show_journal(alloc, view, program, settings, journal) {
+        Ok(shown) => Ok(shown),
         Err(ReplayError::RefusedAt(refused)) => entry_refused(alloc, refused),
         Err(ReplayError::NoMemory) => Err(AllocError),
     }

@@ -23,6 +23,8 @@ pub enum Status {
     NoMemory,
     /// The trace is refused.
     Trace,
+    /// Schedules may differ; why is written.
+    Differ,
     /// The image is refused.
     Image,
 }
@@ -47,6 +49,7 @@ impl Status {
             Status::WriteFault => 9,
             Status::NoMemory => 10,
             Status::Trace => 11,
+            Status::Differ => 12,
             Status::Image => 13,
         }
     }
@@ -58,6 +61,16 @@ pub(crate) fn picture(text: Vec<u8>) -> Shown
 {
     Shown {
         status: Status::Done,
+        text: Listed::from_vec(text),
+    }
+}
+
+/// Bytes with a status.
+pub(crate) fn tells(status: Status, text: Vec<u8>) -> Shown
+    ensures { Says status text.items result }
+{
+    Shown {
+        status,
         text: Listed::from_vec(text),
     }
 }

@@ -15,7 +15,7 @@ fn show_usage(alloc: Global) -> Result<Shown, AllocError>
     ensures { IfOk result (Says Status.Done usage) }
 {
     let text = format!(in alloc;
-        "usage: hhview heaps [FILE] [--path T] [--limit N]\n       hhview timeline [FILE] [OPTIONS]\n       hhview tasks [FILE] [OPTIONS]\nOPTIONS are those of hheap replay: --workers N, --fuel N, --chunks N, --leaf N, --inner N\n"
+        "usage: hhview heaps [FILE] [--path T] [--limit N]\n       hhview timeline [FILE] [OPTIONS]\n       hhview tasks [FILE] [OPTIONS]\n       hhview schedules [FILE] [OPTIONS]\nOPTIONS are those of hheap replay: --workers N, --fuel N, --chunks N, --leaf N, --inner N\n"
     )?;
     Ok(says(Status::Done, text))
 }
@@ -33,5 +33,6 @@ pub(crate) fn show(alloc: Global, view: &View, input: &[u8]) -> Result<Shown, Al
         } => show_heaps(alloc, *path, *limit, input),
         View::Timeline { traced } => show_run(alloc, RunView::Timeline, traced.settings, input),
         View::Tasks { traced } => show_run(alloc, RunView::Tasks, traced.settings, input),
+        View::Schedules { traced } => show_run(alloc, RunView::Schedules, traced.settings, input),
     }
 }

@@ -10,7 +10,7 @@ use Rattle.command_line.specs.declared.line.CommandLine.{CommandLine}
 use Rattle.command_line.specs.declared.line.CommandLine.TheVariants.{Races}
 use Rattle.view_line.specs.declared.line.Traced.{Traced}
 use Rattle.view_line.specs.declared.line.View.{View}
-use Rattle.view_line.specs.declared.line.View.TheVariants.{Usage, Heaps, Timeline, Tasks}
+use Rattle.view_line.specs.declared.line.View.TheVariants.{Usage, Heaps, Timeline, Tasks, Schedules}
 use Rattle.view_line.specs.App.{heaps_app}
 
 -- a program with a trace: the file, if one is named, and the limits of its run
@@ -18,12 +18,13 @@ abbrev pub Run : Type 0
 Run = Option Text × Limits
 
 -- the usage; the heaps of an image, those on the path to a task, and object by object up to so many objects; the
--- timeline, or the tasks, of a run
+-- timeline, or the tasks, of a run; what it says of all schedules
 pub data Asked : Type 0 where
   AsksUsage : Asked
   AsksHeaps : Option Text → Option ℕ → ℕ → Asked
   AsksTimeline : Run → Asked
   AsksTasks : Run → Asked
+  AsksSchedules : Run → Asked
 
 -- HEAPS
 
@@ -69,6 +70,7 @@ named_line name words =
     if bytes_eq name (codes "heaps") then heaps_line words
     else if bytes_eq name (codes "timeline") then option_map AsksTimeline (run_line words)
     else if bytes_eq name (codes "tasks") then option_map AsksTasks (run_line words)
+    else if bytes_eq name (codes "schedules") then option_map AsksSchedules (run_line words)
     else if bytes_eq name (codes "--help") then usage_line words
     else None
 
@@ -87,3 +89,4 @@ asked_of Usage = AsksUsage
 asked_of (Heaps file path limit) = AsksHeaps (option_map string_bytes file) path limit
 asked_of (Timeline traced) = AsksTimeline (run_of traced)
 asked_of (Tasks traced) = AsksTasks (run_of traced)
+asked_of (Schedules traced) = AsksSchedules (run_of traced)

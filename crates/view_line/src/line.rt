@@ -29,4 +29,8 @@ pub enum View {
     Tasks {
         traced: Traced,
     },
+    /// What a run says of all schedules.
+    Schedules {
+        traced: Traced,
+    },
 }

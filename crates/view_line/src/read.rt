@@ -166,6 +166,15 @@ fn tasks_line(alloc: Global, words: &[String]) -> Result<Option<View>, AllocErro
     }
 }
 
+fn schedules_line(alloc: Global, words: &[String]) -> Result<Option<View>, AllocError>
+    ensures { IfOk result (λ view. option_map asked_of view ≡ named_line (codes "schedules") (map string_bytes words.now)) }
+{
+    match run_line(alloc, words)? {
+        None => Ok(None),
+        Some(traced) => Ok(Some(View::Schedules { traced })),
+    }
+}
+
 fn usage_line(words: &[String]) -> Option<View>
     ensures { option_map asked_of result ≡ usage_line (map string_bytes words.now) }
 {
@@ -183,6 +192,7 @@ fn named_line(alloc: Global, name: &str, words: &[String]) -> Result<Option<View
         "heaps" => heaps_line(alloc, words),
         "timeline" => timeline_line(alloc, words),
         "tasks" => tasks_line(alloc, words),
+        "schedules" => schedules_line(alloc, words),
         "--help" => Ok(usage_line(words)),
         _ => Ok(None),
     }

@@ -65,11 +65,95 @@ const RUNS: &[Call] = &[
         "{\"traceEvents\":[{\"name\":\"process_name\",\"cat\":\"__metadata\",\"ph\":\"M\",\"ts\":0,\"pid\":1,\"tid\":0,\"args\":{\"name\":\"hheap: a millisecond is one entry\"}},\n{\"name\":\"thread_name\",\"cat\":\"__metadata\",\"ph\":\"M\",\"ts\":0,\"pid\":1,\"tid\":0,\"args\":{\"name\":\"worker 0\"}},\n{\"name\":\"took\",\"cat\":\"entry\",\"ph\":\"X\",\"ts\":0,\"pid\":1,\"tid\":0,\"dur\":1000,\"args\":{\"task\":0}},\n{\"name\":\"task 0\",\"cat\":\"task\",\"ph\":\"b\",\"ts\":1000,\"pid\":1,\"tid\":0,\"id\":0},\n{\"name\":\"ran\",\"cat\":\"entry\",\"ph\":\"X\",\"ts\":1000,\"pid\":1,\"tid\":0,\"dur\":1000,\"args\":{\"task\":0,\"steps\":1}},\n{\"name\":\"task 0\",\"cat\":\"task\",\"ph\":\"e\",\"ts\":2000,\"pid\":1,\"tid\":0,\"id\":0},\n{\"name\":\"end: done\",\"cat\":\"end\",\"ph\":\"i\",\"ts\":2000,\"pid\":1,\"tid\":0,\"s\":\"g\",\"args\":{}}],\"displayTimeUnit\":\"ms\"}\n",
         "",
     ),
+    (
+        "timeline",
+        "fn main\nset i0 1\nnewm r0 i0 i0\nend\ntrace 2\n0 took 0\n0 ran 0 1\n0 chunk 0\n0 ran 0 2\n",
+        0,
+        "{\"traceEvents\":[{\"name\":\"process_name\",\"cat\":\"__metadata\",\"ph\":\"M\",\"ts\":0,\"pid\":1,\"tid\":0,\"args\":{\"name\":\"hheap: a millisecond is one entry\"}},\n{\"name\":\"thread_name\",\"cat\":\"__metadata\",\"ph\":\"M\",\"ts\":0,\"pid\":1,\"tid\":0,\"args\":{\"name\":\"worker 0\"}},\n{\"name\":\"took\",\"cat\":\"entry\",\"ph\":\"X\",\"ts\":0,\"pid\":1,\"tid\":0,\"dur\":1000,\"args\":{\"task\":0}},\n{\"name\":\"task 0\",\"cat\":\"task\",\"ph\":\"b\",\"ts\":1000,\"pid\":1,\"tid\":0,\"id\":0},\n{\"name\":\"ran\",\"cat\":\"entry\",\"ph\":\"X\",\"ts\":1000,\"pid\":1,\"tid\":0,\"dur\":1000,\"args\":{\"task\":0,\"steps\":1}},\n{\"name\":\"chunk\",\"cat\":\"entry\",\"ph\":\"X\",\"ts\":2000,\"pid\":1,\"tid\":0,\"dur\":1000,\"args\":{\"task\":0}},\n{\"name\":\"chunks in use\",\"cat\":\"pool\",\"ph\":\"C\",\"ts\":3000,\"pid\":1,\"tid\":0,\"args\":{\"chunks\":1}},\n{\"name\":\"ran\",\"cat\":\"entry\",\"ph\":\"X\",\"ts\":3000,\"pid\":1,\"tid\":0,\"dur\":1000,\"args\":{\"task\":0,\"steps\":2}},\n{\"name\":\"task 0\",\"cat\":\"task\",\"ph\":\"e\",\"ts\":4000,\"pid\":1,\"tid\":0,\"id\":0},\n{\"name\":\"words held\",\"cat\":\"pool\",\"ph\":\"C\",\"ts\":4000,\"pid\":1,\"tid\":0,\"args\":{\"words\":4}},\n{\"name\":\"end: done\",\"cat\":\"end\",\"ph\":\"i\",\"ts\":4000,\"pid\":1,\"tid\":0,\"s\":\"g\",\"args\":{}}],\"displayTimeUnit\":\"ms\"}\n",
+        "",
+    ),
 ];
 
 #[test]
 fn runs_are_shown(rt: HostRuntime) {
     check_calls(&rt, RUNS);
+}
+
+// A child writes a field that the root reads behind the join.
+const IN_ORDER: &str =
+    "fn left\nset i2 3\nputi r0 i1 i2\nend\nfn right\ngeti i2 r0 i0\nend\nfn main\nset i0 0\nset i1 1\nset i2 2\nnewm r0 i0 i2\nputi r0 i0 i2\npar left right\nset i1 1\ngeti i3 r0 i1\nout i3\nend\ntrace 2\n0 took 0\n0 ran 0 3\n0 chunk 0\n0 ran 0 3\n0 took 1\n0 ran 1 2\n0 ran 1 1\n0 took 2\n0 ran 2 1\n0 ran 2 1\n0 took 0\n0 ran 0 3\n0 ran 0 1\n";
+
+// Two children write a field.
+const RACES: &str =
+    "fn side\nputi r0 i0 i1\nend\nfn main\nset i0 0\nset i1 1\nnewm r0 i0 i1\npar side side\nend\ntrace 2\n0 took 0\n0 ran 0 2\n0 chunk 0\n0 ran 0 2\n0 took 1\n0 ran 1 1\n0 ran 1 1\n0 took 2\n0 ran 2 1\n0 ran 2 1\n0 took 0\n0 ran 0 1\n";
+
+// Two children compare and swap a field, which one of them sets.
+const CONTENDS: &str =
+    "fn side\ncas i2 r0 i0 r1 r0\nend\nfn main\nset i0 0\nset i1 1\nnewm r0 i1 i0\npar side side\nout i1\nend\ntrace 2\n0 took 0\n0 ran 0 2\n0 chunk 0\n0 ran 0 2\n0 took 1\n0 ran 1 1\n0 ran 1 1\n0 took 2\n0 ran 2 1\n0 ran 2 1\n0 took 0\n0 ran 0 1\n0 ran 0 1\n";
+
+// Two children print.
+const PRINTS: &str =
+    "fn left\nout i0\nend\nfn right\nout i1\nend\nfn main\nset i1 1\nout i1\npar left right\nend\ntrace 2\n0 took 0\n0 ran 0 2\n0 ran 0 1\n0 took 1\n0 ran 1 1\n0 ran 1 1\n0 took 2\n0 ran 2 1\n0 ran 2 1\n0 took 0\n0 ran 0 1\n";
+
+// The root divides by zero.
+const TRAPS: &str = "fn main\nset i1 1\ndiv i0 i1 i0\nend\ntrace 2\n0 took 0\n0 ran 0 2\n";
+
+const SCHEDULES: &[Call] = &[
+    (
+        "schedules",
+        IN_ORDER,
+        0,
+        "prints ordered\nend: every schedule agrees\n",
+        "",
+    ),
+    (
+        "schedules FILE --workers 2",
+        PRINTS,
+        0,
+        "prints unordered tasks 1 2 lines 2 5\nend: every schedule agrees but for the order of prints\n",
+        "",
+    ),
+    (
+        "schedules",
+        RACES,
+        12,
+        "race 0 0 num 0 tasks 1 2 lines 2 2\nprints ordered\nend: schedules may differ 1\n",
+        "",
+    ),
+    (
+        "schedules",
+        CONTENDS,
+        12,
+        "swap 0 0 ref 0 tasks 1 2 lines 2 2\nprints ordered\nend: schedules may differ 1\n",
+        "",
+    ),
+    ("schedules", TRAPS, 11, "", "end: no whole run\n"),
+    (
+        "schedules --workers 2",
+        ENTANGLES,
+        11,
+        "",
+        "end: no whole run\n",
+    ),
+    (
+        "schedules --path 1",
+        IN_ORDER,
+        2,
+        "",
+        "end: words refused\n",
+    ),
+    (
+        "schedules",
+        "fn main\nret\n",
+        3,
+        "",
+        "end: source refused line 3 noend\n",
+    ),
+];
+
+#[test]
+fn schedules_are_told(rt: HostRuntime) {
+    check_calls(&rt, SCHEDULES);
 }
 
 const REFUSED: &[Call] = &[
@@ -118,6 +202,13 @@ const REFUSED: &[Call] = &[
         3,
         "",
         "end: source refused line 3 noend\n",
+    ),
+    (
+        "schedules",
+        "fn main\nret\nend\ntrace 2\n0 took 0\n",
+        11,
+        "",
+        "end: trace refused short\n",
     ),
     (
         "timeline",
