@@ -12,6 +12,7 @@ use crate::answers::answer_line;
 use crate::deliver::{deliver, nothing, wanted};
 use crate::input::read_input;
 use crate::refusals::words_refused;
+use all_bytes::ReadError;
 use command_line::{CommandLine, read_command_line};
 use outside_io::{Gate, Sink, Source};
 use std::alloc::{AllocError, Global};
