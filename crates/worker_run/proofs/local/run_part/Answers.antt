@@ -1,4 +1,6 @@
-use Rattle.std.proofs.Common.{◌-◌, ◌+◌, ◌≤◌, arith}
+use Rattle.std.proofs.Common.{◌-◌, ◌+◌, ◌≤◌, arith, subst, sym}
+use Rattle.task_machine.specs.declared.part.Private.{Private}
+use Rattle.turn_entries.specs.Parts.{HasGrown}
 use Rattle.turn_entries.proofs.Stepping.{few_then, fits_some, grows}
 use Rattle.worker_run.proofs.local.run_part.Goals as goal
 
@@ -14,5 +16,6 @@ returns-in-Ok g c =
     let few = c.requires.2.few in
     let n = new.fresh - c.args.part.fresh in
     let most : c.args.part.fresh + n ≤ 256 = (let a = c.run_local.ensures.within in let b = c.run_local.ensures.more in omega (arith, a, b, few)) in
-    grows c.args.program.now c.args.worker c.args.part c.requires new n c.run_local.ensures.runs c.run_local.ensures.accounts c.run_local.ensures.rest most c.in-Ok.why c.in-Ok.ensures.paused
-    (λ is. (let e = c.in-Ok.ensures.spent is in omega (arith, e, few)))
+    subst (λ (q : Private). HasGrown c.args.program.now c.args.worker c.args.part q c.in-Ok.why) (sym c.settle_before_fork.ensures)
+    (grows c.args.program.now c.args.worker c.args.part c.requires new n c.run_local.ensures.runs c.run_local.ensures.accounts c.run_local.ensures.rest most c.in-Ok.why c.in-Ok.ensures.paused
+    (λ is. (let e = c.in-Ok.ensures.spent is in omega (arith, e, few))))
