@@ -44,7 +44,9 @@ pub(crate) fn root_of(alloc: Global, program: &Program, setup: Setup) -> Option<
     ensures fits { IfSome result (λ part. FitsSome program.now part) }
     ensures idle { IfSome result (λ part. part.begun ≡ None) }
 {
-    let mut part = Private::root(alloc, program, setup.leaf, setup.fields).ok()?;
+    let Ok(mut part) = Private::root(alloc, program, setup.leaf, setup.fields) else {
+        return None;
+    };
     if setup.units == 0 || setup.units > 100 {
         return Some(part);
     }

@@ -7,8 +7,8 @@ use Rattle.task_tests.proofs.parts.root_of.Goals as goal
 none_some : (a : Addr) → None ≡ Some a → ⊥
 none_some a e = cc
 
-pub returns-in-Ok-clause-fits : goal.returns-in-Ok-clause-fits
-returns-in-Ok-clause-fits c =
+pub returns-in-Ok-add_chunk-clause-fits : goal.returns-in-Ok-add_chunk-clause-fits
+returns-in-Ok-add_chunk-clause-fits c =
     let p = c.args.program.now in
     let first = start p c.args.setup.fields in
-    (first, nowhere, c.in-Ok.ensures.fits.now p first nowhere c.root-part.ensures.now (λ n a e. absurd (none_some a e)))
+    (first, nowhere, c.in-Ok-add_chunk.ensures.fits.now p first nowhere c.in-Ok.ensures.now (λ n a e. absurd (none_some a e)))
