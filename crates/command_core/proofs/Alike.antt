@@ -43,7 +43,7 @@ same_trace (line ∷ lines) t u h k =
     let made : Version → List Event → Trace = λ v entries. record { version = v; entries = entries } in
     ap₂ made (ap (λ (o : Option Version). unwrap_or o t.version) (sym h.0 ∙ k.0)) (h.1 ∙ sym k.1)
 
-same_input : (input : List ℕ) (t u : TraceInput) → IsInput input t → IsInput input u → t ≡ u
+pub same_input : (input : List ℕ) (t u : TraceInput) → IsInput input t → IsInput input u → t ≡ u
 same_input input t u h k =
     let made : ProgramText → Trace → TraceInput = λ p trace. record { program = p; trace = trace } in
     ap₂ made (h.program ∙ sym k.program) (same_trace (trace_lines (lines_of input)) t.trace u.trace h.trace k.trace)

@@ -1,6 +1,6 @@
 -- An answer that was delivered is what the call answers.
 use Rattle.std.proofs.Common.{◌⊎◌, ◌≡◌, ◌≤◌, ◌+◌, ℕ, List, [], length, refl, sym, subst, inl, inr, arith}
-use Rattle.std.specs.Prelude.{Option, Some}
+use Rattle.std.specs.Prelude.{Option, Some, Result, Ok, Err, IfOk, IfErr}
 use Rattle.outside_io.specs.Told.{with_more}
 use Rattle.run_trace.specs.Entry.{Event}
 use Rattle.shared_value.specs.World.{World}
@@ -11,7 +11,8 @@ use Rattle.command_core.specs.declared.answer.Ran.{Ran}
 use Rattle.command_core.specs.declared.wanted.Wanted.{Wanted}
 use Rattle.command_core.specs.declared.wanted.Wanted.TheVariants.{Before, Amid}
 use Rattle.command_core.specs.Laws.{GivesAll, NoFault}
-use Rattle.command_core.specs.Delivery.{DeliversNothing, DeliversBy, Delivers, Delivered, Gives, HandsNothing, HandsWanted, IsAnswered, IsWanted}
+use Rattle.command_core.proofs.Answered.{never_read_fault}
+use Rattle.command_core.specs.Delivery.{DeliversNothing, DeliversBy, Delivers, Delivered, Gives, GivesFound, HandsNothing, HandsWanted, IsAnswered, IsWanted}
 
 -- what a run leaves
 abbrev pub Leaves : Type 1
@@ -96,6 +97,16 @@ handed L (Amid journal left) r w h hands = inr (subst (L r.journal) (sym hands.1
 
 pub want_given : (P : Answer → Type 0) (L : Leaves) (found : Wanted) (r : Ran) (w : Option (List ℕ)) → IsWanted L found → Gives found r → Delivers P L r w w
 want_given P L found r w h g = subst (λ x. DeliversBy x P L r w w) (sym g.status) (handed L found r w h g.hands)
+
+-- whichever of the two was found
+pub found_given : (P : Answer → Type 0) (L : Leaves) (found : Result Answer Wanted) (r : Ran) (before after : Option (List ℕ)) → IfOk found P → IfErr found (IsWanted L) → IfOk found (λ a. IsAnswered a.status)
+    → GivesFound found r before after → Delivers P L r before after
+found_given P L (Ok a) r before after h w ok d = delivers P L a r before after h ok d
+found_given P L (Err x) r before after h w ok d = subst (λ (v : Option (List ℕ)). Delivers P L r before v) (sym d.1) (want_given P L x r before w d.0)
+
+pub found_no_read : (found : Result Answer Wanted) (r : Ran) (before after : Option (List ℕ)) → IfOk found (λ a. IsAnswered a.status) → GivesFound found r before after → r.status ≡ ReadFault → ⊥
+found_no_read (Ok a) r before after ok d e = never_read_fault a r before after ok d e
+found_no_read (Err x) r before after ok d e = (let s = d.0.status in cc)
 
 -- then the empty input serves as well as any
 pub some_silent : (P : List ℕ → Answer → Type 0) (L : List ℕ → Leaves) (limit : ℕ) (r : Ran) (w : Option (List ℕ)) (s : Status) → IsSilent s → HandsNothing s r

@@ -7,5 +7,6 @@ pub mod Answered
 pub mod Deliveries
 pub mod Given
 pub mod Alike
+pub mod Raceless
 pub mod Headline
 pub mod Taken

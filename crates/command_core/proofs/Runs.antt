@@ -1,6 +1,6 @@
 -- What is answered of runs.
 use Rattle.std.proofs.Common.{◌∙◌, ◌≡◌, ◌+◌, ◌++◌, ℕ, Bool, List, [], true, true≢false, ap, ap₂, refl, sym, subst, append-nil, length}
-use Rattle.std.specs.Prelude.{Option, Some, None, false}
+use Rattle.std.specs.Prelude.{Option, Some, None, Result, Ok, Err, IfOk, IfErr, IfSome, false}
 use Rattle.hh_lang.specs.Form.{ProgramText}
 use Rattle.hh_model.specs.declared.data.State.{State}
 use Rattle.run_trace.specs.Entry.{Event}
@@ -19,14 +19,18 @@ use Rattle.shared_value.specs.Stands.{IsWorld}
 use Rattle.worker_run.specs.declared.end.Finish.{Finish}
 use Rattle.worker_run.specs.declared.end.Finish.TheVariants.{Ended, NoMemory}
 use Rattle.worker_run.specs.Outcomes.{IsRun, finish_of}
+use Rattle.world_core.specs.declared.replaying.ReplayStop.{ReplayStop}
+use Rattle.world_core.specs.declared.replaying.ReplayStop.TheVariants.{RefusedAt as Stops, NoMemory as WantsMemory}
+use Rattle.world_core.specs.Replay.{HasReplayed, IsStop}
+use Rattle.world_core.specs.Whole.{Whole}
 use Rattle.command_line.specs.declared.line.Options.{Options}
 use Rattle.command_core.specs.declared.answer.Answer.{Answer}
 use Rattle.command_core.specs.declared.answer.Status.TheVariants.{Trace}
 use Rattle.command_core.specs.declared.wanted.Wanted.{Wanted}
 use Rattle.command_core.specs.declared.wanted.Wanted.TheVariants.{Amid}
 use Rattle.command_core.specs.Status.{status_of_end}
-use Rattle.command_core.specs.Answers.{AnswersTrace, IsReplay, IsText, WhereWhole, limits_for, short_of}
-use Rattle.command_core.specs.Delivery.{IsWanted}
+use Rattle.command_core.specs.Answers.{AnswersReplayed, AnswersTrace, IsReplay, IsText, StandsReplayed, WhereWhole, limits_for, short_of}
+use Rattle.command_core.specs.Delivery.{IsWanted, left_by, left_of}
 use Rattle.command_core.specs.Runs.{HandsBack, IsReplayedRun, IsWorkersRun, LeavesPaced, LeavesPrefix}
 use Rattle.command_core.proofs.Traces.{trace_told}
 
@@ -117,6 +121,11 @@ pub workers_left : (p : ProgramText) (s : Limits) (w : World) (found : Wanted) �
 workers_left p s w found run is =
     subst (IsWanted (LeavesPaced p s)) (sym is) (handed p s w w.journal.items (Some (without_journal w)) run.stands run.program run.settings refl refl, run.paced)
 
+-- of what they have left, whatever it is
+pub left_wanted : (p : ProgramText) (s : Limits) (o : Option World) (found : Wanted) → IfSome o (IsRun p s) → found ≡ left_of o → IsWanted (LeavesPaced p s) found
+left_wanted p s None found run is = subst (IsWanted (LeavesPaced p s)) (sym is) tt
+left_wanted p s (Some w) found run is = workers_left p s w found run is
+
 -- the end that workers tell is that of their journal
 pub told_end : (p : ProgramText) (s : Limits) (w : World) (end : RunEnd) → IsRun p s w → Ended end ≡ finish_of (end_of p s w.journal.items) → (accounts w).end ≡ Some end
 told_end p s w end run is =
@@ -172,3 +181,19 @@ entries_left o t s entries w found limits is stands program settings prefix foun
 -- all of them are a first part
 pub all_prefix : (journal entries : List Event) → journal ≡ entries → IsPrefix journal entries
 all_prefix journal entries is = ([], sym is ∙ sym (append-nil journal))
+
+-- A REPLAY that has come so far
+
+pub replayed_told : (o : Options) (t : TraceInput) (s : Limits) (entries : List Event) (r : Result Whole ReplayStop) (a : Answer) → s ≡ limits_for o.settings t → entries ≡ t.trace.entries
+    → IfOk r (HasReplayed t.program s entries) → IfErr r (IsStop t.program s entries) → AnswersReplayed o.report o.trace r a → AnswersTrace (IsReplay o) o.settings t a
+replayed_told o t s entries (Ok x) a limits is has stop h = made_told o t s entries x.shared a limits is has.program has.settings has.journal h
+replayed_told o t s entries (Err (Stops r)) a limits is has stop h = trace_told (IsReplay o) o.settings t s entries (Some r) a limits is (refused_first t.program s entries r stop) h
+replayed_told o t s entries (Err (WantsMemory x)) a limits is has stop h = absurd h
+
+pub replayed_left : (o : Options) (t : TraceInput) (s : Limits) (entries : List Event) (r : Result Whole ReplayStop) (found : Wanted) → s ≡ limits_for o.settings t → entries ≡ t.trace.entries
+    → IfOk r (HasReplayed t.program s entries) → IfErr r (IsStop t.program s entries) → StandsReplayed r → found ≡ left_by r → IsWanted (LeavesPrefix t.program (limits_for o.settings t) t.trace.entries) found
+replayed_left o t s entries (Ok x) found limits is has stop stands e =
+    entries_left o t s entries x.shared found limits is stands has.program has.settings (all_prefix x.shared.journal.items entries has.journal) e
+replayed_left o t s entries (Err (Stops r)) found limits is has stop stands e = subst (IsWanted (LeavesPrefix t.program (limits_for o.settings t) t.trace.entries)) (sym e) tt
+replayed_left o t s entries (Err (WantsMemory None)) found limits is has stop stands e = subst (IsWanted (LeavesPrefix t.program (limits_for o.settings t) t.trace.entries)) (sym e) tt
+replayed_left o t s entries (Err (WantsMemory (Some x))) found limits is has stop stands e = entries_left o t s entries x.shared found limits is stands stop.program stop.settings stop.prefix e

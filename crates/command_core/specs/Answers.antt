@@ -24,6 +24,9 @@ use Rattle.race_report.specs.Report.{IsReport}
 use Rattle.race_report.specs.Text.{races_text}
 use Rattle.shared_value.specs.World.{World}
 use Rattle.shared_value.specs.Stands.{IsWorld}
+use Rattle.world_core.specs.Whole.{Whole}
+use Rattle.world_core.specs.declared.replaying.ReplayStop.{ReplayStop}
+use Rattle.world_core.specs.declared.replaying.ReplayStop.TheVariants.{RefusedAt as Stops, NoMemory as WantsMemory}
 use Rattle.image_check.specs.declared.cause.Fault.{Fault}
 use Rattle.image_check.specs.Cause.{text_of_cause as text_of_fault}
 use Rattle.image_check.specs.Fault.{image_fault, objects_in}
@@ -133,6 +136,20 @@ IsReplay o p s entries = IsReplayedRun p s o.report o.trace entries
 
 abbrev pub AnswersReplay : Options → List ℕ → Answer → Type 0
 AnswersReplay o = AnswersTraced (IsReplay o) o.settings
+
+-- what is answered where a replay has come so far: nothing of an answer where memory was wanting
+abbrev pub AnswersReplayed : Bool → Bool → Result Whole ReplayStop → Answer → Type 0
+AnswersReplayed report trace (Ok x) a =
+    WhereWhole (IsReplayedRun x.shared.program x.shared.settings report trace x.shared.journal.items) (refused_as_run x.shared.program x.shared.settings x.shared.journal.items) a
+AnswersReplayed report trace (Err (Stops r)) a = IsText Trace (refused_line r) a
+AnswersReplayed report trace (Err (WantsMemory x)) a = ⊥
+
+-- the shared values that it leaves stand
+abbrev pub StandsReplayed : Result Whole ReplayStop → Type 0
+StandsReplayed (Ok x) = IsWorld x.shared
+StandsReplayed (Err (Stops r)) = Unit {0}
+StandsReplayed (Err (WantsMemory None)) = Unit {0}
+StandsReplayed (Err (WantsMemory (Some x))) = IsWorld x.shared
 
 -- MODEL writes the same, and hands back nothing
 

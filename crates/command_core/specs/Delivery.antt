@@ -1,8 +1,11 @@
 -- How an answer reaches the sink, and what a call hands back.
-use Rattle.std.specs.Prelude.{◌≡◌, ◌⊎◌, ℕ, Option, Some, None, List, [], take}
+use Rattle.std.specs.Prelude.{◌≡◌, ◌⊎◌, ℕ, Option, Some, None, List, [], Result, Ok, Err, take}
 use Rattle.outside_io.specs.Told.{with_more}
 use Rattle.run_trace.specs.Entry.{Event}
-use Rattle.shared_value.specs.World.{World}
+use Rattle.shared_value.specs.World.{World, without_journal}
+use Rattle.world_core.specs.Whole.{Whole}
+use Rattle.world_core.specs.declared.replaying.ReplayStop.{ReplayStop}
+use Rattle.world_core.specs.declared.replaying.ReplayStop.TheVariants.{RefusedAt, NoMemory as WantsMemory}
 use Rattle.command_line.specs.declared.line.CommandLine.{CommandLine}
 use Rattle.command_core.specs.declared.answer.Status.{Status}
 use Rattle.command_core.specs.declared.answer.Status.TheVariants.{ReadFault, WriteFault, NoMemory}
@@ -60,6 +63,18 @@ pub record HandsNothing (named : Status) (r : Ran) : Type 0 where
 
 -- WANT OF MEMORY in the making of an answer
 
+-- of a run that has made no entry nothing is left, and of any other all that it has come to
+abbrev pub left_of : Option World → Wanted
+left_of None = Before
+left_of (Some w) = Amid w.journal.items (without_journal w)
+
+-- what a replay leaves that has come so far; a refused entry is answered with nothing of its run
+abbrev pub left_by : Result Whole ReplayStop → Wanted
+left_by (Ok x) = left_of (Some x.shared)
+left_by (Err (RefusedAt r)) = Before
+left_by (Err (WantsMemory None)) = Before
+left_by (Err (WantsMemory (Some x))) = left_of (Some x.shared)
+
 -- before a run began, or amid it, where this is left of it
 abbrev pub IsWanted : (List Event → Option World → Type 0) → Wanted → Type 0
 IsWanted L Before = Unit {0}
@@ -73,3 +88,8 @@ HandsWanted (Amid journal left) r = (r.journal ≡ journal) × (r.shared ≡ Som
 pub record Gives (w : Wanted) (r : Ran) : Type 0 where
   pub status : r.status ≡ NoMemory
   pub hands : HandsWanted w r
+
+-- AN ANSWER OR NONE IS GIVEN, with no other status than its own, or that of a sink that failed
+abbrev pub GivesFound : Result Answer Wanted → Ran → Option (List ℕ) → Option (List ℕ) → Type 0
+GivesFound (Ok a) r before after = Delivered a r before after
+GivesFound (Err w) r before after = Gives w r × (after ≡ before)

@@ -13,11 +13,11 @@ use Rattle.command_line.specs.declared.line.Options.{Options}
 use Rattle.command_line.specs.declared.line.CommandLine.{CommandLine}
 use Rattle.command_line.specs.declared.line.CommandLine.TheVariants.{Run, Replay, Model, Image, Make}
 use Rattle.command_core.specs.declared.answer.Status.{Status}
-use Rattle.command_core.specs.declared.answer.Status.TheVariants.{Done, ReadFault, WriteFault, NoMemory, Trace}
+use Rattle.command_core.specs.declared.answer.Status.TheVariants.{Done, Entangled, ReadFault, WriteFault, NoMemory, Trace}
 use Rattle.command_core.specs.declared.answer.Answer.{Answer}
 use Rattle.command_core.specs.declared.answer.Ran.{Ran}
 use Rattle.command_core.specs.Input.{trace_limit}
-use Rattle.command_core.specs.Answers.{AnswersImaging, AnswersLine, AnswersModel, AnswersProgram, AnswersReplay, AnswersVerify, IsProgramInput, summary}
+use Rattle.command_core.specs.Answers.{AnswersImaging, AnswersLine, AnswersModel, AnswersProgram, AnswersRaces, AnswersReplay, AnswersVerify, IsProgramInput, summary}
 use Rattle.command_core.specs.Delivery.{DeliversLine}
 use Rattle.command_core.specs.Status.{status_of_end}
 
@@ -84,3 +84,7 @@ pub record AreAlike (a b : Answer) : Type 0 where
 -- `model` writes what `replay` writes
 abbrev pub ModelWritesTheSame : Type 0
 ModelWritesTheSame = (o : Options) (input : List ℕ) (a b : Answer) → AnswersReplay o input a → AnswersModel o input b → AreAlike a b
+
+-- a trace of which `races` tells no race is never one of an entangled run
+abbrev pub RacelessAreDisentangled : Type 0
+RacelessAreDisentangled = (o : Options) (input : List ℕ) (a b : Answer) → AnswersRaces o.settings input a → a.status ≡ Done → AnswersReplay o input b → b.status ≢ Entangled

@@ -9,6 +9,8 @@ use Rattle.run_ledger.specs.Pace.{is_paced}
 use Rattle.run_ledger.specs.Text.{out_text}
 use Rattle.shared_value.specs.World.{World, without_journal}
 use Rattle.shared_value.specs.Stands.{IsWorld}
+use Rattle.worker_run.specs.declared.end.Finish.TheVariants.{Ended}
+use Rattle.worker_run.specs.declared.end.Outcome.{Outcome}
 use Rattle.command_core.specs.declared.answer.Answer.{Answer}
 use Rattle.command_core.specs.Status.{status_of_end}
 
@@ -38,6 +40,10 @@ IsWorkersRun p s report trace a = IsWholeRun p s report trace a × (is_paced p s
 -- one by a list of entries has just these
 abbrev pub IsReplayedRun : ProgramText → Limits → Bool → Bool → List Event → Answer → Type 0
 IsReplayedRun p s report trace entries a = IsWholeRun p s report trace a × (a.journal ≡ entries)
+
+-- A RUN IS ANSWERED, of which this is left: with the end that it has told, or not at all where it told none
+abbrev pub AnswersLeft : Outcome → Bool → Bool → Answer → Type 0
+AnswersLeft o report trace a = (w : World) × (end : RunEnd) × (o.shared ≡ Some w) × (o.finish ≡ Ended end) × IsReplayedRun w.program w.settings report trace w.journal.items a
 
 -- AMID A RUN, where memory is wanting: what is handed back stands as far as the run came
 

@@ -1,7 +1,7 @@
 // What the contract of the top call comes to.
 
 ghost use Rattle.command_core.specs.Headline.{RunsHoldTheHeadline};
-ghost use Rattle.command_core.specs.Laws.{ImagesAreVerified, MadeAreRun, ModelWritesTheSame, NoFaultGivesAll, ProgramsAreRun, TracesAreDrawn, TracesAreReplayed};
+ghost use Rattle.command_core.specs.Laws.{ImagesAreVerified, MadeAreRun, ModelWritesTheSame, NoFaultGivesAll, ProgramsAreRun, RacelessAreDisentangled, TracesAreDrawn, TracesAreReplayed};
 ghost use Rattle.command_core.specs.Status.{StatusesOfEnds};
 
 /// A command and its input, and no fault that rose: all bytes and the status of its answer, or want of memory.
@@ -37,6 +37,11 @@ pub fn images_are_verified()
 /// `model` writes what `replay` writes, with its status.
 pub fn model_writes_the_same()
     ensures { ModelWritesTheSame }
+{}
+
+/// A trace of which `races` tells no race is never one of an entangled run: `replay` doesn't answer so to it.
+pub fn raceless_are_disentangled()
+    ensures { RacelessAreDisentangled }
 {}
 
 /// The exit status of a run is that of its end.

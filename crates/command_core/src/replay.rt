@@ -5,8 +5,8 @@ ghost use Rattle.run_ledger.specs.Journals.{refused_as_run};
 ghost use Rattle.run_ledger.specs.Text.{refused_line};
 ghost use Rattle.shared_value.specs.Stands.{IsWorld};
 ghost use Rattle.shared_value.specs.World.{without_journal};
-ghost use Rattle.command_core.specs.Answers.{AnswersReplay, AnswersTrace, IsReplay, IsText, LeavesReplay, WhereWhole, limits_for, short_of};
-ghost use Rattle.command_core.specs.Delivery.{IsWanted};
+ghost use Rattle.command_core.specs.Answers.{AnswersReplay, AnswersReplayed, AnswersTrace, IsReplay, IsText, LeavesReplay, StandsReplayed, WhereWhole, limits_for, short_of};
+ghost use Rattle.command_core.specs.Delivery.{IsWanted, left_by};
 ghost use Rattle.command_core.specs.Runs.{IsReplayedRun, LeavesPrefix};
 
 use crate::answer::{Answer, Status};
@@ -18,7 +18,7 @@ use command_line::Options;
 use shared_tree::Shared;
 use std::alloc::{AllocError, Global};
 use trace_input::{InputError, TraceInput, read_trace_input};
-use world_core::{ReplayStop, replay};
+use world_core::{ReplayStop, World, replay};
 
 // The answer where all entries are made, and the run has no end.
 fn answer_short(alloc: Global, shared: Shared) -> Result<Answer, Wanted>
@@ -44,6 +44,25 @@ fn answer_made(alloc: Global, shared: Shared, report: bool, trace: bool) -> Resu
     }
 }
 
+// The answer where a replay has come so far. Where memory was wanting amid it, all that it leaves is handed back.
+fn answer_replayed(
+    alloc: Global,
+    replayed: Result<World, ReplayStop>,
+    report: bool,
+    trace: bool,
+) -> Result<Answer, Wanted>
+    ensures answer { IfOk result (AnswersReplayed report trace replayed) }
+    ensures wanted { IfErr result (λ w. w ≡ left_by replayed) }
+    ensures stands { StandsReplayed replayed }
+{
+    match replayed {
+        Ok(world) => answer_made(alloc, world.into_shared(), report, trace),
+        Err(ReplayStop::RefusedAt(refused)) => Ok(entry_refused(alloc, refused)?),
+        Err(ReplayStop::NoMemory(None)) => Err(Wanted::Before),
+        Err(ReplayStop::NoMemory(Some(world))) => Err(amid(world.into_shared())),
+    }
+}
+
 // Makes the entries of a trace.
 fn answer_trace(alloc: Global, options: Options, read: &TraceInput) -> Result<Answer, Wanted>
     ensures answer { IfOk result (AnswersTrace (IsReplay options) options.settings read.now) }
@@ -51,12 +70,8 @@ fn answer_trace(alloc: Global, options: Options, read: &TraceInput) -> Result<An
 {
     let TraceInput { program, trace } = read;
     let settings = options.settings.with_version(trace.version);
-    match replay(alloc, program, settings, trace.entries.as_slice()) {
-        Ok(world) => answer_made(alloc, world.into_shared(), options.report, options.trace),
-        Err(ReplayStop::RefusedAt(refused)) => Ok(entry_refused(alloc, refused)?),
-        Err(ReplayStop::NoMemory(None)) => Err(Wanted::Before),
-        Err(ReplayStop::NoMemory(Some(world))) => Err(amid(world.into_shared())),
-    }
+    let replayed = replay(alloc, program, settings, trace.entries.as_slice());
+    answer_replayed(alloc, replayed, options.report, options.trace)
 }
 
 /// Reads a program with a trace, and makes its entries.

@@ -4,10 +4,11 @@ ghost use Rattle.std.specs.Prelude.{◌≡◌, ◌++◌, IfOk, IfErr, Some};
 ghost use Rattle.run_ledger.specs.Text.{output_lines, end_line, end_words, out_text};
 ghost use Rattle.run_report.specs.Written.{trace_part};
 ghost use Rattle.shared_value.specs.Stands.{IsWorld};
-ghost use Rattle.shared_value.specs.World.{accounts, without_journal};
+ghost use Rattle.run_ledger.specs.declared.data.RunEnd.{RunEnd};
+ghost use Rattle.shared_value.specs.World.{World, accounts, without_journal};
 ghost use Rattle.command_core.specs.Answers.{AnswersProgram, AnswersRun, LeavesRun};
-ghost use Rattle.command_core.specs.Delivery.{IsWanted};
-ghost use Rattle.command_core.specs.Runs.{IsReplayedRun, LeavesPaced};
+ghost use Rattle.command_core.specs.Delivery.{IsWanted, left_of};
+ghost use Rattle.command_core.specs.Runs.{AnswersLeft, IsReplayedRun, LeavesPaced};
 
 use crate::answer::{Answer, Status};
 use crate::input::PROGRAM_LIMIT;
@@ -112,6 +113,20 @@ pub(crate) fn answer_ended(
     }
 }
 
+// The answer of what workers have left. Where memory was wanting, all that they have left is handed back.
+fn answer_left(alloc: Global, outcome: Outcome, report: bool, trace: bool) -> Result<Answer, Wanted>
+    requires { (w : World) (end : RunEnd) → outcome.shared ≡ Some w → outcome.finish ≡ Finish.Ended end → (accounts w).end ≡ Some end }
+    ensures answer { IfOk result (AnswersLeft outcome report trace) }
+    ensures wanted { IfErr result (λ w. w ≡ left_of outcome.shared) }
+{
+    let Outcome { finish, shared } = outcome;
+    match (finish, shared) {
+        (_, None) => Err(Wanted::Before),
+        (Finish::NoMemory, Some(shared)) => Err(amid(shared)),
+        (Finish::Ended(end), Some(shared)) => answer_ended(alloc, shared, end, report, trace),
+    }
+}
+
 // Runs a program.
 fn answer_program<R: Threads + Wait + Sync, G: Gate>(
     rt: &R,
@@ -123,14 +138,8 @@ fn answer_program<R: Threads + Wait + Sync, G: Gate>(
     ensures answer { IfOk result (AnswersProgram options program.now) }
     ensures wanted { IfErr result (IsWanted (LeavesPaced program.now options.settings)) }
 {
-    let Outcome { finish, shared } = run_on_workers(rt, alloc, program, options.settings, gate);
-    match (finish, shared) {
-        (_, None) => Err(Wanted::Before),
-        (Finish::NoMemory, Some(shared)) => Err(amid(shared)),
-        (Finish::Ended(end), Some(shared)) => {
-            answer_ended(alloc, shared, end, options.report, options.trace)
-        }
-    }
+    let outcome = run_on_workers(rt, alloc, program, options.settings, gate);
+    answer_left(alloc, outcome, options.report, options.trace)
 }
 
 /// Reads a program and runs it.

@@ -1,17 +1,18 @@
 // The top call.
 
-ghost use Rattle.std.specs.Prelude.{◌≡◌, ◌≢◌, ◌≤◌, ◌+◌, drop, length, map, Some, None, List, ℕ, true, false, string_bytes};
+ghost use Rattle.std.specs.Prelude.{◌≡◌, ◌≢◌, ◌≤◌, ◌+◌, drop, length, map, Some, None, List, ℕ, true, false, string_bytes, IfOk};
 ghost use Rattle.outside_io.specs.Fault.{HasRisen};
 ghost use Rattle.command_line.specs.CommandLine.{command_line, HasSize};
 ghost use Rattle.all_bytes.specs.Bytes.{input_of};
 ghost use Rattle.command_core.specs.Input.{limit_of, is_reading, told_for, reads};
-ghost use Rattle.command_core.specs.Delivery.{DeliversLine, DeliversWords};
+ghost use Rattle.command_core.specs.Delivery.{DeliversLine, DeliversWords, GivesFound, IsAnswered};
 
-use crate::answer::{Ran, Status};
+use crate::answer::{Answer, Ran, Status};
 use crate::answers::answer_line;
 use crate::deliver::{deliver, nothing, wanted};
 use crate::input::read_input;
 use crate::refusals::words_refused;
+use crate::wanted::Wanted;
 use all_bytes::ReadError;
 use command_line::{CommandLine, read_command_line};
 use outside_io::{Gate, Sink, Source};
@@ -31,6 +32,18 @@ fn refuse_words<K: Sink>(alloc: Global, sink: &mut K) -> Ran
     }
 }
 
+// Gives an answer, or what is left where memory was wanting.
+fn give<K: Sink>(alloc: Global, found: Result<Answer, Wanted>, sink: &mut K) -> Ran
+    requires { IfOk found (λ a. IsAnswered a.status) }
+    ensures given { GivesFound found result (K.written sink.old) (K.written sink.new) }
+    ensures write_fault { result.status ≡ Status.WriteFault → HasRisen (K.faults sink.old) (K.faults sink.new) }
+{
+    match found {
+        Ok(answer) => deliver(answer, sink),
+        Err(found) => wanted(alloc, found),
+    }
+}
+
 // Answers an input.
 fn serve<R: Threads + Wait + Sync, K: Sink, G: Gate>(
     rt: &R,
@@ -45,10 +58,8 @@ fn serve<R: Threads + Wait + Sync, K: Sink, G: Gate>(
     ensures read { result.status ≢ Status.ReadFault }
     ensures write_fault { result.status ≡ Status.WriteFault → HasRisen (K.faults sink.old) (K.faults sink.new) }
 {
-    match answer_line(rt, alloc, line, input, gate) {
-        Ok(answer) => deliver(answer, sink),
-        Err(found) => wanted(alloc, found),
-    }
+    let found = answer_line(rt, alloc, line, input, gate);
+    give(alloc, found, sink)
 }
 
 /// Answers a command line: reads its input from the source, does what it asks for, and writes to the sink.

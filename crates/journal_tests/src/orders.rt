@@ -213,6 +213,9 @@ fn answers(book: &mut Book, entries: &[Entry], expected: &[Result<(), ApplyError
         if book.apply(*entry) != *answer || book.is_stopped() != answer.is_err() {
             return false;
         }
+        if !book.is_stopped() {
+            book.legal();
+        }
     }
     entries.len() == expected.len()
 }

@@ -1,19 +1,28 @@
-use Rattle.std.proofs.Common.{◌∙◌, ◌≡◌, sym, subst}
-use Rattle.std.specs.Prelude.{IfSome}
-use Rattle.std.proofs.lemmas.Result.{IfOk-weaker}
+use Rattle.std.proofs.Common.{sym, subst, ◌∙◌, ◌≡◌}
+use Rattle.std.specs.Prelude.{IfSome, Option, Some}
+use Rattle.std.proofs.lemmas.Result.{IfErr-weaker, IfOk-weaker}
 use Rattle.run_ledger.specs.Journals.{end_of}
+use Rattle.shared_value.specs.World.{World}
 use Rattle.worker_run.specs.Outcomes.{IsRun, finish_of}
-use Rattle.command_core.proofs.Runs.{told_end, workers_run}
+use Rattle.command_core.proofs.Runs.{left_wanted, told_end, workers_run}
 use Rattle.command_core.proofs.run.answer_program.Goals as goal
 
-pub answer_ended-requires : goal.answer_ended-requires
-answer_ended-requires g c =
-    let run = subst (λ o. IfSome o (IsRun c.args.program.now c.args.options.settings)) c.in-Ended-Some.is-1 c.run_on_workers-finish.ensures.run in
-    let finish = subst (λ o. IfSome o (λ w. c.run_on_workers-finish.result.finish ≡ finish_of (end_of c.args.program.now c.args.options.settings w.journal.items))) c.in-Ended-Some.is-1 c.run_on_workers-finish.ensures.finish in
-    told_end c.args.program.now c.args.options.settings c.in-Ended-Some.shared c.in-Ended-Some.end run (sym c.in-Ended-Some.is-0 ∙ finish)
+pub answer_left-requires : goal.answer_left-requires
+answer_left-requires g c = λ w end was told.
+    let p = c.args.program.now in
+    let s = c.args.options.settings in
+    let o = c.run_on_workers-outcome.result in
+    let run = subst (λ (x : Option World). IfSome x (IsRun p s)) was c.run_on_workers-outcome.ensures.run in
+    let finish = subst (λ (x : Option World). IfSome x (λ v. o.finish ≡ finish_of (end_of p s v.journal.items))) was c.run_on_workers-outcome.ensures.finish in
+    told_end p s w end run (sym told ∙ finish)
 
-pub returns-in-Ended-Some-clause-answer : goal.returns-in-Ended-Some-clause-answer
-returns-in-Ended-Some-clause-answer g c =
-    let run = subst (λ o. IfSome o (IsRun c.args.program.now c.args.options.settings)) c.in-Ended-Some.is-1 c.run_on_workers-finish.ensures.run in
-    IfOk-weaker c.answer_ended.result _ _
-    (λ a h. workers_run c.args.program.now c.args.options.settings c.args.options.report c.args.options.trace c.in-Ended-Some.shared a run h) c.answer_ended.ensures.answer
+pub returns-clause-answer : goal.returns-clause-answer
+returns-clause-answer g c =
+    let p = c.args.program.now in
+    let s = c.args.options.settings in
+    IfOk-weaker c.answer_left.result _ _
+    (λ a h. workers_run p s c.args.options.report c.args.options.trace h.0 a (subst (λ (x : Option World). IfSome x (IsRun p s)) h.2 c.run_on_workers-outcome.ensures.run) h.4) c.answer_left.ensures.answer
+
+pub returns-clause-wanted : goal.returns-clause-wanted
+returns-clause-wanted g c =
+    IfErr-weaker c.answer_left.result _ _ (λ found e. left_wanted c.args.program.now c.args.options.settings c.run_on_workers-outcome.result.shared found c.run_on_workers-outcome.ensures.run e) c.answer_left.ensures.wanted

@@ -1,20 +1,17 @@
+use Rattle.std.proofs.lemmas.Result.{IfOk-weaker}
 use Rattle.command_core.specs.Answers.{AnswersLine, LeavesLine}
-use Rattle.command_core.proofs.Answered.{answered, never_read_fault}
-use Rattle.command_core.proofs.Deliveries.{delivers, want_given}
+use Rattle.command_core.proofs.Answered.{answered}
+use Rattle.command_core.proofs.Deliveries.{found_given, found_no_read}
 use Rattle.command_core.proofs.top_call.serve.Goals as goal
 
-pub deliver-requires : goal.deliver-requires
-deliver-requires g c = answered c.args.line.now c.args.input.now c.in-Ok.answer c.in-Ok.ensures.answer
+pub give-requires : goal.give-requires
+give-requires g c = IfOk-weaker c.answer_line-found.result _ _ (λ a h. answered c.args.line.now c.args.input.now a h) c.answer_line-found.ensures.answer
 
-pub returns-in-Ok-clause-answer : goal.returns-in-Ok-clause-answer
-returns-in-Ok-clause-answer g c =
-    delivers (AnswersLine c.args.line.now c.args.input.now) (LeavesLine c.args.line.now c.args.input.now) c.in-Ok.answer c.deliver.result _ _ c.in-Ok.ensures.answer
-    (answered c.args.line.now c.args.input.now c.in-Ok.answer c.in-Ok.ensures.answer) c.deliver.ensures.delivered
+pub returns-clause-answer : goal.returns-clause-answer
+returns-clause-answer g c =
+    found_given (AnswersLine c.args.line.now c.args.input.now) (LeavesLine c.args.line.now c.args.input.now) c.answer_line-found.result c.give.result _ _ c.answer_line-found.ensures.answer c.answer_line-found.ensures.wanted
+    (IfOk-weaker c.answer_line-found.result _ _ (λ a h. answered c.args.line.now c.args.input.now a h) c.answer_line-found.ensures.answer) c.give.ensures.given
 
-pub returns-in-Ok-clause-read : goal.returns-in-Ok-clause-read
-returns-in-Ok-clause-read g c = λ e.
-    never_read_fault c.in-Ok.answer c.deliver.result _ _ (answered c.args.line.now c.args.input.now c.in-Ok.answer c.in-Ok.ensures.answer) c.deliver.ensures.delivered e
-
-pub returns-in-Err-clause-answer : goal.returns-in-Err-clause-answer
-returns-in-Err-clause-answer g c =
-    want_given (AnswersLine c.args.line.now c.args.input.now) (LeavesLine c.args.line.now c.args.input.now) c.in-Err.found c.wanted.result _ c.in-Err.ensures.wanted c.wanted.ensures
+pub returns-clause-read : goal.returns-clause-read
+returns-clause-read g c = found_no_read c.answer_line-found.result c.give.result _ _
+    (IfOk-weaker c.answer_line-found.result _ _ (λ a h. answered c.args.line.now c.args.input.now a h) c.answer_line-found.ensures.answer) c.give.ensures.given
