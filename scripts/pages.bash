@@ -1,0 +1,206 @@
+#!/usr/bin/env bash
+# pages.bash HHEAP HHVIEW    types what the pages tell a reader to type, with two built programs, and compares what is
+# written with what the pages say of it.
+set -u
+top=$(dirname "$(dirname "$(realpath "${BASH_SOURCE[0]}")")") || exit 1
+if [ ! -x "${1-}" ] || [ ! -x "${2-}" ]; then
+  echo "usage: scripts/pages.bash HHEAP HHVIEW, two built programs" >&2
+  exit 1
+fi
+hheap=$(realpath "$1")
+hhview=$(realpath "$2")
+room=$(mktemp -d) || exit 1
+trap 'rm -rf "$room"' EXIT
+failed=0
+
+fail() {
+  echo "FAILED: $*" >&2
+  failed=$((failed + 1))
+}
+
+. "$top/scripts/room.bash"
+copy_top && put_built hheap "$hheap" && put_built hhview "$hhview" && cp -r "$top/docs" "$top/README.md" "$room" || exit 1
+mkdir "$room/bin" || exit 1
+# (whoever has no Graphviz sees its input)
+command -v dot >/dev/null || { printf '#!/usr/bin/env bash\ncat\n' >"$room/bin/dot" && chmod +x "$room/bin/dot"; }
+# (the kit isn't found, so nothing is proved or built)
+for tool in awk bash cat chmod cmp cp cut dirname dot find flock grep ln mkdir mkfifo mktemp mv realpath rm sed sha256sum \
+  sleep sort tail tar tr wc xargs; do
+  [ -e "$room/bin/$tool" ] || ln -s "$(command -v $tool)" "$room/bin/$tool" || exit 1
+done
+PATH=$room/bin
+cd "$room" || exit 1
+unset HHEAP_HINTS
+: >typed
+
+# typed PAGE STATUS [SAID ..] reads commands, types them one after the other as they stand on the page, and looks for the
+# last one's status and for what was written: all of it is the lines SAID, each of which stands on the page too, where
+# `..` stands for any; without SAID nobody compares.
+typed() {
+  local page=$1 status=$2 command
+  shift 2
+  : >script
+  while IFS= read -r command; do
+    grep -qxF -e "    $command" <(sed 's/  *# .*//' "$page") || grep -qF -e "\`$command\`" "$page" ||
+      fail "$page doesn't say: $command"
+    printf '%s\n' "$command" >>script
+    printf '%s\n' "$command" >>typed
+  done
+  bash script >written 2>said </dev/null
+  local is=$?
+  [ "$is" = "$status" ] || fail "$page: $(tail -n 1 script): status $is, not $status: $(cat said)"
+  [ "$#" = 0 ] || compare "$page" written "$@"
+}
+
+# compare PAGE FILE LINE ..: the lines of a file are these, `..` standing for any; each of them stands on the page.
+compare() {
+  local page=$1 file=$2 line said
+  shift 2
+  for line; do
+    [ "$line" = .. ] || grep -qF -e "$line" "$page" || fail "$page doesn't say that it writes: $line"
+  done
+  said=$(printf '%s\n' "$@")
+  # shellcheck disable=SC2053
+  [[ $(cat "$file") == ${said//../*} ]] || fail "$page: $(tail -n 1 script): wrote $(cat "$file")"
+}
+
+typed README.md 0 1 'report tasks 3 steps 55 turns 17' 'report leaf 0 putoff 0 freed 0' 'report inner 0 freed 0' \
+  'report chunks 3 peak 3' 'report held 3 words 10' 'end: done' <<'END'
+./hheap run --report < examples/board.hh
+END
+typed README.md 0 1 'report tasks 3 steps 55 turns 17' 'report leaf 0 putoff 0 freed 0' 'report inner 0 freed 0' \
+  'report chunks 3 peak 3' 'report held 3 words 10' 'end: done' <<'END'
+./hheap try run --report < examples/board.hh
+END
+
+usage=docs/USAGE.md
+typed $usage 0 'end: accepted' <<'END'
+./hheap check examples/fork.hh
+END
+typed $usage 0 13 23 'report tasks 3 steps 11 turns 10' 'report leaf 0 putoff 0 freed 0' 'report inner 0 freed 0' \
+  'report chunks 0 peak 0' 'report held 0 words 0' 'trace 2' '0 took 0' '0 ran 0 2' '0 took 1' '0 ran 1 3' '0 took 2' \
+  '0 ran 2 3' '0 took 0' '0 ran 0 1' '0 ran 0 1' '0 ran 0 1' 'end: done' <<'END'
+./hheap run --report --trace examples/fork.hh
+END
+typed $usage 0 42 'end: done' <<'END'
+./hheap replay --workers 3 examples/workers.trace
+END
+typed $usage 0 42 'end: done' <<'END'
+./hheap model --workers 3 examples/workers.trace
+END
+typed $usage 12 'race 0 0 ref 0 tasks 1 2 lines 9 14' 'end: races 1' <<'END'
+./hheap races examples/race.trace
+END
+typed $usage 0 'end: verified 2' <<'END'
+./hheap image examples/race.trace > stopped.image
+./hheap verify stopped.image
+END
+compare $usage stopped.image 'image 1' 'task 0 - waiting' 'task 1 0 ended' 'task 2 0 running' 'chunk 0 0 1024' \
+  'chunk 1 1 1024' 'object 1 0 0 mut 1 0 1025' 'object 1025 1 0 mut 0 1 0' 'remembered 1 1 0' 'end: image 2'
+typed $usage 0 1465 .. 'end: done' <<'END'
+./hheap make 1 3 > three.hh
+./hheap make 1 3 --run
+END
+typed $usage 0 13 23 .. 'end: done' <<'END'
+./hheap record examples/fork.hh --workers 2 > fork.trace
+./hheap again replay fork.trace --report
+END
+typed $usage 0 13 23 'end: done' <<'END'
+{ cat examples/fork.hh; ./hheap run --workers 2 --trace examples/fork.hh | sed -n '/^trace 2$/,$p' | sed '$d'; } > fork.trace
+./hheap replay --workers 2 fork.trace
+END
+typed $usage 5 'end: entangled reader 2 owner 1' <<'END'
+./hheap run examples/peeked.hh
+END
+typed $usage 12 'race 0 0 ref 0 tasks 1 2 lines 10 15' 'end: races 1' <<'END'
+./hheap record examples/peeked.hh > peeked.trace
+./hheap again races peeked.trace
+END
+typed $usage 0 <<'END'
+./hheap record examples/squares.hh > squares.trace
+sed '/^0 ran 1 1$/q' squares.trace > cut.trace
+awk '$2 == "ran" { steps += $4 } END { print steps }' cut.trace
+END
+cmp -s written <(echo 59) || fail "$usage: the steps of the cut trace"
+typed $usage 0 <<'END'
+echo '0 fuel' >> cut.trace
+./hheap again image cut.trace --fuel 59
+END
+cmp -s written examples/heaps.out || fail "$usage: the image of the cut trace"
+typed $usage 0 <<'END'
+cmp <(./hheap again replay squares.trace --report --trace) <(./hheap again model squares.trace --report --trace)
+END
+[ ! -s written ] || fail "$usage: replay and model differ"
+typed $usage 0 91 9 .. 'end: done' <<'END'
+awk '$2 == "ran" { for (i = 0; i < $4; i++) print $1, "ran", $3, 1; next } { print }' squares.trace > single.trace
+./hheap again replay single.trace --report
+END
+grep -q '^report tasks .* steps 121 turns 128$' written || fail "$usage: the report of single entries"
+typed $usage 7 'end: pool 32' <<'END'
+./hheap run --chunks 32 examples/no_chunks.hh
+END
+typed $usage 0 <<'END'
+./hheap run --chunks 32 examples/fewer_tasks.hh
+END
+
+typed docs/TUTORIAL.md 0 91 9 .. <<'END'
+./hheap run --report --trace examples/squares.hh
+END
+typed docs/TUTORIAL.md 0 'image 1' 'task 0 - waiting' 'task 1 0 ended' 'task 2 0 running' 'chunk 0 0 1024' 'chunk 1 1 1024' \
+  'object 1 0 0 mut 2 0 1033 0' 'object 1025 1 0 mut 1 1 0 1' 'object 1029 1 1 mut 1 1 1025 4' \
+  'object 1033 1 2 mut 1 1 1029 9' 'remembered 1 1 0' 'end: image 4' <<'END'
+./hheap image --fuel 59 examples/heaps.trace
+END
+typed docs/TUTORIAL.md 0 <<'END'
+./hhview heaps examples/heaps.out | dot -Tsvg > squares.svg
+END
+typed docs/TUTORIAL.md 5 'end: entangled reader 2 owner 1' <<'END'
+./hheap run examples/peeked.hh
+END
+typed docs/TUTORIAL.md 12 'race 0 0 ref 0 tasks 1 2 lines 10 15' .. <<'END'
+./hheap record examples/peeked.hh > peeked.trace
+./hheap again races peeked.trace
+END
+
+typed docs/RACES.md 12 'race 0 0 ref 0 tasks 1 2 lines 9 14' 'end: races 1' <<'END'
+./hheap races examples/race.trace
+END
+typed docs/RACES.md 12 'swap 0 0 ref 0 tasks 1 2 lines 11 11' 'prints ordered' 'end: schedules may differ 1' <<'END'
+./hheap run --trace examples/cas.hh > run.txt
+(cat examples/cas.hh; sed -n '/^trace/,$p' run.txt | sed '/^end:/d') > cas.trace
+./hhview schedules cas.trace
+END
+typed docs/IMAGES.md 0 'end: verified 2' <<'END'
+./hheap verify examples/two_objects.image
+END
+typed docs/IMAGES.md 0 <<'END'
+./hheap image examples/race.trace
+END
+typed docs/IMAGES.md 0 'end: verified 2' <<'END'
+./hheap image examples/race.trace | ./hheap verify
+END
+typed docs/PICTURES.md 0 <<'END'
+./hheap image examples/race.trace > race.image
+./hhview heaps race.image | dot -Tsvg > race.svg
+./hheap image examples/race.trace | ./hhview heaps | dot -Tsvg > docs/pictures/race.svg
+./hheap run --fuel 13 --trace examples/down_pointer.hh > run.txt
+(cat examples/down_pointer.hh; sed -n '/^trace/,/fuel$/p' run.txt) > down.trace
+./hheap image --fuel 13 down.trace | ./hhview heaps | dot -Tsvg > docs/pictures/down_pointer.svg
+./hhview heaps examples/two_objects.image | dot -Tsvg > docs/pictures/two_objects.svg
+END
+for picture in race.svg docs/pictures/race.svg docs/pictures/down_pointer.svg docs/pictures/two_objects.svg squares.svg; do
+  [ -s $picture ] || fail "$picture is empty"
+done
+
+# Each command that a page tells to type was typed.
+for page in README.md docs/*.md; do
+  case $page in docs/WORKING.md | docs/BENCHMARKS.md) continue ;; esac
+  sed -n 's/  *# .*//; s/^    \(\(\.\/hh\|cmp \|sed \|awk \|echo .* >\|{ cat\|(cat\).*\)$/\1/p' "$page" |
+    while IFS= read -r command; do
+      grep -qxF -e "$command" typed || echo "$page: $command"
+    done
+done >untyped
+[ ! -s untyped ] || fail "nobody has typed: $(cat untyped)"
+
+[ "$failed" = 0 ] || exit 1
+echo "the commands of the pages, $(wc -l <typed): passed"
