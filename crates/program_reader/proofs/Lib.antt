@@ -15,3 +15,4 @@ mod Whole
 mod Endings
 mod FirstFaults
 mod LoopsRead
+pub mod Passing

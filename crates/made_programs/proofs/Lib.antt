@@ -1,0 +1,5 @@
+pub mod Names
+pub mod Rows
+pub mod Between
+pub mod Functions
+pub mod Made
