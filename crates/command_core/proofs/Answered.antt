@@ -4,7 +4,6 @@ use Rattle.std.specs.Prelude.{Option, Some, None, Result, Ok, Err, length, nat_l
 use Rattle.hh_lang.specs.Form.{ProgramText}
 use Rattle.program_reader.specs.declared.cause.Refused.{Refused}
 use Rattle.program_reader.specs.Program.{reading_of}
-use Rattle.program_make.specs.Text.{made_text}
 use Rattle.hh_model.specs.declared.data.End.{End}
 use Rattle.hh_model.specs.declared.data.End.TheVariants.{Done, Trapped, Entangled}
 use Rattle.run_trace.specs.Entry.{Event}
@@ -92,7 +91,7 @@ image None objects a h = text _ _ a tt h
 
 of_make : (seed size : ℕ) (run : Bool) (a : Answer) → AnswersMake seed size run a → IsAnswered a.status
 of_make seed size false a h = text _ _ a tt h
-of_make seed size true a h = of_run _ (made_text seed size) a h
+of_make seed size true a h = whole _ _ _ _ a h.0
 
 pub answered : (line : CommandLine) (input : List ℕ) (a : Answer) → AnswersLine line input a → IsAnswered a.status
 answered (Check file) input a h = of_text _ input a (λ p k. text _ _ a tt k) h

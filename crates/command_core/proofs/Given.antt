@@ -1,5 +1,5 @@
 -- What a command gives where no fault rose.
-use Rattle.std.proofs.Common.{◌≡◌, ◌∙◌, ◌⊎◌, ℕ, List, true, subst, sym, inl, inr, refl}
+use Rattle.std.proofs.Common.{◌≡◌, ◌∙◌, ◌⊎◌, ℕ, List, Bool, true, false, subst, sym, inl, inr, refl}
 use Rattle.std.specs.Prelude.{Option, Some, None, Result}
 use Rattle.hh_lang.specs.Form.{ProgramText}
 use Rattle.program_reader.specs.declared.cause.Refused.{Refused}
@@ -10,16 +10,21 @@ use Rattle.trace_input.specs.declared.input.InputFault.{InputFault}
 use Rattle.trace_input.specs.declared.input.InputFault.TheVariants.{Source, BadLine}
 use Rattle.trace_input.specs.declared.input.TraceInput.{TraceInput}
 use Rattle.trace_input.specs.Input.{input_fault}
+use Rattle.hh_model.specs.declared.data.End.TheVariants.{Done as Finished, Trapped, Entangled}
+use Rattle.run_ledger.specs.declared.data.RunEnd.{RunEnd}
+use Rattle.run_ledger.specs.declared.data.RunEnd.TheVariants.{Machine, Fuel, Pool}
 use Rattle.run_ledger.specs.declared.data.RefusedAt.{RefusedAt}
 use Rattle.run_ledger.specs.Journals.{refused_as_run}
 use Rattle.command_line.specs.declared.line.Options.{Options}
 use Rattle.command_line.specs.declared.line.CommandLine.TheVariants.{Run, Replay, Model, Image, Make}
 use Rattle.command_core.specs.declared.answer.Status.{Status}
-use Rattle.command_core.specs.declared.answer.Status.TheVariants.{Done, NoMemory, Trace}
+use Rattle.command_core.specs.declared.answer.Status.TheVariants.{Done, Source as RefusedSource, NoMemory, Trace}
 use Rattle.command_core.specs.declared.answer.Answer.{Answer}
 use Rattle.command_core.specs.declared.answer.Ran.{Ran}
-use Rattle.command_core.specs.Answers.{AnswersLine, AnswersProgram, AnswersRun, AnswersTrace, AnswersTraced, IsImaged, IsModelled, IsProgramInput, IsReplay, LeavesLine, WhereProgram, WhereTraced, WhereWhole, WhereWithin, limits_for, summary}
-use Rattle.command_core.specs.Laws.{GivesAll, HasProgram, IsEnd, MadeAreRun, NoFaultGivesAll, ProgramsAreRun, TracesAreDrawn, TracesAreReplayed}
+use Rattle.command_core.specs.Status.{status_of_end}
+use Rattle.command_core.specs.Answers.{AnswersLine, AnswersMake, AnswersProgram, AnswersRun, AnswersTrace, AnswersTraced, IsImaged, IsModelled, IsProgramInput, IsReplay, LeavesLine, LeavesMake, WhereProgram, WhereTraced, WhereWhole, WhereWithin, limits_for}
+use Rattle.command_core.specs.Delivery.{DeliversBy}
+use Rattle.command_core.specs.Laws.{GivesAll, HasProgram, IsEnd, MadeAreAccepted, MadeAreRun, NoFaultGivesAll, ProgramsAreRun, TracesAreDrawn, TracesAreReplayed}
 use Rattle.command_core.proofs.Deliveries.{gives_all}
 
 pub no_fault_gives_all : NoFaultGivesAll
@@ -43,8 +48,23 @@ programs_are_run = λ file o input p r before after is d none.
     gives_so _ (AnswersProgram o p) r before after (λ a. program_run o input p a is) (no_fault_gives_all (Run file o) input r before after d none)
 
 pub made_are_run : MadeAreRun
-made_are_run = λ seed size input p r before after is d none.
-    gives_so _ (AnswersProgram summary p) r before after (λ a. program_run summary _ p a is) (no_fault_gives_all (Make seed size true) input r before after d none)
+made_are_run = λ seed size input r before after d none. no_fault_gives_all (Make seed size true) input r before after d none
+
+no_end_is_refused : (e : RunEnd) → status_of_end e ≡ RefusedSource → ⊥
+no_end_is_refused (Machine Finished) h = cc
+no_end_is_refused (Machine (Trapped kind t at)) h = cc
+no_end_is_refused (Machine (Entangled reader owner)) h = cc
+no_end_is_refused (Fuel steps) h = cc
+no_end_is_refused (Pool chunks) h = cc
+
+never_refused : (seed size : ℕ) (run : Bool) (a : Answer) → AnswersMake seed size run a → a.status ≡ RefusedSource → ⊥
+never_refused seed size false a h e = let f : Done ≡ RefusedSource = sym h.status ∙ e in cc
+never_refused seed size true a h e = no_end_is_refused h.0.end (sym h.0.status ∙ e)
+
+pub made_are_accepted : MadeAreAccepted
+made_are_accepted = λ seed size run input r before after d e.
+    let given = subst (λ status. DeliversBy status (AnswersMake seed size run) (LeavesMake seed size run) r before after) e d in
+    never_refused seed size run given.0 given.1 given.2
 
 -- TRACES
 

@@ -1,13 +1,15 @@
 -- What is answered of texts, and of programs with a trace.
-use Rattle.std.proofs.Common.{◌≡◌, ◌<◌, ◌≤◌, ℕ, List, true, false, length, sym, subst}
-use Rattle.std.specs.Prelude.{Option, Some, Err, nat_le}
+use Rattle.std.proofs.Common.{◌≡◌, ◌<◌, ◌≤◌, ℕ, Bool, List, true, false, length, sym, subst}
+use Rattle.std.specs.Prelude.{Option, Some, Ok, Err, nat_le}
 use Rattle.std.proofs.lemmas.Bool.{le-leb, lt-leb}
 use Rattle.hh_lang.specs.Form.{ProgramText}
 use Rattle.program_reader.specs.declared.cause.Refused.{Refused}
-use Rattle.program_reader.specs.Program.{reading_of}
+use Rattle.program_reader.specs.Program.{program_of, reading_of}
 use Rattle.program_make.specs.Text.{made_text}
+use Rattle.program_make.proofs.Lengths.{made_are_short}
+use Rattle.made_programs.proofs.Made.{made_are_programs}
 use Rattle.run_trace.specs.Entry.{Event}
-use Rattle.run_trace.specs.Settings.{Limits}
+use Rattle.run_trace.specs.Settings.{Limits, usual_limits}
 use Rattle.trace_input.specs.declared.input.TraceInput.{TraceInput}
 use Rattle.run_ledger.specs.declared.data.RunEnd.{RunEnd}
 use Rattle.run_ledger.specs.declared.data.RefusedAt.{RefusedAt}
@@ -19,7 +21,7 @@ use Rattle.command_core.specs.declared.answer.Status.TheVariants.{Done}
 use Rattle.command_core.specs.declared.answer.Answer.{Answer}
 use Rattle.command_core.specs.Status.{status_of_end}
 use Rattle.command_core.specs.Input.{program_limit, trace_limit}
-use Rattle.command_core.specs.Answers.{AnswersMake, AnswersRefused, AnswersText, AnswersTrace, AnswersTraced, IsModelled, IsText, WhereProgram, WhereWhole, WhereWithin, limits_for, too_long}
+use Rattle.command_core.specs.Answers.{AnswersMake, AnswersProgram, AnswersRefused, AnswersRun, AnswersText, AnswersTrace, AnswersTraced, IsModelled, IsText, WhereProgram, WhereWhole, WhereWithin, limits_for, summary, too_long}
 
 -- what is answered of a journal, which is the trace's, within its limits
 pub trace_told : (P : ProgramText → Limits → List Event → Answer → Type 0) (l : Limits) (t : TraceInput) (s : Limits) (journal : List Event) (r : Option RefusedAt) (a : Answer)
@@ -54,6 +56,20 @@ pub text_refused : (P : ProgramText → Answer → Type 0) (input : List ℕ) (r
 text_refused P input r a le is h =
     let e : nat_le (length input) program_limit ≡ true = le-leb (length input) program_limit le in
     subst (λ b. WhereWithin b (WhereProgram P (reading_of input)) a) (sym e) (subst (λ x. WhereProgram P x a) (sym is) h)
+
+-- a text that is a program
+pub text_accepted : (P : ProgramText → Answer → Type 0) (input : List ℕ) (p : ProgramText) (a : Answer) → nat_le (length input) program_limit ≡ true → reading_of input ≡ Ok p → AnswersText P input a → P p a
+text_accepted P input p a within reads h = subst (λ r. WhereProgram P r a) reads (subst (λ b. WhereWithin b (WhereProgram P (reading_of input)) a) within h)
+
+-- a text that was made, and is run
+pub made_run : (seed size : ℕ) (run : Bool) (s : Limits) (bytes : List ℕ) (a : Answer) → 1 ≤ size → size ≤ 1000 → run ≡ true → s ≡ usual_limits → bytes ≡ made_text seed size
+    → AnswersRun (record { settings = s; report = true; trace = false }) bytes a → AnswersMake seed size run a
+made_run seed size run s bytes a some most runs usual is h =
+    let whole : AnswersRun summary (made_text seed size) a = subst (λ l. AnswersRun (record { settings = l; report = true; trace = false }) (made_text seed size) a) usual (subst (λ x. AnswersRun (record { settings = s; report = true; trace = false }) x a) is h) in
+    subst (λ b. AnswersMake seed size b a) (sym runs)
+    (text_accepted (AnswersProgram summary) (made_text seed size) (program_of (made_text seed size)) a
+    (le-leb (length (made_text seed size)) program_limit (made_are_short seed size most)) (made_are_programs seed size some most)
+    whole)
 
 -- a text that was made
 pub text_made : (seed size : ℕ) (bytes : List ℕ) (a : Answer) → bytes ≡ made_text seed size → IsText Done bytes a → AnswersMake seed size false a

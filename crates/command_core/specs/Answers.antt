@@ -5,7 +5,7 @@ use Rattle.hh_lang.specs.Form.{ProgramText}
 use Rattle.program_reader.specs.declared.cause.Cause.TheVariants.{TooLong}
 use Rattle.program_reader.specs.declared.cause.Refused.{Refused}
 use Rattle.program_reader.specs.Cause.{text_of_cause}
-use Rattle.program_reader.specs.Program.{reading_of}
+use Rattle.program_reader.specs.Program.{program_of, reading_of}
 use Rattle.program_make.specs.Text.{made_text}
 use Rattle.run_trace.specs.Settings.{Limits, field_limit, usual_limits}
 use Rattle.run_trace.specs.Entry.{Event}
@@ -218,9 +218,10 @@ AnswersVerify input = AnswersImage (image_fault input) (objects_in input)
 abbrev pub summary : Options
 summary = record { settings = usual_limits; report = true; trace = false }
 
+-- the text, or a whole run of its program: no text that is made is refused
 abbrev pub AnswersMake : ℕ → ℕ → Bool → Answer → Type 0
 AnswersMake seed size false = IsText Done (made_text seed size)
-AnswersMake seed size true = AnswersRun summary (made_text seed size)
+AnswersMake seed size true = AnswersProgram summary (program_of (made_text seed size))
 
 -- EACH COMMAND
 

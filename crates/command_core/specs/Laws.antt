@@ -1,11 +1,12 @@
 -- What the answers come to.
-use Rattle.std.specs.Prelude.{◌≡◌, ◌≢◌, ◌≤◌, ◌⊎◌, List, ℕ, Option, Some, true, nat_le, length}
+use Rattle.std.specs.Prelude.{◌≡◌, ◌≢◌, ◌≤◌, ◌⊎◌, Bool, List, ℕ, Option, Some, true, nat_le, length}
 use Rattle.outside_io.specs.Told.{with_more}
 use Rattle.hh_lang.specs.Form.{ProgramText}
 use Rattle.program_reader.specs.declared.cause.Refused.{Refused}
+use Rattle.program_reader.specs.Program.{program_of}
 use Rattle.program_make.specs.Text.{made_text}
 use Rattle.run_trace.specs.Settings.{Limits}
-use Rattle.trace_input.specs.declared.input.InputFault.TheVariants.{Source}
+use Rattle.trace_input.specs.declared.input.InputFault.TheVariants.{Source as SourceFault}
 use Rattle.trace_input.specs.Input.{input_fault}
 use Rattle.run_ledger.specs.declared.data.RunEnd.{RunEnd}
 use Rattle.image_check.specs.Fault.{image_limit}
@@ -13,7 +14,7 @@ use Rattle.command_line.specs.declared.line.Options.{Options}
 use Rattle.command_line.specs.declared.line.CommandLine.{CommandLine}
 use Rattle.command_line.specs.declared.line.CommandLine.TheVariants.{Run, Replay, Model, Image, Make}
 use Rattle.command_core.specs.declared.answer.Status.{Status}
-use Rattle.command_core.specs.declared.answer.Status.TheVariants.{Done, Entangled, ReadFault, WriteFault, NoMemory, Trace}
+use Rattle.command_core.specs.declared.answer.Status.TheVariants.{Done, Source, Entangled, ReadFault, WriteFault, NoMemory, Trace}
 use Rattle.command_core.specs.declared.answer.Answer.{Answer}
 use Rattle.command_core.specs.declared.answer.Ran.{Ran}
 use Rattle.command_core.specs.Input.{trace_limit}
@@ -46,13 +47,17 @@ ProgramsAreRun =
 -- and so is one that was made
 abbrev pub MadeAreRun : Type 0
 MadeAreRun =
-    (seed size : ℕ) (input : List ℕ) (p : ProgramText) (r : Ran) (before after : Option (List ℕ)) → IsProgramInput (made_text seed size) p
-    → DeliversLine (Make seed size true) input r before after → NoFault r → GivesAll (AnswersProgram summary p) r before after
+    (seed size : ℕ) (input : List ℕ) (r : Ran) (before after : Option (List ℕ)) → DeliversLine (Make seed size true) input r before after → NoFault r
+    → GivesAll (AnswersProgram summary (program_of (made_text seed size))) r before after
+
+-- no made text is refused
+abbrev pub MadeAreAccepted : Type 0
+MadeAreAccepted = (seed size : ℕ) (run : Bool) (input : List ℕ) (r : Ran) (before after : Option (List ℕ)) → DeliversLine (Make seed size run) input r before after → r.status ≢ Source
 
 -- the program of a text with a trace has no fault
 pub record HasProgram (input : List ℕ) : Type 0 where
   pub within : nat_le (length input) trace_limit ≡ true
-  pub faultless : (r : Refused) → input_fault input ≢ Some (Source r)
+  pub faultless : (r : Refused) → input_fault input ≢ Some (SourceFault r)
 
 -- the status is that of an end of a run
 abbrev pub IsEnd : Status → Type 0

@@ -1,7 +1,7 @@
 // What the contract of the top call comes to.
 
 ghost use Rattle.command_core.specs.Headline.{RunsHoldTheHeadline};
-ghost use Rattle.command_core.specs.Laws.{ImagesAreVerified, MadeAreRun, ModelWritesTheSame, NoFaultGivesAll, ProgramsAreRun, RacelessAreDisentangled, TracesAreDrawn, TracesAreReplayed};
+ghost use Rattle.command_core.specs.Laws.{ImagesAreVerified, MadeAreAccepted, MadeAreRun, ModelWritesTheSame, NoFaultGivesAll, ProgramsAreRun, RacelessAreDisentangled, TracesAreDrawn, TracesAreReplayed};
 ghost use Rattle.command_core.specs.Status.{StatusesOfEnds};
 
 /// A command and its input, and no fault that rose: all bytes and the status of its answer, or want of memory.
@@ -14,9 +14,14 @@ pub fn programs_are_run()
     ensures { ProgramsAreRun }
 {}
 
-/// `make` with its run, and no fault that rose: the answer of a whole run of the text, which is a program, or want of memory.
+/// `make` with its run, and no fault that rose: the answer of a whole run of the text's program, or want of memory.
 pub fn made_are_run()
     ensures { MadeAreRun }
+{}
+
+/// `make` never refuses its text, which is a program from whatever seed.
+pub fn made_are_accepted()
+    ensures { MadeAreAccepted }
 {}
 
 /// `replay` and `model` with a program and its trace, and no fault that rose: an end of the run or a refused trace, or want of memory.

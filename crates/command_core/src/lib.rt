@@ -18,8 +18,8 @@ mod wanted;
 
 pub use answer::{Answer, Ran, Status};
 pub use laws::{
-    images_are_verified, made_are_run, model_writes_the_same, no_fault_gives_all, programs_are_run,
-    raceless_are_disentangled, runs_hold_the_headline, statuses_of_ends, traces_are_drawn,
-    traces_are_replayed,
+    images_are_verified, made_are_accepted, made_are_run, model_writes_the_same,
+    no_fault_gives_all, programs_are_run, raceless_are_disentangled, runs_hold_the_headline,
+    statuses_of_ends, traces_are_drawn, traces_are_replayed,
 };
 pub use top_call::command;

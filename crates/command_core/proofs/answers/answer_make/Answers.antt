@@ -1,7 +1,14 @@
 use Rattle.std.proofs.Common.{◌∙◌, sym, subst}
+use Rattle.std.proofs.lemmas.Result.{IfOk-weaker}
 use Rattle.command_core.specs.Answers.{AnswersMake}
-use Rattle.command_core.proofs.Traces.{text_made}
+use Rattle.command_core.proofs.Traces.{made_run, text_made}
 use Rattle.command_core.proofs.answers.answer_make.Goals as goal
+
+pub returns-then-run-clause-answer : goal.returns-then-run-clause-answer
+returns-then-run-clause-answer g c =
+    IfOk-weaker c.answer_run.result _ (AnswersMake c.args.seed c.args.size c.args.run)
+    (λ a h. made_run c.args.seed c.args.size c.args.run c.usual.result c.as_slice.result.now a c.requires.some c.requires.at_most c.if-run.true c.usual.ensures (c.as_slice.ensures.value ∙ c.in_ok-text.ensures) h)
+    c.answer_run.ensures.answer
 
 pub returns-clause-answer : goal.returns-clause-answer
 returns-clause-answer g c =
