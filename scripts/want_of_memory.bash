@@ -12,6 +12,7 @@
 #   wrong     anything else, a fault or no answer: there must be none
 # The status is 0 where none was wrong. By four workers calls differ in how many allocations they take, so some more are tried.
 set -u
+crate=want_of_memory
 top=$(dirname "$(dirname "$(realpath "${BASH_SOURCE[0]}")")") || exit 1
 . "$top/scripts/apart.bash"
 
@@ -22,7 +23,7 @@ more=32
 
 # Runs the cases of a folder, and puts a line for each into a file: its name, what it came to, and its number.
 run_cases() {
-  (cd "$top/crates/want_of_memory" && rt try --steps 1 --fail-alloc "$refused" --cases "$1") >"$room/said" 2>&1
+  (cd "$top/crates/$crate" && rt try --steps 1 --fail-alloc "$refused" --cases "$1") >"$room/said" 2>&1
   awk '/^== / { name = $2; getline; told[name] = $1 " " $2 }
     /^case=/ { split($1, at, "="); if ($2 != "run=ended" || $3 != "status=0") told[at[2]] = "wrong 0" }
     END { for (name in told) print name, told[name] }' "$room/said" >"$2"
