@@ -1,119 +1,29 @@
--- What is answered of runs.
-use Rattle.std.proofs.Common.{◌∙◌, ◌≡◌, ◌+◌, ◌++◌, ℕ, Bool, List, [], true, true≢false, ap, ap₂, refl, sym, subst, append-nil, length}
-use Rattle.std.specs.Prelude.{Option, Some, None, Result, Ok, Err, IfOk, IfErr, IfSome, false}
+-- What is answered of runs by workers.
+use Rattle.std.proofs.Common.{◌≡◌, Bool, true, true≢false, ap, refl, sym, subst}
+use Rattle.std.specs.Prelude.{Option, Some, None, IfSome, false}
 use Rattle.hh_lang.specs.Form.{ProgramText}
-use Rattle.hh_model.specs.declared.data.State.{State}
-use Rattle.run_trace.specs.Entry.{Event}
 use Rattle.run_trace.specs.Settings.{Limits}
-use Rattle.trace_input.specs.declared.input.TraceInput.{TraceInput}
 use Rattle.run_ledger.specs.declared.data.RunEnd.{RunEnd}
-use Rattle.run_ledger.specs.declared.data.RefusedAt.{RefusedAt}
-use Rattle.run_ledger.specs.Journals.{IsPrefix, end_of, first_refused, is_legal, machine_of, or_short, refused_as_run}
+use Rattle.run_ledger.specs.Journals.{end_of}
 use Rattle.run_ledger.specs.Pace.{is_paced}
-use Rattle.run_ledger.specs.Text.{end_line, end_line_of, end_words, out_text, output_lines, refused_line}
-use Rattle.run_ledger.proofs.Cuts.{first_refused_is_first}
-use Rattle.run_ledger.proofs.Machine.{machine_is_run}
-use Rattle.run_report.specs.Written.{trace_part}
+use Rattle.run_report.specs.declared.whole.Extras.{Extras}
 use Rattle.shared_value.specs.World.{World, accounts, without_journal}
-use Rattle.shared_value.specs.Stands.{IsWorld}
 use Rattle.worker_run.specs.declared.end.Finish.{Finish}
 use Rattle.worker_run.specs.declared.end.Finish.TheVariants.{Ended, NoMemory}
 use Rattle.worker_run.specs.Outcomes.{IsRun, finish_of}
-use Rattle.world_core.specs.declared.replaying.ReplayStop.{ReplayStop}
-use Rattle.world_core.specs.declared.replaying.ReplayStop.TheVariants.{RefusedAt as Stops, NoMemory as WantsMemory}
-use Rattle.world_core.specs.Replay.{HasReplayed, IsStop}
-use Rattle.world_core.specs.Whole.{Whole}
-use Rattle.command_line.specs.declared.line.Options.{Options}
-use Rattle.command_core.specs.declared.answer.Answer.{Answer}
-use Rattle.command_core.specs.declared.answer.Status.TheVariants.{Trace}
-use Rattle.command_core.specs.declared.wanted.Wanted.{Wanted}
-use Rattle.command_core.specs.declared.wanted.Wanted.TheVariants.{Amid}
-use Rattle.command_core.specs.Status.{status_of_end}
-use Rattle.command_core.specs.Answers.{AnswersReplayed, AnswersTrace, IsReplay, IsText, StandsReplayed, WhereWhole, limits_for, short_of}
-use Rattle.command_core.specs.Delivery.{IsWanted, left_by, left_of}
-use Rattle.command_core.specs.Runs.{HandsBack, IsReplayedRun, IsWorkersRun, LeavesPaced, LeavesPrefix}
-use Rattle.command_core.proofs.Traces.{trace_told}
-
--- a legal journal with an end is one of a whole run
-pub whole_journal : (p : ProgramText) (s : Limits) (journal : List Event) (end : RunEnd) → is_legal p s journal ≡ true → end_of p s journal ≡ Some end → refused_as_run p s journal ≡ None
-whole_journal p s journal end legal ended =
-    ap₂ (λ (r : Option RefusedAt) (e : Option RunEnd). or_short r e (length journal + 1)) ((first_refused_is_first p s journal).none.1 legal) ended
-
--- and one without an end is refused as short
-pub short_journal : (p : ProgramText) (s : Limits) (journal : List Event) → is_legal p s journal ≡ true → end_of p s journal ≡ None
-    → refused_as_run p s journal ≡ Some (short_of journal)
-short_journal p s journal legal none =
-    ap₂ (λ (r : Option RefusedAt) (e : Option RunEnd). or_short r e (length journal + 1)) ((first_refused_is_first p s journal).none.1 legal) none
-
-pub whole_shared : (w : World) (p : ProgramText) (s : Limits) (journal : List Event) (end : RunEnd) → IsWorld w → (accounts w).end ≡ Some end
-    → p ≡ w.program → s ≡ w.settings → journal ≡ w.journal.items → refused_as_run p s journal ≡ None
-whole_shared w p s journal end stands ended program settings is =
-    subst (λ q. refused_as_run q s journal ≡ None) (sym program) (subst (λ l. refused_as_run w.program l journal ≡ None) (sym settings)
-    (subst (λ j. refused_as_run w.program w.settings j ≡ None) (sym is) (whole_journal w.program w.settings w.journal.items end stands.legal ended)))
-
--- what is written of it with the report
-pub reported : (w : World) (p : ProgramText) (s : Limits) (journal : List Event) (asked trace : Bool) (bytes : List ℕ) → asked ≡ true → p ≡ w.program → s ≡ w.settings → journal ≡ w.journal.items
-    → bytes ≡ out_text p s true trace journal → bytes ≡ out_text w.program w.settings asked trace w.journal.items
-reported w p s journal asked trace bytes wants program settings is e =
-    subst (λ b. bytes ≡ out_text w.program w.settings b trace w.journal.items) (sym wants)
-    (subst (λ j. bytes ≡ out_text w.program w.settings true trace j) is
-    (subst (λ l. bytes ≡ out_text w.program l true trace journal) settings
-    (subst (λ q. bytes ≡ out_text q s true trace journal) program e)))
-
--- a journal with a refused entry is refused for that
-pub refused_first : (p : ProgramText) (s : Limits) (journal : List Event) (r : RefusedAt) → first_refused p s journal ≡ Some r → refused_as_run p s journal ≡ Some r
-refused_first p s journal r is = ap (λ (o : Option RefusedAt). or_short o (end_of p s journal) (length journal + 1)) is
-
--- without a report all that is written is what the shared value has
-pub brief_text : (w : World) (end : RunEnd) (trace : Bool) → (accounts w).end ≡ Some end
-    → output_lines (accounts w).machine.outputs ++ trace_part trace w.settings.version w.journal.items ++ end_line (end_words end) ≡ out_text w.program w.settings false trace w.journal.items
-brief_text w end trace ended =
-    let lines = output_lines (machine_of w.program w.settings w.journal.items).outputs in
-    ap₂ (λ (m : State) (e : Option RunEnd). output_lines m.outputs ++ trace_part trace w.settings.version w.journal.items ++ end_line_of e) (machine_is_run w.program w.settings w.journal.items) (sym ended)
-    ∙ ap (λ xs. xs ++ trace_part trace w.settings.version w.journal.items ++ end_line_of (end_of w.program w.settings w.journal.items)) (sym (append-nil lines))
-
-pub unreported : (w : World) (end : RunEnd) (asked trace : Bool) (bytes : List ℕ) → asked ≡ false → (accounts w).end ≡ Some end
-    → bytes ≡ output_lines (accounts w).machine.outputs ++ trace_part trace w.settings.version w.journal.items ++ end_line (end_words end)
-    → bytes ≡ out_text w.program w.settings asked trace w.journal.items
-unreported w end asked trace bytes wants ended e =
-    subst (λ b. bytes ≡ out_text w.program w.settings b trace w.journal.items) (sym wants) (e ∙ brief_text w end trace ended)
-
--- what is handed back of a shared value
-pub handed : (p : ProgramText) (s : Limits) (w : World) (journal : List Event) (shared : Option World) → IsWorld w → w.program ≡ p → w.settings ≡ s
-    → journal ≡ w.journal.items → shared ≡ Some (without_journal w) → HandsBack p s journal shared
-handed p s w journal shared stands program settings moved left = record {
-  held = w;
-  stands = stands;
-  program = program;
-  settings = settings;
-  legal = subst (λ j. is_legal p s j ≡ true) (sym moved) (subst (λ l. is_legal p l w.journal.items ≡ true) settings (subst (λ q. is_legal q w.settings w.journal.items ≡ true) program stands.legal));
-  moved = moved;
-  left = left;
-}
-
--- the answer of a run that has ended so
-pub ended_run : (w : World) (end : RunEnd) (report trace : Bool) (a : Answer) → IsWorld w → (accounts w).end ≡ Some end
-    → a.status ≡ status_of_end end → a.bytes ≡ out_text w.program w.settings report trace w.journal.items → a.journal ≡ w.journal.items → a.shared ≡ Some (without_journal w)
-    → IsReplayedRun w.program w.settings report trace w.journal.items a
-ended_run w end report trace a stands ended status bytes journal shared = (
-  record {
-    back = handed w.program w.settings w a.journal a.shared stands refl refl journal shared;
-    end = end;
-    ended = subst (λ j. end_of w.program w.settings j ≡ Some end) (sym journal) ended;
-    status = status;
-    bytes = subst (λ j. a.bytes ≡ out_text w.program w.settings report trace j) (sym journal) bytes;
-  },
-  journal,
-)
-
--- WORKERS
+use Rattle.command_answers.specs.declared.answer.Answer.{Answer}
+use Rattle.command_answers.specs.declared.wanted.Wanted.{Wanted}
+use Rattle.command_answers.specs.declared.wanted.Wanted.TheVariants.{Amid}
+use Rattle.command_answers.specs.Delivery.{IsWanted, left_of}
+use Rattle.command_answers.specs.Runs.{IsReplayedRun, IsWorkersRun, LeavesPaced}
+use Rattle.command_answers.proofs.Runs.{handed}
 
 -- a run by workers has ended so
-pub workers_run : (p : ProgramText) (s : Limits) (report trace : Bool) (w : World) (a : Answer) → IsRun p s w → IsReplayedRun w.program w.settings report trace w.journal.items a
-    → IsWorkersRun p s report trace a
-workers_run p s report trace w a run h =
-    let at : IsReplayedRun p s report trace w.journal.items a =
-    subst (λ l. IsReplayedRun p l report trace w.journal.items a) run.settings (subst (λ q. IsReplayedRun q w.settings report trace w.journal.items a) run.program h) in
+pub workers_run : (p : ProgramText) (s : Limits) (extras : Extras) (w : World) (a : Answer) → IsRun p s w → IsReplayedRun w.program w.settings extras w.journal.items a
+    → IsWorkersRun p s extras a
+workers_run p s extras w a run h =
+    let at : IsReplayedRun p s extras w.journal.items a =
+    subst (λ l. IsReplayedRun p l extras w.journal.items a) run.settings (subst (λ q. IsReplayedRun q w.settings extras w.journal.items a) run.program h) in
     (at.0, subst (λ j. is_paced p s j ≡ true) (sym at.1) run.paced)
 
 -- memory was wanting amid it
@@ -143,57 +53,3 @@ told_end p s w end run is =
     of_finish : (o : Option RunEnd) → Ended end ≡ finish_of o → o ≡ Some end
     of_finish (Some e) h = ap (λ f. Some (end_in f end)) (sym h)
     of_finish None h = absurd (true≢false (ap is_ended h))
-
--- ENTRIES
-
-abbrev pub OfShared : World → Bool → Bool → Answer → Type 0
-OfShared w report trace = WhereWhole (IsReplayedRun w.program w.settings report trace w.journal.items) (refused_as_run w.program w.settings w.journal.items)
-
--- all are made, and the run has ended so, or not
-pub made_ended : (w : World) (end : RunEnd) (report trace : Bool) (a : Answer) → IsWorld w → (accounts w).end ≡ Some end → IsReplayedRun w.program w.settings report trace w.journal.items a → OfShared w report trace a
-made_ended w end report trace a stands ended h =
-    subst (λ (r : Option RefusedAt). WhereWhole (IsReplayedRun w.program w.settings report trace w.journal.items) r a)
-    (sym (whole_journal w.program w.settings w.journal.items end stands.legal ended)) h
-
-pub made_short : (w : World) (report trace : Bool) (a : Answer) → IsWorld w → (accounts w).end ≡ None → IsText Trace (refused_line (short_of w.journal.items)) a → OfShared w report trace a
-made_short w report trace a stands none h =
-    subst (λ (r : Option RefusedAt). WhereWhole (IsReplayedRun w.program w.settings report trace w.journal.items) r a)
-    (sym (short_journal w.program w.settings w.journal.items stands.legal none)) h
-
--- where all entries are made
-pub made_told : (o : Options) (t : TraceInput) (s : Limits) (entries : List Event) (w : World) (a : Answer) → s ≡ limits_for o.settings t → entries ≡ t.trace.entries
-    → w.program ≡ t.program → w.settings ≡ s → w.journal.items ≡ entries
-    → WhereWhole (IsReplayedRun w.program w.settings o.report o.trace w.journal.items) (refused_as_run w.program w.settings w.journal.items) a → AnswersTrace (IsReplay o) o.settings t a
-made_told o t s entries w a limits is program settings journal h =
-    trace_told (IsReplay o) o.settings t s entries (refused_as_run t.program s entries) a limits is refl
-    (subst (λ j. WhereWhole (IsReplayedRun t.program s o.report o.trace j) (refused_as_run t.program s j) a) journal
-    (subst (λ l. WhereWhole (IsReplayedRun t.program l o.report o.trace w.journal.items) (refused_as_run t.program l w.journal.items) a) settings
-    (subst (λ q. WhereWhole (IsReplayedRun q w.settings o.report o.trace w.journal.items) (refused_as_run q w.settings w.journal.items) a) program h)))
-
--- memory was wanting amid them
-pub entries_left : (o : Options) (t : TraceInput) (s : Limits) (entries : List Event) (w : World) (found : Wanted) → s ≡ limits_for o.settings t → entries ≡ t.trace.entries
-    → IsWorld w → w.program ≡ t.program → w.settings ≡ s → IsPrefix w.journal.items entries → found ≡ Amid w.journal.items (without_journal w)
-    → IsWanted (LeavesPrefix t.program (limits_for o.settings t) t.trace.entries) found
-entries_left o t s entries w found limits is stands program settings prefix found_is =
-    subst (IsWanted (LeavesPrefix t.program (limits_for o.settings t) t.trace.entries)) (sym found_is)
-    (handed t.program (limits_for o.settings t) w w.journal.items (Some (without_journal w)) stands program (settings ∙ limits) refl refl, subst (IsPrefix w.journal.items) is prefix)
-
--- all of them are a first part
-pub all_prefix : (journal entries : List Event) → journal ≡ entries → IsPrefix journal entries
-all_prefix journal entries is = ([], sym is ∙ sym (append-nil journal))
-
--- A REPLAY that has come so far
-
-pub replayed_told : (o : Options) (t : TraceInput) (s : Limits) (entries : List Event) (r : Result Whole ReplayStop) (a : Answer) → s ≡ limits_for o.settings t → entries ≡ t.trace.entries
-    → IfOk r (HasReplayed t.program s entries) → IfErr r (IsStop t.program s entries) → AnswersReplayed o.report o.trace r a → AnswersTrace (IsReplay o) o.settings t a
-replayed_told o t s entries (Ok x) a limits is has stop h = made_told o t s entries x.shared a limits is has.program has.settings has.journal h
-replayed_told o t s entries (Err (Stops r)) a limits is has stop h = trace_told (IsReplay o) o.settings t s entries (Some r) a limits is (refused_first t.program s entries r stop) h
-replayed_told o t s entries (Err (WantsMemory x)) a limits is has stop h = absurd h
-
-pub replayed_left : (o : Options) (t : TraceInput) (s : Limits) (entries : List Event) (r : Result Whole ReplayStop) (found : Wanted) → s ≡ limits_for o.settings t → entries ≡ t.trace.entries
-    → IfOk r (HasReplayed t.program s entries) → IfErr r (IsStop t.program s entries) → StandsReplayed r → found ≡ left_by r → IsWanted (LeavesPrefix t.program (limits_for o.settings t) t.trace.entries) found
-replayed_left o t s entries (Ok x) found limits is has stop stands e =
-    entries_left o t s entries x.shared found limits is stands has.program has.settings (all_prefix x.shared.journal.items entries has.journal) e
-replayed_left o t s entries (Err (Stops r)) found limits is has stop stands e = subst (IsWanted (LeavesPrefix t.program (limits_for o.settings t) t.trace.entries)) (sym e) tt
-replayed_left o t s entries (Err (WantsMemory None)) found limits is has stop stands e = subst (IsWanted (LeavesPrefix t.program (limits_for o.settings t) t.trace.entries)) (sym e) tt
-replayed_left o t s entries (Err (WantsMemory (Some x))) found limits is has stop stands e = entries_left o t s entries x.shared found limits is stands stop.program stop.settings stop.prefix e

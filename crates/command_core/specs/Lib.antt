@@ -1,7 +1,8 @@
-pub mod Status
-pub mod Input
-pub mod Runs
-pub mod Answers
-pub mod Delivery
-pub mod Laws
-pub mod Headline
+pub use Rattle.command_answers.specs.Status
+pub use Rattle.command_answers.specs.Input
+pub use Rattle.command_answers.specs.Runs
+pub use Rattle.command_answers.specs.Answers
+pub use Rattle.command_answers.specs.Delivery
+pub use Rattle.command_answers.specs.Laws
+pub use Rattle.command_answers.specs.Headline
+pub mod Left

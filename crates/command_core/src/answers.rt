@@ -1,51 +1,23 @@
 // What each command answers to its input.
 
-ghost use Rattle.std.specs.Prelude.{◌≤◌, ◌∷◌, [], codes, IfOk, IfErr, Some};
-ghost use Rattle.run_ledger.specs.Text.{end_line};
+ghost use Rattle.std.specs.Prelude.{◌≤◌, IfOk, IfErr, Some};
 ghost use Rattle.command_line.specs.CommandLine.{HasSize};
-ghost use Rattle.command_core.specs.Answers.{IsText, AnswersCheck, AnswersMake, AnswersLine, LeavesLine, LeavesMake};
-ghost use Rattle.command_core.specs.Delivery.{IsWanted};
+ghost use Rattle.command_answers.specs.Answers.{AnswersMake, AnswersLine, LeavesLine, LeavesMake};
+ghost use Rattle.command_answers.specs.Delivery.{IsWanted};
 
-use crate::answer::{Answer, Status};
-use crate::images::answer_verify;
-use crate::imaging::answer_image;
-use crate::input::PROGRAM_LIMIT;
-use crate::model::answer_model;
-use crate::races::answer_races;
-use crate::refusals::{bytes_alone, source_refused, text_alone, too_long};
-use crate::replay::answer_replay;
 use crate::run::answer_run;
-use crate::wanted::Wanted;
+use command_answers::{
+    Answer, Status, Wanted, answer_check, answer_image, answer_model, answer_races, answer_replay,
+    answer_verify, bytes_alone,
+};
 use command_line::{CommandLine, Options};
 use listed::Listed;
 use outside_io::Gate;
 use program_make::make;
-use program_reader::read_program;
 use run_trace::Settings;
-use std::alloc::{AllocError, Global};
+use std::alloc::Global;
 use std::sync::Wait;
 use std::thread::Threads;
-
-// The answer to a text that is a program.
-fn accepted(alloc: Global) -> Result<Answer, AllocError>
-    ensures { IfOk result (IsText Status.Done (end_line (codes "accepted" ∷ []))) }
-{
-    let text = format!(in alloc; "end: accepted\n")?;
-    Ok(text_alone(alloc, Status::Done, text))
-}
-
-// Whether a text is a program.
-fn answer_check(alloc: Global, input: &[u8]) -> Result<Answer, AllocError>
-    ensures { IfOk result (AnswersCheck input.now) }
-{
-    if input.len() > PROGRAM_LIMIT {
-        return too_long(alloc);
-    }
-    if let Err(refused) = read_program(alloc, input)? {
-        return source_refused(alloc, refused);
-    }
-    accepted(alloc)
-}
 
 // Makes a program, and runs it where that is asked for.
 fn answer_make<R: Threads + Wait + Sync, G: Gate>(

@@ -1,25 +1,13 @@
 // The top call: from the words of a command line and a source of bytes to what is written, and the status.
 #![tactic(auto)]
 
-mod answer;
 mod answers;
-mod deliver;
-mod images;
-mod imaging;
-mod input;
-mod laws;
-mod model;
-mod races;
-mod refusals;
-mod replay;
 mod run;
 mod top_call;
-mod wanted;
 
-pub use answer::{Answer, Ran, Status};
-pub use laws::{
-    images_are_verified, made_are_accepted, made_are_run, model_writes_the_same,
-    no_fault_gives_all, programs_are_run, raceless_are_disentangled, runs_hold_the_headline,
-    statuses_of_ends, traces_are_drawn, traces_are_replayed,
+pub use command_answers::{
+    Answer, Ran, Status, images_are_verified, made_are_accepted, made_are_run,
+    model_writes_the_same, no_fault_gives_all, programs_are_run, raceless_are_disentangled,
+    runs_hold_the_headline, statuses_of_ends, traces_are_drawn, traces_are_replayed,
 };
 pub use top_call::command;

@@ -4,18 +4,17 @@ ghost use Rattle.std.specs.Prelude.{◌≡◌, ◌≢◌, ◌≤◌, ◌+◌, dr
 ghost use Rattle.outside_io.specs.Fault.{HasRisen};
 ghost use Rattle.command_line.specs.CommandLine.{command_line, HasSize};
 ghost use Rattle.all_bytes.specs.Bytes.{input_of};
-ghost use Rattle.command_core.specs.Input.{limit_of, is_reading, told_for, reads};
-ghost use Rattle.command_core.specs.Delivery.{DeliversLine, DeliversWords, GivesFound, IsAnswered};
+ghost use Rattle.command_answers.specs.Input.{limit_of, is_reading, told_for, reads};
+ghost use Rattle.command_answers.specs.Delivery.{DeliversLine, DeliversWords, GivesFound, IsAnswered};
 
-use crate::answer::{Answer, Ran, Status};
 use crate::answers::answer_line;
-use crate::deliver::{deliver, nothing, wanted};
-use crate::input::read_input;
-use crate::refusals::words_refused;
-use crate::wanted::Wanted;
 use all_bytes::ReadError;
+use command_answers::{
+    Answer, Ran, Status, Wanted, deliver, hand_back, nothing, read_input, refused,
+};
 use command_line::{CommandLine, read_command_line};
 use outside_io::{Gate, Sink, Source};
+use refusal_lines::Refusal;
 use std::alloc::{AllocError, Global};
 use std::sync::Wait;
 use std::thread::Threads;
@@ -26,7 +25,7 @@ fn refuse_words<K: Sink>(alloc: Global, sink: &mut K) -> Ran
     ensures read { result.status ≢ Status.ReadFault }
     ensures write_fault { result.status ≡ Status.WriteFault → HasRisen (K.faults sink.old) (K.faults sink.new) }
 {
-    match words_refused(alloc) {
+    match refused(alloc, Refusal::Words) {
         Ok(answer) => deliver(answer, sink),
         Err(AllocError) => nothing(alloc, Status::NoMemory),
     }
@@ -40,7 +39,7 @@ fn give<K: Sink>(alloc: Global, found: Result<Answer, Wanted>, sink: &mut K) -> 
 {
     match found {
         Ok(answer) => deliver(answer, sink),
-        Err(found) => wanted(alloc, found),
+        Err(found) => hand_back(alloc, found),
     }
 }
 

@@ -72,8 +72,5 @@ pub(crate) fn joined(alloc: Global, first: &str, rest: &[&str]) -> Option<String
 /// A program and a journal of its run, whose text has these parts.
 pub(crate) fn read(alloc: Global, program: &str, journal: &[&str]) -> Option<TraceInput> {
     let input = joined(alloc, program, journal)?;
-    if input.len() > 16_777_216 {
-        return None;
-    }
     read_trace_input(alloc, input.as_bytes()).ok()
 }

@@ -4,7 +4,7 @@ use crate::programs::{
     LARGE, LARGE_AND_SMALL, LISTS, Limits, SWEEPS, TWO_OBJECTS, joined, read, settings,
 };
 use run_journal::{model_replay, replayed};
-use run_report::{is_paced, out_text, report_of, whole_run};
+use run_report::{Extras, is_paced, out_text, report_of, whole_run};
 use std::alloc::Global;
 use trace_input::TraceInput;
 
@@ -43,8 +43,11 @@ fn has_parts(alloc: Global, text: &[u8], parts: &[&str]) -> bool {
 fn writes(alloc: Global, read: &TraceInput, run: &Run) -> bool {
     let settings = settings(run.limits).with_version(read.trace.version);
     let entries = read.trace.entries.as_slice();
-    let (report, trace) = (run.shows_report, run.shows_trace);
-    match whole_run(alloc, &read.program, settings, entries, report, trace) {
+    let extras = Extras {
+        report: run.shows_report,
+        trace: run.shows_trace,
+    };
+    match whole_run(alloc, &read.program, settings, entries, extras) {
         Ok(written) => has_parts(alloc, written.text.as_slice(), run.text),
         Err(_) => false,
     }
@@ -142,7 +145,11 @@ fn writes_report(alloc: Global, read: &TraceInput, limits: Limits, text: &str) -
     if model_replay(alloc, &read.program, settings, entries).is_err() {
         return false;
     }
-    match out_text(alloc, &read.program, settings, entries, true, false) {
+    let extras = Extras {
+        report: true,
+        trace: false,
+    };
+    match out_text(alloc, &read.program, settings, entries, extras) {
         Ok(written) => written.as_slice() == text.as_bytes(),
         Err(_) => false,
     }

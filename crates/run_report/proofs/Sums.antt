@@ -47,7 +47,7 @@ none_joined a = same_fields (joined no_totals a) a (omega arith) (omega arith) (
 -- ONE ENTRY
 
 -- the words that a heap loses are those before less those after
-lost_is : (l : Ledger) (t : ℕ) (f : Heap → Heap) → words_in l.machine (heap_of l t) - words_in (with_heap l t f).machine (heap_of (with_heap l t f) t) ≡ lost l t f
+pub lost_is : (l : Ledger) (t : ℕ) (f : Heap → Heap) → words_in l.machine (heap_of l t) - words_in (with_heap l t f).machine (heap_of (with_heap l t f) t) ≡ lost l t f
 lost_is l t f = by (heap_at l t) refl
   where
     by : (o : Option Heap) → heap_at l t ≡ o

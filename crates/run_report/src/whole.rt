@@ -17,6 +17,13 @@ use run_ledger::{Refused, RefusedAt, Report, RunEnd};
 use run_trace::{Entry, Settings, Version, trace_text};
 use std::alloc::{AllocError, Global};
 
+/// What is written of a run beside its outputs and its end line.
+#[derive(Clone, Copy)]
+pub struct Extras {
+    pub report: bool,
+    pub trace: bool,
+}
+
 /// How the run of a journal ended, and all that is written of it.
 #[derive(Drop)]
 pub struct WholeRun {
@@ -95,15 +102,14 @@ fn written(
     version: Version,
     journal: &[Entry],
     end: RunEnd,
-    report: bool,
-    trace: bool,
+    extras: Extras,
 ) -> Result<Vec<u8>, AllocError>
     requires { counted.now.book.stopped ≡ false }
-    ensures { IfOk result (λ text. text.items ≡ text_from version counted.now.book.ledger counted.now.totals report trace journal.now end) }
+    ensures { IfOk result (λ text. text.items ≡ text_from version counted.now.book.ledger counted.now.totals extras.report extras.trace journal.now end) }
 {
     let mut text = outputs_text(alloc, counted.book.outputs())?;
-    add_report(alloc, &mut text, report, counted, journal.len())?;
-    add_trace(alloc, &mut text, trace, version, journal)?;
+    add_report(alloc, &mut text, extras.report, counted, journal.len())?;
+    add_trace(alloc, &mut text, extras.trace, version, journal)?;
     add_end(alloc, &mut text, end)?;
     Ok(text)
 }
@@ -114,8 +120,7 @@ fn whole_of(
     counted: &Counted,
     settings: Settings,
     journal: &[Entry],
-    report: bool,
-    trace: bool,
+    extras: Extras,
 ) -> Result<WholeRun, ReplayError>
     requires limits { counted.now.book.limits ≡ settings }
     requires open { counted.now.book.stopped ≡ false }
@@ -124,7 +129,7 @@ fn whole_of(
     requires legal { first_refused counted.now.book.program settings journal.now ≡ None }
     ensures whole { OnOk result (refused_as_run counted.now.book.program settings journal.now ≡ None) }
     ensures end { IfOk result (λ run. end_of counted.now.book.program settings journal.now ≡ Some run.end) }
-    ensures text { IfOk result (λ run. run.text ≡ out_text counted.now.book.program settings report trace journal.now) }
+    ensures text { IfOk result (λ run. run.text ≡ out_text counted.now.book.program settings extras.report extras.trace journal.now) }
     ensures fails { IfErr result (ReplayFails (refused_as_run counted.now.book.program settings journal.now)) }
 {
     let Some(end) = counted.book.end() else {
@@ -133,15 +138,7 @@ fn whole_of(
             cause: Refused::Short,
         }));
     };
-    match written(
-        alloc,
-        counted,
-        settings.version(),
-        journal,
-        end,
-        report,
-        trace,
-    ) {
+    match written(alloc, counted, settings.version(), journal, end, extras) {
         Ok(text) => Ok(WholeRun {
             end,
             text: Listed::from_vec(text),
@@ -157,16 +154,15 @@ pub fn whole_run(
     program: &Program,
     settings: Settings,
     journal: &[Entry],
-    report: bool,
-    trace: bool,
+    extras: Extras,
 ) -> Result<WholeRun, ReplayError>
     ensures whole { OnOk result (refused_as_run program.now settings journal.now ≡ None) }
     ensures end { IfOk result (λ run. end_of program.now settings journal.now ≡ Some run.end) }
-    ensures text { IfOk result (λ run. run.text ≡ out_text program.now settings report trace journal.now) }
+    ensures text { IfOk result (λ run. run.text ≡ out_text program.now settings extras.report extras.trace journal.now) }
     ensures fails { IfErr result (ReplayFails (refused_as_run program.now settings journal.now)) }
 {
     let counted = count(alloc, program, settings, journal)?;
-    let whole = whole_of(alloc, &counted, settings, journal, report, trace);
+    let whole = whole_of(alloc, &counted, settings, journal, extras);
     drop(counted);
     whole
 }
@@ -177,13 +173,12 @@ pub fn out_text(
     program: &Program,
     settings: Settings,
     journal: &[Entry],
-    report: bool,
-    trace: bool,
+    extras: Extras,
 ) -> Result<Vec<u8>, AllocError>
     requires { refused_as_run program.now settings journal.now ≡ None }
-    ensures { IfOk result (λ text. text.items ≡ out_text program.now settings report trace journal.now) }
+    ensures { IfOk result (λ text. text.items ≡ out_text program.now settings extras.report extras.trace journal.now) }
 {
-    match whole_run(alloc, program, settings, journal, report, trace) {
+    match whole_run(alloc, program, settings, journal, extras) {
         Ok(run) => Ok(run.text.into_vec()),
         Err(_) => Err(AllocError),
     }

@@ -1,6 +1,6 @@
 -- Where a trace can't be read for its program, the input has that fault.
 use Rattle.std.proofs.Common.{◌≡◌, ◌<◌, ℕ, List, [], ◌∷◌, length, arith, refl, ap, sym, ◌∙◌, subst}
-use Rattle.std.specs.Prelude.{Option, Some, None, Result, Ok, Err}
+use Rattle.std.specs.Prelude.{Option, Some, None, Ok, Err}
 use Rattle.hh_lang.specs.Form.{ProgramText}
 use Rattle.text_lines.specs.Lines.{lines_of}
 use Rattle.program_reader.specs.declared.cause.Refused.{Refused}
@@ -8,7 +8,7 @@ use Rattle.program_reader.specs.Fault.{first_fault}
 use Rattle.program_reader.specs.Program.{program_of, reading_of, unless_refused}
 use Rattle.trace_input.specs.declared.input.InputError.{InputError}
 use Rattle.trace_input.specs.Cut.{program_part, trace_lines, trace_number}
-use Rattle.trace_input.specs.Input.{trace_bad, bad_line, as_bad_line, fault_by, input_fault, FailsAt, FailsTrace}
+use Rattle.trace_input.specs.Input.{trace_bad, bad_line, as_bad_line, parts_fault, FailsAt, FailsTrace}
 use Rattle.trace_input.proofs.Cuts.{some_lines}
 
 bad_same : (last n : ℕ) (p : ProgramText) (ls : List (List ℕ)) → 0 < length ls → bad_line last n p ls ≡ trace_bad n p ls
@@ -21,12 +21,12 @@ read_by (Some r) q p e = absurd (let f : Err r ≡ Ok p = e in cc)
 
 pub fails : (input above t : List ℕ) (n : ℕ) (p : ProgramText) (e : InputError)
     → above ≡ program_part input → Ok p ≡ reading_of above → trace_lines (lines_of input) ≡ lines_of t → n ≡ trace_number input
-    → FailsTrace (trace_bad n p (lines_of t)) e → FailsAt (input_fault input) e
+    → FailsTrace (trace_bad n p (lines_of t)) e → FailsAt (parts_fault input) e
 fails input above t n p e part reads lines number bad =
     let both = read_by (first_fault above) (program_of above) p (sym reads) in
     let none : first_fault (program_part input) ≡ None = ap first_fault (sym part) ∙ both.0 in
     let program : program_of (program_part input) ≡ p = ap program_of (sym part) ∙ sym both.1 in
     let same : bad_line (length (lines_of input)) (trace_number input) (program_of (program_part input)) (trace_lines (lines_of input)) ≡ trace_bad n p (lines_of t) =
     rw (program, lines, ← number) (bad_same (length (lines_of input)) n p (lines_of t) (some_lines t)) in
-    let whole : input_fault input ≡ as_bad_line (trace_bad n p (lines_of t)) = rw (none, same) refl in
+    let whole : parts_fault input ≡ as_bad_line (trace_bad n p (lines_of t)) = rw (none, same) refl in
     subst (λ f. FailsAt f e) (sym whole) bad

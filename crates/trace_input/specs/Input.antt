@@ -1,5 +1,5 @@
 -- What an input of a program and a trace says, and its first fault.
-use Rattle.std.specs.Prelude.{◌≡◌, ℕ, ◌-◌, ◌==◌, ◌||◌, Bool, true, false, Option, Some, None, List, [], ◌∷◌, length, slice_get, if◌then◌else◌}
+use Rattle.std.specs.Prelude.{◌≡◌, ℕ, ◌-◌, ◌==◌, ◌||◌, Bool, true, false, Option, Some, None, List, [], ◌∷◌, length, nat_le, slice_get, if◌then◌else◌}
 use Rattle.std.specs.List.{list_any}
 use Rattle.hh_lang.specs.declared.instr.Instr.{Instr}
 use Rattle.hh_lang.specs.declared.instr.Instr.TheVariants.{Freeze, Cas}
@@ -8,8 +8,9 @@ use Rattle.hh_lang.specs.Form.{ProgramText}
 use Rattle.text_lines.specs.Lines.{lines_of}
 use Rattle.run_trace.specs.declared.settings.Version.{Version}
 use Rattle.run_trace.specs.declared.settings.Version.TheVariants.{One, Two}
-use Rattle.run_trace.specs.declared.trace.Trace.{Trace}
-use Rattle.run_trace.specs.Trace.{version_of, first_bad, fault_in, AreTraceLines}
+use Rattle.run_trace.specs.Settings.{Limits}
+use Rattle.run_trace.specs.Trace.{version_of, fault_in, AreTraceLines}
+use Rattle.program_reader.specs.declared.cause.Cause.TheVariants.{TooLong}
 use Rattle.program_reader.specs.declared.cause.Refused.{Refused}
 use Rattle.program_reader.specs.Fault.{first_fault}
 use Rattle.program_reader.specs.Program.{program_of}
@@ -71,16 +72,32 @@ abbrev pub fault_by : Option Refused → Option ℕ → Option InputFault
 fault_by (Some r) bad = Some (Source r)
 fault_by None bad = as_bad_line bad
 
-abbrev pub input_fault : List ℕ → Option InputFault
-input_fault input =
+abbrev pub parts_fault : List ℕ → Option InputFault
+parts_fault input =
     fault_by (first_fault (program_part input))
     (bad_line (length (lines_of input)) (trace_number input) (program_of (program_part input)) (trace_lines (lines_of input)))
+
+-- the most bytes of an input
+abbrev pub trace_limit : ℕ
+trace_limit = 16777216
+
+-- more bytes than the limit
+abbrev pub too_long : Refused
+too_long = record { line = 0; cause = TooLong }
+
+-- the first fault of an input
+abbrev pub input_fault : List ℕ → Option InputFault
+input_fault input = if nat_le (length input) trace_limit then parts_fault input else Some (Source too_long)
 
 -- an input without a fault, and what it says
 pub record IsInput (input : List ℕ) (t : TraceInput) : Type 0 where
   pub no_fault : input_fault input ≡ None
   pub program : t.program ≡ program_of (program_part input)
   pub trace : AreTraceLines (trace_lines (lines_of input)) t.trace
+
+-- the limits of its run: these, with the version that the trace names
+abbrev pub limits_for : Limits → TraceInput → Limits
+limits_for s t = record s { version = t.trace.version }
 
 -- a reader fails at the first fault, or for want of memory
 abbrev pub FailsAt : Option InputFault → InputError → Type 0

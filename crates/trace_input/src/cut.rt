@@ -2,6 +2,7 @@
 
 ghost use Rattle.std.specs.Prelude.{◌≡◌, ◌≤◌, length, IfSome, option_map};
 ghost use Rattle.trace_input.specs.Cut.{is_trace_line, program_part, CutsTrace};
+ghost use Rattle.trace_input.specs.Input.{trace_limit};
 
 use text_lines::{next_line, next_word};
 
@@ -17,7 +18,7 @@ fn begins_trace(line: &[u8]) -> bool
 
 /// The bytes of the program, and the number of the trace line with the bytes from it on.
 pub(crate) fn cut(input: &[u8]) -> (&[u8], Option<(u32, &[u8])>)
-    requires { length input.now ≤ 16777216 }
+    requires { length input.now ≤ trace_limit }
     ensures program { result.0.now ≡ program_part input.now }
     ensures trace { CutsTrace input.now (option_map (λ t. (t.0, t.1.now)) result.1) }
     ensures sized { length result.0.now ≤ length input.now }

@@ -1,22 +1,19 @@
 -- What is shown of an input: a picture, or why the input is refused, in the words of hheap.
-use Rattle.std.specs.Prelude.{◌≡◌, ℕ, Bool, true, false, Option, Some, None, List, [], ◌∷◌, codes, length, nat_le}
-use Rattle.std.specs.Fmt.{decimal}
+use Rattle.std.specs.Prelude.{◌≡◌, ℕ, Option, Some, None, List, [], ◌∷◌, codes}
 use Rattle.hh_lang.specs.Form.{ProgramText}
 use Rattle.run_trace.specs.Settings.{Limits}
 use Rattle.run_trace.specs.Entry.{Event}
 use Rattle.run_ledger.specs.declared.data.RefusedAt.{RefusedAt}
 use Rattle.run_ledger.specs.Journals.{refused_as_run}
-use Rattle.run_ledger.specs.Text.{end_line, refused_line}
+use Rattle.run_ledger.specs.Text.{end_line}
 use Rattle.image_check.specs.declared.cause.Fault.{Fault}
-use Rattle.image_check.specs.Cause.{text_of_cause as text_of_fault}
 use Rattle.image_check.specs.Fault.{image_fault}
-use Rattle.program_reader.specs.declared.cause.Cause.TheVariants.{TooLong}
-use Rattle.program_reader.specs.declared.cause.Refused.{Refused}
-use Rattle.program_reader.specs.Cause.{text_of_cause}
 use Rattle.trace_input.specs.declared.input.InputFault.{InputFault}
-use Rattle.trace_input.specs.declared.input.InputFault.TheVariants.{Source as SourceFault, BadLine}
 use Rattle.trace_input.specs.declared.input.TraceInput.{TraceInput}
-use Rattle.trace_input.specs.Input.{input_fault, IsInput}
+use Rattle.trace_input.specs.Input.{input_fault, limits_for, IsInput}
+use Rattle.refusal_lines.specs.declared.refusal.Refusal.{Refusal}
+use Rattle.refusal_lines.specs.declared.refusal.Refusal.TheVariants.{Entry, Image as ImageRefused}
+use Rattle.refusal_lines.specs.Refusals.{refusal_line, refusal_of}
 use Rattle.heap_graph.specs.Graph.{graph_of}
 use Rattle.run_timeline.specs.Timeline.{timeline}
 use Rattle.task_table.specs.Table.{table}
@@ -25,37 +22,26 @@ use Rattle.schedule_report.specs.Schedules.{IsAnswer, verdict_of}
 use Rattle.schedule_report.specs.Text.{clashes_text}
 use Rattle.view_line.specs.ViewLine.{Asked, AsksUsage, AsksHeaps, AsksTimeline, AsksTasks, AsksSchedules}
 use Rattle.view_core.specs.declared.shown.Status.{Status}
-use Rattle.view_core.specs.declared.shown.Status.TheVariants.{Done, Source, Trace, Image}
+use Rattle.view_core.specs.declared.shown.Status.TheVariants.{Done, Trace}
 use Rattle.view_core.specs.declared.shown.Shown.{Shown}
 use Rattle.view_core.specs.declared.runs.RunView.{RunView}
 use Rattle.view_core.specs.declared.runs.RunView.TheVariants.{Timeline, Tasks, Schedules}
-use Rattle.view_core.specs.Status.{status_of_verdict}
+use Rattle.view_core.specs.Status.{status_of_refusal, status_of_verdict}
 
 -- this text, with this status
 pub record Says (named : Status) (bytes : List ℕ) (s : Shown) : Type 0 where
   pub status : s.status ≡ named
   pub written : s.text ≡ bytes
 
--- REFUSALS
-
-abbrev pub words_line : List ℕ
-words_line = end_line (codes "words refused" ∷ [])
-
-abbrev pub image_line : Fault → List ℕ
-image_line f = end_line (codes "image refused line" ∷ decimal f.line ∷ text_of_fault f.cause ∷ [])
-
-abbrev pub source_line : Refused → List ℕ
-source_line r = end_line (codes "source refused line" ∷ decimal r.line ∷ text_of_cause r.cause ∷ [])
-
-abbrev pub bad_line : ℕ → List ℕ
-bad_line n = end_line (codes "trace refused line" ∷ decimal n ∷ [])
+abbrev pub Refuses : Refusal → Shown → Type 0
+Refuses r = Says (status_of_refusal r) (refusal_line r)
 
 -- HEAPS
 
 -- the graph of a sound image, or its first fault
 abbrev pub ShowsImage : Option ℕ → ℕ → List ℕ → Option Fault → Shown → Type 0
 ShowsImage p limit input None = Says Done (graph_of p limit input)
-ShowsImage p limit input (Some f) = Says Image (image_line f)
+ShowsImage p limit input (Some f) = Refuses (ImageRefused f)
 
 abbrev pub ShowsHeaps : Option ℕ → ℕ → List ℕ → Shown → Type 0
 ShowsHeaps p limit input = ShowsImage p limit input (image_fault input)
@@ -83,38 +69,18 @@ ShowsJournal Schedules p s journal = ShowsSchedules p s journal
 -- that of a journal that has an end, or its first refused entry, or that it is short
 abbrev pub ShowsWhole : (Shown → Type 0) → Option RefusedAt → Shown → Type 0
 ShowsWhole P None = P
-ShowsWhole P (Some r) = Says Trace (refused_line r)
-
--- the limits, with the version that the trace names
-abbrev pub limits_for : Limits → TraceInput → Limits
-limits_for s t = record s { version = t.trace.version }
+ShowsWhole P (Some r) = Refuses (Entry r)
 
 abbrev pub ShowsTrace : RunView → Limits → TraceInput → Shown → Type 0
 ShowsTrace v s t = ShowsWhole (ShowsJournal v t.program (limits_for s t) t.trace.entries) (refused_as_run t.program (limits_for s t) t.trace.entries)
 
-abbrev pub ShowsFault : InputFault → Shown → Type 0
-ShowsFault (SourceFault r) = Says Source (source_line r)
-ShowsFault (BadLine n) = Says Trace (bad_line n)
-
 -- of a program with a trace, or its first fault
 abbrev pub ShowsInput : RunView → Limits → List ℕ → Option InputFault → Shown → Type 0
 ShowsInput v s input None w = (t : TraceInput) × IsInput input t × ShowsTrace v s t w
-ShowsInput v s input (Some f) w = ShowsFault f w
-
--- the most bytes of a program with a trace
-abbrev pub trace_limit : ℕ
-trace_limit = 16777216
-
--- more bytes than the limit
-abbrev pub too_long : Refused
-too_long = record { line = 0; cause = TooLong }
-
-abbrev pub ShowsWithin : Bool → RunView → Limits → List ℕ → Shown → Type 0
-ShowsWithin true v s input = ShowsInput v s input (input_fault input)
-ShowsWithin false v s input = Says Source (source_line too_long)
+ShowsInput v s input (Some f) w = Refuses (refusal_of f) w
 
 abbrev pub ShowsRun : RunView → Limits → List ℕ → Shown → Type 0
-ShowsRun v s input = ShowsWithin (nat_le (length input) trace_limit) v s input
+ShowsRun v s input = ShowsInput v s input (input_fault input)
 
 -- ALL
 

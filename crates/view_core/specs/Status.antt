@@ -2,6 +2,8 @@
 use Rattle.std.specs.Prelude.{ℕ}
 use Rattle.schedule_report.specs.declared.data.Verdict.{Verdict}
 use Rattle.schedule_report.specs.declared.data.Verdict.TheVariants.{Agree, AgreeButForPrints, MayDiffer}
+use Rattle.refusal_lines.specs.declared.refusal.Refusal.{Refusal}
+use Rattle.refusal_lines.specs.declared.refusal.Refusal.TheVariants.{Words as WordsRefused, Source as SourceRefused, Line, Entry, Image as ImageRefused}
 use Rattle.view_core.specs.declared.shown.Status.{Status}
 use Rattle.view_core.specs.declared.shown.Status.TheVariants.{Done, Words, Source, ReadFault, WriteFault, NoMemory, Trace, Differ, Image}
 
@@ -20,3 +22,10 @@ abbrev pub status_of_verdict : Verdict → Status
 status_of_verdict Agree = Done
 status_of_verdict AgreeButForPrints = Done
 status_of_verdict (MayDiffer n) = Differ
+
+abbrev pub status_of_refusal : Refusal → Status
+status_of_refusal WordsRefused = Words
+status_of_refusal (SourceRefused r) = Source
+status_of_refusal (Line n) = Trace
+status_of_refusal (Entry r) = Trace
+status_of_refusal (ImageRefused f) = Image

@@ -4,17 +4,20 @@ ghost use Rattle.std.specs.Prelude.{◌≡◌, ◌⊎◌, map, option_map, Some,
 ghost use Rattle.outside_io.specs.Fault.{HasRisen};
 ghost use Rattle.outside_io.specs.Told.{with_more};
 ghost use Rattle.all_bytes.specs.Bytes.{input_of};
+ghost use Rattle.trace_input.specs.Input.{trace_limit};
+ghost use Rattle.refusal_lines.specs.Refusals.{words_line};
 ghost use Rattle.view_line.specs.ViewLine.{Asked, asked_of, view_line};
-ghost use Rattle.view_core.specs.Shown.{Says, words_line, trace_limit, ShowsView};
+ghost use Rattle.view_core.specs.Shown.{Says, ShowsView};
 ghost use Rattle.view_core.specs.Call.{told_for, is_picture, Wrote, WroteBy, Ends};
 
-use crate::refusals::words_refused;
-use crate::runs::TRACE_LIMIT;
+use crate::refusals::refused;
 use crate::shown::{Shown, Status};
 use crate::views::show;
 use all_bytes::{ReadError, read_file, write_all};
 use outside_io::{Failed, Sink, Source};
+use refusal_lines::Refusal;
 use std::alloc::{AllocError, Global};
+use trace_input::TRACE_LIMIT;
 use view_line::{View, read_view};
 
 // The name of a file, if one is given.
@@ -81,7 +84,7 @@ fn deliver<K: Sink, E: Sink>(shown: Shown, out: &mut K, error: &mut E) -> Status
 fn refuse_words<K: Sink, E: Sink>(alloc: Global, out: &mut K, error: &mut E) -> Status
     ensures { Ends (Says Status.Words words_line) result (record { out = K.written out.old; error = E.written error.old }) (record { out = K.written out.new; error = E.written error.new }) }
 {
-    match words_refused(alloc) {
+    match refused(alloc, Refusal::Words) {
         Ok(shown) => deliver(shown, out, error),
         Err(AllocError) => Status::NoMemory,
     }

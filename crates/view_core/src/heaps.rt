@@ -3,10 +3,11 @@
 ghost use Rattle.std.specs.Prelude.{IfOk};
 ghost use Rattle.view_core.specs.Shown.{ShowsHeaps};
 
-use crate::refusals::image_refused;
+use crate::refusals::refused;
 use crate::shown::{Shown, picture};
 use heap_graph::graph_text;
 use image_check::VerifyError;
+use refusal_lines::Refusal;
 use std::alloc::{AllocError, Global};
 
 /// Shows the heaps of an image.
@@ -20,7 +21,7 @@ pub(crate) fn show_heaps(
 {
     match graph_text(alloc, path, limit, input) {
         Ok(graph) => Ok(picture(graph)),
-        Err(VerifyError::Refused(fault)) => image_refused(alloc, fault),
+        Err(VerifyError::Refused(fault)) => refused(alloc, Refusal::Image(fault)),
         Err(VerifyError::NoMemory) => Err(AllocError),
     }
 }

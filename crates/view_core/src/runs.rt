@@ -5,19 +5,17 @@ ghost use Rattle.run_ledger.specs.Journals.{refused_as_run};
 ghost use Rattle.run_journal.specs.Replay.{ReplayFails};
 ghost use Rattle.view_core.specs.Shown.{ShowsJournal, ShowsTrace, ShowsRun};
 
-use crate::refusals::{entry_refused, input_refused, too_long};
+use crate::refusals::refused;
 use crate::schedules::show_schedules;
 use crate::shown::{Shown, picture};
 use hh_lang::Program;
+use refusal_lines::Refusal;
 use run_journal::ReplayError;
 use run_timeline::timeline_text;
 use run_trace::{Entry, Settings};
 use std::alloc::{AllocError, Global};
 use task_table::table_text;
 use trace_input::{InputError, TraceInput, read_trace_input};
-
-/// The most bytes of a program with a trace.
-pub(crate) const TRACE_LIMIT: usize = 16777216;
 
 /// A view of a run.
 #[derive(Clone, Copy)]
@@ -60,7 +58,7 @@ fn show_trace(
     let journal = trace.entries.as_slice();
     match show_journal(alloc, view, program, settings, journal) {
         Ok(shown) => Ok(shown),
-        Err(ReplayError::RefusedAt(refused)) => entry_refused(alloc, refused),
+        Err(ReplayError::RefusedAt(entry)) => refused(alloc, Refusal::Entry(entry)),
         Err(ReplayError::NoMemory) => Err(AllocError),
     }
 }
@@ -74,12 +72,9 @@ pub(crate) fn show_run(
 ) -> Result<Shown, AllocError>
     ensures { IfOk result (ShowsRun view settings input.now) }
 {
-    if input.len() > TRACE_LIMIT {
-        return too_long(alloc);
-    }
     match read_trace_input(alloc, input) {
         Ok(read) => show_trace(alloc, view, settings, &read),
-        Err(InputError::Fault(fault)) => input_refused(alloc, fault),
+        Err(InputError::Fault(fault)) => refused(alloc, Refusal::of_input(fault)),
         Err(InputError::NoMemory) => Err(AllocError),
     }
 }

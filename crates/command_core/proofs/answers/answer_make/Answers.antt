@@ -1,7 +1,7 @@
 use Rattle.std.proofs.Common.{◌∙◌, sym, subst}
 use Rattle.std.proofs.lemmas.Result.{IfOk-weaker}
-use Rattle.command_core.specs.Answers.{AnswersMake}
-use Rattle.command_core.proofs.Traces.{made_run, text_made}
+use Rattle.command_answers.specs.Answers.{AnswersMake}
+use Rattle.command_answers.proofs.Traces.{made_run, text_made}
 use Rattle.command_core.proofs.answers.answer_make.Goals as goal
 
 pub returns-then-run-clause-answer : goal.returns-then-run-clause-answer

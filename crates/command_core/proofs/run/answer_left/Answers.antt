@@ -1,6 +1,6 @@
 use Rattle.std.proofs.Common.{sym, ap, ◌∙◌}
 use Rattle.std.proofs.lemmas.Result.{IfErr-weaker, IfOk-weaker}
-use Rattle.command_core.specs.Delivery.{left_of}
+use Rattle.command_answers.specs.Delivery.{left_of}
 use Rattle.command_core.proofs.run.answer_left.Goals as goal
 
 pub answer_ended-requires : goal.answer_ended-requires

@@ -1,9 +1,12 @@
 use Rattle.std.proofs.Common.{sym, subst, ◌∙◌, ◌≡◌}
-use Rattle.std.specs.Prelude.{IfSome, Option, Some}
+use Rattle.std.specs.Prelude.{IfOk, IfSome, Option, Some}
 use Rattle.std.proofs.lemmas.Result.{IfErr-weaker, IfOk-weaker}
 use Rattle.run_ledger.specs.Journals.{end_of}
 use Rattle.shared_value.specs.World.{World}
 use Rattle.worker_run.specs.Outcomes.{IsRun, finish_of}
+use Rattle.run_report.specs.declared.whole.Extras.{Extras}
+use Rattle.command_answers.specs.Answers.{extras_of}
+use Rattle.command_core.specs.Left.{AnswersLeft}
 use Rattle.command_core.proofs.Runs.{left_wanted, told_end, workers_run}
 use Rattle.command_core.proofs.run.answer_program.Goals as goal
 
@@ -21,7 +24,8 @@ returns-clause-answer g c =
     let p = c.args.program.now in
     let s = c.args.options.settings in
     IfOk-weaker c.answer_left.result _ _
-    (λ a h. workers_run p s c.args.options.report c.args.options.trace h.0 a (subst (λ (x : Option World). IfSome x (IsRun p s)) h.2 c.run_on_workers-outcome.ensures.run) h.4) c.answer_left.ensures.answer
+    (λ a h. workers_run p s (extras_of c.args.options) h.0 a (subst (λ (x : Option World). IfSome x (IsRun p s)) h.2 c.run_on_workers-outcome.ensures.run) h.4)
+    (subst (λ (x : Extras). IfOk c.answer_left.result (AnswersLeft c.run_on_workers-outcome.result x)) c.extras_of.ensures c.answer_left.ensures.answer)
 
 pub returns-clause-wanted : goal.returns-clause-wanted
 returns-clause-wanted g c =

@@ -1,7 +1,7 @@
-use Rattle.command_core.specs.declared.answer.Status.TheVariants.{ReadFault, NoMemory}
-use Rattle.command_core.specs.Input.{limit_of}
-use Rattle.command_core.specs.Answers.{AnswersLine, LeavesLine}
-use Rattle.command_core.proofs.Deliveries.{some_silent}
+use Rattle.command_answers.specs.declared.answer.Status.TheVariants.{ReadFault, NoMemory}
+use Rattle.command_answers.specs.Input.{limit_of}
+use Rattle.command_answers.specs.Answers.{AnswersLine, LeavesLine}
+use Rattle.command_answers.proofs.Deliveries.{some_silent}
 use Rattle.command_core.proofs.top_call.command.Goals as goal
 
 pub returns-in-Err-clause-some_input : goal.returns-in-Err-clause-some_input

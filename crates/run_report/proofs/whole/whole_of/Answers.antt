@@ -7,5 +7,5 @@ returns-in-Ok-clause-text c =
     let counted = c.args.counted.now in
     c.from_vec.ensures
     ∙ (c.in-Ok.ensures
-    ∙ whole_text counted.book.program c.args.settings c.args.journal.now c.args.report c.args.trace _ counted.book.ledger counted.totals c.in-Some.end c.version.ensures
+    ∙ whole_text counted.book.program c.args.settings c.args.journal.now c.args.extras.report c.args.extras.trace _ counted.book.ledger counted.totals c.in-Some.end c.version.ensures
     c.requires.ledger c.requires.totals (sym c.in-Some.ensures))

@@ -17,7 +17,7 @@ returns-clause-end c =
 
 pub returns-clause-text : goal.returns-clause-text
 returns-clause-text c =
-    subst (λ (o : Opened). IfOk c.whole_of-whole.result (λ run. run.text ≡ out_text o.program c.args.settings c.args.report c.args.trace c.args.journal.now)) c.in_ok-counted.ensures.book
+    subst (λ (o : Opened). IfOk c.whole_of-whole.result (λ run. run.text ≡ out_text o.program c.args.settings c.args.extras.report c.args.extras.trace c.args.journal.now)) c.in_ok-counted.ensures.book
     c.whole_of-whole.ensures.text
 
 pub returns-clause-fails : goal.returns-clause-fails

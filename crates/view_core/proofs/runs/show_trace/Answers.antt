@@ -12,6 +12,6 @@ returns-in-Ok c =
 
 pub returns-in-Err-RefusedAt : goal.returns-in-Err-RefusedAt
 returns-in-Err-RefusedAt c =
-    IfOk-weaker c.entry_refused.result _ _
-    (λ w h. trace_told c.args.view c.args.settings c.args.read.now c.with_version-settings.result c.as_slice-journal.result.now (Some c.in-Err-RefusedAt.refused) w
-    c.with_version-settings.ensures c.as_slice-journal.ensures (search rules) h) c.entry_refused.ensures
+    IfOk-weaker c.refused.result _ _
+    (λ w h. trace_told c.args.view c.args.settings c.args.read.now c.with_version-settings.result c.as_slice-journal.result.now (Some c.in-Err-RefusedAt.entry) w
+    c.with_version-settings.ensures c.as_slice-journal.ensures (search rules) h) c.refused.ensures

@@ -1,0 +1,11 @@
+pub mod Runs
+pub mod Traces
+pub mod ImagesTold
+pub mod Imaged
+pub mod Answered
+pub mod Deliveries
+pub mod Given
+pub mod Alike
+pub mod Raceless
+pub mod Headline
+pub mod Taken

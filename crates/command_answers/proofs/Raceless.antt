@@ -1,0 +1,74 @@
+-- A trace without races is never one of an entangled run.
+use Rattle.std.proofs.Common.{◌≡◌, ◌≢◌, ◌∙◌, ℕ, List, [], ◌∷◌, sym, subst}
+use Rattle.std.specs.Prelude.{Option, Some, None}
+use Rattle.hh_lang.specs.Form.{ProgramText}
+use Rattle.hh_model.specs.declared.data.End.{End}
+use Rattle.hh_model.specs.declared.data.End.TheVariants.{Done as IsDone, Trapped, Entangled as Stopped}
+use Rattle.run_trace.specs.Entry.{Event}
+use Rattle.run_trace.specs.Settings.{Limits, field_limit}
+use Rattle.trace_input.specs.declared.input.InputFault.{InputFault}
+use Rattle.trace_input.specs.declared.input.InputFault.TheVariants.{Source as InProgram, BadLine}
+use Rattle.trace_input.specs.declared.input.TraceInput.{TraceInput}
+use Rattle.trace_input.specs.Input.{input_fault, limits_for}
+use Rattle.run_ledger.specs.declared.data.RefusedAt.{RefusedAt}
+use Rattle.run_ledger.specs.declared.data.RunEnd.{RunEnd}
+use Rattle.run_ledger.specs.declared.data.RunEnd.TheVariants.{Machine, Fuel as FuelEnd, Pool as PoolEnd}
+use Rattle.run_ledger.specs.Journals.{end_of, machine_of, refused_as_run, tasks_of}
+use Rattle.race_report.specs.declared.data.Race.{Race}
+use Rattle.race_report.specs.Accesses.{accesses}
+use Rattle.race_report.specs.Report.{IsReport}
+use Rattle.race_report.proofs.Raceless.{raceless_journals_are_disentangled}
+use Rattle.refusal_lines.specs.Refusals.{refusal_of}
+use Rattle.command_line.specs.declared.line.Options.{Options}
+use Rattle.command_answers.specs.declared.answer.Status.{Status}
+use Rattle.command_answers.specs.declared.answer.Status.TheVariants.{Done, Entangled}
+use Rattle.command_answers.specs.declared.answer.Answer.{Answer}
+use Rattle.command_answers.specs.Status.{status_of_end}
+use Rattle.command_answers.specs.Answers.{AnswersTrace, IsRaceAnswer, IsReplay, IsText, Refuses, WhereTraced, WhereWhole, races_status}
+use Rattle.command_answers.specs.Laws.{RacelessAreDisentangled}
+use Rattle.command_answers.proofs.Alike.{same_input}
+
+-- a text with another status isn't one that is done
+no_text : (named : Status) (bytes : List ℕ) (a : Answer) → named ≢ Done → IsText named bytes a → a.status ≡ Done → ⊥
+no_text named bytes a other h done = other (sym h.status ∙ done)
+
+no_fault : (f : InputFault) (a : Answer) → Refuses (refusal_of f) a → a.status ≡ Done → ⊥
+no_fault (InProgram r) a h done = no_text _ _ a (λ e. cc) h done
+no_fault (BadLine n) a h done = no_text _ _ a (λ e. cc) h done
+
+none_told : (races : List Race) → races_status races ≡ Done → races ≡ []
+none_told [] e = cc
+none_told (r ∷ rs) e = absurd cc
+
+-- who is stopped by another's object, where the status says that someone was
+module _ (p : ProgramText) (s : Limits) (entries : List Event) (report : IsReport (machine_of p s entries).edges (accesses p (field_limit s.version) (tasks_of entries)) []) where
+  never : (e : RunEnd) → end_of p s entries ≡ Some e → status_of_end e ≡ Entangled → ⊥
+  never (Machine IsDone) h is = absurd cc
+  never (Machine (Trapped kind t at)) h is = absurd cc
+  never (Machine (Stopped t owner)) h is = raceless_journals_are_disentangled p s entries t owner report h
+  never (FuelEnd steps) h is = absurd cc
+  never (PoolEnd chunks) h is = absurd cc
+
+module _ (o : Options) (a b : Answer) (done : a.status ≡ Done) (stopped : b.status ≡ Entangled) where
+  runs : (p : ProgramText) (s : Limits) (entries : List Event) → IsRaceAnswer p s entries a → IsReplay o p s entries b → ⊥
+  runs p s entries h k =
+      let none : h.races ≡ [] = none_told h.races (sym h.text.status ∙ done) in
+      let report : IsReport (machine_of p s entries).edges (accesses p (field_limit s.version) (tasks_of entries)) [] =
+      subst (λ (rs : List Race). IsReport (machine_of p s entries).edges (accesses p (field_limit s.version) (tasks_of entries)) rs) none h.report in
+      never p s entries report k.0.end (subst (λ (j : List Event). end_of p s j ≡ Some k.0.end) k.1 k.0.ended) (sym k.0.status ∙ stopped)
+
+  wholes : (p : ProgramText) (s : Limits) (entries : List Event) (r : Option RefusedAt) → WhereWhole (IsRaceAnswer p s entries) r a → WhereWhole (IsReplay o p s entries) r b → ⊥
+  wholes p s entries None h k = runs p s entries h k
+  wholes p s entries (Some r) h k = no_text _ _ a (λ e. cc) h done
+
+  traces : (input : List ℕ) (f : Option InputFault) → WhereTraced (AnswersTrace IsRaceAnswer o.settings) input f a → WhereTraced (AnswersTrace (IsReplay o) o.settings) input f b → ⊥
+  traces input (Some f) h k = no_fault f a h done
+  traces input None h k =
+      let t = h.0 in
+      let l = limits_for o.settings t in
+      wholes t.program l t.trace.entries (refused_as_run t.program l t.trace.entries) h.2
+      (subst (λ (u : TraceInput). AnswersTrace (IsReplay o) o.settings u b) (same_input input k.0 t k.1 h.1) k.2)
+
+pub raceless_are_disentangled : RacelessAreDisentangled
+raceless_are_disentangled = λ o input a b h done k stopped.
+    traces o a b done stopped input (input_fault input) h k

@@ -1,0 +1,60 @@
+-- What is answered of texts, and of programs with a trace.
+use Rattle.std.proofs.Common.{◌≡◌, ◌≤◌, ℕ, Bool, List, true, false, length, sym, subst}
+use Rattle.std.specs.Prelude.{Option, Some, Ok, nat_le}
+use Rattle.std.proofs.lemmas.Bool.{le-leb}
+use Rattle.hh_lang.specs.Form.{ProgramText}
+use Rattle.program_reader.specs.Program.{program_of, reading_of}
+use Rattle.program_make.specs.Text.{made_text}
+use Rattle.program_make.proofs.Lengths.{made_are_short}
+use Rattle.made_programs.proofs.Made.{made_are_programs}
+use Rattle.run_trace.specs.Entry.{Event}
+use Rattle.run_trace.specs.Settings.{Limits, usual_limits}
+use Rattle.trace_input.specs.declared.input.TraceInput.{TraceInput}
+use Rattle.trace_input.specs.Input.{limits_for}
+use Rattle.run_ledger.specs.declared.data.RunEnd.{RunEnd}
+use Rattle.run_ledger.specs.declared.data.RefusedAt.{RefusedAt}
+use Rattle.run_ledger.specs.Journals.{end_of, refused_as_run}
+use Rattle.run_ledger.specs.Text.{out_text}
+use Rattle.command_line.specs.declared.line.Options.{Options}
+use Rattle.command_answers.specs.declared.answer.Status.{Status}
+use Rattle.command_answers.specs.declared.answer.Status.TheVariants.{Done}
+use Rattle.command_answers.specs.declared.answer.Answer.{Answer}
+use Rattle.command_answers.specs.Status.{status_of_end}
+use Rattle.command_answers.specs.Input.{program_in, program_limit}
+use Rattle.command_answers.specs.Answers.{AnswersMake, AnswersProgram, AnswersRun, AnswersTrace, IsModelled, IsText, WhereProgram, WhereWhole, summary}
+
+-- what is answered of a journal, which is the trace's, within its limits
+pub trace_told : (P : ProgramText → Limits → List Event → Answer → Type 0) (l : Limits) (t : TraceInput) (s : Limits) (journal : List Event) (r : Option RefusedAt) (a : Answer)
+    → s ≡ limits_for l t → journal ≡ t.trace.entries → refused_as_run t.program s journal ≡ r → WhereWhole (P t.program s journal) r a → AnswersTrace P l t a
+trace_told P l t s journal r a settings entries is h =
+    subst (λ x. WhereWhole (P t.program x t.trace.entries) (refused_as_run t.program x t.trace.entries) a) settings
+    (subst (λ j. WhereWhole (P t.program s j) (refused_as_run t.program s j) a) entries
+    (subst (λ o. WhereWhole (P t.program s journal) o a) (sym is) h))
+
+-- a journal of a whole run on the machine that never collects
+pub modelled : (o : Options) (p : ProgramText) (s : Limits) (journal : List Event) (end : RunEnd) (named : Status) (bytes : List ℕ) (a : Answer) → end_of p s journal ≡ Some end
+    → named ≡ status_of_end end → bytes ≡ out_text p s o.report o.trace journal → IsText named bytes a → IsModelled o p s journal a
+modelled o p s journal end named bytes a ended status text h = record {
+  end = end;
+  ended = ended;
+  text = subst (λ n. IsText n (out_text p s o.report o.trace journal) a) status (subst (λ x. IsText named x a) text h);
+}
+
+-- a text that is a program
+program_read : (input : List ℕ) (p : ProgramText) → nat_le (length input) program_limit ≡ true → reading_of input ≡ Ok p → program_in input ≡ Ok p
+program_read input p within reads = rw within reads
+
+-- a text that was made, and is run
+pub made_run : (seed size : ℕ) (run : Bool) (s : Limits) (bytes : List ℕ) (a : Answer) → 1 ≤ size → size ≤ 1000 → run ≡ true → s ≡ usual_limits → bytes ≡ made_text seed size
+    → AnswersRun (record { settings = s; report = true; trace = false }) bytes a → AnswersMake seed size run a
+made_run seed size run s bytes a some most runs usual is h =
+    let whole : AnswersRun summary (made_text seed size) a = subst (λ l. AnswersRun (record { settings = l; report = true; trace = false }) (made_text seed size) a) usual (subst (λ x. AnswersRun (record { settings = s; report = true; trace = false }) x a) is h) in
+    subst (λ b. AnswersMake seed size b a) (sym runs)
+    (subst (λ r. WhereProgram (AnswersProgram summary) r a)
+    (program_read (made_text seed size) (program_of (made_text seed size))
+    (le-leb (length (made_text seed size)) program_limit (made_are_short seed size most)) (made_are_programs seed size some most))
+    whole)
+
+-- a text that was made
+pub text_made : (seed size : ℕ) (bytes : List ℕ) (a : Answer) → bytes ≡ made_text seed size → IsText Done bytes a → AnswersMake seed size false a
+text_made seed size bytes a is h = subst (λ x. IsText Done x a) is h

@@ -1,0 +1,16 @@
+use Rattle.std.proofs.Common.{◌≡◌, List, ap, subst, sym}
+use Rattle.std.proofs.lemmas.Result.{IfOk-weaker}
+use Rattle.run_trace.specs.Entry.{Event}
+use Rattle.refusal_lines.specs.declared.refusal.Refusal.TheVariants.{Entry}
+use Rattle.command_answers.specs.Answers.{Refuses, short_of}
+use Rattle.command_answers.proofs.Imaged.{image_ended, image_short}
+use Rattle.command_answers.proofs.imaging.answer_made.Goals as goal
+
+pub returns-in-None : goal.returns-in-None
+returns-in-None c =
+    IfOk-weaker c.trace_short.result _ _ (λ a h. image_short c.args.shared.now a c.stands.ensures (sym c.in-None.ensures)
+    (subst (λ (j : List Event). Refuses (Entry (short_of j)) a) c.journal.ensures h)) c.trace_short.ensures
+
+pub returns-in-Some : goal.returns-in-Some
+returns-in-Some c =
+    IfOk-weaker c.answer_drawn.result _ _ (λ a h. image_ended c.args.shared.now _ h.0 a c.stands.ensures (sym c.in-Some.ensures) h.1 h.2) c.answer_drawn.ensures

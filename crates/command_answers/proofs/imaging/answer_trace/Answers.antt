@@ -1,0 +1,29 @@
+use Rattle.std.proofs.Common.{◌≡◌, ◌∙◌, ap, rules, subst}
+use Rattle.std.specs.Prelude.{Some}
+use Rattle.std.proofs.lemmas.Result.{IfOk-weaker}
+use Rattle.run_ledger.specs.Journals.{first_refused}
+use Rattle.run_ledger.specs.declared.data.RefusedAt.{RefusedAt}
+use Rattle.shared_value.specs.World.{World}
+use Rattle.refusal_lines.specs.declared.refusal.Refusal.TheVariants.{Entry}
+use Rattle.command_answers.specs.Answers.{IsImaged, Refuses}
+use Rattle.command_answers.proofs.Imaged.{imaged}
+use Rattle.command_answers.proofs.Runs.{refused_first}
+use Rattle.command_answers.proofs.Traces.{trace_told}
+use Rattle.command_answers.proofs.imaging.answer_trace.Goals as goal
+
+pub returns-in-Ok : goal.returns-in-Ok
+returns-in-Ok c =
+    let is = c.into_shared-shared.ensures in
+    let has = c.in-Ok.ensures.replayed in
+    IfOk-weaker c.answer_made.result _ _
+    (λ a h. imaged c.args.settings c.args.read.now c.with_version-settings.result c.as_slice.result.now c.into_shared-shared.result a c.with_version-settings.ensures c.as_slice.ensures
+    (ap (λ (w : World). w.program) is ∙ has.program) (ap (λ (w : World). w.settings) is ∙ has.settings) (ap (λ (w : World). w.journal.items) is ∙ has.journal) h) c.answer_made.ensures
+
+pub returns-in-Err-RefusedAt : goal.returns-in-Err-RefusedAt
+returns-in-Err-RefusedAt c =
+    let stopped : first_refused c.args.read.now.program c.with_version-settings.result c.as_slice.result.now ≡ Some c.in-Err-RefusedAt.entry = search rules in
+    IfOk-weaker c.refused.result _ _
+    (λ a h. trace_told IsImaged c.args.settings c.args.read.now c.with_version-settings.result c.as_slice.result.now (Some c.in-Err-RefusedAt.entry) a
+    c.with_version-settings.ensures c.as_slice.ensures
+    (refused_first c.args.read.now.program c.with_version-settings.result c.as_slice.result.now c.in-Err-RefusedAt.entry stopped)
+    (subst (λ (r : RefusedAt). Refuses (Entry r) a) c.in-Err-RefusedAt.entry-is h)) c.refused.ensures

@@ -1,0 +1,5 @@
+use Rattle.command_answers.proofs.Given as given
+use Rattle.command_answers.proofs.laws.made_are_run.Goals as goal
+
+pub returns : goal.returns
+returns c = given.made_are_run

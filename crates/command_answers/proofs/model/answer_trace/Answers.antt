@@ -1,0 +1,23 @@
+use Rattle.std.proofs.Common.{◌∙◌, ap, rules}
+use Rattle.std.specs.Prelude.{Some, None}
+use Rattle.std.proofs.lemmas.Result.{IfOk-weaker}
+use Rattle.run_ledger.specs.Text.{out_text}
+use Rattle.run_report.specs.declared.whole.Extras.{Extras}
+use Rattle.command_answers.specs.Answers.{IsModelled}
+use Rattle.command_answers.proofs.Traces.{modelled, trace_told}
+use Rattle.command_answers.proofs.model.answer_trace.Goals as goal
+
+pub returns-in-Ok : goal.returns-in-Ok
+returns-in-Ok c =
+    trace_told (IsModelled c.args.options) c.args.options.settings c.args.read.now c.with_version-settings.result c.as_slice-journal.result.now None c.bytes_alone.result
+    c.with_version-settings.ensures c.as_slice-journal.ensures (search rules)
+    (modelled c.args.options c.args.read.now.program c.with_version-settings.result c.as_slice-journal.result.now c.in-Ok.run'.end c.of_end.result c.in-Ok.run'.text c.bytes_alone.result
+    (search rules) c.of_end.ensures
+    (c.in-Ok.ensures.text ∙ ap (λ (x : Extras). out_text c.args.read.now.program c.with_version-settings.result x.report x.trace c.as_slice-journal.result.now) c.extras_of.ensures)
+    c.bytes_alone.ensures)
+
+pub returns-in-Err-RefusedAt : goal.returns-in-Err-RefusedAt
+returns-in-Err-RefusedAt c =
+    IfOk-weaker c.refused.result _ _
+    (λ a h. trace_told (IsModelled c.args.options) c.args.options.settings c.args.read.now c.with_version-settings.result c.as_slice-journal.result.now (Some c.in-Err-RefusedAt.entry) a
+    c.with_version-settings.ensures c.as_slice-journal.ensures (search rules) h) c.refused.ensures

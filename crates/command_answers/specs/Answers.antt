@@ -1,0 +1,239 @@
+-- What each command answers to its input: the bytes, the status, and what is handed back.
+use Rattle.std.specs.Prelude.{◌≡◌, ◌+◌, ℕ, true, false, Bool, Option, Some, None, List, [], ◌∷◌, Result, Ok, Err, length, codes}
+use Rattle.std.specs.Fmt.{decimal}
+use Rattle.hh_lang.specs.Form.{ProgramText}
+use Rattle.program_reader.specs.declared.cause.Refused.{Refused}
+use Rattle.program_reader.specs.Program.{program_of}
+use Rattle.program_make.specs.Text.{made_text}
+use Rattle.run_trace.specs.Settings.{Limits, field_limit, usual_limits}
+use Rattle.run_trace.specs.Entry.{Event}
+use Rattle.trace_input.specs.declared.input.InputFault.{InputFault}
+use Rattle.trace_input.specs.declared.input.TraceInput.{TraceInput}
+use Rattle.trace_input.specs.Input.{input_fault, limits_for, IsInput}
+use Rattle.run_ledger.specs.declared.data.RunEnd.{RunEnd}
+use Rattle.run_ledger.specs.declared.data.Refused.TheVariants.{Short}
+use Rattle.run_ledger.specs.declared.data.RefusedAt.{RefusedAt}
+use Rattle.run_ledger.specs.Journals.{end_of, refused_as_run, machine_of, tasks_of}
+use Rattle.run_ledger.specs.Text.{end_line, out_text}
+use Rattle.run_report.specs.declared.whole.Extras.{Extras}
+use Rattle.race_report.specs.declared.data.Race.{Race}
+use Rattle.race_report.specs.Accesses.{accesses}
+use Rattle.race_report.specs.Report.{IsReport}
+use Rattle.race_report.specs.Text.{races_text}
+use Rattle.shared_value.specs.World.{World}
+use Rattle.shared_value.specs.Stands.{IsWorld}
+use Rattle.world_core.specs.Whole.{Whole}
+use Rattle.world_core.specs.declared.replaying.ReplayStop.{ReplayStop}
+use Rattle.world_core.specs.declared.replaying.ReplayStop.TheVariants.{RefusedAt as Stops, NoMemory as WantsMemory}
+use Rattle.image_check.specs.declared.cause.Fault.{Fault}
+use Rattle.image_check.specs.Fault.{image_fault, objects_in}
+use Rattle.heap_image.specs.declared.picture.Picture.{Picture}
+use Rattle.heap_image.specs.Picture.{IsSoundPicture}
+use Rattle.heap_image.specs.Text.{text_of}
+use Rattle.shared_image.specs.Drawn.{IsPictureOf}
+use Rattle.refusal_lines.specs.declared.refusal.Refusal.{Refusal}
+use Rattle.refusal_lines.specs.declared.refusal.Refusal.TheVariants.{Words, Source, Entry, Image as ImageRefused}
+use Rattle.refusal_lines.specs.Refusals.{refusal_line, refusal_of}
+use Rattle.command_line.specs.declared.line.Options.{Options}
+use Rattle.command_line.specs.declared.line.CommandLine.{CommandLine}
+use Rattle.command_line.specs.declared.line.CommandLine.TheVariants.{Check, Run, Replay, Model, Races, Image as ImageOf, Make, Verify}
+use Rattle.command_answers.specs.declared.answer.Status.{Status}
+use Rattle.command_answers.specs.declared.answer.Status.TheVariants.{Done, Races as RacesFound}
+use Rattle.command_answers.specs.declared.answer.Answer.{Answer}
+use Rattle.command_answers.specs.Status.{status_of_end, status_of_refusal}
+use Rattle.command_answers.specs.Input.{program_in}
+use Rattle.command_answers.specs.Runs.{IsReplayedRun, IsWorkersRun, LeavesPaced, LeavesPrefix}
+
+-- bytes alone; nothing of a run is handed back
+pub record IsText (named : Status) (bytes : List ℕ) (a : Answer) : Type 0 where
+  pub status : a.status ≡ named
+  pub written : a.bytes ≡ bytes
+  pub journal : a.journal ≡ []
+  pub shared : a.shared ≡ None
+
+-- REFUSALS
+
+-- of words, or of an input
+abbrev pub Refuses : Refusal → Answer → Type 0
+Refuses r = IsText (status_of_refusal r) (refusal_line r)
+
+-- of words that are no command line
+abbrev pub AnswersWords : Answer → Type 0
+AnswersWords = Refuses Words
+
+-- PROGRAMS
+
+-- an input that is a program is answered so, and any other by its first fault
+abbrev pub WhereProgram : (ProgramText → Answer → Type 0) → Result ProgramText Refused → Answer → Type 0
+WhereProgram P (Ok p) = P p
+WhereProgram P (Err r) = Refuses (Source r)
+
+abbrev pub AnswersText : (ProgramText → Answer → Type 0) → List ℕ → Answer → Type 0
+AnswersText P input = WhereProgram P (program_in input)
+
+-- CHECK
+
+abbrev pub AnswersCheck : List ℕ → Answer → Type 0
+AnswersCheck = AnswersText (λ p. IsText Done (end_line (codes "accepted" ∷ [])))
+
+-- RUN
+
+-- what is written beside the outputs and the end line
+abbrev pub extras_of : Options → Extras
+extras_of o = record { report = o.report; trace = o.trace }
+
+abbrev pub AnswersProgram : Options → ProgramText → Answer → Type 0
+AnswersProgram o p = IsWorkersRun p o.settings (extras_of o)
+
+abbrev pub AnswersRun : Options → List ℕ → Answer → Type 0
+AnswersRun o = AnswersText (AnswersProgram o)
+
+-- PROGRAMS WITH A TRACE
+
+-- a journal that isn't refused, but has no end, is short
+abbrev pub short_of : List Event → RefusedAt
+short_of journal = record { index = length journal + 1; cause = Short }
+
+-- a journal of a whole run is answered so, and any other by its first refused entry, or as short
+abbrev pub WhereWhole : (Answer → Type 0) → Option RefusedAt → Answer → Type 0
+WhereWhole P None = P
+WhereWhole P (Some r) = Refuses (Entry r)
+
+abbrev pub AnswersTrace : (ProgramText → Limits → List Event → Answer → Type 0) → Limits → TraceInput → Answer → Type 0
+AnswersTrace P s t = WhereWhole (P t.program (limits_for s t) t.trace.entries) (refused_as_run t.program (limits_for s t) t.trace.entries)
+
+abbrev pub WhereTraced : (TraceInput → Answer → Type 0) → List ℕ → Option InputFault → Answer → Type 0
+WhereTraced P input None a = (t : TraceInput) × IsInput input t × P t a
+WhereTraced P input (Some f) a = Refuses (refusal_of f) a
+
+abbrev pub AnswersTraced : (ProgramText → Limits → List Event → Answer → Type 0) → Limits → List ℕ → Answer → Type 0
+AnswersTraced P s input = WhereTraced (AnswersTrace P s) input (input_fault input)
+
+-- REPLAY
+
+abbrev pub IsReplay : Options → ProgramText → Limits → List Event → Answer → Type 0
+IsReplay o p s entries = IsReplayedRun p s (extras_of o) entries
+
+abbrev pub AnswersReplay : Options → List ℕ → Answer → Type 0
+AnswersReplay o = AnswersTraced (IsReplay o) o.settings
+
+-- what is answered where a replay has come so far: nothing of an answer where memory was wanting
+abbrev pub AnswersReplayed : Extras → Result Whole ReplayStop → Answer → Type 0
+AnswersReplayed extras (Ok x) a =
+    WhereWhole (IsReplayedRun x.shared.program x.shared.settings extras x.shared.journal.items) (refused_as_run x.shared.program x.shared.settings x.shared.journal.items) a
+AnswersReplayed extras (Err (Stops r)) a = Refuses (Entry r) a
+AnswersReplayed extras (Err (WantsMemory x)) a = ⊥
+
+-- the shared values that it leaves stand
+abbrev pub StandsReplayed : Result Whole ReplayStop → Type 0
+StandsReplayed (Ok x) = IsWorld x.shared
+StandsReplayed (Err (Stops r)) = Unit {0}
+StandsReplayed (Err (WantsMemory None)) = Unit {0}
+StandsReplayed (Err (WantsMemory (Some x))) = IsWorld x.shared
+
+-- MODEL writes the same, and hands back nothing
+
+pub record IsModelled (o : Options) (p : ProgramText) (s : Limits) (entries : List Event) (a : Answer) : Type 0 where
+  pub end : RunEnd
+  pub ended : end_of p s entries ≡ Some end
+  pub text : IsText (status_of_end end) (out_text p s o.report o.trace entries) a
+
+abbrev pub AnswersModel : Options → List ℕ → Answer → Type 0
+AnswersModel o = AnswersTraced (IsModelled o) o.settings
+
+-- RACES
+
+abbrev pub races_status : List Race → Status
+races_status [] = Done
+races_status (r ∷ rs) = RacesFound
+
+-- the races of a journal, each first pair, in the order of their fields
+pub record IsRaceAnswer (p : ProgramText) (s : Limits) (journal : List Event) (a : Answer) : Type 0 where
+  pub races : List Race
+  pub report : IsReport (machine_of p s journal).edges (accesses p (field_limit s.version) (tasks_of journal)) races
+  pub text : IsText (races_status races) (races_text races) a
+
+abbrev pub AnswersRaces : Limits → List ℕ → Answer → Type 0
+AnswersRaces = AnswersTraced IsRaceAnswer
+
+-- IMAGE
+
+-- the text of a sound picture of a shared value
+pub record IsImageOf (w : World) (text : List ℕ) : Type 0 where
+  pub picture : Picture
+  pub draws : IsPictureOf w picture
+  pub sound : IsSoundPicture picture
+  pub written : text ≡ text_of picture
+
+-- the image of a shared value that stands, by a run of these entries
+pub record IsImaged (p : ProgramText) (s : Limits) (entries : List Event) (a : Answer) : Type 0 where
+  pub held : World
+  pub stands : IsWorld held
+  pub program : held.program ≡ p
+  pub settings : held.settings ≡ s
+  pub journal : held.journal.items ≡ entries
+  pub image : List ℕ
+  pub shows : IsImageOf held image
+  pub text : IsText Done image a
+
+abbrev pub AnswersImaging : Limits → List ℕ → Answer → Type 0
+AnswersImaging = AnswersTraced IsImaged
+
+-- VERIFY
+
+abbrev pub AnswersImage : Option Fault → ℕ → Answer → Type 0
+AnswersImage (Some f) objects = Refuses (ImageRefused f)
+AnswersImage None objects = IsText Done (end_line (codes "verified" ∷ decimal objects ∷ []))
+
+abbrev pub AnswersVerify : List ℕ → Answer → Type 0
+AnswersVerify input = AnswersImage (image_fault input) (objects_in input)
+
+-- MAKE
+
+-- the report is asked for, with the usual limits
+abbrev pub summary : Options
+summary = record { settings = usual_limits; report = true; trace = false }
+
+-- the text, or a whole run of its program: no text that is made is refused
+abbrev pub AnswersMake : ℕ → ℕ → Bool → Answer → Type 0
+AnswersMake seed size false = IsText Done (made_text seed size)
+AnswersMake seed size true = AnswersProgram summary (program_of (made_text seed size))
+
+-- EACH COMMAND
+
+abbrev pub AnswersLine : CommandLine → List ℕ → Answer → Type 0
+AnswersLine (Check file) input = AnswersCheck input
+AnswersLine (Run file options) input = AnswersRun options input
+AnswersLine (Replay file options) input = AnswersReplay options input
+AnswersLine (Model file options) input = AnswersModel options input
+AnswersLine (Races file limits) input = AnswersRaces limits input
+AnswersLine (ImageOf file limits) input = AnswersImaging limits input
+AnswersLine (Make seed size run) input = AnswersMake seed size run
+AnswersLine (Verify file) input = AnswersVerify input
+
+-- WANT OF MEMORY AMID A RUN: what is handed back of it
+
+-- the text of this program, within the limit
+abbrev pub IsProgramInput : List ℕ → ProgramText → Type 0
+IsProgramInput input p = program_in input ≡ Ok p
+
+abbrev pub LeavesRun : Options → List ℕ → List Event → Option World → Type 0
+LeavesRun o input journal shared = (p : ProgramText) × IsProgramInput input p × LeavesPaced p o.settings journal shared
+
+abbrev pub LeavesReplay : Options → List ℕ → List Event → Option World → Type 0
+LeavesReplay o input journal shared =
+    (t : TraceInput) × IsInput input t × LeavesPrefix t.program (limits_for o.settings t) t.trace.entries journal shared
+
+-- nothing is left by what doesn't run a program
+abbrev pub LeavesNone : List Event → Option World → Type 0
+LeavesNone journal shared = ⊥
+
+abbrev pub LeavesMake : ℕ → ℕ → Bool → List Event → Option World → Type 0
+LeavesMake seed size false = LeavesNone
+LeavesMake seed size true = LeavesRun summary (made_text seed size)
+
+abbrev pub LeavesLine : CommandLine → List ℕ → List Event → Option World → Type 0
+LeavesLine (Run file options) input = LeavesRun options input
+LeavesLine (Replay file options) input = LeavesReplay options input
+LeavesLine (Make seed size run) input = LeavesMake seed size run
+LeavesLine _ input = LeavesNone

@@ -1,0 +1,95 @@
+-- How an answer reaches the sink, and what a call hands back.
+use Rattle.std.specs.Prelude.{◌≡◌, ◌⊎◌, ℕ, Option, Some, None, List, [], Result, Ok, Err, take}
+use Rattle.outside_io.specs.Told.{with_more}
+use Rattle.run_trace.specs.Entry.{Event}
+use Rattle.shared_value.specs.World.{World, without_journal}
+use Rattle.world_core.specs.Whole.{Whole}
+use Rattle.world_core.specs.declared.replaying.ReplayStop.{ReplayStop}
+use Rattle.world_core.specs.declared.replaying.ReplayStop.TheVariants.{RefusedAt, NoMemory as WantsMemory}
+use Rattle.command_line.specs.declared.line.CommandLine.{CommandLine}
+use Rattle.command_answers.specs.declared.answer.Status.{Status}
+use Rattle.command_answers.specs.declared.answer.Status.TheVariants.{ReadFault, WriteFault, NoMemory}
+use Rattle.command_answers.specs.declared.answer.Answer.{Answer}
+use Rattle.command_answers.specs.declared.answer.Ran.{Ran}
+use Rattle.command_answers.specs.declared.wanted.Wanted.{Wanted}
+use Rattle.command_answers.specs.declared.wanted.Wanted.TheVariants.{Before, Amid}
+use Rattle.command_answers.specs.Answers.{AnswersLine, AnswersWords, LeavesLine, LeavesNone}
+use Rattle.all_bytes.specs.Bytes.{WroteSome}
+
+-- nothing was written, and nothing is handed back
+abbrev pub DeliversNothing : Ran → Option (List ℕ) → Option (List ℕ) → Type 0
+DeliversNothing r before after = (r.journal ≡ []) × (r.shared ≡ None) × (after ≡ before)
+
+-- an answer was given: all its bytes were written; or the sink failed, and a first part of them was; or, before the first
+-- byte, the source failed or memory did, and nothing was written. Nothing is handed back then, unless memory was wanting amid
+-- a run: then what it leaves is
+abbrev pub DeliversBy : Status → (Answer → Type 0) → (List Event → Option World → Type 0) → Ran → Option (List ℕ) → Option (List ℕ) → Type 0
+DeliversBy ReadFault P L r before after = DeliversNothing r before after
+DeliversBy NoMemory P L r before after = DeliversNothing r before after ⊎ (L r.journal r.shared × (after ≡ before))
+DeliversBy WriteFault P L r before after =
+    (a : Answer) × (n : ℕ) × P a × (r.journal ≡ a.journal) × (r.shared ≡ a.shared) × (after ≡ with_more before (take n a.bytes))
+DeliversBy status P L r before after =
+    (a : Answer) × P a × (a.status ≡ status) × (r.journal ≡ a.journal) × (r.shared ≡ a.shared) × (after ≡ with_more before a.bytes)
+
+-- by an answer of which P is so, or what L says is left of a run
+abbrev pub Delivers : (Answer → Type 0) → (List Event → Option World → Type 0) → Ran → Option (List ℕ) → Option (List ℕ) → Type 0
+Delivers P L r before after = DeliversBy r.status P L r before after
+
+abbrev pub DeliversLine : CommandLine → List ℕ → Ran → Option (List ℕ) → Option (List ℕ) → Type 0
+DeliversLine line input = Delivers (AnswersLine line input) (LeavesLine line input)
+
+-- words that are no command line
+abbrev pub DeliversWords : Ran → Option (List ℕ) → Option (List ℕ) → Type 0
+DeliversWords = Delivers AnswersWords LeavesNone
+
+-- the statuses of answers, which are written
+abbrev pub IsAnswered : Status → Type 0
+IsAnswered ReadFault = ⊥
+IsAnswered WriteFault = ⊥
+IsAnswered NoMemory = ⊥
+IsAnswered _ = Unit {0}
+
+-- what was handed back is the answer's, and all its bytes were written, or a first part where the sink failed
+pub record Delivered (a : Answer) (r : Ran) (before after : Option (List ℕ)) : Type 0 where
+  pub journal : r.journal ≡ a.journal
+  pub shared : r.shared ≡ a.shared
+  pub written : ((r.status ≡ a.status) × (after ≡ with_more before a.bytes)) ⊎ ((r.status ≡ WriteFault) × WroteSome before after a.bytes)
+
+-- nothing was handed back
+pub record HandsNothing (named : Status) (r : Ran) : Type 0 where
+  pub status : r.status ≡ named
+  pub journal : r.journal ≡ []
+  pub shared : r.shared ≡ None
+
+-- WANT OF MEMORY in the making of an answer
+
+-- of a run that has made no entry nothing is left, and of any other all that it has come to
+abbrev pub left_of : Option World → Wanted
+left_of None = Before
+left_of (Some w) = Amid w.journal.items (without_journal w)
+
+-- what a replay leaves that has come so far; a refused entry is answered with nothing of its run
+abbrev pub left_by : Result Whole ReplayStop → Wanted
+left_by (Ok x) = left_of (Some x.shared)
+left_by (Err (RefusedAt r)) = Before
+left_by (Err (WantsMemory None)) = Before
+left_by (Err (WantsMemory (Some x))) = left_of (Some x.shared)
+
+-- before a run began, or amid it, where this is left of it
+abbrev pub IsWanted : (List Event → Option World → Type 0) → Wanted → Type 0
+IsWanted L Before = Unit {0}
+IsWanted L (Amid journal left) = L journal (Some left)
+
+-- and what is handed back then
+abbrev pub HandsWanted : Wanted → Ran → Type 0
+HandsWanted Before r = (r.journal ≡ []) × (r.shared ≡ None)
+HandsWanted (Amid journal left) r = (r.journal ≡ journal) × (r.shared ≡ Some left)
+
+pub record Gives (w : Wanted) (r : Ran) : Type 0 where
+  pub status : r.status ≡ NoMemory
+  pub hands : HandsWanted w r
+
+-- AN ANSWER OR NONE IS GIVEN, with no other status than its own, or that of a sink that failed
+abbrev pub GivesFound : Result Answer Wanted → Ran → Option (List ℕ) → Option (List ℕ) → Type 0
+GivesFound (Ok a) r before after = Delivered a r before after
+GivesFound (Err w) r before after = Gives w r × (after ≡ before)

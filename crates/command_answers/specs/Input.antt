@@ -1,0 +1,48 @@
+-- The inputs of commands: whose bytes they are, and how many of them are read at most.
+use Rattle.std.specs.Prelude.{ℕ, Bool, true, false, List, [], Option, Some, None, Result, Err, length, nat_le, if◌then◌else◌}
+use Rattle.all_bytes.specs.Bytes.{told}
+use Rattle.hh_lang.specs.Form.{ProgramText}
+use Rattle.program_reader.specs.declared.cause.Refused.{Refused}
+use Rattle.program_reader.specs.Program.{reading_of}
+use Rattle.trace_input.specs.Input.{too_long, trace_limit}
+use Rattle.image_check.specs.Fault.{image_limit}
+use Rattle.command_line.specs.declared.line.CommandLine.{CommandLine}
+use Rattle.command_line.specs.declared.line.CommandLine.TheVariants.{Check, Run, Replay, Model, Races, Image, Make, Verify}
+
+-- the most bytes of a program's text
+abbrev pub program_limit : ℕ
+program_limit = 1048576
+
+-- the program that an input is, or why it is refused
+abbrev pub program_in : List ℕ → Result ProgramText Refused
+program_in input = if nat_le (length input) program_limit then reading_of input else Err too_long
+
+abbrev pub limit_of : CommandLine → ℕ
+limit_of (Check file) = program_limit
+limit_of (Run file options) = program_limit
+limit_of (Replay file options) = trace_limit
+limit_of (Model file options) = trace_limit
+limit_of (Races file limits) = trace_limit
+limit_of (Image file limits) = trace_limit
+limit_of (Make seed size run) = 0
+limit_of (Verify file) = image_limit
+
+-- whether a command reads an input
+abbrev pub is_reading : CommandLine → Bool
+is_reading (Make seed size run) = false
+is_reading _ = true
+
+abbrev pub reads : Option CommandLine → Bool
+reads None = false
+reads (Some line) = is_reading line
+
+-- the bytes that a source tells for a command; `make` reads none
+abbrev pub told_for : Option (List ℕ) → (List ℕ → Option (List ℕ)) → CommandLine → Option (List ℕ)
+told_for left named (Check file) = told left named file
+told_for left named (Run file options) = told left named file
+told_for left named (Replay file options) = told left named file
+told_for left named (Model file options) = told left named file
+told_for left named (Races file limits) = told left named file
+told_for left named (Image file limits) = told left named file
+told_for left named (Make seed size run) = Some []
+told_for left named (Verify file) = told left named file

@@ -1,0 +1,93 @@
+-- What the answers come to.
+use Rattle.std.specs.Prelude.{◌≡◌, ◌≢◌, ◌≤◌, ◌⊎◌, Bool, List, ℕ, Option, Some, true, length}
+use Rattle.outside_io.specs.Told.{with_more}
+use Rattle.hh_lang.specs.Form.{ProgramText}
+use Rattle.program_reader.specs.declared.cause.Refused.{Refused}
+use Rattle.program_reader.specs.Program.{program_of}
+use Rattle.program_make.specs.Text.{made_text}
+use Rattle.run_trace.specs.Settings.{Limits}
+use Rattle.trace_input.specs.declared.input.InputFault.TheVariants.{Source as SourceFault}
+use Rattle.trace_input.specs.Input.{input_fault}
+use Rattle.run_ledger.specs.declared.data.RunEnd.{RunEnd}
+use Rattle.image_check.specs.Fault.{image_limit}
+use Rattle.command_line.specs.declared.line.Options.{Options}
+use Rattle.command_line.specs.declared.line.CommandLine.{CommandLine}
+use Rattle.command_line.specs.declared.line.CommandLine.TheVariants.{Run, Replay, Model, Image, Make}
+use Rattle.command_answers.specs.declared.answer.Status.{Status}
+use Rattle.command_answers.specs.declared.answer.Status.TheVariants.{Done, Source, Entangled, ReadFault, WriteFault, NoMemory, Trace}
+use Rattle.command_answers.specs.declared.answer.Answer.{Answer}
+use Rattle.command_answers.specs.declared.answer.Ran.{Ran}
+use Rattle.command_answers.specs.Answers.{AnswersImaging, AnswersLine, AnswersModel, AnswersProgram, AnswersRaces, AnswersReplay, AnswersVerify, IsProgramInput, summary}
+use Rattle.command_answers.specs.Delivery.{DeliversLine}
+use Rattle.command_answers.specs.Status.{status_of_end}
+
+-- the answer was given with all its bytes, or memory was wanting
+abbrev pub GivesAll : (Answer → Type 0) → Ran → Option (List ℕ) → Option (List ℕ) → Type 0
+GivesAll P r before after =
+    (r.status ≡ NoMemory) ⊎ ((a : Answer) × P a × (r.status ≡ a.status) × (r.journal ≡ a.journal) × (r.shared ≡ a.shared) × (after ≡ with_more before a.bytes))
+
+-- no fault rose
+pub record NoFault (r : Ran) : Type 0 where
+  pub read : r.status ≢ ReadFault
+  pub write : r.status ≢ WriteFault
+
+-- a command and its input, and no fault
+abbrev pub NoFaultGivesAll : Type 0
+NoFaultGivesAll =
+    (line : CommandLine) (input : List ℕ) (r : Ran) (before after : Option (List ℕ)) → DeliversLine line input r before after → NoFault r
+    → GivesAll (AnswersLine line input) r before after
+
+-- so a program that is to be run is: the answer is that of a whole run
+abbrev pub ProgramsAreRun : Type 0
+ProgramsAreRun =
+    (file : Option (List ℕ)) (o : Options) (input : List ℕ) (p : ProgramText) (r : Ran) (before after : Option (List ℕ)) → IsProgramInput input p
+    → DeliversLine (Run file o) input r before after → NoFault r → GivesAll (AnswersProgram o p) r before after
+
+-- and so is one that was made
+abbrev pub MadeAreRun : Type 0
+MadeAreRun =
+    (seed size : ℕ) (input : List ℕ) (r : Ran) (before after : Option (List ℕ)) → DeliversLine (Make seed size true) input r before after → NoFault r
+    → GivesAll (AnswersProgram summary (program_of (made_text seed size))) r before after
+
+-- no made text is refused
+abbrev pub MadeAreAccepted : Type 0
+MadeAreAccepted = (seed size : ℕ) (run : Bool) (input : List ℕ) (r : Ran) (before after : Option (List ℕ)) → DeliversLine (Make seed size run) input r before after → r.status ≢ Source
+
+-- the program of a text with a trace has no fault
+abbrev pub HasProgram : List ℕ → Type 0
+HasProgram input = (r : Refused) → input_fault input ≢ Some (SourceFault r)
+
+-- the status is that of an end of a run
+abbrev pub IsEnd : Status → Type 0
+IsEnd status = (e : RunEnd) × (status ≡ status_of_end e)
+
+-- a replay of a program, on the core or on the machine that never collects, tells an end of its run, or refuses the trace
+abbrev pub TracesAreReplayed : Type 0
+TracesAreReplayed =
+    (file : Option (List ℕ)) (o : Options) (input : List ℕ) (r : Ran) (before after : Option (List ℕ)) → HasProgram input
+    → (DeliversLine (Replay file o) input r before after ⊎ DeliversLine (Model file o) input r before after) → NoFault r
+    → (r.status ≡ NoMemory) ⊎ ((r.status ≡ Trace) ⊎ IsEnd r.status)
+
+-- the heaps that a trace leaves are drawn, whatever its end, or the trace is refused
+abbrev pub TracesAreDrawn : Type 0
+TracesAreDrawn =
+    (file : Option (List ℕ)) (l : Limits) (input : List ℕ) (r : Ran) (before after : Option (List ℕ)) → HasProgram input → DeliversLine (Image file l) input r before after → NoFault r
+    → (r.status ≡ NoMemory) ⊎ ((r.status ≡ Trace) ⊎ (r.status ≡ Done))
+
+-- what `image` writes of a whole run is verified by `verify`, unless it is too long for it
+abbrev pub ImagesAreVerified : Type 0
+ImagesAreVerified =
+    (s : Limits) (input : List ℕ) (a b : Answer) → AnswersImaging s input a → a.status ≡ Done → length a.bytes ≤ image_limit → AnswersVerify a.bytes b → b.status ≡ Done
+
+-- two answers write the same, with the same status
+pub record AreAlike (a b : Answer) : Type 0 where
+  pub status : a.status ≡ b.status
+  pub bytes : a.bytes ≡ b.bytes
+
+-- `model` writes what `replay` writes
+abbrev pub ModelWritesTheSame : Type 0
+ModelWritesTheSame = (o : Options) (input : List ℕ) (a b : Answer) → AnswersReplay o input a → AnswersModel o input b → AreAlike a b
+
+-- a trace of which `races` tells no race is never one of an entangled run
+abbrev pub RacelessAreDisentangled : Type 0
+RacelessAreDisentangled = (o : Options) (input : List ℕ) (a b : Answer) → AnswersRaces o.settings input a → a.status ≡ Done → AnswersReplay o input b → b.status ≢ Entangled

@@ -1,0 +1,7 @@
+pub mod Status
+pub mod Input
+pub mod Runs
+pub mod Answers
+pub mod Delivery
+pub mod Laws
+pub mod Headline

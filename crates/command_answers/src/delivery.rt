@@ -1,0 +1,60 @@
+// Writes an answer.
+
+ghost use Rattle.std.specs.Prelude.{◌≡◌};
+ghost use Rattle.outside_io.specs.Fault.{HasRisen};
+ghost use Rattle.command_answers.specs.Delivery.{IsAnswered, Delivered, Gives, HandsNothing};
+
+use crate::answer::{Answer, Ran, Status};
+use crate::wanted::Wanted;
+use all_bytes::write_all;
+use listed::Listed;
+use outside_io::{Failed, Sink};
+use std::alloc::Global;
+
+/// What is handed back where nothing was answered.
+pub fn nothing(alloc: Global, status: Status) -> Ran
+    ensures { HandsNothing status result }
+{
+    Ran {
+        status,
+        journal: Listed::new(alloc),
+        shared: None,
+    }
+}
+
+/// What is handed back for want of memory.
+pub fn hand_back(alloc: Global, wanted: Wanted) -> Ran
+    ensures { Gives wanted result }
+{
+    match wanted {
+        Wanted::Before => nothing(alloc, Status::NoMemory),
+        Wanted::Amid(journal, left) => Ran {
+            status: Status::NoMemory,
+            journal,
+            shared: Some(left),
+        },
+    }
+}
+
+/// Writes an answer.
+pub fn deliver<K: Sink>(answer: Answer, sink: &mut K) -> Ran
+    requires { IsAnswered answer.status }
+    ensures delivered { Delivered answer result (K.written sink.old) (K.written sink.new) }
+    ensures fault { result.status ≡ Status.WriteFault → HasRisen (K.faults sink.old) (K.faults sink.new) }
+{
+    let Answer {
+        status,
+        bytes,
+        journal,
+        shared,
+    } = answer;
+    let status = match write_all(sink, bytes.as_slice()) {
+        Ok(()) => status,
+        Err(Failed) => Status::WriteFault,
+    };
+    Ran {
+        status,
+        journal,
+        shared,
+    }
+}

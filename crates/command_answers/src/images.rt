@@ -1,0 +1,34 @@
+// The answer of `verify`.
+
+ghost use Rattle.std.specs.Prelude.{◌≡◌, ◌∷◌, [], codes, IfOk};
+ghost use Rattle.std.specs.String.{string_bytes};
+ghost use Rattle.std.specs.Fmt.{decimal};
+ghost use Rattle.run_ledger.specs.Text.{end_line};
+ghost use Rattle.command_answers.specs.Answers.{AnswersVerify};
+
+use crate::answer::{Answer, Status};
+use crate::refusals::{refused, text_alone};
+use image_check::{VerifyError, verify};
+use refusal_lines::Refusal;
+use std::alloc::{AllocError, Global};
+
+// The end line of an image of so many objects.
+fn verified_line(alloc: Global, objects: u64) -> Result<String, AllocError>
+    ensures { IfOk result (λ text. string_bytes text ≡ end_line (codes "verified" ∷ decimal objects ∷ [])) }
+{
+    format!(in alloc; "end: verified {objects}\n")
+}
+
+/// Checks an image.
+pub fn answer_verify(alloc: Global, input: &[u8]) -> Result<Answer, AllocError>
+    ensures { IfOk result (AnswersVerify input.now) }
+{
+    match verify(alloc, input) {
+        Ok(objects) => {
+            let text = verified_line(alloc, objects)?;
+            Ok(text_alone(alloc, Status::Done, text))
+        }
+        Err(VerifyError::Refused(fault)) => refused(alloc, Refusal::Image(fault)),
+        Err(VerifyError::NoMemory) => Err(AllocError),
+    }
+}

@@ -1,0 +1,62 @@
+// The answer of `image`.
+
+ghost use Rattle.std.specs.Prelude.{List, ℕ, IfOk};
+ghost use Rattle.run_ledger.specs.Journals.{refused_as_run};
+ghost use Rattle.command_answers.specs.Answers.{AnswersImaging, AnswersTrace, IsImageOf, IsImaged, IsText, WhereWhole};
+
+use crate::answer::{Answer, Status};
+use crate::refusals::{bytes_alone, refused, trace_short};
+use listed::Listed;
+use refusal_lines::Refusal;
+use run_trace::Settings;
+use shared_image::image_text;
+use shared_tree::Shared;
+use std::alloc::{AllocError, Global};
+use trace_input::{InputError, TraceInput, read_trace_input};
+use world_core::{ReplayStop, replay};
+
+// The answer of the heaps that are left.
+fn answer_drawn(alloc: Global, shared: &Shared) -> Result<Answer, AllocError>
+    ensures { IfOk result (λ a. (image : List ℕ) × IsImageOf shared.now image × IsText Status.Done image a) }
+{
+    let text = image_text(alloc, shared)?;
+    Ok(bytes_alone(alloc, Status::Done, Listed::from_vec(text)))
+}
+
+// The answer where all entries are made.
+fn answer_made(alloc: Global, shared: &Shared) -> Result<Answer, AllocError>
+    ensures { IfOk result (WhereWhole (IsImaged shared.now.program shared.now.settings shared.now.journal.items) (refused_as_run shared.now.program shared.now.settings shared.now.journal.items)) }
+{
+    shared.stands();
+    match shared.ended() {
+        None => trace_short(alloc, shared.journal()),
+        Some(_) => answer_drawn(alloc, shared),
+    }
+}
+
+// Makes the entries of a trace.
+fn answer_trace(alloc: Global, settings: Settings, read: &TraceInput) -> Result<Answer, AllocError>
+    ensures { IfOk result (AnswersTrace IsImaged settings read.now) }
+{
+    let TraceInput { program, trace } = read;
+    let settings = settings.with_version(trace.version);
+    match replay(alloc, program, settings, trace.entries.as_slice()) {
+        Ok(world) => {
+            let shared = world.into_shared();
+            answer_made(alloc, &shared)
+        }
+        Err(ReplayStop::RefusedAt(entry)) => refused(alloc, Refusal::Entry(entry)),
+        Err(ReplayStop::NoMemory(_)) => Err(AllocError),
+    }
+}
+
+/// Reads a program with a trace, makes its entries, and writes the heaps that they leave.
+pub fn answer_image(alloc: Global, settings: Settings, input: &[u8]) -> Result<Answer, AllocError>
+    ensures { IfOk result (AnswersImaging settings input.now) }
+{
+    match read_trace_input(alloc, input) {
+        Ok(read) => answer_trace(alloc, settings, &read),
+        Err(InputError::Fault(fault)) => refused(alloc, Refusal::of_input(fault)),
+        Err(InputError::NoMemory) => Err(AllocError),
+    }
+}

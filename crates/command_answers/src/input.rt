@@ -1,0 +1,84 @@
+// Reads an input.
+
+ghost use Rattle.std.specs.Prelude.{◌≡◌, ◌≤◌, ◌+◌, true, false, length, drop, option_map, IfOk, OnOk, IfErr, Some, List, ℕ};
+ghost use Rattle.outside_io.specs.Fault.{HasRisen};
+ghost use Rattle.all_bytes.specs.Bytes.{input_of, most_bytes, told};
+ghost use Rattle.command_answers.specs.Input.{limit_of, is_reading, program_in, told_for};
+
+use all_bytes::{ReadError, read_file};
+use command_line::{CommandLine, FileName};
+use hh_lang::Program;
+use outside_io::Source;
+use program_reader::{Refused, read_program};
+use std::alloc::{AllocError, Global};
+use trace_input::{TOO_LONG, TRACE_LIMIT};
+
+/// The most bytes of a program's text.
+const PROGRAM_LIMIT: usize = 1048576;
+
+/// The most bytes of an image.
+const IMAGE_LIMIT: usize = 16777216;
+
+/// The program that an input is, or why it is refused.
+pub fn program_in(alloc: Global, input: &[u8]) -> Result<Result<Program, Refused>, AllocError>
+    ensures { IfOk result (λ program. program ≡ program_in input.now) }
+{
+    if input.len() > PROGRAM_LIMIT {
+        return Ok(Err(TOO_LONG));
+    }
+    read_program(alloc, input)
+}
+
+// The name of a file, if one is given.
+fn name_of<'a>(file: &'a Option<FileName>) -> Option<&'a str>
+    ensures { option_map (λ s. s.now) result ≡ file.now }
+{
+    match file {
+        None => None,
+        Some(name) => Some(name.as_str()),
+    }
+}
+
+// Reads a file, or standard input.
+fn read_named<S: Source>(
+    alloc: Global,
+    source: &mut S,
+    file: &Option<FileName>,
+    limit: usize,
+) -> Result<Vec<u8>, ReadError>
+    requires { limit ≤ most_bytes }
+    ensures within { IfOk result (λ input. length input.items ≤ limit + 1) }
+    ensures input { IfOk result (λ input. (whole : List ℕ) → told (S.left source.old) (S.named source.old) file.now ≡ Some whole → input.items ≡ input_of limit whole) }
+    ensures taken { OnOk result ((whole : List ℕ) → told (S.left source.old) (S.named source.old) file.now ≡ Some whole → S.left source.new ≡ Some (drop (limit + 1) whole)) }
+    ensures failed { IfErr result (λ e. e ≡ ReadError.Fault → HasRisen (S.faults source.old) (S.faults source.new)) }
+{
+    read_file(alloc, source, name_of(file), limit)
+}
+
+/// Reads the input of a command.
+pub fn read_input<S: Source>(
+    alloc: Global,
+    source: &mut S,
+    line: &CommandLine,
+) -> Result<Vec<u8>, ReadError>
+    ensures within { IfOk result (λ input. length input.items ≤ limit_of line.now + 1) }
+    ensures input { IfOk result (λ input. (whole : List ℕ) → told_for (S.left source.old) (S.named source.old) line.now ≡ Some whole → input.items ≡ input_of (limit_of line.now) whole) }
+    ensures taken { OnOk result (is_reading line.now ≡ true → (whole : List ℕ) → told_for (S.left source.old) (S.named source.old) line.now ≡ Some whole → S.left source.new ≡ Some (drop (limit_of line.now + 1) whole)) }
+    ensures untouched { is_reading line.now ≡ false → S.left source.new ≡ S.left source.old }
+    ensures failed { IfErr result (λ e. e ≡ ReadError.Fault → (is_reading line.now ≡ true) × HasRisen (S.faults source.old) (S.faults source.new)) }
+{
+    match line {
+        CommandLine::Check { file } => read_named(alloc, source, file, PROGRAM_LIMIT),
+        CommandLine::Run { file, options: _ } => read_named(alloc, source, file, PROGRAM_LIMIT),
+        CommandLine::Replay { file, options: _ } => read_named(alloc, source, file, TRACE_LIMIT),
+        CommandLine::Model { file, options: _ } => read_named(alloc, source, file, TRACE_LIMIT),
+        CommandLine::Races { file, settings: _ } => read_named(alloc, source, file, TRACE_LIMIT),
+        CommandLine::Image { file, settings: _ } => read_named(alloc, source, file, TRACE_LIMIT),
+        CommandLine::Make {
+            seed: _,
+            size: _,
+            run: _,
+        } => Ok(Vec::new(alloc)),
+        CommandLine::Verify { file } => read_named(alloc, source, file, IMAGE_LIMIT),
+    }
+}

@@ -1,0 +1,39 @@
+// The answer of `model`.
+
+ghost use Rattle.std.specs.Prelude.{IfOk};
+ghost use Rattle.command_answers.specs.Answers.{AnswersModel, AnswersTrace, IsModelled};
+
+use crate::answer::{Answer, Status};
+use crate::ended::extras_of;
+use crate::refusals::{bytes_alone, refused};
+use command_line::Options;
+use refusal_lines::Refusal;
+use run_journal::ReplayError;
+use run_report::whole_run;
+use std::alloc::{AllocError, Global};
+use trace_input::{InputError, TraceInput, read_trace_input};
+
+// Replays a trace on the machine that never collects.
+fn answer_trace(alloc: Global, options: Options, read: &TraceInput) -> Result<Answer, AllocError>
+    ensures { IfOk result (AnswersTrace (IsModelled options) options.settings read.now) }
+{
+    let TraceInput { program, trace } = read;
+    let settings = options.settings.with_version(trace.version);
+    let journal = trace.entries.as_slice();
+    match whole_run(alloc, program, settings, journal, extras_of(options)) {
+        Ok(run) => Ok(bytes_alone(alloc, Status::of_end(run.end), run.text)),
+        Err(ReplayError::RefusedAt(entry)) => refused(alloc, Refusal::Entry(entry)),
+        Err(ReplayError::NoMemory) => Err(AllocError),
+    }
+}
+
+/// Reads a program with a trace, and replays it.
+pub fn answer_model(alloc: Global, options: Options, input: &[u8]) -> Result<Answer, AllocError>
+    ensures { IfOk result (AnswersModel options input.now) }
+{
+    match read_trace_input(alloc, input) {
+        Ok(read) => answer_trace(alloc, options, &read),
+        Err(InputError::Fault(fault)) => refused(alloc, Refusal::of_input(fault)),
+        Err(InputError::NoMemory) => Err(AllocError),
+    }
+}

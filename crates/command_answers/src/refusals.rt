@@ -1,0 +1,62 @@
+// Answers of bytes alone.
+
+ghost use Rattle.std.specs.Prelude.{◌≡◌, IfOk};
+ghost use Rattle.std.specs.String.{string_bytes};
+ghost use Rattle.command_answers.specs.Status.{status_of_refusal};
+ghost use Rattle.command_answers.specs.Answers.{IsText, Refuses, short_of};
+
+use crate::answer::{Answer, Status};
+use listed::Listed;
+use refusal_lines::{Refusal, refusal_text};
+use run_ledger::{Refused, RefusedAt};
+use run_trace::Entry;
+use std::alloc::{AllocError, Global};
+
+/// Bytes alone.
+pub fn bytes_alone(alloc: Global, status: Status, bytes: Listed<u8>) -> Answer
+    ensures { IsText status bytes result }
+{
+    Answer {
+        status,
+        bytes,
+        journal: Listed::new(alloc),
+        shared: None,
+    }
+}
+
+/// A text alone.
+pub(crate) fn text_alone(alloc: Global, status: Status, text: String) -> Answer
+    ensures { IsText status (string_bytes text) result }
+{
+    bytes_alone(alloc, status, Listed::from_vec(text.into_bytes()))
+}
+
+// The status of a refusal.
+fn status_of(refusal: Refusal) -> Status
+    ensures { result ≡ status_of_refusal refusal }
+{
+    match refusal {
+        Refusal::Words => Status::Words,
+        Refusal::Source(_) => Status::Source,
+        Refusal::Line(_) => Status::Trace,
+        Refusal::Entry(_) => Status::Trace,
+        Refusal::Image(_) => Status::Image,
+    }
+}
+
+/// The refusal of words, or of an input.
+pub fn refused(alloc: Global, refusal: Refusal) -> Result<Answer, AllocError>
+    ensures { IfOk result (Refuses refusal) }
+{
+    let text = refusal_text(alloc, refusal)?;
+    Ok(text_alone(alloc, status_of(refusal), text))
+}
+
+/// The answer to a trace that isn't refused, but has no end of its run.
+pub(crate) fn trace_short(alloc: Global, journal: &[Entry]) -> Result<Answer, AllocError>
+    ensures { IfOk result (Refuses (Refusal.Entry (short_of journal.now))) }
+{
+    let index = journal.len() as u64 + 1;
+    let cause = Refused::Short;
+    refused(alloc, Refusal::Entry(RefusedAt { index, cause }))
+}

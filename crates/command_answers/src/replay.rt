@@ -1,0 +1,87 @@
+// The answer of `replay`.
+
+ghost use Rattle.std.specs.Prelude.{◌≡◌, IfOk, IfErr};
+ghost use Rattle.run_ledger.specs.Journals.{refused_as_run};
+ghost use Rattle.shared_value.specs.Stands.{IsWorld};
+ghost use Rattle.shared_value.specs.World.{without_journal};
+ghost use Rattle.trace_input.specs.Input.{limits_for};
+ghost use Rattle.command_answers.specs.Answers.{AnswersReplay, AnswersReplayed, AnswersTrace, IsReplay, LeavesReplay, Refuses, StandsReplayed, WhereWhole, short_of};
+ghost use Rattle.command_answers.specs.Delivery.{IsWanted, left_by};
+ghost use Rattle.command_answers.specs.Runs.{IsReplayedRun, LeavesPrefix};
+
+use crate::answer::Answer;
+use crate::ended::{amid, answer_ended, extras_of};
+use crate::refusals::{refused, trace_short};
+use crate::wanted::Wanted;
+use command_line::Options;
+use refusal_lines::Refusal;
+use run_report::Extras;
+use shared_tree::Shared;
+use std::alloc::{AllocError, Global};
+use trace_input::{InputError, TraceInput, read_trace_input};
+use world_core::{ReplayStop, World, replay};
+
+// The answer where all entries are made, and the run has no end.
+fn answer_short(alloc: Global, shared: Shared) -> Result<Answer, Wanted>
+    ensures answer { IfOk result (Refuses (Refusal.Entry (short_of shared.journal.items))) }
+    ensures wanted { IfErr result (λ w. w ≡ Wanted.Amid shared.journal.items (without_journal shared)) }
+{
+    match trace_short(alloc, shared.journal()) {
+        Ok(answer) => Ok(answer),
+        Err(AllocError) => Err(amid(shared)),
+    }
+}
+
+// The answer where all entries are made.
+fn answer_made(alloc: Global, shared: Shared, extras: Extras) -> Result<Answer, Wanted>
+    ensures answer { IfOk result (WhereWhole (IsReplayedRun shared.program shared.settings extras shared.journal.items) (refused_as_run shared.program shared.settings shared.journal.items)) }
+    ensures wanted { IfErr result (λ w. w ≡ Wanted.Amid shared.journal.items (without_journal shared)) }
+    ensures stands { IsWorld shared }
+{
+    shared.stands();
+    match shared.ended() {
+        None => answer_short(alloc, shared),
+        Some(end) => answer_ended(alloc, shared, end, extras),
+    }
+}
+
+// The answer where a replay has come so far. Where memory was wanting amid it, all that it leaves is handed back.
+fn answer_replayed(
+    alloc: Global,
+    replayed: Result<World, ReplayStop>,
+    extras: Extras,
+) -> Result<Answer, Wanted>
+    ensures answer { IfOk result (AnswersReplayed extras replayed) }
+    ensures wanted { IfErr result (λ w. w ≡ left_by replayed) }
+    ensures stands { StandsReplayed replayed }
+{
+    match replayed {
+        Ok(world) => answer_made(alloc, world.into_shared(), extras),
+        Err(ReplayStop::RefusedAt(entry)) => Ok(refused(alloc, Refusal::Entry(entry))?),
+        Err(ReplayStop::NoMemory(None)) => Err(Wanted::Before),
+        Err(ReplayStop::NoMemory(Some(world))) => Err(amid(world.into_shared())),
+    }
+}
+
+// Makes the entries of a trace.
+fn answer_trace(alloc: Global, options: Options, read: &TraceInput) -> Result<Answer, Wanted>
+    ensures answer { IfOk result (AnswersTrace (IsReplay options) options.settings read.now) }
+    ensures wanted { IfErr result (IsWanted (LeavesPrefix read.now.program (limits_for options.settings read.now) read.now.trace.entries)) }
+{
+    let TraceInput { program, trace } = read;
+    let settings = options.settings.with_version(trace.version);
+    let replayed = replay(alloc, program, settings, trace.entries.as_slice());
+    answer_replayed(alloc, replayed, extras_of(options))
+}
+
+/// Reads a program with a trace, and makes its entries.
+pub fn answer_replay(alloc: Global, options: Options, input: &[u8]) -> Result<Answer, Wanted>
+    ensures answer { IfOk result (AnswersReplay options input.now) }
+    ensures wanted { IfErr result (IsWanted (LeavesReplay options input.now)) }
+{
+    match read_trace_input(alloc, input) {
+        Ok(read) => answer_trace(alloc, options, &read),
+        Err(InputError::Fault(fault)) => Ok(refused(alloc, Refusal::of_input(fault))?),
+        Err(InputError::NoMemory) => Err(Wanted::Before),
+    }
+}

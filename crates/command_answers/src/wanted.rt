@@ -1,0 +1,26 @@
+// Want of memory in the making of an answer.
+
+use listed::Listed;
+use run_trace::Entry;
+use shared_tree::Left;
+use std::alloc::AllocError;
+
+/// Where memory was wanting.
+#[derive(Drop)]
+pub enum Wanted {
+    /// Before a run began, or where none is made.
+    Before,
+    /// Amid a run: its journal as far as it came, moved out of what the workers shared.
+    Amid(Listed<Entry>, Left),
+}
+
+impl From<AllocError> for Wanted {
+    ghost use Rattle.std.specs.Prelude.{◌≡◌};
+    ghost use Rattle.command_answers.specs.declared.wanted.Wanted.TheVariants.{Before};
+
+    ghost from_gives = { λ _ w. w ≡ Before };
+
+    fn from(_: AllocError) -> Wanted {
+        Wanted::Before
+    }
+}

@@ -1,7 +1,0 @@
-use Rattle.std.proofs.Common.{◌∙◌}
-use Rattle.std.proofs.lemmas.Result.{IfOk-weaker}
-use Rattle.command_core.proofs.ImagesTold.{image_is}
-use Rattle.command_core.proofs.images.refused_line.Goals as goal
-
-pub returns : goal.returns
-returns c = IfOk-weaker c.format.result _ _ (λ s e. e ∙ image_is c.args.fault _ c.text-cause.ensures) c.format.ensures.ok

@@ -1,5 +1,0 @@
-use Rattle.command_core.proofs.Imaged as imaged
-use Rattle.command_core.proofs.laws.images_are_verified.Goals as goal
-
-pub returns : goal.returns
-returns c = imaged.images_are_verified

@@ -1,5 +1,0 @@
-use Rattle.command_core.proofs.Given as given
-use Rattle.command_core.proofs.laws.no_fault_gives_all.Goals as goal
-
-pub returns : goal.returns
-returns c = given.no_fault_gives_all

@@ -1,5 +1,0 @@
-use Rattle.command_core.proofs.Raceless as raceless
-use Rattle.command_core.proofs.laws.raceless_are_disentangled.Goals as goal
-
-pub returns : goal.returns
-returns c = raceless.raceless_are_disentangled

@@ -1,7 +1,0 @@
-use Rattle.std.proofs.Common.{◌∙◌}
-use Rattle.std.proofs.lemmas.Result.{IfOk-weaker}
-use Rattle.command_core.proofs.Texts.{source_is}
-use Rattle.command_core.proofs.refusals.source_text.Goals as goal
-
-pub returns : goal.returns
-returns c = IfOk-weaker c.format.result _ _ (λ s e. e ∙ source_is c.args.refused _ c.text-cause.ensures) c.format.ensures.ok

@@ -1,9 +1,0 @@
-use Rattle.std.proofs.Common.{◌∙◌, ap}
-use Rattle.std.specs.Prelude.{Some}
-use Rattle.command_core.proofs.Runs.{ended_run}
-use Rattle.command_core.proofs.run.answer_ended.Goals as goal
-
-pub returns-in-Ok-clause-answer : goal.returns-in-Ok-clause-answer
-returns-in-Ok-clause-answer c =
-    ended_run c.args.shared c.args.end c.args.report c.args.trace _ c.stands.ensures c.requires c.of_end.ensures (c.from_vec.ensures ∙ c.in-Ok.ensures)
-    c.take_journal-journal.ensures.journal (ap Some c.take_journal-journal.ensures.rest)

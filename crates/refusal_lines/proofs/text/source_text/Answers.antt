@@ -1,0 +1,7 @@
+use Rattle.std.proofs.Common.{◌∙◌}
+use Rattle.std.proofs.lemmas.Result.{IfOk-weaker}
+use Rattle.refusal_lines.proofs.Lines.{source_is}
+use Rattle.refusal_lines.proofs.text.source_text.Goals as goal
+
+pub returns : goal.returns
+returns c = IfOk-weaker c.format.result _ _ (λ s e. e ∙ source_is c.args.refused _ c.text-cause.ensures) c.format.ensures.ok

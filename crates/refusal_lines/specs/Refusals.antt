@@ -1,0 +1,40 @@
+-- The lines that refuse the words of a call, or its input.
+use Rattle.std.specs.Prelude.{ℕ, List, [], ◌∷◌, codes}
+use Rattle.std.specs.Fmt.{decimal}
+use Rattle.program_reader.specs.declared.cause.Refused.{Refused}
+use Rattle.program_reader.specs.Cause.{text_of_cause}
+use Rattle.trace_input.specs.declared.input.InputFault.{InputFault}
+use Rattle.trace_input.specs.declared.input.InputFault.TheVariants.{Source as SourceFault, BadLine}
+use Rattle.run_ledger.specs.Text.{end_line, refused_line}
+use Rattle.image_check.specs.declared.cause.Fault.{Fault}
+use Rattle.image_check.specs.Cause.{text_of_cause as text_of_fault}
+use Rattle.refusal_lines.specs.declared.refusal.Refusal.{Refusal}
+use Rattle.refusal_lines.specs.declared.refusal.Refusal.TheVariants.{Words, Source, Line, Entry, Image}
+
+-- words that ask for nothing
+abbrev pub words_line : List ℕ
+words_line = end_line (codes "words refused" ∷ [])
+
+-- a text that is no program
+abbrev pub source_line : Refused → List ℕ
+source_line r = end_line (codes "source refused line" ∷ decimal r.line ∷ text_of_cause r.cause ∷ [])
+
+-- a bad line of a trace
+abbrev pub bad_line : ℕ → List ℕ
+bad_line n = end_line (codes "trace refused line" ∷ decimal n ∷ [])
+
+-- a text that is no image
+abbrev pub image_line : Fault → List ℕ
+image_line f = end_line (codes "image refused line" ∷ decimal f.line ∷ text_of_fault f.cause ∷ [])
+
+abbrev pub refusal_line : Refusal → List ℕ
+refusal_line Words = words_line
+refusal_line (Source r) = source_line r
+refusal_line (Line n) = bad_line n
+refusal_line (Entry r) = refused_line r
+refusal_line (Image f) = image_line f
+
+-- an input that is no program with a trace
+abbrev pub refusal_of : InputFault → Refusal
+refusal_of (SourceFault r) = Source r
+refusal_of (BadLine n) = Line n
