@@ -1,0 +1,5 @@
+-- Counts of 64 bits that stand still at their last value.
+use Rattle.std.specs.Prelude.{ℕ, ◌+◌, ◌-◌, ◌^◌, min}
+
+abbrev pub raised_by : ℕ → ℕ → ℕ
+raised_by n k = min (n + k) (2 ^ 64 - 1)
