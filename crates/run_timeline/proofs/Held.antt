@@ -32,6 +32,7 @@ use Rattle.run_ledger.proofs.Machine.{entries_move_machine, machine_is_run}
 use Rattle.run_ledger.proofs.Weights.{sum_flat}
 use Rattle.run_ledger.proofs.Words.{words_are_accounted}
 use Rattle.run_report.specs.Totals.{cleared_words}
+use Rattle.run_report.proofs.Sums.{lost_is}
 use Rattle.run_timeline.specs.Words.{WordsFollowEntries, objects_by, objects_made, words_by, words_held, words_made}
 
 -- OBJECTS OF ONE TASK
@@ -148,24 +149,16 @@ module _ (p : ProgramText) (t : ℕ) where
 -- ONE ENTRY
 
 -- what an entry frees is what its heap has lost
-lost_now : (l : Ledger) (t : ℕ) (f : Heap → Heap) → words_in l.machine (heap_of l t) - words_in (with_heap l t f).machine (heap_of (with_heap l t f) t) ≡ lost l t f
-lost_now l t f = by (heap_at l t) refl
-  where
-    by : (o : Option Heap) → heap_at l t ≡ o
-        → words_in l.machine (or_fresh o) - words_in (with_heap_at l t f o).machine (heap_of (with_heap_at l t f o) t) ≡ words_in l.machine (or_fresh o) - words_in l.machine (f (or_fresh o))
-    by None e = let z : words_in l.machine fresh ≡ 0 = refl in omega arith
-    by (Some h) e = ap (λ o. words_in l.machine h - words_in l.machine (or_fresh o)) (got_same l.heaps t h (f h) e)
-
 lost_by : (p : ProgramText) (s : Limits) (l : Ledger) (w : ℕ) (kind : Kind) → cleared_words l kind - cleared_words (after_kind p s l w kind) kind ≡ freed_by_end l kind + freed_by_sweep l kind
 lost_by p s l w (Took t) = refl
 lost_by p s l w (Ran t k) = refl
 lost_by p s l w (Chunk t) = refl
 lost_by p s l w (Begin t) = refl
-lost_by p s l w (End t taken given left) = let e = lost_now l t (collected l.machine) in omega (arith, e)
+lost_by p s l w (End t taken given left) = let e = lost_is l t (collected l.machine) in omega (arith, e)
 lost_by p s l w (PutOff t) = refl
 lost_by p s l w (Mark t) = refl
 lost_by p s l w (More t n) = refl
-lost_by p s l w (Sweep t given) = let e = lost_now l t swept_heap in omega (arith, e)
+lost_by p s l w (Sweep t given) = let e = lost_is l t swept_heap in omega (arith, e)
 lost_by p s l w Fuel = refl
 
 -- what is counted of a journal with an entry more
