@@ -10,8 +10,9 @@ use Rattle.run_ledger.specs.declared.data.Ledger.{Ledger}
 use Rattle.run_ledger.specs.Entries.{after}
 use Rattle.run_journal.specs.Opened.{Opened}
 use Rattle.run_journal.proofs.Replays.{cut}
+use Rattle.still_counts.specs.Counts.{raised_by}
 use Rattle.task_table.specs.declared.row.Row.{Row}
-use Rattle.task_table.specs.Rows.{rows_with, rows_from, raised_by}
+use Rattle.task_table.specs.Rows.{rows_with, rows_from}
 use Rattle.task_table.specs.Lines.{words_onto}
 use Rattle.task_table.specs.Table.{line_at, lines_from}
 

@@ -8,11 +8,13 @@ use Rattle.hh_model.specs.declared.data.Status.TheVariants.{Running, Waiting, En
 use Rattle.hh_model.specs.declared.data.End.TheVariants.{Trapped, Entangled}
 use Rattle.hh_model.specs.declared.data.Task.{Task}
 use Rattle.hh_model.specs.declared.data.State.{State}
+use Rattle.hh_model.specs.Effect.{row_of}
 use Rattle.run_ledger.specs.declared.data.RunEnd.{RunEnd}
 use Rattle.run_ledger.specs.declared.data.RunEnd.TheVariants.{Machine}
+use Rattle.still_counts.specs.Counts.{raised_by}
 use Rattle.task_table.specs.declared.row.Fork.{Fork}
 use Rattle.task_table.specs.declared.row.Row.{Row}
-use Rattle.task_table.specs.Rows.{raised_by, function_name}
+use Rattle.task_table.specs.Rows.{function_name}
 
 -- a value behind a comma; one that isn't there is empty
 abbrev pub field : List ℕ → List ℕ
@@ -38,10 +40,6 @@ fork_fields p (Some f) = number_field f.line ++ field (function_name p f.functio
 abbrev pub words_onto : ℕ → List Object → ℕ
 words_onto n [] = n
 words_onto n (o ∷ os) = words_onto (raised_by (raised_by (raised_by n 2) (length o.refs)) (length o.ints)) os
-
-abbrev pub objects_in : Option (List Object) → List Object
-objects_in None = []
-objects_in (Some os) = os
 
 -- HOW IT ENDED
 
@@ -70,4 +68,4 @@ memory_fields os r = number_field (length os) ++ number_field (words_onto 0 os) 
 
 abbrev pub task_line : ProgramText → State → Option RunEnd → ℕ → Task → Row → List ℕ
 task_line p m end t x r =
-    place_fields p t x r ++ work_fields r ++ memory_fields (objects_in (slice_get m.store t)) r ++ field (end_word end t x.status) ++ 10 ∷ []
+    place_fields p t x r ++ work_fields r ++ memory_fields (row_of (slice_get m.store t)) r ++ field (end_word end t x.status) ++ 10 ∷ []

@@ -16,11 +16,9 @@ use Rattle.run_ledger.specs.declared.data.Ledger.{Ledger}
 use Rattle.run_ledger.specs.Entries.{after}
 use Rattle.run_report.specs.Totals.{cleared_words}
 use Rattle.run_timeline.specs.Entries.{fork_line}
+use Rattle.still_counts.specs.Counts.{raised_by}
 use Rattle.task_table.specs.declared.row.Fork.{Fork}
 use Rattle.task_table.specs.declared.row.Row.{Row}
-
-abbrev pub raised_by : ℕ → ℕ → ℕ
-raised_by n k = min (n + k) (2 ^ 64 - 1)
 
 -- FORKS
 

@@ -2,7 +2,8 @@
 
 ghost use Rattle.std.specs.Prelude.{◌≡◌, ◌++◌, ◌∷◌, [], List, OnOk, option_copied, length, slice_get};
 ghost use Rattle.hh_model.specs.declared.data.Object.{Object as ObjectText};
-ghost use Rattle.task_table.specs.Lines.{field, number_field, maybe_field, signed_field, fork_fields, words_onto, objects_in, status_word, end_word, place_fields, work_fields, memory_fields, task_line};
+ghost use Rattle.hh_model.specs.Effect.{row_of};
+ghost use Rattle.task_table.specs.Lines.{field, number_field, maybe_field, signed_field, fork_fields, words_onto, status_word, end_word, place_fields, work_fields, memory_fields, task_line};
 
 use crate::row::{Fork, Row};
 use crate::rows::function_name;
@@ -81,7 +82,7 @@ fn words_of(objects: &[Object]) -> u64
 
 // The objects that a task allocated.
 fn objects_of(state: &State, task: u32) -> &[Object]
-    ensures { result.now ≡ objects_in (slice_get state.now.store task) }
+    ensures { result.now ≡ row_of (slice_get state.now.store task) }
 {
     match state.store.get(task as usize) {
         None => &[],

@@ -1,7 +1,7 @@
 // What an entry tells of tasks.
 
 ghost use Rattle.std.specs.Prelude.{◌≡◌, ◌<◌, ◌+◌, ◌^◌, ◌++◌, OnOk, Some, length, option_copied, slice_get};
-ghost use Rattle.task_table.specs.Rows.{raised_by, name_in, function_name, half_begin, last_byte, loop_number, made_by, fork_of, fresh_row, first_of, entered, told, task_in, with_row, told_of, children, rows_by};
+ghost use Rattle.task_table.specs.Rows.{name_in, function_name, half_begin, last_byte, loop_number, made_by, fork_of, fresh_row, first_of, entered, told, task_in, with_row, told_of, children, rows_by};
 
 use crate::row::{Fork, Row};
 use hh_lang::{IntReg, Program};
@@ -10,12 +10,7 @@ use listed::Listed;
 use run_timeline::fork_line;
 use run_trace::{Entry, Kind};
 use std::alloc::AllocError;
-
-fn raised_by(sum: u64, more: u64) -> u64
-    ensures { result ≡ raised_by sum more }
-{
-    sum.saturating_add(more)
-}
+use still_counts::raised_by;
 
 /// The name of a function.
 pub(crate) fn function_name(program: &Program, function: u32) -> &[u8]
