@@ -1,5 +1,5 @@
 -- What heaps hold, in counts of 64 bits, of which the last value stays; and which heaps are drawn.
-use Rattle.std.specs.Prelude.{ℕ, ◌+◌, ◌-◌, ◌^◌, Bool, true, false, Option, Some, None, List, [], ◌∷◌, length, min}
+use Rattle.std.specs.Prelude.{ℕ, ◌+◌, Bool, true, false, Option, Some, None, List, [], ◌∷◌, length}
 use Rattle.image_check.specs.declared.line.Object.{Object}
 use Rattle.image_check.specs.declared.line.Said.{Said}
 use Rattle.image_check.specs.declared.line.Said.TheVariants.{OfChunk, OfObject}
@@ -9,6 +9,7 @@ use Rattle.image_check.specs.declared.tasks.Relation.TheVariants.{Own, Above}
 use Rattle.image_check.specs.Line.{said_by}
 use Rattle.image_check.specs.Table.{found, with_entry}
 use Rattle.image_check.specs.Tasks.{relation_of, owner_at}
+use Rattle.still_counts.specs.Counts.{raised_by}
 use Rattle.heap_graph.specs.declared.held.Held.{Held}
 
 -- WHICH HEAPS ARE DRAWN
@@ -25,9 +26,6 @@ is_drawn r None t = true
 is_drawn r (Some p) t = is_on_path (relation_of r.tasks p t)
 
 -- COUNTS
-
-abbrev pub raised_by : ℕ → ℕ → ℕ
-raised_by n k = min (n + k) (2 ^ 64 - 1)
 
 abbrev pub Heaps : Type 0
 Heaps = List (ℕ × Held)

@@ -16,7 +16,8 @@ use Rattle.image_check.specs.Sets.{same_birth}
 use Rattle.dot_text.specs.Dot.{Attributes, Statement, Node, Edge}
 use Rattle.heap_graph.specs.Names.{task_name, port_name, heap_title}
 use Rattle.heap_graph.specs.Kinds.{kind_attributes}
-use Rattle.heap_graph.specs.Held.{Heaps, held_of, is_drawn, raised_by}
+use Rattle.still_counts.specs.Counts.{raised_by}
+use Rattle.heap_graph.specs.Held.{Heaps, held_of, is_drawn}
 
 -- HEAPS
 

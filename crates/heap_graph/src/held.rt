@@ -4,10 +4,11 @@ ghost use Rattle.std.specs.Prelude.{◌≡◌, ◌≤◌, ◌+◌, OnOk, length}
 ghost use Rattle.image_check.specs.Read.{IsSized};
 ghost use Rattle.image_check.specs.Tasks.{owner_at};
 ghost use Rattle.text_lines.specs.Lines.{lines_of};
-ghost use Rattle.heap_graph.specs.Held.{raised_by, is_on_path, is_drawn, held_of, with_chunk, with_object, with_object_of, held_with, held_by};
+ghost use Rattle.heap_graph.specs.Held.{is_on_path, is_drawn, held_of, with_chunk, with_object, with_object_of, held_with, held_by};
 
 use image_check::{Object, Read, Relation, Said, Table, owner_of, read_line};
 use std::alloc::{AllocError, Global};
+use still_counts::raised_by;
 use text_lines::next_line;
 
 /// What a heap holds; 64 bits each, and the last value stays.
@@ -36,13 +37,6 @@ pub(crate) fn is_drawn(read: &Read, path: Option<u64>, task: u64) -> bool
         None => true,
         Some(end) => is_on_path(read.tasks.relation(end, task)),
     }
-}
-
-/// A count that rises by a number.
-pub(crate) fn raised_by(count: u64, more: u64) -> u64
-    ensures { result ≡ raised_by count more }
-{
-    count.saturating_add(more)
 }
 
 /// What the heap of a task holds.

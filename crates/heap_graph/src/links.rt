@@ -3,10 +3,10 @@
 ghost use Rattle.std.specs.Prelude.{◌≡◌, [], length, OnOk, slice_get};
 ghost use Rattle.heap_graph.specs.Overview.{links_at, with_link, with_link_to};
 
-use crate::held::raised_by;
 use indexmap::IndexMap;
 use std::alloc::{AllocError, Global};
 use std::marker::Model;
+use still_counts::raised_by;
 
 /// Counts of references from a heap to a heap, in the order in which the first of each was met.
 #[derive(Drop)]
