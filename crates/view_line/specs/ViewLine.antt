@@ -29,13 +29,9 @@ pub data Asked : Type 0 where
 -- HEAPS
 
 -- a number of 32 bits, where a text is given
-abbrev pub given_number : Option ℕ → Option (Option ℕ)
-given_number None = None
-given_number (Some n) = Some (Some n)
-
 abbrev pub maybe_number : Option Text → Option (Option ℕ)
 maybe_number None = Some None
-maybe_number (Some t) = given_number (short_number t)
+maybe_number (Some t) = option_map Some (short_number t)
 
 abbrev pub usual_limit : ℕ
 usual_limit = 300
