@@ -43,10 +43,15 @@ fn answer_trace(alloc: Global, settings: Settings, read: &TraceInput) -> Result<
     match replay(alloc, program, settings, trace.entries.as_slice()) {
         Ok(world) => {
             let shared = world.into_shared();
-            answer_made(alloc, &shared)
+            let answer = answer_made(alloc, &shared);
+            drop(shared);
+            answer
         }
         Err(ReplayStop::RefusedAt(entry)) => refused(alloc, Refusal::Entry(entry)),
-        Err(ReplayStop::NoMemory(_)) => Err(AllocError),
+        Err(ReplayStop::NoMemory(left)) => {
+            drop(left);
+            Err(AllocError)
+        }
     }
 }
 
