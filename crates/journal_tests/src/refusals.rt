@@ -1,10 +1,9 @@
 // Replayed journals: how they end, and why their entries are refused.
 
 use crate::programs::{COLLECTS, Limits, MARKS, PRINTS, TO_BEGIN, TO_FORK, TOOK, read, settings};
-use hh_model::{End, Trap};
 use run_journal::{ReplayError, model_replay};
 use run_ledger::RunEnd;
-use run_report::{end_status, end_text, refused_text};
+use run_report::{end_text, refused_text};
 use std::alloc::Global;
 use trace_input::TraceInput;
 
@@ -264,21 +263,5 @@ const COLLECTIONS: &[Case] = &[
 fn collections_are_refused(rt: HostRuntime) {
     for &case in COLLECTIONS {
         assert!(rt; is_told(rt.alloc(), case), "{}", case.3);
-    }
-}
-
-// Ends of runs, and their exit statuses.
-const STATUSES: &[(RunEnd, u8)] = &[
-    (RunEnd::Machine(End::Done), 0),
-    (RunEnd::Machine(End::Trapped(Trap::Div, 0, 1)), 4),
-    (RunEnd::Machine(End::Entangled(1, 2)), 5),
-    (RunEnd::Fuel(7), 6),
-    (RunEnd::Pool(3), 7),
-];
-
-#[test]
-fn ends_have_statuses(rt: HostRuntime) {
-    for (end, status) in STATUSES {
-        assert!(rt; end_status(*end) == *status);
     }
 }

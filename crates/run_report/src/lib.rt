@@ -8,5 +8,5 @@ mod totals;
 mod whole;
 
 pub use paced::is_paced;
-pub use texts::{end_status, end_text, outputs_text, refused_text, report_text};
+pub use texts::{end_text, outputs_text, refused_text, report_text};
 pub use whole::{Extras, WholeRun, out_text, report_of, whole_run};

@@ -3,9 +3,8 @@
 ghost use Rattle.std.specs.Prelude.{◌≡◌, ◌≢◌, ◌∷◌, ◌++◌, [], IfOk, OnOk, codes};
 ghost use Rattle.std.specs.String.{string_bytes};
 ghost use Rattle.std.specs.List.{join_with_byte};
-ghost use Rattle.run_ledger.specs.Text.{trap_word, machine_end_words, end_words, end_line, machine_status, cause_words, refused_words, refused_line, report_lines, line, output_lines};
+ghost use Rattle.run_ledger.specs.Text.{trap_word, machine_end_words, end_words, end_line, cause_words, refused_words, refused_line, report_lines, line, output_lines};
 ghost use Rattle.std.specs.Fmt.{decimal, signed_decimal};
-ghost use Rattle.run_ledger.specs.Text.{end_status as status_of};
 ghost use Rattle.run_report.specs.Words.{number_words};
 
 use hh_model::{End, Trap};
@@ -53,27 +52,6 @@ pub fn end_text(alloc: Global, end: RunEnd) -> Result<String, AllocError>
         }
         RunEnd::Fuel(steps) => format!(in alloc; "end: fuel {steps}\n"),
         RunEnd::Pool(chunks) => format!(in alloc; "end: pool {chunks}\n"),
-    }
-}
-
-fn machine_end_status(end: End) -> u8
-    ensures { result ≡ machine_status end }
-{
-    match end {
-        End::Done => 0,
-        End::Trapped(_, _, _) => 4,
-        End::Entangled(_, _) => 5,
-    }
-}
-
-/// The exit status of a run that ended so.
-pub fn end_status(end: RunEnd) -> u8
-    ensures { result ≡ status_of end }
-{
-    match end {
-        RunEnd::Machine(end) => machine_end_status(end),
-        RunEnd::Fuel(_) => 6,
-        RunEnd::Pool(_) => 7,
     }
 }
 
