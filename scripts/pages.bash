@@ -146,6 +146,13 @@ END
 typed docs/TUTORIAL.md 0 91 9 .. <<'END'
 ./hheap run --report --trace examples/squares.hh
 END
+typed docs/TUTORIAL.md 0 91 9 .. <<'END'
+./hheap record examples/squares.hh > squares.trace
+./hheap again replay squares.trace
+END
+typed docs/TUTORIAL.md 0 'prints ordered' 'end: every schedule agrees' <<'END'
+./hhview schedules squares.trace
+END
 typed docs/TUTORIAL.md 0 'image 1' 'task 0 - waiting' 'task 1 0 ended' 'task 2 0 running' 'chunk 0 0 1024' 'chunk 1 1 1024' \
   'object 1 0 0 mut 2 0 1033 0' 'object 1025 1 0 mut 1 1 0 1' 'object 1029 1 1 mut 1 1 1025 4' \
   'object 1033 1 2 mut 1 1 1029 9' 'remembered 1 1 0' 'end: image 4' <<'END'
@@ -166,8 +173,7 @@ typed docs/RACES.md 12 'race 0 0 ref 0 tasks 1 2 lines 9 14' 'end: races 1' <<'E
 ./hheap races examples/race.trace
 END
 typed docs/RACES.md 12 'swap 0 0 ref 0 tasks 1 2 lines 11 11' 'prints ordered' 'end: schedules may differ 1' <<'END'
-./hheap run --trace examples/cas.hh > run.txt
-(cat examples/cas.hh; sed -n '/^trace/,$p' run.txt | sed '/^end:/d') > cas.trace
+./hheap record examples/cas.hh > cas.trace
 ./hhview schedules cas.trace
 END
 typed docs/IMAGES.md 0 'end: verified 2' <<'END'
@@ -183,9 +189,8 @@ typed docs/PICTURES.md 0 <<'END'
 ./hheap image examples/race.trace > race.image
 ./hhview heaps race.image | dot -Tsvg > race.svg
 ./hheap image examples/race.trace | ./hhview heaps | dot -Tsvg > docs/pictures/race.svg
-./hheap run --fuel 13 --trace examples/down_pointer.hh > run.txt
-(cat examples/down_pointer.hh; sed -n '/^trace/,/fuel$/p' run.txt) > down.trace
-./hheap image --fuel 13 down.trace | ./hhview heaps | dot -Tsvg > docs/pictures/down_pointer.svg
+./hheap record examples/down_pointer.hh --fuel 13 > down.trace
+./hheap again image down.trace | ./hhview heaps | dot -Tsvg > docs/pictures/down_pointer.svg
 ./hhview heaps examples/two_objects.image | dot -Tsvg > docs/pictures/two_objects.svg
 END
 for picture in race.svg docs/pictures/race.svg docs/pictures/down_pointer.svg docs/pictures/two_objects.svg squares.svg; do
