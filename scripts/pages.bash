@@ -9,26 +9,12 @@ if [ ! -x "${1-}" ] || [ ! -x "${2-}" ]; then
 fi
 hheap=$(realpath "$1")
 hhview=$(realpath "$2")
-room=$(mktemp -d) || exit 1
-trap 'rm -rf "$room"' EXIT
-failed=0
-
-fail() {
-  echo "FAILED: $*" >&2
-  failed=$((failed + 1))
-}
-
 . "$top/scripts/room.bash"
 copy_top && put_built hheap "$hheap" && put_built hhview "$hhview" && cp -r "$top/docs" "$top/README.md" "$room" || exit 1
-mkdir "$room/bin" || exit 1
 # (whoever has no Graphviz sees its input)
+mkdir "$room/bin" || exit 1
 command -v dot >/dev/null || { printf '#!/usr/bin/env bash\ncat\n' >"$room/bin/dot" && chmod +x "$room/bin/dot"; }
-# (the kit isn't found, so nothing is proved or built)
-for tool in awk bash cat chmod cmp cp cut dirname dot find flock grep ln mkdir mkfifo mktemp mv realpath rm sed sha256sum \
-  sleep sort tail tar tr wc xargs; do
-  [ -e "$room/bin/$tool" ] || ln -s "$(command -v $tool)" "$room/bin/$tool" || exit 1
-done
-PATH=$room/bin
+use_just awk dot
 cd "$room" || exit 1
 unset HHEAP_HINTS
 : >typed

@@ -1,7 +1,29 @@
-# A folder in which the scripts find programs that are built already, and prove nothing.
+# For tests of what stands at the top: a folder in which the scripts find programs that are built already, and prove
+# nothing. Who reads this has set `top`.
 
-# Makes it in `room`: a copy of the top of the repository, with crates that have next to nothing in them, so that the
-# sums of sources are quick.
+room=$(mktemp -d) || exit 1
+trap 'rm -rf "$room"' EXIT
+failed=0
+
+fail() {
+  echo "FAILED: $*" >&2
+  failed=$((failed + 1))
+}
+
+# use_just TOOL ..: has the shell find these tools alone, and those that stand in the room's bin already. So the kit isn't
+# found, and a call that would prove or build ends with 1.
+use_just() {
+  local tool
+  mkdir -p "$room/bin" || exit 1
+  for tool in bash cat chmod cmp cp cut dirname find flock grep ln mkdir mkfifo mktemp mv realpath rm sed sha256sum sleep \
+    sort tail tar tr wc xargs "$@"; do
+    [ -e "$room/bin/$tool" ] || ln -s "$(command -v "$tool")" "$room/bin/$tool" || exit 1
+  done
+  PATH=$room/bin
+}
+
+# Makes a copy of the top of the repository in the room, with crates that have next to nothing in them, so that the sums
+# of sources are quick.
 copy_top() {
   local name
   cp -r "$top/hheap" "$top/hhview" "$top/scripts" "$top/examples" "$top/crates.txt" "$top/HANDLES" "$room" &&
