@@ -125,6 +125,9 @@ grep -q '^report tasks .* steps 121 turns 128$' written || fail "$usage: the rep
 typed $usage 7 'end: pool 32' <<'END'
 ./hheap run --chunks 32 examples/no_chunks.hh
 END
+typed $usage 0 780 'end: done' <<'END'
+./hheap run --chunks 40 examples/no_chunks.hh
+END
 typed $usage 0 <<'END'
 ./hheap run --chunks 32 examples/fewer_tasks.hh
 END

@@ -12,8 +12,7 @@ use Rattle.object_layout.specs.Content.{Content}
 use Rattle.object_layout.specs.Place.{cell_at, object_at, put_cell, words_in, IsObjectAt}
 use Rattle.object_layout.specs.Chunks.{cell_of, chunk_at, held_in, held_size, held_words, no_chunk, object_count, one_each, place_in, place_of, put_object, small_part, small_words, sum_in, sum_of, with_cell}
 use Rattle.alloc_path.specs.Heap.{AreWithin, counted, Heap, IsCurrent, IsFresh, IsKept, IsReserved, large_place, AreApart, place_for, room_at, small_place, units}
-use Rattle.object_layout.specs.Piece.{Frozen}
-use Rattle.kept_pieces.specs.Kept.{ArePiecesOf, Kept, written}
+use Rattle.kept_pieces.specs.Kept.{Forgets, Kept, Shows, written}
 use Rattle.kept_pieces.proofs.PieceLists as lists
 use Rattle.object_layout.proofs.ChunkLaws as chunks
 use Rattle.object_layout.proofs.PlaceLemmas as place
@@ -224,9 +223,9 @@ module _ (ks : List Content) (a : Addr) (i : ℕ) (k : Content) (o : IsObject (c
       let l = chunks.chunk_of_object ks a o in
       chunks.put_object-found ks a d k l ∙ ap (λ (n : ℕ). set ks n (with_cell (get_or ks n k) a.offset d)) (sym found) ∙ ap (λ (x : Content). set ks i (with_cell x a.offset d)) (sym read)
 
-  pub own_kept : (pieces : List (Option Frozen)) (filled kept : Option ℕ) (count many part base : ℕ) (place : ℕ → Option ℕ) (entries : ℕ) → IsKept ks pieces filled kept count many part base place entries →
+  pub own_kept : (pieces : Kept) (filled kept : Option ℕ) (count many part base : ℕ) (place : ℕ → Option ℕ) (entries : ℕ) → IsKept ks pieces filled kept count many part base place entries →
       (d : Cell) → ((n : ℕ) → held_size d.mark n ≡ held_size (cell_at k.cells a.offset).mark n) → size_of d ≡ size_of (cell_at k.cells a.offset) →
-      (left : List (Option Frozen)) → ArePiecesOf left (set ks i (with_cell k a.offset d)) →
+      (left : Kept) → Shows left (set ks i (with_cell k a.offset d)) →
       IsKept (set ks i (with_cell k a.offset d)) left filled kept count many part base place entries
   own_kept pieces filled kept count many part base place entries h d s z left shown =
       let r = own_read no_chunk in
@@ -251,21 +250,23 @@ module _ (ks : List Content) (a : Addr) (i : ℕ) (k : Content) (o : IsObject (c
       }
 
   -- the chunk's piece goes
-  pub own_changed : (pieces : List (Option Frozen)) (filled kept : Option ℕ) (count many part base : ℕ) (place : ℕ → Option ℕ) (entries : ℕ) → IsKept ks pieces filled kept count many part base place entries →
+  pub own_changed : (pieces : Kept) (filled kept : Option ℕ) (count many part base : ℕ) (place : ℕ → Option ℕ) (entries : ℕ) → IsKept ks pieces filled kept count many part base place entries →
       (d : Cell) → ((n : ℕ) → held_size d.mark n ≡ held_size (cell_at k.cells a.offset).mark n) → size_of d ≡ size_of (cell_at k.cells a.offset) →
-      IsKept (set ks i (with_cell k a.offset d)) (set pieces i None) filled kept count many part base place entries
-  own_changed pieces filled kept count many part base place entries h d s z =
-      own_kept pieces filled kept count many part base place entries h d s z (set pieces i None) (lists.changed pieces ks h.shown i (with_cell k a.offset d))
+      (left : Kept) (m : ℕ) → m ≡ k.number → Forgets pieces left (m ∷ []) →
+      IsKept (set ks i (with_cell k a.offset d)) left filled kept count many part base place entries
+  own_changed pieces filled kept count many part base place entries h d s z left m number forgets =
+      own_kept pieces filled kept count many part base place entries h d s z left (lists.changed pieces left ks i m (with_cell k a.offset d) k (ap (λ (x : Content). x.number) read) number forgets h.shown)
 
   -- or stays, where the object is mutable before and after
-  pub own_written : (p : Kept) (filled kept : Option ℕ) (count many part base : ℕ) (table : ℕ → Option ℕ) (entries : ℕ) → IsKept ks p.pieces filled kept count many part base table entries →
+  pub own_written : (p : Kept) (filled kept : Option ℕ) (count many part base : ℕ) (table : ℕ → Option ℕ) (entries : ℕ) → IsKept ks p filled kept count many part base table entries →
       (d : Cell) → d.mark ≡ (cell_at k.cells a.offset).mark → d.mutable ≡ (cell_at k.cells a.offset).mutable → size_of d ≡ size_of (cell_at k.cells a.offset) →
-      IsKept (set ks i (with_cell k a.offset d)) (written p i (object_at k.cells a.offset).mutable).pieces filled kept count many part base table entries
-  own_written p filled kept count many part base table entries h d m u z =
+      (left : Kept) → Forgets p left (written (object_at k.cells a.offset).mutable k.number) →
+      IsKept (set ks i (with_cell k a.offset d)) left filled kept count many part base table entries
+  own_written p filled kept count many part base table entries h d m u z left forgets =
       let there : IsObjectAt k.cells a.offset = subst (λ (c : Cell). IsObject c.mark) own_cell o in
       let is : object_at k.cells a.offset ≡ cell_at k.cells a.offset = place.object_is k.cells a.offset there in
-      own_kept p.pieces filled kept count many part base table entries h d (λ n. ap (λ (x : Mark). held_size x n) m) z (written p i (object_at k.cells a.offset).mutable).pieces
-      (lists.written_shown p ks h.shown i k (own_read no_chunk) a.offset d (object_at k.cells a.offset).mutable (ap (λ (c : Cell). c.mutable) (sym is)) u z)
+      own_kept p filled kept count many part base table entries h d (λ n. ap (λ (x : Mark). held_size x n) m) z left
+      (lists.written_shown p left ks h.shown i k (own_read no_chunk) a.offset d (object_at k.cells a.offset).mutable forgets (ap (λ (c : Cell). c.mutable) (sym is)) u z)
 
 -- an object's words count
 pub held_object : (m : Mark) (n : ℕ) → IsObject m → held_size m n ≡ n
@@ -303,7 +304,7 @@ module _ (h : Heap) (w i : ℕ) (fits : place_for h w ≡ Some i) where
   fits_large l = large_cases h.reserved (rw (lt-leb w 1024 l) at fits)
 
 -- the chunk into which an object goes is in the list, and has room for it
-module _ (h : Heap) (pieces : List (Option Frozen)) (count many part base : ℕ) (place : ℕ → Option ℕ) (entries : ℕ) (keeps : IsKept h.chunks pieces h.current h.reserved count many part base place entries) where
+module _ (h : Heap) (pieces : Kept) (count many part base : ℕ) (place : ℕ → Option ℕ) (entries : ℕ) (keeps : IsKept h.chunks pieces h.current h.reserved count many part base place entries) where
   pub current_in : (i : ℕ) → h.current ≡ Some i → (i < length h.chunks) × ((chunk_at h.chunks i).size ≡ 1024)
   current_in i e = rw e at keeps.current
 
@@ -333,7 +334,7 @@ module _ (h : Heap) (pieces : List (Option Frozen)) (count many part base : ℕ)
   module _ (i : ℕ) (k : Content) (read : k ≡ get_or h.chunks i k) (c : Cell) (held : (n : ℕ) → held_size c.mark n ≡ n) (fits : place_for h (size_of c) ≡ Some i) where
     pub placed_kept : (r : Option ℕ) → (size_of c ≤ 1024 → r ≡ h.reserved) → (1024 < size_of c → r ≡ None) →
         (n m p : ℕ) → n ≡ counted (count + size_of c) → m ≡ counted (many + 1) → p ≡ counted (part + small_part (size_of c)) →
-        (left : List (Option Frozen)) → ArePiecesOf left (set h.chunks i (record k { cells = k.cells ++ c ∷ [] })) →
+        (left : Kept) → Shows left (set h.chunks i (record k { cells = k.cells ++ c ∷ [] })) →
         IsKept (set h.chunks i (record k { cells = k.cells ++ c ∷ [] })) left h.current r n m p base place entries
     placed_kept r small large n m p e em ep left shown =
         let in' = fits_in (size_of c) i fits (omega arith) in
@@ -452,8 +453,8 @@ module _ (ks : List Content) (k : Content) (empty : k.cells ≡ []) where
   within_push : AreWithin ks → AreWithin (ks ++ k ∷ [])
   within_push h = All-push (λ (x : Content). words_in x.cells ≤ x.size) ks k h (subst (λ (cs : List Cell). words_in cs ≤ k.size) (sym empty) (omega arith))
 
-  module _ (pieces : List (Option Frozen)) (filled kept : Option ℕ) (count many part base : ℕ) (place new : ℕ → Option ℕ) (entries : ℕ) (keeps : IsKept ks pieces filled kept count many part base place entries) (fresh : IsFresh ks k.number)
-      (writes : (q : ℕ) → new q ≡ cond (eqb k.number q) (Some (base - length ks)) (place q)) where
+  module _ (pieces : Kept) (filled kept : Option ℕ) (count many part base : ℕ) (place new : ℕ → Option ℕ) (entries : ℕ) (keeps : IsKept ks pieces filled kept count many part base place entries) (fresh : IsFresh ks k.number)
+      (writes : (q : ℕ) → new q ≡ cond (eqb k.number q) (Some (base - length ks)) (place q)) (left : Kept) (shown : Shows left (ks ++ k ∷ [])) where
     table_push : (q : ℕ) → new q ≡ option_map (λ j. base - j) (place_in (ks ++ k ∷ []) q)
     table_push q =
         writes q
@@ -467,7 +468,7 @@ module _ (ks : List Content) (k : Content) (empty : k.cells ≡ []) where
     moved_push : base ≤ 2 ^ 63 + length (ks ++ k ∷ [])
     moved_push = let m = keeps.moved in simp length-append (omega arith)
 
-    pub small_added : k.size ≡ 1024 → IsKept (ks ++ k ∷ []) pieces (Some (length ks)) kept count many part base new (entries + 1)
+    pub small_added : k.size ≡ 1024 → IsKept (ks ++ k ∷ []) left (Some (length ks)) kept count many part base new (entries + 1)
     small_added s = record {
       current = (simp length-append (omega arith), rw at_last s);
       reserved = IsReserved-push kept keeps.reserved;
@@ -479,10 +480,10 @@ module _ (ks : List Content) (k : Content) (empty : k.cells ≡ []) where
       moved = moved_push;
       table = table_push;
       each = let e = keeps.each in simp length-append (omega arith);
-      shown = lists.added pieces ks (k ∷ []) keeps.shown;
+      shown = shown;
     }
 
-    pub large_added : 1024 < k.size → IsKept (ks ++ k ∷ []) pieces filled (Some (length ks)) count many part base new (entries + 1)
+    pub large_added : 1024 < k.size → IsKept (ks ++ k ∷ []) left filled (Some (length ks)) count many part base new (entries + 1)
     large_added s = record {
       current = IsCurrent-push filled keeps.current;
       reserved = (simp length-append (omega arith), rw at_last (s, empty));
@@ -494,7 +495,7 @@ module _ (ks : List Content) (k : Content) (empty : k.cells ≡ []) where
       moved = moved_push;
       table = table_push;
       each = let e = keeps.each in simp length-append (omega arith);
-      shown = lists.added pieces ks (k ∷ []) keeps.shown;
+      shown = shown;
     }
 
 -- a call that succeeds does what it does on success
@@ -669,7 +670,7 @@ module _ (xs ks : List Content) where
   IsReserved-behind b e None h = h
   IsReserved-behind b e (Some i) h = rw e (simp length-append (let l : i < length ks = h.0 in omega arith), rw (at_behind i) h.1)
 
-module _ (ls rs ks : List Content) (pieces : List (Option Frozen)) (filled kept : Option ℕ) (a b n many part base : ℕ) (place : ℕ → Option ℕ) (entries : ℕ) (keeps : IsKept ks pieces filled kept n many part base place entries)
+module _ (ls rs ks : List Content) (pieces : Kept) (filled kept : Option ℕ) (a b n many part base : ℕ) (place : ℕ → Option ℕ) (entries : ℕ) (keeps : IsKept ks pieces filled kept n many part base place entries)
     (left : a ≡ counted (held_words ls)) (right : b ≡ counted (held_words rs)) (left_within : AreWithin ls) (right_within : AreWithin rs) where
   together : ls ++ (rs ++ ks) ≡ (ls ++ rs) ++ ks
   together = sym (append_assoc ls rs ks)
@@ -685,7 +686,7 @@ module _ (ls rs ks : List Content) (pieces : List (Option Frozen)) (filled kept 
       ((q : ℕ) → new q ≡ option_or (option_map (λ j. base + length rs + length ls - j) (place_in ls q)) (half q)) →
       m ≡ entries + length rs + length ls → count ≡ counted (n + counted (a + b)) →
       (o p : ℕ) → o ≡ counted (object_count (ls ++ (rs ++ ks))) → p ≡ counted (small_words (ls ++ (rs ++ ks))) →
-      (all : List (Option Frozen)) → ArePiecesOf all (ls ++ (rs ++ ks)) →
+      (all : Kept) → Shows all (ls ++ (rs ++ ks)) →
       IsKept (ls ++ (rs ++ ks)) all (option_map (λ i. i + (length ls + length rs)) filled) (option_map (λ i. i + (length ls + length rs)) kept) count o p top new m
   merged_kept half new m count top sum first second each words o p objects small all shown = record {
     current = rw together (IsCurrent-behind (ls ++ rs) ks (length ls + length rs) lengths filled keeps.current);

@@ -4,3 +4,4 @@ pub mod Settled
 pub mod Near
 pub mod Counting
 pub mod ViewLemmas
+pub mod Rows

@@ -9,7 +9,7 @@ use Rattle.object_layout.specs.Cell.{Cell, moved_to, no_cell, size_of}
 use Rattle.object_layout.specs.Content.{Content}
 use Rattle.object_layout.specs.Place.{cell_at, put_cell, words_in}
 use Rattle.object_layout.specs.Chunks.{cell_of, chunk_at, no_chunk, place_of, put_object, with_cell}
-use Rattle.object_layout.specs.Piece.{Frozen}
+use Rattle.kept_pieces.specs.Kept.{Kept}
 use Rattle.alloc_path.specs.Heap.{added, AreApart, AreTidy, Heap, IsFresh, IsKept, IsSettled, IsTidy, place_for, units}
 use Rattle.alloc_path.proofs.HeapLemmas as heap
 use Rattle.alloc_path.proofs.PlacedLaws as placed
@@ -146,7 +146,7 @@ size_within : (cs : List Cell) (n : ℕ) → words_in cs ≤ n → All (λ (c : 
 size_within [] n l = All-nil (λ (c : Cell). size_of c ≤ n)
 size_within (c ∷ cs) n l = All-cons (λ (d : Cell). size_of d ≤ n) c cs (omega arith) (size_within cs n (omega arith))
 
-module _ (h : Heap) (pieces : List (Option Frozen)) (count many part base : ℕ) (place : ℕ → Option ℕ) (entries : ℕ) (keeps : IsKept h.chunks pieces h.current h.reserved count many part base place entries) (i : ℕ) (c : Cell)
+module _ (h : Heap) (pieces : Kept) (count many part base : ℕ) (place : ℕ → Option ℕ) (entries : ℕ) (keeps : IsKept h.chunks pieces h.current h.reserved count many part base place entries) (i : ℕ) (c : Cell)
     (fits : place_for h (size_of c) ≡ Some i) (unmoved : moved_to c.mark ≡ None) where
   some : 0 < size_of c
   some = omega arith

@@ -1,71 +1,111 @@
--- Where the piece of a chunk stands, and what is found of it.
-use Rattle.std.proofs.Common.{◌≡◌, ℕ, zero, suc, ◌+◌, ◌-◌, ◌^◌, ◌<◌, ◌≤◌, List, [], ◌∷◌, get_or, length, map, refl, ap, ◌∙◌, arith, inl, inr, eqb, Option, Some, None}
-use Rattle.std.specs.Prelude.{option_map, slice_get}
-use Rattle.std.specs.List.{position_or_len}
+-- The piece of a chunk that is found by its number.
+use Rattle.std.proofs.Common.{◌≡◌, ℕ, ◌+◌, ◌-◌, ◌<◌, ◌≤◌, Bool, true, false, cond, List, [], ◌∷◌, ◌++◌, get_or, length, refl, sym, take, ap, ◌∙◌, suc, subst, arith, inl, inr, eqb, Option, Some, None}
+use Rattle.std.specs.Prelude.{option_map, Err, Ok, OnErr, OnOk, Result}
 use Rattle.std.specs.Option.{option_or}
-use Rattle.std.proofs.lemmas.Bool.{cases_Bool, cases_lt, le-ltb, lt-ltb}
-use Rattle.std.proofs.lemmas.List.{length-map}
-use Rattle.std.proofs.lemmas.List.Folds.{find_at}
-use Rattle.std.proofs.lemmas.Option.{slice_get_past}
+use Rattle.std.proofs.lemmas.Bool.{cases_Bool, eqb-true}
+use Rattle.std.proofs.lemmas.List.{take_more}
 use Rattle.object_layout.specs.Content.{Content}
 use Rattle.object_layout.specs.Chunks.{place_in, place_of}
-use Rattle.object_layout.specs.Piece.{Frozen}
-use Rattle.alloc_path.specs.View.{Level, level_of, piece_in, place_on}
+use Rattle.object_layout.specs.Piece.{Frozen, frozen_of}
+use Rattle.kept_pieces.specs.Kept.{is_among, needed, Kept, Shows}
+use Rattle.kept_pieces.proofs.PieceLists as lists
+use Rattle.alloc_path.specs.View.{Level, level_of, nearest, piece_in}
+use Rattle.alloc_path.proofs.HeapLemmas as heap
 
-abbrev place_or_len : Level → ℕ → ℕ
-place_or_len l n = position_or_len (λ (f : Frozen). eqb f.number n) l
+further : (k : Content) (ks : List Content) (i : ℕ) (d : Content) → get_or (k ∷ ks) (1 + i) d ≡ get_or ks i d
+further k ks i d = let e : 1 + i ≡ suc i = omega arith in rw e refl
 
--- the pieces of chunks stand as the chunks do
-same_place : (ks : List Content) (n : ℕ) → place_or_len (level_of ks) n ≡ place_of ks n
-same_place [] n = refl
-same_place (k ∷ ks) n =
+-- what stands where the chunk of a number does
+there : (ks : List Content) (n : ℕ) (d : Content) → place_of ks n < length ks → ((get_or ks (place_of ks n) d).number ≡ n) × (piece_in (level_of ks) n ≡ Some (frozen_of (get_or ks (place_of ks n) d)))
+there [] n d l = absurd (omega arith)
+there (k ∷ ks) n d l =
     elim (cases_Bool (eqb k.number n)) [
-      | inl e ↦ rw e refl
-      | inr e ↦ rw e (ap (λ m. 1 + m) (same_place ks n))
+      | inl e ↦ rw e (eqb-true k.number n e, refl)
+      | inr e ↦
+          let m = rw e at l in
+          let ih = there ks n d (omega arith) in
+          let next : get_or (k ∷ ks) (1 + place_of ks n) d ≡ get_or ks (place_of ks n) d = further k ks (place_of ks n) d in
+          rw (e, next) ih
     ]
 
-pub placed_as : (ks : List Content) (n : ℕ) → place_on (level_of ks) n ≡ place_in ks n
-placed_as ks n = rw (same_place ks n, length-map) refl
-
--- what the table has for a number
-abbrev pub entry_of : Option ℕ → Option ℕ
-entry_of place = option_map (λ i. 2 ^ 63 - i) place
-
--- where it has nothing, there is no piece
-pub none_there : (l : Level) (n : ℕ) → None ≡ entry_of (place_on l n) → piece_in l n ≡ None
-none_there l n e =
-    elim (cases_lt (place_or_len l n) (length l)) [
-      | inl below ↦ let f = rw (lt-ltb (place_or_len l n) (length l) below) at e in cc
-      | inr past ↦ find_at (λ (f : Frozen). eqb f.number n) l ∙ slice_get_past l (place_or_len l n) past
+gone : (ks : List Content) (n : ℕ) → length ks ≤ place_of ks n → piece_in (level_of ks) n ≡ None
+gone [] n l = refl
+gone (k ∷ ks) n l =
+    elim (cases_Bool (eqb k.number n)) [
+      | inl e ↦ let m = rw e at l in absurd (omega arith)
+      | inr e ↦ let m = rw e at l in rw e (gone ks n (omega arith))
     ]
 
--- where it has an entry, the piece stands so far before the base
-pub record StandsAt (l : Level) (n before : ℕ) : Type 0 where
-  pub inside : 2 ^ 63 - before < length l
-  pub is : piece_in l n ≡ slice_get l (2 ^ 63 - before)
+-- the piece of the chunk at a place that the table tells
+pub one_added : (ks : List Content) (base number before : ℕ) (k : Content) → length ks ≤ base → Some before ≡ option_map (λ j. base - j) (place_in ks number) → k ≡ get_or ks (base - before) k →
+    (n : ℕ) → piece_in (level_of (k ∷ [])) n ≡ cond (eqb number n) (piece_in (level_of ks) n) None
+one_added ks base number before k few tells read n =
+    let place = (heap.found_place ks base number few before tells).1 in
+    let found = heap.place_found ks number (base - before) (sym place) in
+    let at = there ks number k (let l = found.1 in omega arith) in
+    let same : k ≡ get_or ks (place_of ks number) k = read ∙ ap (λ (i : ℕ). get_or ks i k) found.0 in
+    let is : k.number ≡ number = ap (λ (x : Content). x.number) same ∙ at.0 in
+    let piece : piece_in (level_of ks) number ≡ Some (frozen_of k) = at.1 ∙ ap (λ (x : Content). Some (frozen_of x)) (sym same) in
+    ap (λ (m : ℕ). cond (eqb m n) (Some (frozen_of k)) None) is ∙ by (eqb number n) (λ e. subst (λ (m : ℕ). piece_in (level_of ks) m ≡ Some (frozen_of k)) (eqb-true number n e) piece)
+  where
+    by : (b : Bool) → (b ≡ true → piece_in (level_of ks) n ≡ Some (frozen_of k)) → cond b (Some (frozen_of k)) None ≡ cond b (piece_in (level_of ks) n) None
+    by true h = sym (h refl)
+    by false h = refl
 
-same_some : (a b : ℕ) → Some a ≡ Some b → a ≡ b
-same_some a b e = cc
+-- no chunk has the number
+pub none_added : (ks : List Content) (base number : ℕ) → None ≡ option_map (λ j. base - j) (place_in ks number) → (n : ℕ) (o : Option Frozen) → o ≡ option_or o (cond (eqb number n) (piece_in (level_of ks) n) None)
+none_added ks base number tells n o = sym (ap (option_or o) (by (eqb number n) (λ e. subst (λ (m : ℕ). piece_in (level_of ks) m ≡ None) (eqb-true number n e) none)) ∙ or_none o)
+  where
+    unplaced : (p : Option ℕ) → None ≡ option_map (λ j. base - j) p → p ≡ None
+    unplaced None e = refl
+    unplaced (Some i) e = cc
 
-pub some_there : (l : Level) (n before : ℕ) → length l ≤ 2 ^ 63 → Some before ≡ entry_of (place_on l n) → StandsAt l n before
-some_there l n before small e =
-    elim (cases_lt (place_or_len l n) (length l)) [
-      | inl below ↦
-          let is : before ≡ 2 ^ 63 - place_or_len l n = same_some before (2 ^ 63 - place_or_len l n) (rw (lt-ltb (place_or_len l n) (length l) below) at e) in
-          let place : 2 ^ 63 - before ≡ place_or_len l n = omega arith in
-          record {
-            inside = omega arith;
-            is = rw place (find_at (λ (f : Frozen). eqb f.number n) l);
-          }
-      | inr past ↦ let f = rw (le-ltb (place_or_len l n) (length l) past) at e in cc
-    ]
+    none : piece_in (level_of ks) number ≡ None
+    none = gone ks number (heap.none_there ks number (unplaced (place_in ks number) tells))
 
-pub or_nothing : (o : Option ℕ) → option_or o None ≡ o
-or_nothing None = refl
-or_nothing (Some i) = refl
+    by : (b : Bool) → (b ≡ true → piece_in (level_of ks) n ≡ None) → cond b (piece_in (level_of ks) n) None ≡ None
+    by true h = h refl
+    by false h = refl
 
--- what is read of a list that is seen through a function
-pub read_mapped : {X Y : Type 0} (f : X → Y) (xs : List X) (i : ℕ) (x : X) → x ≡ get_or xs i x → f x ≡ get_or (map f xs) i (f x)
-read_mapped f [] i x e = refl
-read_mapped f (y ∷ xs) zero x e = ap f e
-read_mapped f (y ∷ xs) (suc i) x e = read_mapped f xs i x e
+    or_none : (q : Option Frozen) → option_or q None ≡ q
+    or_none None = refl
+    or_none (Some f) = refl
+
+-- the pieces of one number more
+pub number_more : (ks : List Content) (o was : Option Frozen) (among one : Bool) (n : ℕ) → o ≡ option_or was (cond among (piece_in (level_of ks) n) None) →
+    option_or o (cond one (piece_in (level_of ks) n) None) ≡ option_or was (cond (cond among true one) (piece_in (level_of ks) n) None)
+number_more ks o was among one n e = ap (λ (x : Option Frozen). option_or x (cond one (piece_in (level_of ks) n) None)) e ∙ by among one was (piece_in (level_of ks) n)
+  where
+    by : (a b : Bool) (p q : Option Frozen) → option_or (option_or p (cond a q None)) (cond b q None) ≡ option_or p (cond (cond a true b) q None)
+    by true b (Some x) q = refl
+    by true true None None = refl
+    by true false None None = refl
+    by true b None (Some y) = refl
+    by false b (Some x) q = refl
+    by false b None q = refl
+
+-- what is kept, once the pieces that were missing are put before it, or want of memory leaves it as it was
+pub put_shows : {T E : Type 0} (r : Result T E) (p now q : Kept) (l : Level) (ks : List Content) → now ≡ p → OnOk r ((n : ℕ) → nearest q.layers n ≡ option_or (piece_in l n) (cond now.lost None (nearest now.layers n))) →
+    OnErr r (q ≡ now) → ((n : ℕ) → piece_in l n ≡ needed now ks n) → Shows p ks → Shows q ks
+put_shows (Ok x) p now q l ks same puts fails needs h =
+    let shows : Shows now ks = subst (λ (k : Kept). Shows k ks) (sym same) h in
+    lists.shown_again q ks (λ n. puts n ∙ (ap (λ (o : Option Frozen). option_or o (cond now.lost None (nearest now.layers n))) (needs n) ∙ lists.all_shown now ks shows n))
+put_shows (Err e) p now q l ks same puts fails needs h = subst (λ (k : Kept). Shows k ks) (sym (fails ∙ same)) h
+
+-- what was added, where memory was there for it
+pub when_added : {T E : Type 0} (r : Result T E) (P Q : Type 0) → (P → Q) → OnOk r P → OnOk r Q
+when_added (Ok x) P Q f h = f h
+when_added (Err e) P Q f h = h
+
+-- the piece of the next of some numbers is added
+pub next_number : (ks : List Content) (xs : List ℕ) (i d : ℕ) → i < length xs → (now was before : Option Frozen) (n : ℕ) → now ≡ option_or was (cond (eqb (get_or xs i d) n) (piece_in (level_of ks) n) None) →
+    was ≡ option_or before (cond (is_among (take i xs) n) (piece_in (level_of ks) n) None) → now ≡ option_or before (cond (is_among (take (i + 1) xs) n) (piece_in (level_of ks) n) None)
+next_number ks xs i d inside now was before n adds had =
+    let x : ℕ = get_or xs i d in
+    let next : take (i + 1) xs ≡ take i xs ++ x ∷ [] = take_more xs i d inside in
+    adds ∙ (number_more ks was before (is_among (take i xs) n) (eqb x n) n had
+    ∙ ap (λ (b : Bool). option_or before (cond b (piece_in (level_of ks) n) None)) (ap (λ (b : Bool). cond (is_among (take i xs) n) true b) (alone (eqb x n)) ∙ (sym (lists.among_both (take i xs) (x ∷ []) n) ∙ ap (λ (ys : List ℕ). is_among ys n) (sym next))))
+  where
+    alone : (b : Bool) → b ≡ cond b true false
+    alone true = refl
+    alone false = refl

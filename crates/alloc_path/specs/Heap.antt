@@ -6,8 +6,7 @@ use Rattle.object_layout.specs.Content.{Content}
 use Rattle.object_layout.specs.Place.{words_in}
 use Rattle.object_layout.specs.Chunks.{cell_of, chunk_at, held_words, object_count, place_in, push_object, small_words}
 pub use Rattle.object_layout.specs.Chunks.{AreApart, IsFresh}
-use Rattle.object_layout.specs.Piece.{Frozen}
-use Rattle.kept_pieces.specs.Kept.{ArePiecesOf}
+use Rattle.kept_pieces.specs.Kept.{Kept, Shows}
 
 -- its chunks in the order in which they came; at which place the small chunk stands that is being
 -- filled, and at which the chunk that is reserved for a large object; the words that were placed
@@ -101,8 +100,8 @@ abbrev pub AreWithin : List Content → Type 0
 AreWithin ks = All (λ k. words_in k.cells ≤ k.size) ks
 
 -- the table has how far each chunk stands before a base, and nothing else, all words lie inside their chunks, the counts are those of the words, of the objects, and
--- of the words of small objects, and each piece that is kept shows what its chunk holds
-pub record IsKept (chunks : List Content) (pieces : List (Option Frozen)) (filled kept : Option ℕ) (count many part base : ℕ) (place : ℕ → Option ℕ) (entries : ℕ) : Type 0 where
+-- of the words of small objects, and the pieces that are kept show what their chunks hold
+pub record IsKept (chunks : List Content) (pieces : Kept) (filled kept : Option ℕ) (count many part base : ℕ) (place : ℕ → Option ℕ) (entries : ℕ) : Type 0 where
   pub current : IsCurrent chunks filled
   pub reserved : IsReserved chunks kept
   pub within : AreWithin chunks
@@ -113,7 +112,7 @@ pub record IsKept (chunks : List Content) (pieces : List (Option Frozen)) (fille
   pub moved : base ≤ 2 ^ 63 + length chunks
   pub table : (number : ℕ) → place number ≡ option_map (λ i. base - i) (place_in chunks number)
   pub each : entries ≡ length chunks
-  pub shown : ArePiecesOf pieces chunks
+  pub shown : Shows pieces chunks
 
 -- ---- what a heap keeps between collections
 

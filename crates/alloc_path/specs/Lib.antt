@@ -3,3 +3,5 @@ pub mod Units
 pub mod FieldLaws
 pub mod PlaceLaws
 pub mod View
+pub mod Row
+pub mod RowLends

@@ -7,10 +7,10 @@ ghost use Rattle.object_layout.specs.Chunks.{chunk_at, place_in};
 ghost use Rattle.alloc_path.specs.Heap.{exchanged, merged, with_places, AreApart, IsCurrent, IsReserved};
 
 use super::counts::counts_of;
+use super::row::Row;
 use super::space::{BASE, Space};
 use object_layout::Chunk;
 use std::collections::HashMap;
-use std::mem;
 
 impl Space {
     /// Takes all chunks out. It takes no memory, and leaves places for as many.
@@ -27,8 +27,7 @@ impl Space {
         self.small = 0;
         self.table.clear();
         self.base = BASE;
-        let none = Vec::new(*self.chunks.allocator());
-        mem::replace(&mut self.chunks, none)
+        self.chunks.take()
     }
 
     /// Puts these chunks in place of the heap's own, which are let go: at which place the small
@@ -54,7 +53,7 @@ impl Space {
         self.base = BASE;
         index_chunks(&mut self.table, &chunks, BASE);
         self.pieces.forget_all();
-        self.chunks = chunks;
+        self.chunks = Row::of(chunks);
         self.current = current;
         self.reserved = reserved;
     }
@@ -67,6 +66,7 @@ impl Space {
         requires spare { length left.chunks + length right.chunks ≤ self.old.spare }
         ensures merged { self.new ≡ with_places (merged self.old left right) self.new.slots self.new.spare }
     {
+        let _few = self.chunks.len();
         let before = left.chunks.len() + right.chunks.len();
         self.since = self
             .since
@@ -81,32 +81,18 @@ impl Space {
             .small
             .saturating_add(left.small.saturating_add(right.small));
         self.base += right.chunks.len();
-        index_chunks(&mut self.table, &right.chunks, self.base);
+        index_chunks(&mut self.table, right.chunks.as_slice(), self.base);
         self.base += left.chunks.len();
-        index_chunks(&mut self.table, &left.chunks, self.base);
-        self.pieces.put_before(
-            left.pieces,
-            left.chunks.len(),
-            right.pieces,
-            right.chunks.len(),
-        );
-        put_before(&mut self.chunks, &mut left.chunks, &mut right.chunks);
+        index_chunks(&mut self.table, left.chunks.as_slice(), self.base);
+        drop(left.pieces);
+        drop(right.pieces);
+        self.pieces.forget_each(right.chunks.as_slice());
+        self.pieces.forget_each(left.chunks.as_slice());
+        self.chunks.put_before(right.chunks.take());
+        self.chunks.put_before(left.chunks.take());
         self.current = behind(self.current, before);
         self.reserved = behind(self.reserved, before);
     }
-}
-
-// Puts the chunks of two lists before the others.
-fn put_before(chunks: &mut Vec<Chunk>, left: &mut Vec<Chunk>, right: &mut Vec<Chunk>)
-    requires { vec_len left.old + vec_len right.old ≤ vec_capacity chunks.old - vec_len chunks.old }
-    ensures items { chunks.new.items ≡ left.old.items ++ (right.old.items ++ chunks.old.items) }
-    ensures left { left.new.items ≡ [] }
-    ensures right { right.new.items ≡ [] }
-{
-    let own = chunks.len();
-    let _ = chunks.append(left);
-    let _ = chunks.append(right);
-    chunks.rotate_left(own);
 }
 
 // A place, with so many chunks more before it.

@@ -44,10 +44,10 @@ impl Space {
         ensures settled { IsSettled self.old.chunks → IsSettled self.new.chunks }
     {
         let words = 2 + new.header.nrefs + new.header.nints;
-        self.pieces.forget(i);
-        let chunk = &mut self.chunks[i];
+        let chunk = self.chunks.at_mut(i);
         let offset = chunk.used();
         let number = chunk.number();
+        self.pieces.forget(number);
         write_filled(chunk, offset, new.header, new.birth, refs, ints);
         if words > SMALL {
             self.reserved = None;

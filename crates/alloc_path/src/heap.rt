@@ -46,7 +46,7 @@ impl LeafHeap {
         ensures within { AreWithin self.now.chunks }
         ensures near { AreNear self.now.chunks }
     {
-        &self.space.chunks
+        self.space.chunks.as_slice()
     }
 
     /// At which place the small chunk stands that is being filled, if one is.
@@ -123,6 +123,17 @@ impl LeafHeap {
         ensures more_spare { self.old.spare ≤ self.new.spare }
     {
         self.space.make_room(chunks)
+    }
+
+    /// The same for chunks that are put before the others, as `merge` does.
+    pub fn make_room_before(&mut self, chunks: u32) -> Result<(), AllocError>
+        ensures kept { self.new ≡ with_places self.old self.new.slots self.new.spare }
+        ensures slots { OnOk result (chunks ≤ self.new.slots) }
+        ensures spare { OnOk result (chunks ≤ self.new.spare) }
+        ensures more_slots { self.old.slots ≤ self.new.slots }
+        ensures more_spare { self.old.spare ≤ self.new.spare }
+    {
+        self.space.make_room_before(chunks)
     }
 
     /// Makes ready what `view` shares of the chunks: copies of those with immutable objects, but of chunks that didn't

@@ -8,6 +8,7 @@ mod filled;
 mod heap;
 mod laws;
 mod own;
+mod row;
 mod shelf;
 mod space;
 mod view;

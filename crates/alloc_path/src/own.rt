@@ -1,15 +1,15 @@
 // Reads and writes of the objects of a space, by their addresses.
 
 ghost use Rattle.std.specs.Prelude.{◌≡◌, ◌+◌, ◌^◌, ◌<◌, ◌≤◌, ◌++◌, ◌∷◌, [], length, option_copied, option_map, slice_get, is_some, IfSome, Some, None};
-ghost use Rattle.object_layout.specs.Cell.{Born, Moved, frozen, header_of, moved_to, size_of, with_int, with_mark, IsBorn, IsObject, IsPlace};
+ghost use Rattle.object_layout.specs.Cell.{Born, Moved, frozen, header_of, size_of, with_int, with_mark, IsBorn, IsObject, IsPlace};
 ghost use Rattle.object_layout.specs.Place.{cell_at, put_cell, words_in, IsObjectAt};
 ghost use Rattle.object_layout.specs.Chunks.{cell_of, chunk_at, has_chunk, next_address, object_of, place_in, place_of, put_object};
 ghost use Rattle.alloc_path.specs.FieldLaws.{with_ref_of};
 
 use super::space::Space;
 use object_layout::{
-    Addr, Birth, Chunk, Header, birth_at, copy_behind, forward, forwarded_at, freeze, header_at,
-    int_at, ref_at, set_birth, set_int, set_ref,
+    Addr, Birth, Chunk, Header, birth_at, copy_behind, forward, freeze, header_at, int_at, ref_at,
+    set_birth, set_int, set_ref,
 };
 
 impl Space {
@@ -17,6 +17,7 @@ impl Space {
     pub fn place_of(&self, number: u32) -> Option<usize>
         ensures { result ≡ place_in self.now.chunks number }
     {
+        let _few = self.chunks.len();
         match self.table.get(&number) {
             None => None,
             Some(before) => Some(self.base - *before),
@@ -29,7 +30,7 @@ impl Space {
     {
         match self.place_of(number) {
             None => None,
-            Some(i) => Some(&self.chunks[i]),
+            Some(i) => Some(self.chunks.at(i)),
         }
     }
 
@@ -46,6 +47,7 @@ impl Space {
         requires { place_of self.now.chunks number < length self.now.chunks }
         ensures { result ≡ place_of self.now.chunks number }
     {
+        let _few = self.chunks.len();
         self.base - self.table[&number]
     }
 
@@ -54,7 +56,7 @@ impl Space {
         requires { place_of self.now.chunks object.chunk < length self.now.chunks }
         ensures { cell_at result.now.cells object.offset ≡ cell_of self.now.chunks object }
     {
-        &self.chunks[self.own_place(object.chunk)]
+        self.chunks.at(self.own_place(object.chunk))
     }
 
     /// The chunk in which an object of this heap lies, where it is known at which place that stands.
@@ -62,7 +64,7 @@ impl Space {
         requires { place_in self.now.chunks object.chunk ≡ Some place }
         ensures { cell_at result.now.cells object.offset ≡ cell_of self.now.chunks object }
     {
-        &self.chunks[place]
+        self.chunks.at(place)
     }
 
     /// Whether the address lies in a chunk of this heap.
@@ -107,25 +109,6 @@ impl Space {
         int_at(self.chunk_of(object), object.offset, field)
     }
 
-    /// The address that an object was moved to; None where it was not moved.
-    pub fn own_forwarded(&self, object: Addr) -> Option<Addr>
-        requires { IsObject (cell_of self.now.chunks object).mark }
-        ensures value { result ≡ moved_to (cell_of self.now.chunks object).mark }
-        ensures place { IsPlace result }
-    {
-        forwarded_at(self.chunk_of(object), object.offset)
-    }
-
-    /// Writes a copy of an object behind those of a chunk that isn't of this heap, and says where.
-    pub fn own_copy(&self, object: Addr, to: &mut Chunk) -> u32
-        requires object { IsObject (cell_of self.now.chunks object).mark }
-        requires room { words_in to.old.cells + size_of (object_of self.now.chunks object) ≤ to.old.size }
-        ensures place { result ≡ words_in to.old.cells }
-        ensures copied { to.new ≡ record to.old { cells = to.old.cells ++ object_of self.now.chunks object ∷ [] } }
-    {
-        copy_behind(self.chunk_of(object), object.offset, to)
-    }
-
     /// Writes a reference of an object.
     pub fn own_set_ref(&mut self, object: Addr, field: u32, value: Option<Addr>)
         requires field { field < length (object_of self.old.chunks object).refs }
@@ -143,8 +126,8 @@ impl Space {
         requires value { IsPlace value }
         ensures { self.new ≡ with_ref_of self.old object field value }
     {
-        let chunk = &mut self.chunks[place];
-        self.pieces.forget_written(place, chunk, object.offset);
+        let chunk = self.chunks.at_mut(place);
+        self.pieces.forget_written(chunk, object.offset);
         set_ref(chunk, object.offset, field, value);
     }
 
@@ -163,8 +146,8 @@ impl Space {
         requires field { field < length (object_of self.old.chunks object).ints }
         ensures { self.new ≡ record self.old { chunks = put_object self.old.chunks object (with_int (cell_of self.old.chunks object) field value) } }
     {
-        let chunk = &mut self.chunks[place];
-        self.pieces.forget_written(place, chunk, object.offset);
+        let chunk = self.chunks.at_mut(place);
+        self.pieces.forget_written(chunk, object.offset);
         set_int(chunk, object.offset, field, value);
     }
 
@@ -183,30 +166,20 @@ impl Space {
         requires object { IsObject (cell_of self.old.chunks object).mark }
         ensures { self.new ≡ record self.old { chunks = put_object self.old.chunks object (frozen (cell_of self.old.chunks object)) } }
     {
-        self.pieces.forget(place);
-        let chunk = &mut self.chunks[place];
+        let chunk = self.chunks.at_mut(place);
+        self.pieces.forget(chunk.number());
         freeze(chunk, object.offset);
     }
 
-    /// Leaves the address that an object was moved to, in place of its birth name.
-    pub fn own_forward(&mut self, object: Addr, to: Addr)
-        requires object { IsObject (cell_of self.old.chunks object).mark }
-        requires place { IsPlace (Some to) }
-        ensures { self.new ≡ record self.old { chunks = put_object self.old.chunks object (with_mark (cell_of self.old.chunks object) (Moved to)) } }
-    {
-        let place = self.own_place(object.chunk);
-        self.forward_in(place, object, to);
-    }
-
-    /// The same, where it is known at which place the object's chunk stands.
+    /// Leaves the address that an object was moved to, in place of its birth name; the object's chunk stands at this place.
     pub fn forward_in(&mut self, place: usize, object: Addr, to: Addr)
         requires place { place_in self.old.chunks object.chunk ≡ Some place }
         requires object { IsObject (cell_of self.old.chunks object).mark }
         requires to { IsPlace (Some to) }
         ensures { self.new ≡ record self.old { chunks = put_object self.old.chunks object (with_mark (cell_of self.old.chunks object) (Moved to)) } }
     {
-        self.pieces.forget(place);
-        let chunk = &mut self.chunks[place];
+        let chunk = self.chunks.at_mut(place);
+        self.pieces.forget(chunk.number());
         forward(chunk, object.offset, to);
     }
 
@@ -221,8 +194,8 @@ impl Space {
         ensures copied { to.new ≡ record to.old { cells = to.old.cells ++ with_mark (cell_of self.old.chunks object) (Born birth) ∷ [] } }
         ensures left { self.new ≡ record self.old { chunks = put_object self.old.chunks object (with_mark (cell_of self.old.chunks object) (Moved result)) } }
     {
-        self.pieces.forget(place);
-        let chunk = &mut self.chunks[place];
+        let chunk = self.chunks.at_mut(place);
+        self.pieces.forget(chunk.number());
         move_behind(chunk, object.offset, birth, to)
     }
 
@@ -232,8 +205,8 @@ impl Space {
         ensures { self.new ≡ record self.old { chunks = put_object self.old.chunks object (with_mark (cell_of self.old.chunks object) (Born birth)) } }
     {
         let i = self.own_place(object.chunk);
-        self.pieces.forget(i);
-        let chunk = &mut self.chunks[i];
+        let chunk = self.chunks.at_mut(i);
+        self.pieces.forget(chunk.number());
         set_birth(chunk, object.offset, birth);
     }
 }

@@ -1,80 +1,149 @@
 // The immutable objects of all chunks of a heap.
 
-ghost use Rattle.std.specs.Prelude.{◌≡◌, IfOk, map};
+ghost use Rattle.std.specs.Prelude.{◌≡◌, ℕ, ◌-◌, ◌≤◌, ◌==◌, IfOk, None, OnOk, if◌then◌else◌, length, map, nat_eq, option_map};
 ghost use Rattle.std.specs.Arc.{arc_value};
-ghost use Rattle.std.specs.Option.{option_copied};
-ghost use Rattle.kept_pieces.specs.Kept.{ArePiecesOf};
-ghost use Rattle.alloc_path.specs.Heap.{AreApart};
-ghost use Rattle.alloc_path.specs.View.{level_of, piece_in};
+ghost use Rattle.std.specs.HashMap.{get};
+ghost use Rattle.std.specs.Option.{option_copied, option_or};
+ghost use Rattle.object_layout.specs.Chunks.{place_in};
+ghost use Rattle.kept_pieces.specs.Kept.{is_among, needed, Shows};
+ghost use Rattle.alloc_path.specs.View.{level_of, nearest, piece_in};
 
-use super::exchange::index_chunks;
-use super::space::BASE;
-use kept_pieces::Pieces;
+use super::row::Row;
+use kept_pieces::{Layer, Pieces, piece_of};
 use object_layout::{Chunk, Piece};
 use std::alloc::{AllocError, Global};
 use std::collections::HashMap;
 use std::marker::Model;
+use std::snapshot::Snapshot;
 use std::sync::Arc;
 
 /// The immutable objects of all chunks of a heap as they were at one time.
 ///
-/// It shares the pieces with the heap, as long as that keeps them. The table tells for a chunk's number how far its piece stands before `BASE`.
+/// It shares the layers of pieces with the heap, as long as that keeps them.
 #[derive(Drop)]
 pub(crate) struct Shelf {
-    pieces: Vec<Arc<Piece, Global>>,
-    table: HashMap<u32, usize>,
+    layers: Vec<Arc<Layer, Global>>,
+    // As they were then.
+    chunks: Snapshot<Row>,
 }
 
 impl Model for Shelf {
-    ghost use Rattle.std.specs.Prelude.{◌≡◌, ℕ, ◌-◌, ◌^◌, map, nat_eq, option_map};
+    ghost use Rattle.std.specs.Prelude.{◌≡◌, ℕ, map};
     ghost use Rattle.std.specs.Arc.{arc_value};
-    ghost use Rattle.std.specs.HashMap.{get};
-    ghost use Rattle.alloc_path.specs.View.{Level, place_on};
+    ghost use Rattle.alloc_path.specs.View.{Level, level_of, nearest, piece_in};
 
     ghost Value = { Level };
 
-    ghost view = { λ s. map arc_value s.pieces.items };
+    ghost view = { λ s. level_of s.chunks.value.items };
 
-    ghost invariant = { λ s. (number : ℕ) → get nat_eq s.table number ≡ option_map (λ i. 2 ^ 63 - i) (place_on (map arc_value s.pieces.items) number) };
+    ghost invariant = { λ s. (number : ℕ) → nearest (map arc_value s.layers.items) number ≡ piece_in (level_of s.chunks.value.items) number };
 }
 
 impl Shelf {
     /// The immutable objects that these chunks have now, of which some pieces are kept.
-    pub(crate) fn of(alloc: Global, chunks: &[Chunk], kept: &Pieces) -> Result<Shelf, AllocError>
-        requires apart { AreApart chunks.now }
-        requires kept { ArePiecesOf kept.now.pieces chunks.now }
-        ensures { IfOk result (λ shelf. shelf ≡ level_of chunks.now) }
+    pub(crate) fn of(
+        alloc: Global,
+        chunks: &Row,
+        kept: &Pieces,
+        table: &HashMap<u32, usize>,
+        base: usize,
+    ) -> Result<Shelf, AllocError>
+        requires kept { Shows kept.now chunks.now.items }
+        requires table { (number : ℕ) → get nat_eq table.now number ≡ option_map (λ i. base - i) (place_in chunks.now.items number) }
+        requires base { length chunks.now.items ≤ base }
+        ensures { IfOk result (λ shelf. shelf ≡ level_of chunks.now.items) }
     {
-        let pieces = pieces_of(alloc, chunks, kept)?;
-        let mut table = HashMap::new(alloc);
-        table.reserve(chunks.len())?;
-        index_chunks(&mut table, chunks, BASE);
-        Ok(Shelf { pieces, table })
+        let layers = all_layers(alloc, chunks.as_slice(), kept, table, base)?;
+        Ok(Shelf {
+            layers,
+            chunks: Snapshot::of(chunks),
+        })
     }
 
     /// The immutable objects that the chunk of a number had; None where there was no such chunk.
     pub(crate) fn piece(&self, number: u32) -> Option<&Piece>
         ensures { option_copied result ≡ piece_in self.now number }
     {
-        match self.table.get(&number) {
-            None => None,
-            Some(before) => Some(&self.pieces[BASE - *before]),
-        }
+        piece_of(&self.layers, number)
     }
 }
 
-// The immutable objects of each of these chunks.
-fn pieces_of(
+// The layers that show what each of these chunks holds: those that are kept, and before them one of the pieces that are
+// missing there.
+fn all_layers(
     alloc: Global,
     chunks: &[Chunk],
     kept: &Pieces,
-) -> Result<Vec<Arc<Piece, Global>>, AllocError>
-    requires { ArePiecesOf kept.now.pieces chunks.now }
-    ensures { IfOk result (λ pieces. map arc_value pieces.items ≡ level_of chunks.now) }
+    table: &HashMap<u32, usize>,
+    base: usize,
+) -> Result<Vec<Arc<Layer, Global>>, AllocError>
+    requires kept { Shows kept.now chunks.now }
+    requires table { (number : ℕ) → get nat_eq table.now number ≡ option_map (λ i. base - i) (place_in chunks.now number) }
+    requires base { length chunks.now ≤ base }
+    ensures { IfOk result (λ layers. (number : ℕ) → nearest (map arc_value layers.items) number ≡ piece_in (level_of chunks.now) number) }
 {
-    let mut pieces = Vec::new(alloc);
-    for (i, chunk) in chunks.iter().enumerate() {
-        pieces.push(kept.piece(i, chunk)?)?;
+    if kept.is_settled() {
+        return kept.layers(alloc);
     }
-    Ok(pieces)
+    let first = missing_pieces(alloc, kept, chunks, table, base)?;
+    kept.layers_below(alloc, first)
+}
+
+/// The pieces of those of these chunks of which none is kept that is right.
+pub(crate) fn missing_pieces(
+    alloc: Global,
+    kept: &Pieces,
+    chunks: &[Chunk],
+    table: &HashMap<u32, usize>,
+    base: usize,
+) -> Result<Layer, AllocError>
+    requires table { (number : ℕ) → get nat_eq table.now number ≡ option_map (λ i. base - i) (place_in chunks.now number) }
+    requires base { length chunks.now ≤ base }
+    ensures { IfOk result (λ layer. (number : ℕ) → piece_in layer number ≡ needed kept.now chunks.now number) }
+{
+    let mut layer = Layer::new(alloc);
+    if kept.lost() {
+        layer.add_all(alloc, chunks)?;
+    } else {
+        add_each(alloc, &mut layer, kept.stale(), chunks, table, base)?;
+    }
+    Ok(layer)
+}
+
+// Adds the pieces of the chunks of these numbers.
+fn add_each(
+    alloc: Global,
+    layer: &mut Layer,
+    numbers: &[u32],
+    chunks: &[Chunk],
+    table: &HashMap<u32, usize>,
+    base: usize,
+) -> Result<(), AllocError>
+    requires table { (number : ℕ) → get nat_eq table.now number ≡ option_map (λ i. base - i) (place_in chunks.now number) }
+    requires base { length chunks.now ≤ base }
+    ensures { OnOk result ((n : ℕ) → piece_in layer.new n ≡ option_or (piece_in layer.old n) (if is_among numbers.now n then piece_in (level_of chunks.now) n else None)) }
+{
+    for number in numbers {
+        add_one(alloc, layer, *number, chunks, table, base)?;
+    }
+    Ok(())
+}
+
+// Adds the piece of the chunk of a number, if there is one.
+fn add_one(
+    alloc: Global,
+    layer: &mut Layer,
+    number: u32,
+    chunks: &[Chunk],
+    table: &HashMap<u32, usize>,
+    base: usize,
+) -> Result<(), AllocError>
+    requires table { (number : ℕ) → get nat_eq table.now number ≡ option_map (λ i. base - i) (place_in chunks.now number) }
+    requires base { length chunks.now ≤ base }
+    ensures { OnOk result ((n : ℕ) → piece_in layer.new n ≡ option_or (piece_in layer.old n) (if number == n then piece_in (level_of chunks.now) n else None)) }
+{
+    match table.get(&number) {
+        None => Ok(()),
+        Some(before) => layer.add(alloc, &chunks[base - *before]),
+    }
 }

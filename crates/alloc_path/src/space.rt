@@ -6,6 +6,8 @@ ghost use Rattle.object_layout.specs.Chunks.{chunk_at, held_words, next_address,
 ghost use Rattle.alloc_path.specs.Heap.{added, counted, placed, placed_at, place_for, room_of, with_places, IsCurrent, IsFresh, IsReserved, IsSettled};
 
 use super::counts::small_part;
+use super::row::Row;
+use super::shelf::missing_pieces;
 use kept_pieces::Pieces;
 use object_layout::{Addr, Birth, Chunk, Header, write_new};
 use std::alloc::{AllocError, AllocFailed, Global};
@@ -17,6 +19,9 @@ pub(crate) const SMALL: u32 = 1024;
 
 /// From where the table counts the places of a heap with whose chunks no others were merged.
 pub(crate) const BASE: usize = 1 << 63;
+
+/// For how many chunks that change a heap has places for their numbers at least, once it has settled.
+const SPARE: usize = 8;
 
 /// An object to be placed: its kind and its birth name.
 #[derive(Clone, Copy)]
@@ -33,8 +38,8 @@ pub struct New {
 /// merged before all others move that, and no entry.
 #[derive(Drop)]
 pub struct Space {
-    pub(crate) chunks: Vec<Chunk>,
-    // Of chunks that didn't change since.
+    pub(crate) chunks: Row,
+    // Of chunks that didn't change since they were made.
     pub(crate) pieces: Pieces,
     pub(crate) table: HashMap<u32, usize>,
     pub(crate) base: usize,
@@ -48,14 +53,14 @@ pub struct Space {
 
 impl Model for Space {
     ghost use Rattle.alloc_path.specs.Heap.{Heap, IsKept};
-    ghost use Rattle.std.specs.Prelude.{◌-◌, nat_eq, vec_capacity, vec_len};
+    ghost use Rattle.std.specs.Prelude.{nat_eq};
     ghost use Rattle.std.specs.HashMap.{get, hash_map_len, spare};
 
     ghost Value = { Heap };
 
-    ghost view = { λ h. record { chunks = h.chunks.items; current = h.current; reserved = h.reserved; since = h.since; slots = vec_capacity h.chunks - vec_len h.chunks; spare = spare h.table } };
+    ghost view = { λ h. record { chunks = h.chunks.items; current = h.current; reserved = h.reserved; since = h.since; slots = h.chunks.places; spare = spare h.table } };
 
-    ghost invariant = { λ h. IsKept h.chunks.items h.pieces.pieces h.current h.reserved h.words h.objects h.small h.base (get nat_eq h.table) (hash_map_len h.table) };
+    ghost invariant = { λ h. IsKept h.chunks.items h.pieces h.current h.reserved h.words h.objects h.small h.base (get nat_eq h.table) (hash_map_len h.table) };
 }
 
 impl Space {
@@ -64,8 +69,8 @@ impl Space {
         ensures { result ≡ record { chunks = []; current = None; reserved = None; since = 0; slots = result.slots; spare = result.spare } }
     {
         Space {
-            chunks: Vec::new(alloc),
-            pieces: Pieces::new(alloc),
+            chunks: Row::new(alloc),
+            pieces: Pieces::new(),
             table: HashMap::new(alloc),
             base: BASE,
             current: None,
@@ -79,7 +84,7 @@ impl Space {
 
     // What its lists take memory from.
     pub(crate) fn allocator(&self) -> Global {
-        *self.chunks.allocator()
+        self.chunks.allocator()
     }
 
     /// The chunks in the order in which they came: small ones, those of large objects, and the
@@ -87,7 +92,7 @@ impl Space {
     pub fn chunks(&self) -> &[Chunk]
         ensures { result.now ≡ self.now.chunks }
     {
-        &self.chunks
+        self.chunks.as_slice()
     }
 
     /// At which place the small chunk stands that is being filled, if one is.
@@ -120,7 +125,7 @@ impl Space {
         match self.current {
             None => 0,
             Some(i) => {
-                let chunk = &self.chunks[i];
+                let chunk = self.chunks.at(i);
                 chunk.size() - chunk.used()
             }
         }
@@ -170,8 +175,20 @@ impl Space {
         ensures more_spare { self.old.spare ≤ self.new.spare }
     {
         self.chunks.reserve(chunks as usize)?;
-        self.pieces
-            .make_places(self.chunks.len() + chunks as usize)?;
+        self.pieces.make_places(chunks as usize)?;
+        self.table.reserve(chunks as usize)
+    }
+
+    /// The same for chunks that are put before the others.
+    pub fn make_room_before(&mut self, chunks: u32) -> Result<(), AllocError>
+        ensures kept { self.new ≡ with_places self.old self.new.slots self.new.spare }
+        ensures slots { OnOk result (chunks ≤ self.new.slots) }
+        ensures spare { OnOk result (chunks ≤ self.new.spare) }
+        ensures more_slots { self.old.slots ≤ self.new.slots }
+        ensures more_spare { self.old.spare ≤ self.new.spare }
+    {
+        self.chunks.reserve_before(chunks as usize)?;
+        self.pieces.make_places(chunks as usize)?;
         self.table.reserve(chunks as usize)
     }
 
@@ -180,7 +197,18 @@ impl Space {
     pub fn settle(&mut self) -> Result<(), AllocError>
         ensures { self.new ≡ self.old }
     {
-        self.pieces.settle(&self.chunks)
+        if self.pieces.is_settled() {
+            return Ok(());
+        }
+        let alloc = self.allocator();
+        let layer = missing_pieces(
+            alloc,
+            &self.pieces,
+            self.chunks.as_slice(),
+            &self.table,
+            self.base,
+        )?;
+        self.pieces.put(alloc, layer, SPARE)
     }
 
     // Lets all pieces go, before all chunks change.
@@ -204,7 +232,9 @@ impl Space {
     {
         let place = self.chunks.len();
         let is_small = chunk.size() == SMALL;
-        let _ = self.table.insert(chunk.number(), self.base - place);
+        let number = chunk.number();
+        self.pieces.forget(number);
+        let _ = self.table.insert(number, self.base - place);
         self.chunks.push_reserved(chunk);
         if is_small {
             self.current = Some(place);
@@ -245,7 +275,7 @@ impl Space {
             None => None,
             Some(i) => {
                 let units = (words as u64 + 1023) / 1024;
-                if self.chunks[i].size() as u64 == SMALL as u64 * units {
+                if self.chunks.at(i).size() as u64 == SMALL as u64 * units {
                     Some(i)
                 } else {
                     None
@@ -265,10 +295,10 @@ impl Space {
         ensures settled { IsSettled self.old.chunks → IsSettled self.new.chunks }
     {
         let words = 2 + new.header.nrefs + new.header.nints;
-        self.pieces.forget(i);
-        let chunk = &mut self.chunks[i];
+        let chunk = self.chunks.at_mut(i);
         let offset = chunk.used();
         let number = chunk.number();
+        self.pieces.forget(number);
         write_new(chunk, offset, new.header, new.birth);
         if words > SMALL {
             self.reserved = None;

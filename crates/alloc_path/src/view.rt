@@ -148,9 +148,16 @@ impl LeafHeap {
     {
         let alloc = self.space.allocator();
         let space = &self.space;
+        let _few = space.chunks.len();
         below(
             alloc,
-            Shelf::of(alloc, &space.chunks, &space.pieces)?,
+            Shelf::of(
+                alloc,
+                &space.chunks,
+                &space.pieces,
+                &space.table,
+                space.base,
+            )?,
             above,
         )
     }

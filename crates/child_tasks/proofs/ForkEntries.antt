@@ -13,7 +13,7 @@ use Rattle.write_barrier.specs.Stored.{content_of}
 use Rattle.inner_mark_gc.specs.Marks.{Marks}
 use Rattle.fork_join.specs.declared.forks.Child.{Child}
 use Rattle.task_machine.specs.declared.part.Private.{Private}
-use Rattle.shared_value.specs.declared.rest.Rest.{Rest}
+use Rattle.shared_value.specs.declared.task_at_rest.Rest.{Rest}
 use Rattle.shared_value.specs.World.{World, accounts, flat, rest_at}
 use Rattle.shared_value.specs.Stands.{IsWorld}
 use Rattle.shared_value.specs.Fits.{Fits, OthersFit}

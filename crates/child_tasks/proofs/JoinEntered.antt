@@ -30,10 +30,10 @@ use Rattle.core_relation.specs.Worker.{Fits as FitsValue}
 use Rattle.core_relation.proofs.whole.RanWhole.{ran_stands_for}
 use Rattle.core_relation.proofs.parts.Workers.{ran_leaves}
 use Rattle.task_machine.specs.declared.part.Private.{Private}
-use Rattle.shared_value.specs.declared.rest.Rest.{Rest}
-use Rattle.shared_value.specs.declared.rest.Work.{Work}
-use Rattle.shared_value.specs.declared.rest.Work.TheVariants.{Calls}
-use Rattle.shared_value.specs.World.{World, noted_in, accounts, flat, home_by, home_in, rest_at, source_of, totals_of, value_of}
+use Rattle.shared_value.specs.declared.task_at_rest.Rest.{Rest}
+use Rattle.shared_value.specs.declared.task_at_rest.Work.{Work}
+use Rattle.shared_value.specs.declared.task_at_rest.Work.TheVariants.{Calls}
+use Rattle.shared_value.specs.World.{World, no_home, noted_in, accounts, flat, home_by, home_in, rest_at, source_of, totals_of, value_of}
 use Rattle.shared_value.specs.Stands.{HeapForm, IsWorld}
 use Rattle.shared_value.specs.Fits.{Fits, OthersFit, home_of_part, part_of}
 use Rattle.shared_value.specs.Entered.{refused}
@@ -47,12 +47,15 @@ use Rattle.child_tasks.specs.ChildEnds.{EndsChild, IsAtEnd, running_parent}
 use Rattle.child_tasks.specs.Joins.{AreSides, HomesJoin, IsRestOf, SetsJoin, sources_at}
 use Rattle.child_tasks.proofs.ChildReturns as steps
 use Rattle.child_tasks.proofs.JoinUnits.{joined_measured, others_measured}
-use Rattle.child_tasks.proofs.SetsNoted.{empty_form, noted_by, noted_of}
+use Rattle.child_tasks.proofs.SetsNoted.{noted_by, noted_of}
 use Rattle.child_tasks.proofs.JoinHomes.{Merges, by_content, joins_homes}
 use Rattle.child_tasks.proofs.JoinTree.{joined_long, left_node, other_node, parent_node, right_node}
 use Rattle.child_tasks.proofs.MergedHeapForm.{merged_form}
 use Rattle.child_tasks.proofs.SiblingReturned as before
 use Rattle.child_tasks.proofs.JoinedHomes as both
+
+none_some : {A B : Type 0} {x : A} → ◌≡◌ {A = Option A} None (Some x) → B
+none_some e = absurd cc
 
 module _ (w : World) (k : ℕ) (p : Private) (I : IsWorld w) (F : Fits w k p) (at_end : IsAtEnd w p) (free : refused w (alone_event k p) ≡ None) (ended : state_in_tree w.tree (steps.other w k p I F at_end free) ≡ Some Ended) where
   abbrev t : ℕ
@@ -113,7 +116,7 @@ module _ (w : World) (k : ℕ) (p : Private) (I : IsWorld w) (F : Fits w k p) (a
   own = F.fits
 
   module _ (above beside : Rest) (frames : Stack) (above_is : rest_at w.homes q ≡ Some above) (calls : above.work ≡ Calls frames) (beside_is : IsRestOf (rest_at w.homes s) beside) (c : ℕ) (lh rh : Heap) (al ar : ℤ × Option Addr) (side : AreSides p s beside c lh rh al ar) where
-    module _ (homes : List (Option Rest)) (sets : List SetOf) (pool : Chunks) (heap : Heap) (H : HomesJoin w.homes homes p q s (with_results frames al ar) heap above beside) (N : SetsJoin w.sets sets q c (c + 1) above.heap.chunks)
+    module _ (homes : List (Option Rest)) (sets : List SetOf) (pool : Chunks) (heap : Heap) (H : HomesJoin w.homes homes p q s (with_results frames al ar) heap above) (N : SetsJoin w.sets sets q c (c + 1) above.heap.chunks)
         (relabelled : AreRelabelled w.pool pool (lh.chunks ++ rh.chunks) q) (heap_is : heap ≡ with_places (merged above.heap lh rh) heap.slots heap.spare) (room_is : room_of heap ≡ room_of above.heap) (j : Space Event) where
       abbrev tree : List Node
       tree = joined_nodes (with_state w.tree t Ended) q c (c + 1)
@@ -150,12 +153,12 @@ module _ (w : World) (k : ℕ) (p : Private) (I : IsWorld w) (F : Fits w k p) (a
 
       -- ---- THE HOMES
       abbrev HasBoth : ℕ → Heap → Type 0
-      HasBoth u g = (n : ℕ) × (z : Work) × (view : List Level) × (vt.homes u ≡ home_by g view n z) × (slots : ℕ) × (spare : ℕ) × (v'.homes u ≡ home_by (record { chunks = []; current = None; reserved = None; since = 0; slots = slots; spare = spare }) [] n z)
+      HasBoth u g = (n : ℕ) × (z : Work) × (view : List Level) × (vt.homes u ≡ home_by g view n z) × (v'.homes u ≡ no_home)
 
       both_then : HasBoth c lh × HasBoth (c + 1) rh
       both_then =
-          both.sides_of w k p I F at_end free ended above beside frames above_is calls beside_is c lh rh al ar side HasBoth (p.allocations, Calls p.frames, p.view, before.own_here w k p I F at_end free ended, H.own_home.0, H.own_home.1, ap home_in H.own_home.2)
-          (beside.allocations, beside.work, beside.view, (both.home_beside w k p I F at_end free ended above beside frames above_is calls beside_is c lh rh al ar side), H.other_home.0, H.other_home.1, ap home_in H.other_home.2)
+          both.sides_of w k p I F at_end free ended above beside frames above_is calls beside_is c lh rh al ar side HasBoth (p.allocations, Calls p.frames, p.view, before.own_here w k p I F at_end free ended, ap home_in H.own_home)
+          (beside.allocations, beside.work, beside.view, (both.home_beside w k p I F at_end free ended above beside frames above_is calls beside_is c lh rh al ar side), ap home_in H.other_home)
 
       merges : Merges vt v' w.pool pool q c (c + 1) al ar
       merges = record {
@@ -176,8 +179,8 @@ module _ (w : World) (k : ℕ) (p : Private) (I : IsWorld w) (F : Fits w k p) (a
         left_home = both_then.0.3;
         right_home = both_then.1.3;
         own_then = ap home_in H.parent_home;
-        left_then = (both_then.0.4, both_then.0.5, both_then.0.6);
-        right_then = (both_then.1.4, both_then.1.5, both_then.1.6);
+        left_then = both_then.0.4;
+        right_then = both_then.1.4;
         heap_is = heap_is;
         room_is = room_is;
         small = (both.small w k p I F at_end free ended above beside frames above_is calls beside_is c lh rh al ar side);
@@ -246,9 +249,9 @@ module _ (w : World) (k : ℕ) (p : Private) (I : IsWorld w) (F : Fits w k p) (a
       heaps_then u i is = elim (cases_eq u q) [
         | inl e ↦ heap_at q i _ (ap (rest_at homes) (sym e) ∙ is) H.parent_home heap_form
         | inr nq ↦ elim (cases_eq u t) [
-          | inl e ↦ heap_at t i _ (ap (rest_at homes) (sym e) ∙ is) H.own_home.2 (empty_form H.own_home.0 H.own_home.1)
+          | inl e ↦ none_some (sym H.own_home ∙ (ap (rest_at homes) (sym e) ∙ is))
           | inr nt ↦ elim (cases_eq u s) [
-            | inl e ↦ heap_at s i _ (ap (rest_at homes) (sym e) ∙ is) H.other_home.2 (empty_form H.other_home.0 H.other_home.1)
+            | inl e ↦ none_some (sym H.other_home ∙ (ap (rest_at homes) (sym e) ∙ is))
             | inr ns ↦ I.heaps u i (sym (H.others u nq nt ns) ∙ is)
           ]
         ]

@@ -19,8 +19,8 @@ use Rattle.write_barrier.specs.Stored.{content_at}
 use Rattle.fork_join.specs.declared.sides.EndedChild.{EndedChild}
 use Rattle.fork_join.specs.Joined.{AreRelabelled, HasRoom, HaveEnded, Joins, joined_nodes, with_results}
 use Rattle.task_machine.specs.declared.part.Private.{Private}
-use Rattle.shared_value.specs.declared.rest.Rest.{Rest}
-use Rattle.shared_value.specs.declared.rest.Work.TheVariants.{Calls}
+use Rattle.shared_value.specs.declared.task_at_rest.Rest.{Rest}
+use Rattle.shared_value.specs.declared.task_at_rest.Work.TheVariants.{Calls}
 use Rattle.shared_value.specs.World.{World, rest_at}
 use Rattle.shared_value.specs.Stands.{IsWorld}
 use Rattle.shared_value.specs.Fits.{Fits, IsAtWork}
@@ -235,7 +235,7 @@ module _ (w : World) (k : ℕ) (p : Private) (I : IsWorld w) (F : Fits w k p) (a
         }
 
     -- ---- THE WHOLE ENTRY
-    module _ (homes : List (Option Rest)) (sets : List SetOf) (pool : Chunks) (rest : Rest) (H : HomesJoin w.homes homes p q s' (with_results frames L.result R.result) rest.heap above beside) (N : SetsJoin w.sets sets q L.side.task (L.side.task + 1) above.heap.chunks)
+    module _ (homes : List (Option Rest)) (sets : List SetOf) (pool : Chunks) (rest : Rest) (H : HomesJoin w.homes homes p q s' (with_results frames L.result R.result) rest.heap above) (N : SetsJoin w.sets sets q L.side.task (L.side.task + 1) above.heap.chunks)
         (relabelled : AreRelabelled w.pool pool (L.side.heap.chunks ++ R.side.heap.chunks) q) (notes_then : Notes) (J : Joins (parent_side q above notes) (parent_side q rest notes_then) L.side R.side) (j : Space Event) where
       abbrev pub then_ : World
       then_ = record w {

@@ -22,12 +22,12 @@ use Rattle.write_barrier.specs.Stored.{Content as NotedOf}
 use Rattle.fork_join.specs.Joined.{AreRelabelled, with_results as with_both}
 use Rattle.fork_join.proofs.Owners.{joined_are_owned}
 use Rattle.ledger_steps.specs.Accounts.{Rests, own}
-use Rattle.core_relation.specs.Value.{Chunk, Home, In, Source, Value, sources}
+use Rattle.core_relation.specs.Value.{Chunk, Home, no_home, In, Source, Value, sources}
 use Rattle.core_relation.specs.Changes.{IsLifted, JoinsHomes, top_with_results}
 use Rattle.core_relation.specs.Stands.{Stands}
 use Rattle.core_relation.proofs.objects.Members.{in_chunk, in_map, map_in}
-use Rattle.shared_value.specs.declared.rest.Work.{Work}
-use Rattle.shared_value.specs.declared.rest.Work.TheVariants.{Calls, Result}
+use Rattle.shared_value.specs.declared.task_at_rest.Work.{Work}
+use Rattle.shared_value.specs.declared.task_at_rest.Work.TheVariants.{Calls, Result}
 use Rattle.shared_value.specs.Objects.{chunk_of, chunks_of}
 use Rattle.shared_value.specs.World.{home_by, source_of}
 use Rattle.child_tasks.specs.Joins.{sources_by}
@@ -63,10 +63,6 @@ pub by_content : (o : Option NotedOf) → (noted_of o).sources ≡ map source_of
 by_content None = refl
 by_content (Some c) = refl
 
-emptied_by : (h : Heap) (view : List Level) (n slots spare : ℕ) (x : Work) → home_by (record { chunks = []; current = None; reserved = None; since = 0; slots = slots; spare = spare }) [] n x ≡ record (home_by h view n x) { chunks = []; room = 0; since = 0; view = [] }
-emptied_by h view n slots spare (Calls s) = refl
-emptied_by h view n slots spare (Result k r) = refl
-
 abbrev back : Source → Noticed
 back s = record { object = s.object; field = s.field }
 
@@ -89,8 +85,8 @@ pub record Merges (v v' : Value) (pool pool' : Chunks) (q c d : ℕ) (al ar : �
   pub left_home : v.homes c ≡ home_by left_heap left_view left_count left_work
   pub right_home : v.homes d ≡ home_by right_heap right_view right_count right_work
   pub own_then : v'.homes q ≡ home_by heap_then own_view own_count (Calls (with_both frames al ar))
-  pub left_then : (slots : ℕ) × (spare : ℕ) × (v'.homes c ≡ home_by (record { chunks = []; current = None; reserved = None; since = 0; slots = slots; spare = spare }) [] left_count left_work)
-  pub right_then : (slots : ℕ) × (spare : ℕ) × (v'.homes d ≡ home_by (record { chunks = []; current = None; reserved = None; since = 0; slots = slots; spare = spare }) [] right_count right_work)
+  pub left_then : v'.homes c ≡ no_home
+  pub right_then : v'.homes d ≡ no_home
   pub heap_is : heap_then ≡ with_places (merged own_heap left_heap right_heap) heap_then.slots heap_then.spare
   pub room_is : room_of heap_then ≡ room_of own_heap
   pub small : own_heap.since + (left_heap.since + right_heap.since) < 2 ^ 64
@@ -259,8 +255,8 @@ module _ (v v' : Value) (l : Ledger) (V : Stands v l) (pool pool' : Chunks) (q c
     frames = ap (λ (z : Home). z.frames) J.own_then ∙ ap (λ (z : Home). top_with_results al ar z.frames) (sym J.own_home);
     view = ap (λ (z : Home). z.view) J.own_then ∙ sym (ap (λ (z : Home). z.view) J.own_home);
     begun = ap (λ (z : Home). z.begun) J.own_then ∙ sym (ap (λ (z : Home). z.begun) J.own_home);
-    left = J.left_then.2 ∙ (emptied_by J.left_heap J.left_view J.left_count J.left_then.0 J.left_then.1 J.left_work ∙ ap (λ (z : Home). record z { chunks = []; room = 0; since = 0; view = [] }) (sym J.left_home));
-    right = J.right_then.2 ∙ (emptied_by J.right_heap J.right_view J.right_count J.right_then.0 J.right_then.1 J.right_work ∙ ap (λ (z : Home). record z { chunks = []; room = 0; since = 0; view = [] }) (sym J.right_home));
+    left = J.left_then;
+    right = J.right_then;
     others = J.others;
     owner_left = owner_left;
     owner_right = owner_right;

@@ -6,28 +6,27 @@ use Rattle.task_frames.specs.Stack.{Stack}
 use Rattle.remembered_set.specs.Sources.{Notes}
 use Rattle.write_barrier.specs.declared.sets.SetOf.{SetOf}
 use Rattle.write_barrier.specs.Stored.{content_at, content_of}
-use Rattle.fork_join.specs.Forked.{no_heap}
 use Rattle.task_machine.specs.declared.part.Private.{Private}
-use Rattle.shared_value.specs.declared.rest.Rest.{Rest}
-use Rattle.shared_value.specs.declared.rest.Work.TheVariants.{Calls}
+use Rattle.shared_value.specs.declared.task_at_rest.Rest.{Rest}
+use Rattle.shared_value.specs.declared.task_at_rest.Work.TheVariants.{Calls}
 use Rattle.shared_value.specs.World.{flat, rest_at}
 use Rattle.shared_value.proofs.TaskTaken.{put_there}
 use Rattle.child_tasks.specs.Forks.{nothing_noted}
 use Rattle.child_tasks.specs.Joins.{HomesJoin}
 
 -- the part's home is left, then its sibling's, and the parent's is put
-pub homes_join : (h h1 h2 h4 : List (Option Rest)) (p : Private) (q s : ℕ) (frames : Stack) (heap : Heap) (above beside rest : Rest) → (q ≡ p.task → ⊥) → (q ≡ s → ⊥) → (s ≡ p.task → ⊥) → q < length h2
-    → length h1 ≡ length h → ((slots : ℕ) × (spare : ℕ) × (rest_at h1 p.task ≡ Some (record { work = Calls p.frames; heap = no_heap slots spare; view = []; allocations = p.allocations }))) → ((u : ℕ) → (u ≡ p.task → ⊥) → rest_at h1 u ≡ rest_at h u)
-    → length h2 ≡ length h1 → ((slots : ℕ) × (spare : ℕ) × (rest_at h2 s ≡ Some (record beside { heap = no_heap slots spare; view = [] }))) → ((u : ℕ) → (u ≡ s → ⊥) → rest_at h2 u ≡ rest_at h1 u)
-    → h4 ≡ slice_set (slice_set h2 q None) q (Some rest) → rest ≡ record above { work = Calls frames; heap = heap } → HomesJoin h h4 p q s frames heap above beside
-homes_join h h1 h2 h4 p q s frames heap above beside rest qt qs st lt n1 own o1 n2 other o2 e er =
+pub homes_join : (h h1 h2 h4 : List (Option Rest)) (p : Private) (q s : ℕ) (frames : Stack) (heap : Heap) (above rest : Rest) → (q ≡ p.task → ⊥) → (q ≡ s → ⊥) → (s ≡ p.task → ⊥) → q < length h2
+    → length h1 ≡ length h → rest_at h1 p.task ≡ None → ((u : ℕ) → (u ≡ p.task → ⊥) → rest_at h1 u ≡ rest_at h u)
+    → length h2 ≡ length h1 → rest_at h2 s ≡ None → ((u : ℕ) → (u ≡ s → ⊥) → rest_at h2 u ≡ rest_at h1 u)
+    → h4 ≡ slice_set (slice_set h2 q None) q (Some rest) → rest ≡ record above { work = Calls frames; heap = heap } → HomesJoin h h4 p q s frames heap above
+homes_join h h1 h2 h4 p q s frames heap above rest qt qs st lt n1 own o1 n2 other o2 e er =
     let long : length h4 ≡ length h2 = ap (λ xs. length xs) e ∙ (length-set (slice_set h2 q None) q (Some rest) ∙ length-set h2 q None) in
     let away : (u : ℕ) → (u ≡ q → ⊥) → rest_at h4 u ≡ rest_at h2 u = λ u ne. ap (λ xs. rest_at xs u) e ∙ ap flat (got_other (slice_set h2 q None) q u (Some rest) ne ∙ got_other h2 q u None ne) in
     record {
       many = long ∙ (n2 ∙ n1);
       parent_home = ap (λ xs. rest_at xs q) e ∙ (ap flat (put_there (slice_set h2 q None) q (Some rest) (subst (λ n. q < n) (sym (length-set h2 q None)) lt)) ∙ ap Some er);
-      own_home = (own.0, own.1, away p.task (λ f. qt (sym f)) ∙ (o2 p.task (λ f. st (sym f)) ∙ own.2));
-      other_home = (other.0, other.1, away s (λ f. qs (sym f)) ∙ other.2);
+      own_home = away p.task (λ f. qt (sym f)) ∙ (o2 p.task (λ f. st (sym f)) ∙ own);
+      other_home = away s (λ f. qs (sym f)) ∙ other;
       others = λ u nq nt ns. away u nq ∙ (o2 u ns ∙ o1 u nt);
     }
 

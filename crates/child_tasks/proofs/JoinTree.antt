@@ -21,9 +21,9 @@ use Rattle.core_relation.specs.Value.{In}
 use Rattle.core_relation.specs.Reads.{HoldsRead, TaskIsRead}
 use Rattle.core_relation.specs.RanCounts.{node_then}
 use Rattle.core_relation.specs.Whole.{Node as SeenNode, State as SeenState, HasEnded, HasJoined, Ready as IsReady}
-use Rattle.shared_value.specs.declared.rest.Work.{Work}
-use Rattle.shared_value.specs.declared.rest.Work.TheVariants.{Calls, Result}
-use Rattle.shared_value.specs.declared.rest.Rest.{Rest}
+use Rattle.shared_value.specs.declared.task_at_rest.Work.{Work}
+use Rattle.shared_value.specs.declared.task_at_rest.Work.TheVariants.{Calls, Result}
+use Rattle.shared_value.specs.declared.task_at_rest.Rest.{Rest}
 use Rattle.shared_value.specs.World.{home_by, home_in, home_of, node_of}
 use Rattle.shared_value.proofs.TaskTaken.{made_by, node_by, node_off}
 

@@ -17,8 +17,8 @@ use Rattle.fork_join.specs.Joined.{AreRelabelled, with_results}
 use Rattle.ledger_steps.specs.Accounts.{Rests, rested}
 use Rattle.core_relation.specs.Value.{In}
 use Rattle.task_machine.specs.declared.part.Private.{Private}
-use Rattle.shared_value.specs.declared.rest.Rest.{Rest}
-use Rattle.shared_value.specs.declared.rest.Work.TheVariants.{Calls}
+use Rattle.shared_value.specs.declared.task_at_rest.Rest.{Rest}
+use Rattle.shared_value.specs.declared.task_at_rest.Work.TheVariants.{Calls}
 use Rattle.shared_value.specs.World.{World, accounts, rest_at}
 use Rattle.shared_value.specs.Measured.{AreMeasured, IsMeasured, IsUnheld, KeepsUnits, RestsAreMeasured}
 use Rattle.shared_value.specs.Stands.{IsWorld}
@@ -33,6 +33,9 @@ use Rattle.child_tasks.specs.Joins.{AreSides, HomesJoin, IsRestOf}
 use Rattle.child_tasks.proofs.ChildReturns as steps
 use Rattle.child_tasks.proofs.JoinHomes.{has_in, in_has}
 use Rattle.child_tasks.proofs.JoinedHomes as both
+
+none_some : {A B : Type 0} {x : A} → ◌≡◌ {A = Option A} None (Some x) → B
+none_some e = absurd cc
 
 module _ (w : World) (k : ℕ) (p : Private) (I : IsWorld w) (F : Fits w k p) (at_end : IsAtEnd w p) (free : refused w (alone_event k p) ≡ None) (ended : state_in_tree w.tree (steps.other w k p I F at_end free) ≡ Some Ended) where
   abbrev t : ℕ
@@ -87,7 +90,7 @@ module _ (w : World) (k : ℕ) (p : Private) (I : IsWorld w) (F : Fits w k p) (a
         I.measured q above above_is
         (unheld q (steps.parent_apart w k p I F at_end free) (both.rests_q w k p I F at_end free ended above beside frames above_is calls beside_is c lh rh al ar side))
 
-    module _ (homes : List (Option Rest)) (pool : Chunks) (heap : Heap) (H : HomesJoin w.homes homes p q s (with_results frames al ar) heap above beside) (relabelled : AreRelabelled w.pool pool (lh.chunks ++ rh.chunks) q)
+    module _ (homes : List (Option Rest)) (pool : Chunks) (heap : Heap) (H : HomesJoin w.homes homes p q s (with_results frames al ar) heap above) (relabelled : AreRelabelled w.pool pool (lh.chunks ++ rh.chunks) q)
         (heap_is : heap ≡ with_places (merged above.heap lh rh) heap.slots heap.spare) where
       -- what is of neither child stays
       owner_of_one : (u n units v : ℕ) (cs : List Content) (x : Content) → In cs x → x.number ≡ n → AreMeasured w.pool v cs → held_at w.pool n ≡ Some (record { owner = u; units = units }) → u ≡ v
@@ -120,9 +123,9 @@ module _ (w : World) (k : ℕ) (p : Private) (I : IsWorld w) (F : Fits w k p) (a
       joined_measured u i is none = elim (cases_eq u q) [
         | inl e ↦ measured_at u i _ is (ap (rest_at homes) e ∙ H.parent_home) (subst (λ z. AreMeasured pool z heap.chunks) (sym e) heap_measured)
         | inr nq ↦ elim (cases_eq u t) [
-          | inl e ↦ measured_at u i _ is (ap (rest_at homes) e ∙ H.own_home.2) (λ x j. absurd j)
+          | inl e ↦ none_some (sym H.own_home ∙ (ap (rest_at homes) (sym e) ∙ is))
           | inr nt ↦ elim (cases_eq u s) [
-            | inl e ↦ measured_at u i _ is (ap (rest_at homes) e ∙ H.other_home.2) (λ x j. absurd j)
+            | inl e ↦ none_some (sym H.other_home ∙ (ap (rest_at homes) (sym e) ∙ is))
             | inr ns ↦
                 let apart = other_apart u nt ns in
                 measured_kept w.pool pool u i.heap.chunks (units_stay u apart.0 apart.1)

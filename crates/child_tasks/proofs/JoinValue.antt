@@ -12,11 +12,10 @@ use Rattle.remembered_set.specs.Sources.{Notes}
 use Rattle.write_barrier.specs.declared.sets.SetOf.{SetOf}
 use Rattle.write_barrier.specs.Stored.{content_at}
 use Rattle.fork_join.specs.declared.sides.EndedChild.{EndedChild}
-use Rattle.fork_join.specs.Forked.{no_heap}
 use Rattle.fork_join.specs.Joined.{AreRelabelled, Joins, joined_nodes, with_results}
 use Rattle.task_machine.specs.declared.part.Private.{Private}
-use Rattle.shared_value.specs.declared.rest.Rest.{Rest}
-use Rattle.shared_value.specs.declared.rest.Work.TheVariants.{Calls}
+use Rattle.shared_value.specs.declared.task_at_rest.Rest.{Rest}
+use Rattle.shared_value.specs.declared.task_at_rest.Work.TheVariants.{Calls}
 use Rattle.shared_value.specs.World.{World, rest_at}
 use Rattle.shared_value.specs.Stands.{IsWorld}
 use Rattle.shared_value.specs.Fits.{Fits, IsAtWork}
@@ -46,10 +45,10 @@ pub record Taken (w : World) (p : Private) (parent other : ℕ) (own_notes other
   pub o3 : (u : ℕ) → (u ≡ parent → ⊥) → slice_get x3 u ≡ slice_get x2 u
   pub own_is : own ≡ own_child p own_notes
   pub m1 : length h1 ≡ length w.homes
-  pub own_home : (slots : ℕ) × (spare : ℕ) × (rest_at h1 p.task ≡ Some (record { work = Calls p.frames; heap = no_heap slots spare; view = []; allocations = p.allocations }))
+  pub own_home : rest_at h1 p.task ≡ None
   pub i1 : (u : ℕ) → (u ≡ p.task → ⊥) → rest_at h1 u ≡ rest_at w.homes u
   pub m2 : length h2 ≡ length h1
-  pub other_home : (r : Rest) × IsRestOf (rest_at h1 other) r × (oth ≡ other_child other r other_notes) × (slots : ℕ) × (spare : ℕ) × (rest_at h2 other ≡ Some (record r { heap = no_heap slots spare; view = [] }))
+  pub other_home : (r : Rest) × IsRestOf (rest_at h1 other) r × (oth ≡ other_child other r other_notes) × (rest_at h2 other ≡ None)
   pub i2 : (u : ℕ) → (u ≡ other → ⊥) → rest_at h2 u ≡ rest_at h1 u
   pub above_is : IsRestOf (rest_at h2 parent) above
   pub left_is : left ≡ left_of (is_left own.side.task) own oth
@@ -140,11 +139,11 @@ module _ (w : World) (k : ℕ) (p : Private) (I : IsWorld w) (F : Fits w k p) (a
       abbrev frames : Stack
       frames = entry.frames w k p I F at_end free ended above beside own_notes other_notes notes above_of beside_of
 
-      H : HomesJoin w.homes homes p q s (with_results frames L.result R.result) rest.heap above beside
+      H : HomesJoin w.homes homes p q s (with_results frames L.result R.result) rest.heap above
       H =
-          homes_join w.homes h1 h2 homes p q s (with_results frames L.result R.result) rest.heap above beside rest qt qs st
+          homes_join w.homes h1 h2 homes p q s (with_results frames L.result R.result) rest.heap above rest qt qs st
           (subst (λ n. q < n) (sym (K.m2 ∙ (K.m1 ∙ I.made))) (entry.parent_made w k p I F at_end free ended))
-          K.m1 K.own_home K.i1 K.m2 (K.other_home.3, K.other_home.4, K.other_home.5) K.i2 P.homes_are (P.rest_is frames (entry.frames_are w k p I F at_end free ended above beside own_notes other_notes notes above_of beside_of))
+          K.m1 K.own_home K.i1 K.m2 K.other_home.3 K.i2 P.homes_are (P.rest_is frames (entry.frames_are w k p I F at_end free ended above beside own_notes other_notes notes above_of beside_of))
 
       abbrev made_of : ℕ → EndedChild → EndedChild → World
       made_of n a b = record w {

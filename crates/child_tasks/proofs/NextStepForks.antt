@@ -27,7 +27,7 @@ use Rattle.task_machine.specs.declared.part.Private.{Private}
 use Rattle.task_machine.specs.Fits.{FitsNow as FitsMachine}
 use Rattle.task_machine.specs.Place.{Places}
 use Rattle.task_machine.proofs.Agreement.{same_line}
-use Rattle.shared_value.specs.declared.next.Ending.TheVariants.{Traps}
+use Rattle.shared_value.specs.declared.next_step.Ending.TheVariants.{Traps}
 use Rattle.shared_value.specs.Entered.{refused}
 use Rattle.shared_value.specs.Fits.{Fits}
 use Rattle.shared_value.specs.Links.{above_of}

@@ -15,7 +15,7 @@ use Rattle.write_barrier.specs.Stored.{content_of}
 use Rattle.fork_join.specs.declared.sides.EndedChild.{EndedChild}
 use Rattle.core_relation.specs.Whole.{Node as SeenNode, Waits}
 use Rattle.task_machine.specs.declared.part.Private.{Private}
-use Rattle.shared_value.specs.declared.rest.Rest.{Rest}
+use Rattle.shared_value.specs.declared.task_at_rest.Rest.{Rest}
 use Rattle.shared_value.specs.World.{node_of, state_of}
 use Rattle.shared_value.proofs.TaskTaken.{told}
 use Rattle.child_tasks.specs.Joins.{AreSides, IsRestOf, chunk_count, left_of, other_child, own_child, right_of, sources_by}

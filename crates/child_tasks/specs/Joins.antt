@@ -17,9 +17,9 @@ use Rattle.fork_join.specs.declared.sides.Side.{Side}
 use Rattle.fork_join.specs.Joined.{AreInUse, HasRoom, HaveEnded}
 use Rattle.task_machine.specs.declared.part.Private.{Private}
 use Rattle.task_machine.specs.Plan.{int_of, ref_of}
-use Rattle.shared_value.specs.declared.rest.Rest.{Rest}
-use Rattle.shared_value.specs.declared.rest.Work.{Work}
-use Rattle.shared_value.specs.declared.rest.Work.TheVariants.{Calls, Result}
+use Rattle.shared_value.specs.declared.task_at_rest.Rest.{Rest}
+use Rattle.shared_value.specs.declared.task_at_rest.Work.{Work}
+use Rattle.shared_value.specs.declared.task_at_rest.Work.TheVariants.{Calls, Result}
 use Rattle.shared_value.specs.declared.answer.NotEntered.{NotEntered}
 use Rattle.shared_value.specs.declared.answer.NotEntered.TheVariants.{NoMemory, Refuses}
 use Rattle.shared_value.specs.World.{World, rest_at}
@@ -42,12 +42,12 @@ abbrev pub IsRestOf : Option Rest → Rest → Type 0
 IsRestOf None r = (slots : ℕ) × (spare : ℕ) × (r ≡ no_rest slots spare)
 IsRestOf (Some x) r = r ≡ x
 
--- the parent has this heap and goes on with these frames, and both children are left with empty heaps and see nothing
-pub record HomesJoin (homes after : List (Option Rest)) (p : Private) (parent other : ℕ) (frames : Stack) (heap : Heap) (above beside : Rest) : Type 0 where
+-- the parent has this heap and goes on with these frames, and the children leave no home
+pub record HomesJoin (homes after : List (Option Rest)) (p : Private) (parent other : ℕ) (frames : Stack) (heap : Heap) (above : Rest) : Type 0 where
   pub many : length after ≡ length homes
   pub parent_home : rest_at after parent ≡ Some (record above { work = Calls frames; heap = heap })
-  pub own_home : (slots : ℕ) × (spare : ℕ) × (rest_at after p.task ≡ Some (record { work = Calls p.frames; heap = no_heap slots spare; view = []; allocations = p.allocations }))
-  pub other_home : (slots : ℕ) × (spare : ℕ) × (rest_at after other ≡ Some (record beside { heap = no_heap slots spare; view = [] }))
+  pub own_home : rest_at after p.task ≡ None
+  pub other_home : rest_at after other ≡ None
   pub others : (u : ℕ) → u ≢ parent → u ≢ p.task → u ≢ other → rest_at after u ≡ rest_at homes u
 
 abbrev pub sources_by : Option Noted → List Source

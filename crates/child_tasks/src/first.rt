@@ -4,13 +4,14 @@ ghost use Rattle.std.specs.Prelude.{◌≡◌, ◌∷◌, [], IfOk, None, Some, 
 ghost use Rattle.write_barrier.specs.Stored.{content_of};
 ghost use Rattle.write_barrier.specs.declared.sets.SetOf.{SetOf as Set};
 ghost use Rattle.shared_value.specs.World.{first_rest};
-ghost use Rattle.shared_value.specs.declared.rest.Rest.{Rest as RestOf};
+ghost use Rattle.shared_value.specs.declared.task_at_rest.Rest.{Rest as RestOf};
 ghost use Rattle.child_tasks.specs.Forks.{nothing_noted};
 
 use alloc_path::{LeafHeap, View};
 use hh_lang::Program;
 use listed::Listed;
 use object_layout::Addr;
+use out_of_line::Apart;
 use shared_value::{Rest, Work};
 use std::alloc::{AllocError, Global};
 use task_frames::Frames;
@@ -32,11 +33,15 @@ fn root(alloc: Global, program: &Program) -> Result<Rest, AllocError>
 }
 
 /// What goes with the root before the first entry.
-pub fn first_homes(alloc: Global, program: &Program) -> Result<Listed<Option<Rest>>, AllocError>
+pub fn first_homes(
+    alloc: Global,
+    program: &Program,
+) -> Result<Listed<Option<Apart<Rest>>>, AllocError>
     ensures { IfOk result (λ homes. (r : RestOf) × (r ≡ first_rest program.now r.heap.slots r.heap.spare) × (homes ≡ Some r ∷ [])) }
 {
     let mut homes = Listed::new(alloc);
-    homes.push(Some(root(alloc, program)?))?;
+    let root = Apart::new(alloc, root(alloc, program)?)?;
+    homes.push(Some(root))?;
     Ok(homes)
 }
 

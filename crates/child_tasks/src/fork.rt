@@ -8,8 +8,9 @@ use fork_join::{Child, fork};
 use heap_tree::{State, Tree};
 use inner_mark_gc::Marking;
 use listed::Listed;
-use shared_value::{Rest, Work};
-use std::alloc::AllocError;
+use out_of_line::Apart;
+use shared_value::{Rest, Work, put_rest, rest_block};
+use std::alloc::{AllocError, Global};
 use task_machine::Private;
 use write_barrier::SetOf;
 
@@ -59,7 +60,7 @@ fn beginning(child: Child) -> Rest
 /// Makes places for two homes and two sets more, and then forks. For want of memory nothing changes.
 pub fn grow(
     tree: &mut Tree,
-    homes: &mut Listed<Option<Rest>>,
+    homes: &mut Listed<Option<Apart<Rest>>>,
     sets: &mut Vec<SetOf>,
     part: &Private,
     left: u32,
@@ -100,16 +101,6 @@ pub fn grow(
     }
 }
 
-// The heap of a task keeps from now on what is overwritten.
-fn keep(set: &mut SetOf)
-    ensures sources { set.new.remembered ≡ set.old.remembered }
-    ensures kept { set.new.kept.items ≡ [] }
-    ensures keeps { set.new.keeps ≡ true }
-{
-    set.kept.clear();
-    set.keeps = true;
-}
-
 /// The sets once a task has forked.
 pub fn fork_sets(sets: &mut Vec<SetOf>, t: u32)
     requires made { t < length sets.old.items }
@@ -117,13 +108,13 @@ pub fn fork_sets(sets: &mut Vec<SetOf>, t: u32)
     ensures { SetsFork sets.old.items sets.new.items t }
 {
     let alloc = *sets.allocator();
-    keep(&mut sets[t as usize]);
+    sets[t as usize].set_keeps(true);
     sets.push_reserved(SetOf::new(alloc));
     sets.push_reserved(SetOf::new(alloc));
 }
 
 /// What is marked once a task has forked: nothing of its heap.
-pub fn clear_marks(marks: &mut Listed<Option<Marking>>, t: u32)
+pub fn clear_marks(marks: &mut Listed<Option<Apart<Marking>>>, t: u32)
     ensures { marks.new ≡ slice_set marks.old t None }
 {
     if (t as usize) < marks.len() {
@@ -131,8 +122,32 @@ pub fn clear_marks(marks: &mut Listed<Option<Marking>>, t: u32)
     }
 }
 
-/// The homes once a task has forked, for which there are places.
-pub fn put_homes(homes: &mut Listed<Option<Rest>>, part: Private, left: Child, right: Child)
+/// Blocks for what goes with a task that forks, and with its children.
+#[derive(Drop)]
+pub struct ForkBlocks {
+    own: Apart<Rest>,
+    left: Apart<Rest>,
+    right: Apart<Rest>,
+}
+
+impl ForkBlocks {
+    /// Takes the memory of all three.
+    pub fn new(alloc: Global) -> Result<ForkBlocks, AllocError> {
+        let own = rest_block(alloc)?;
+        let left = rest_block(alloc)?;
+        let right = rest_block(alloc)?;
+        Ok(ForkBlocks { own, left, right })
+    }
+}
+
+/// The homes once a task has forked, for which there are places and blocks.
+pub fn put_homes(
+    homes: &mut Listed<Option<Apart<Rest>>>,
+    part: Private,
+    left: Child,
+    right: Child,
+    blocks: ForkBlocks,
+)
     requires made { part.task < length homes.old }
     requires left { left.task < length homes.old }
     requires right { right.task < length homes.old }
@@ -140,7 +155,11 @@ pub fn put_homes(homes: &mut Listed<Option<Rest>>, part: Private, left: Child, r
     ensures { homes.new ≡ slice_set (slice_set (slice_set homes.old left.task (Some (begun_rest left))) right.task (Some (begun_rest right))) part.task (Some (waiting_rest part)) }
 {
     let task = part.task;
-    homes.set(left.task as usize, Some(beginning(left)));
-    homes.set(right.task as usize, Some(beginning(right)));
-    homes.set(task as usize, Some(waiting(part)));
+    let (first, second) = (left.task, right.task);
+    homes.set(first as usize, Some(put_rest(blocks.left, beginning(left))));
+    homes.set(
+        second as usize,
+        Some(put_rest(blocks.right, beginning(right))),
+    );
+    homes.set(task as usize, Some(put_rest(blocks.own, waiting(part))));
 }

@@ -1,14 +1,13 @@
 // What a join takes out of the shared value, and the places that it needs.
 
-ghost use Rattle.std.specs.Prelude.{◌≡◌, ◌<◌, ◌+◌, ◌^◌, ◌↔◌, IsTrue, OnOk, IfOk, None, Some, slice_set, ◌≢◌, ◌≤◌, ◌++◌, ℕ, IfSome, [], false, length, slice_get};
+ghost use Rattle.std.specs.Prelude.{◌≡◌, ◌<◌, ◌+◌, ◌^◌, ◌↔◌, IsSome, IsTrue, OnOk, IfOk, None, Some, slice_set, ◌≢◌, ◌≤◌, ◌++◌, ℕ, IfSome, [], false, length, slice_get};
 ghost use Rattle.task_frames.specs.Stack.{Stack};
 ghost use Rattle.heap_tree.specs.Pairs.{sibling, is_left};
 ghost use Rattle.write_barrier.specs.Stored.{content_at};
-ghost use Rattle.fork_join.specs.Forked.{no_heap};
 ghost use Rattle.fork_join.specs.Joined.{joined_nodes, with_results, AreRelabelled, Joins};
 ghost use Rattle.shared_value.specs.Fits.{IsAtWork};
 ghost use Rattle.shared_value.specs.World.{rest_at};
-ghost use Rattle.shared_value.specs.declared.rest.Rest.{Rest as RestOf};
+ghost use Rattle.shared_value.specs.declared.task_at_rest.Rest.{Rest as RestOf};
 ghost use Rattle.child_tasks.specs.Forks.{nothing_noted};
 ghost use Rattle.child_tasks.specs.Joins.{chunk_count, left_of, other_child, own_child, parent_side, right_of, sources_at, work_result, CanJoin, IsRestOf, IsSameRest};
 
@@ -18,12 +17,13 @@ use fork_join::{EndedChild, Side, join};
 use heap_tree::{State, Tree};
 use listed::Listed;
 use object_layout::Addr;
+use out_of_line::Apart;
 use remembered_set::Remembered;
-use shared_value::{Rest, Work};
+use shared_value::{Rest, Work, put_rest, take_out};
 use std::alloc::{AllocError, Global};
 use std::mem;
 use task_machine::Private;
-use write_barrier::SetOf;
+use write_barrier::{SetBlock, SetOf};
 
 /// The other child of the same fork.
 pub fn sibling_of(t: u32) -> u32
@@ -55,19 +55,32 @@ fn result_of(work: &Work) -> (i64, Option<Addr>)
 }
 
 /// Takes out what goes with a task that no worker holds.
-pub fn take_rest(alloc: Global, homes: &mut Listed<Option<Rest>>, t: u32) -> Rest
+pub fn take_rest(alloc: Global, homes: &mut Listed<Option<Apart<Rest>>>, t: u32) -> Rest
     requires made { t < length homes.old }
     ensures rest { IsRestOf (rest_at homes.old t) result }
     ensures homes { homes.new ≡ slice_set homes.old t None }
 {
     match mem::replace(homes.at_mut(t as usize), None) {
-        Some(rest) => rest,
+        Some(rest) => rest.into_inner(),
         None => Rest {
             work: Work::Result(0, None),
             heap: LeafHeap::new(alloc),
             view: View::none(),
             allocations: 0,
         },
+    }
+}
+
+/// Takes out the block of a task that no worker holds.
+pub fn take_block(homes: &mut Listed<Option<Apart<Rest>>>, t: u32) -> Apart<Rest>
+    requires made { t < length homes.old }
+    requires there { IsSome (rest_at homes.old t) }
+    ensures rest { IsRestOf (rest_at homes.old t) result }
+    ensures homes { homes.new ≡ slice_set homes.old t None }
+{
+    match mem::replace(homes.at_mut(t as usize), None) {
+        Some(rest) => rest,
+        None => unreachable!(),
     }
 }
 
@@ -80,16 +93,16 @@ pub fn take_remembered(alloc: Global, sets: &mut Vec<SetOf>, t: u32) -> Remember
     ensures others { (u : ℕ) → u ≢ t → slice_get sets.new.items u ≡ slice_get sets.old.items u }
 {
     let set = mem::replace(&mut sets[t as usize], SetOf::new(alloc));
-    set.remembered
+    set.into_remembered()
 }
 
 // How many chunks the heap of a task has that no worker holds.
-fn chunks_at(homes: &Listed<Option<Rest>>, t: u32) -> usize
+fn chunks_at(homes: &Listed<Option<Apart<Rest>>>, t: u32) -> usize
     requires { t < length homes.now }
     ensures { result ≡ chunk_count (rest_at homes.now t) }
 {
     match homes.at(t as usize) {
-        Some(rest) => rest.heap.chunks().len(),
+        Some(rest) => rest.get().heap.chunks().len(),
         None => 0,
     }
 }
@@ -99,7 +112,7 @@ fn sources_of(sets: &Vec<SetOf>, t: u32) -> usize
     requires { t < length sets.now.items }
     ensures { result ≡ length (sources_at sets.now.items t) }
 {
-    sets[t as usize].remembered.sources().len()
+    sets[t as usize].sources().len()
 }
 
 // A number of places; more than 32 bits count are more than can be reserved.
@@ -116,7 +129,11 @@ fn places(left: usize, right: usize) -> Result<u32, AllocError>
 }
 
 // Makes places in the heap of a task that no worker holds.
-fn make_home_places(homes: &mut Listed<Option<Rest>>, t: u32, chunks: u32) -> Result<(), AllocError>
+fn make_home_places(
+    homes: &mut Listed<Option<Apart<Rest>>>,
+    t: u32,
+    chunks: u32,
+) -> Result<(), AllocError>
     requires made { t < length homes.old }
     ensures many { length homes.new ≡ length homes.old }
     ensures others { (u : ℕ) → u ≢ t → rest_at homes.new u ≡ rest_at homes.old u }
@@ -126,7 +143,7 @@ fn make_home_places(homes: &mut Listed<Option<Rest>>, t: u32, chunks: u32) -> Re
     let Some(mut rest) = mem::replace(homes.at_mut(t as usize), None) else {
         return Ok(());
     };
-    let made = rest.heap.make_room(chunks);
+    let made = rest.get_mut().heap.make_room_before(chunks);
     homes.set(t as usize, Some(rest));
     made
 }
@@ -139,13 +156,13 @@ fn make_set_places(sets: &mut Vec<SetOf>, t: u32, sources: u32) -> Result<(), Al
     ensures room { OnOk result (IfSome (slice_get sets.new.items t) (λ s. (sources ≤ s.remembered.slots) × (sources ≤ s.remembered.spare))) }
 {
     let set = &mut sets[t as usize];
-    set.remembered.make_room(sources, 0)
+    set.make_room(sources)
 }
 
 // How many places the home and the set of a task need for all that two of its children bring: a part, and its sibling, which has
 // ended.
 fn places_for(
-    homes: &Listed<Option<Rest>>,
+    homes: &Listed<Option<Apart<Rest>>>,
     sets: &Vec<SetOf>,
     part: &Private,
 ) -> Result<(u32, u32), AllocError>
@@ -166,7 +183,7 @@ fn places_for(
 /// Makes places in the home and in the set of a task for all that two of its children bring: a part, and its sibling, which has
 /// ended. Nothing else changes.
 pub fn make_places(
-    homes: &mut Listed<Option<Rest>>,
+    homes: &mut Listed<Option<Apart<Rest>>>,
     sets: &mut Vec<SetOf>,
     part: &Private,
     parent: u32,
@@ -204,13 +221,14 @@ pub fn in_order(own: EndedChild, other: EndedChild) -> (EndedChild, EndedChild)
 
 /// Joins both children with their parent: what goes with it then, and what its set remembers.
 pub fn join_children(
+    alloc: Global,
     tree: &mut Tree,
     pool: &mut Pool,
     parent: u32,
-    above: Rest,
+    above: Apart<Rest>,
     noted: Remembered,
     children: (EndedChild, EndedChild),
-) -> (Rest, Remembered)
+) -> (Apart<Rest>, Remembered)
     requires work { IsAtWork above.work }
     requires can { CanJoin tree.old pool.old (parent_side parent above noted) children.0 children.1 }
     ensures tree { tree.new ≡ joined_nodes tree.old parent children.0.side.task children.1.side.task }
@@ -218,12 +236,13 @@ pub fn join_children(
     ensures side { Joins (parent_side parent above noted) (parent_side parent result.0 result.1) children.0.side children.1.side }
     ensures rest { (s : Stack) → above.work ≡ Work.Calls s → result.0 ≡ record above { work = Work.Calls (with_results s children.0.result children.1.result); heap = result.0.heap } }
 {
+    let mut above = above;
     let Rest {
         work,
         heap,
         view,
         allocations,
-    } = above;
+    } = take_out(alloc, &mut above);
     let Work::Calls(mut frames) = work else {
         unreachable!()
     };
@@ -240,31 +259,24 @@ pub fn join_children(
         view,
         allocations,
     };
-    (rest, side.remembered)
+    (put_rest(above, rest), side.remembered)
 }
 
-/// Leaves an own child's home with an empty heap, and nothing that it sees: what a join takes of it.
+/// What a join takes of an own child, which leaves no home.
 pub fn leave_own(
-    alloc: Global,
-    homes: &mut Listed<Option<Rest>>,
+    homes: &mut Listed<Option<Apart<Rest>>>,
     part: Private,
     noted: Remembered,
 ) -> EndedChild
     requires made { part.task < length homes.old }
     ensures child { result ≡ own_child part noted }
     ensures many { length homes.new ≡ length homes.old }
-    ensures own { (slots : ℕ) × (spare : ℕ) × (rest_at homes.new part.task ≡ Some (record { work = Work.Calls part.frames; heap = no_heap slots spare; view = []; allocations = part.allocations })) }
+    ensures own { rest_at homes.new part.task ≡ None }
     ensures others { (u : ℕ) → u ≢ part.task → rest_at homes.new u ≡ rest_at homes.old u }
 {
     let task = part.task;
     let result = (part.frames.int(0), part.frames.reference(0));
-    let rest = Rest {
-        work: Work::Calls(part.frames),
-        heap: LeafHeap::new(alloc),
-        view: View::none(),
-        allocations: part.allocations,
-    };
-    homes.set(task as usize, Some(rest));
+    homes.set(task as usize, None);
     EndedChild {
         side: Side {
             task,
@@ -278,24 +290,17 @@ pub fn leave_own(
 /// The same of the other child, which no worker holds.
 pub fn leave_other(
     alloc: Global,
-    homes: &mut Listed<Option<Rest>>,
+    homes: &mut Listed<Option<Apart<Rest>>>,
     t: u32,
     noted: Remembered,
 ) -> EndedChild
     requires made { t < length homes.old }
     ensures many { length homes.new ≡ length homes.old }
-    ensures child { (r : RestOf) × IsRestOf (rest_at homes.old t) r × (result ≡ other_child t r noted) × (slots : ℕ) × (spare : ℕ) × (rest_at homes.new t ≡ Some (record r { heap = no_heap slots spare; view = [] })) }
+    ensures child { (r : RestOf) × IsRestOf (rest_at homes.old t) r × (result ≡ other_child t r noted) × (rest_at homes.new t ≡ None) }
     ensures others { (u : ℕ) → u ≢ t → rest_at homes.new u ≡ rest_at homes.old u }
 {
     let rest = take_rest(alloc, homes, t);
     let result = result_of(&rest.work);
-    let left = Rest {
-        work: rest.work,
-        heap: LeafHeap::new(alloc),
-        view: View::none(),
-        allocations: rest.allocations,
-    };
-    homes.set(t as usize, Some(left));
     EndedChild {
         side: Side {
             task: t,
@@ -307,13 +312,12 @@ pub fn leave_other(
 }
 
 /// Puts what a set remembers into it, which holds nothing.
-pub fn put_remembered(sets: &mut Vec<SetOf>, t: u32, noted: Remembered)
+pub fn put_remembered(sets: &mut Vec<SetOf>, t: u32, noted: Remembered, block: SetBlock)
     requires made { t < length sets.old.items }
     requires empty { content_at sets.old.items t ≡ Some nothing_noted }
     ensures many { length sets.new.items ≡ length sets.old.items }
     ensures at { content_at sets.new.items t ≡ Some (record { sources = noted.sources; kept = []; keeps = false }) }
     ensures others { (u : ℕ) → u ≢ t → content_at sets.new.items u ≡ content_at sets.old.items u }
 {
-    let set = &mut sets[t as usize];
-    set.remembered = noted;
+    sets[t as usize] = block.into_set(noted);
 }

@@ -1,11 +1,8 @@
 -- The value before any entry: the root is ready, with one frame, and nothing else is there.
 use Rattle.std.specs.Prelude.{ℕ, zero, suc, pos, false, Option, Some, None, [], ◌∷◌, replicate}
 use Rattle.hh_lang.specs.Form.{ProgramText}
-use Rattle.core_relation.specs.Value.{Home, Value}
+use Rattle.core_relation.specs.Value.{Home, no_home, Value}
 use Rattle.core_relation.specs.Whole.{Node, Totals, Ready}
-
-abbrev pub no_home : Home
-no_home = record { chunks = []; room = 0; since = 0; count = 0; frames = []; result = (pos 0, None); begun = None; view = [] }
 
 abbrev pub first_home : ProgramText → ℕ → Home
 first_home p zero = record no_home { frames = record { function = p.main; next = 0; ints = replicate 16 (pos 0); refs = replicate 16 None } ∷ [] }

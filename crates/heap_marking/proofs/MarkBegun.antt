@@ -25,7 +25,7 @@ use Rattle.core_relation.specs.Since.{kept}
 use Rattle.core_relation.specs.Whole.{StandsFor}
 use Rattle.core_relation.proofs.whole.Past.{waiting_stops}
 use Rattle.core_relation.proofs.notes.SnapshotNow.{snapshot_now}
-use Rattle.shared_value.specs.declared.rest.Rest.{Rest}
+use Rattle.shared_value.specs.declared.task_at_rest.Rest.{Rest}
 use Rattle.shared_value.specs.Objects.{chunks_of}
 use Rattle.shared_value.specs.World.{World, accounts, home_in, rest_at, totals_of, value_of}
 use Rattle.shared_value.specs.Stands.{HeapForm, IsWorld}

@@ -29,7 +29,7 @@ use Rattle.ledger_steps.proofs.Split.{legal_idle}
 use Rattle.core_relation.specs.Marking.{GoesOn}
 use Rattle.core_relation.specs.Since.{kept}
 use Rattle.core_relation.proofs.whole.Past.{waiting_stops}
-use Rattle.shared_value.specs.declared.rest.Rest.{Rest}
+use Rattle.shared_value.specs.declared.task_at_rest.Rest.{Rest}
 use Rattle.shared_value.specs.Causes.{first_cause, or_else}
 use Rattle.shared_value.specs.Entered.{refused}
 use Rattle.shared_value.specs.Fits.{AllFit}

@@ -15,7 +15,7 @@ use Rattle.core_relation.specs.Marking.{MarkedBy}
 use Rattle.core_relation.specs.Since.{kept}
 use Rattle.core_relation.specs.Value.{Value}
 use Rattle.core_relation.specs.Whole.{StandsFor}
-use Rattle.shared_value.specs.declared.rest.Rest.{Rest}
+use Rattle.shared_value.specs.declared.task_at_rest.Rest.{Rest}
 use Rattle.shared_value.specs.Causes.{or_else}
 use Rattle.shared_value.specs.World.{World, accounts, flat, marks_at, noted_in, rest_at, totals_of, value_of}
 use Rattle.shared_value.specs.Stands.{IsWorld}

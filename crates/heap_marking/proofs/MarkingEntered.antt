@@ -7,6 +7,7 @@ use Rattle.listed.proofs.Members.{contains_from_in, in_from_contains}
 use Rattle.walks.proofs.Reached.{reached_within}
 use Rattle.hh_model.specs.declared.data.State.{State}
 use Rattle.hh_model.specs.Effect.{row_of}
+use Rattle.hh_model.specs.Step.{is_joined}
 use Rattle.run_trace.specs.declared.entry.Kind.TheVariants.{Took, Ran, Chunk, Begin, End, PutOff, Mark, More, Sweep, Fuel}
 use Rattle.run_trace.specs.Entry.{Event}
 use Rattle.run_ledger.specs.declared.data.Heap.{Heap}
@@ -46,12 +47,12 @@ use Rattle.heap_marking.specs.Marking.{MarksEnter}
 -- a home whose account has another count of marks alone
 home_marked : (v v' : Value) (l L : Ledger) (t : ℕ) (o : Option ℕ) → v'.homes t ≡ v.homes t → ((k : ℕ) → v.owner k ≡ Some t → v'.owner k ≡ Some t) → L.machine ≡ l.machine → heap_of L t ≡ record (heap_of l t) { marked = o } → HomeStands v l t → HomeStands v' L t
 home_marked v v' l L t o homes owner machine heap H =
-    let before : HomeStands v' l t = home_kept v v' l l t homes owner refl refl H in
+    let before : HomeStands v' l t = home_kept v v' l l t homes owner refl refl refl H in
     record {
       names = subst (HasNames (v'.homes t).chunks) (sym heap) (record { small = before.names.small; large = before.names.large });
       room = before.room ∙ sym (ap (λ (h : Heap). h.room) heap);
       since = before.since ∙ sym (ap (λ (h : Heap). h.since) heap);
-      count = before.count ∙ ap (λ (m : State). length (row_of (slice_get m.store t))) (sym machine);
+      count = λ live. before.count (ap (λ (m : State). is_joined (slice_get m.tasks t)) (sym machine) ∙ live) ∙ ap (λ (m : State). length (row_of (slice_get m.store t))) (sym machine);
       owned = before.owned;
       inside = before.inside;
       once = before.once;
@@ -92,7 +93,7 @@ module _ (w : World) (e : Event) (I : IsWorld w) (free : refused w e ≡ None) (
         let H : HomeStands v l u = S0.homes.homes u (sym (worker_same u) ∙ r) in
         elim (cases_eq u t) [
           | inl q ↦ subst (HomeStands v' L) (sym q) (home_marked v v' l L t (Some (length (marked_of m))) refl (λ k o. o) machine heap_t (subst (HomeStands v l) q H))
-          | inr ne ↦ home_kept v v' l L u refl (λ k o. o) (heaps u ne) (ap (λ (z : State). length (row_of (slice_get z.store u))) machine) H
+          | inr ne ↦ home_kept v v' l L u refl (λ k o. o) (heaps u ne) (ap (λ (z : State). length (row_of (slice_get z.store u))) machine) (ap (λ (z : State). is_joined (slice_get z.tasks u)) machine) H
         ]
 
     same : SameObjects v v' l L

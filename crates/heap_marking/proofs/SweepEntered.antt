@@ -29,7 +29,7 @@ use Rattle.core_relation.specs.Whole.{StandsForAll}
 use Rattle.core_relation.proofs.whole.EntriesWhole.{sweeps_stand_for}
 use Rattle.core_relation.proofs.parts.WorkersPast.{sweeps_leave}
 use Rattle.task_machine.specs.declared.part.Private.{Private}
-use Rattle.shared_value.specs.declared.rest.Rest.{Rest}
+use Rattle.shared_value.specs.declared.task_at_rest.Rest.{Rest}
 use Rattle.shared_value.specs.Causes.{or_else}
 use Rattle.shared_value.specs.Entered.{refused}
 use Rattle.shared_value.specs.Fits.{AllFit, Fits, part_of}

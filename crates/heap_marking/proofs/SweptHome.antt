@@ -6,6 +6,7 @@ use Rattle.std.proofs.lemmas.List.Elements.{All-head, All-tail}
 use Rattle.listed.proofs.Members.{in_from_kept, in_kept}
 use Rattle.hh_model.specs.declared.data.State.{State}
 use Rattle.hh_model.specs.Effect.{row_of}
+use Rattle.hh_model.specs.Step.{is_joined}
 use Rattle.run_ledger.specs.declared.data.Heap.{Heap as Account}
 use Rattle.run_ledger.specs.declared.data.Ledger.{Ledger}
 use Rattle.run_ledger.specs.Heaps.{heap_of, left_in, or_fresh, swept_heap, with_heap}
@@ -27,9 +28,9 @@ use Rattle.core_relation.specs.Layout.{AreLaidOut}
 use Rattle.core_relation.specs.Stands.{HasNames, HomeStands}
 use Rattle.core_relation.specs.Value.{Chunk, Home, In, Seen, Value, objects, objects_in, sources}
 use Rattle.core_relation.proofs.objects.Members.{in_map, map_in}
-use Rattle.shared_value.specs.declared.rest.Rest.{Rest}
-use Rattle.shared_value.specs.declared.rest.Work.{Work}
-use Rattle.shared_value.specs.declared.rest.Work.TheVariants.{Calls, Result}
+use Rattle.shared_value.specs.declared.task_at_rest.Rest.{Rest}
+use Rattle.shared_value.specs.declared.task_at_rest.Work.{Work}
+use Rattle.shared_value.specs.declared.task_at_rest.Work.TheVariants.{Calls, Result}
 use Rattle.shared_value.specs.Measured.{AreMeasured}
 use Rattle.shared_value.specs.Objects.{chunk_of, chunks_of}
 use Rattle.shared_value.specs.Stands.{HeapForm, IsWorld}
@@ -217,8 +218,8 @@ module _ (w : World) (I : IsWorld w) (on : (accounts w).end ≡ None) (t : ℕ) 
         room = ap (λ (h : Home). h.room) home ∙ (room_there rest' ∙ (ap room_of heap_is
             ∙ (form.plain_room kept r.heap F (start.none w I on t free) (start.large w I on t free) a (start.names w I on t free).small (start.room w I on t free) (start.agree w I on t free none_left) ∙ sym (ap (λ (z : Account). z.room) account))));
         since = ap (λ (h : Home). h.since) home ∙ (since_there rest' ∙ (start.since w I on t free ∙ sym (ap (λ (z : Account). z.since) account)));
-        count = ap (λ (h : Home). h.count) home ∙ (count_by heap' r.heap r.view r.allocations r.work ∙ (ap (λ (h : Home). h.count) (sym (start.here w I on t free))
-            ∙ ((start.H w I on t free).count ∙ ap (λ (m : State). length (row_of (slice_get m.store t))) (sym machine))));
+        count = λ live. ap (λ (h : Home). h.count) home ∙ (count_by heap' r.heap r.view r.allocations r.work ∙ (ap (λ (h : Home). h.count) (sym (start.here w I on t free))
+            ∙ ((start.H w I on t free).count (ap (λ (m : State). is_joined (slice_get m.tasks t)) (sym machine) ∙ live) ∙ ap (λ (m : State). length (row_of (slice_get m.store t))) (sym machine))));
         owned = λ c i.
             let x = chunk_was c i in
             ap (λ (f : ℕ → Option ℕ). f c.number) owner ∙ (ap (owner_of pool) (sym x.3) ∙ (ap (option_map (λ (h : Held). h.owner)) (others x.0.number (left_off x.0 x.1 x.2)) ∙ owned_was x.0 x.1));

@@ -26,9 +26,9 @@ use Rattle.core_relation.specs.Whole.{StandsFor}
 use Rattle.core_relation.proofs.notes.MarksAll.{marks_are_all}
 use Rattle.core_relation.proofs.objects.Members.{in_map}
 use Rattle.task_machine.specs.Accounts.{AreReserved, IsCounted}
-use Rattle.shared_value.specs.declared.rest.Rest.{Rest}
-use Rattle.shared_value.specs.declared.rest.Work.{Work}
-use Rattle.shared_value.specs.declared.rest.Work.TheVariants.{Calls, Result}
+use Rattle.shared_value.specs.declared.task_at_rest.Rest.{Rest}
+use Rattle.shared_value.specs.declared.task_at_rest.Work.{Work}
+use Rattle.shared_value.specs.declared.task_at_rest.Work.TheVariants.{Calls, Result}
 use Rattle.shared_value.specs.Objects.{chunk_of, chunks_of}
 use Rattle.shared_value.specs.World.{World, accounts, home_by, home_in, home_of, totals_of, value_of}
 use Rattle.shared_value.specs.Stands.{HeapForm, IsWorld}

@@ -15,7 +15,7 @@ use Rattle.core_relation.specs.Stands.{Place}
 use Rattle.core_relation.specs.Value.{Value}
 use Rattle.core_relation.specs.Whole.{StandsFor}
 use Rattle.core_relation.proofs.whole.Past.{waiting_stops}
-use Rattle.shared_value.specs.declared.rest.Rest.{Rest}
+use Rattle.shared_value.specs.declared.task_at_rest.Rest.{Rest}
 use Rattle.shared_value.specs.World.{World, accounts, flat, home_in, no_home, noted_in, rest_at, totals_of, value_of}
 use Rattle.shared_value.specs.Stands.{IsWorld}
 use Rattle.shared_value.proofs.BeforeTheEnd.{stands_now}

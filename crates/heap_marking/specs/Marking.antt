@@ -15,7 +15,7 @@ use Rattle.core_relation.specs.Value.{Frame, In, Seen, Value}
 use Rattle.core_relation.specs.Begins.{IsAt, IsRoot}
 use Rattle.core_relation.specs.Marking.{GoesOn, MarksStand}
 use Rattle.core_relation.specs.Since.{kept as kept_of}
-use Rattle.shared_value.specs.declared.rest.Rest.{Rest}
+use Rattle.shared_value.specs.declared.task_at_rest.Rest.{Rest}
 use Rattle.shared_value.specs.World.{World, accounts, marks_at, rest_at, value_of}
 use Rattle.shared_value.specs.Stands.{IsWorld}
 use Rattle.shared_value.specs.Fits.{AllFit}

@@ -11,9 +11,9 @@ use Rattle.leaf_copy_gc.specs.Survivors.{held_by}
 use Rattle.inner_mark_gc.specs.Marks.{IsMarking, IsOf, Marks}
 use Rattle.inner_mark_gc.specs.Snapshot.{Fork}
 use Rattle.shared_value.specs.declared.heaps.Heaps.{Heaps}
-use Rattle.shared_value.specs.declared.rest.Rest.{Rest}
-use Rattle.shared_value.specs.declared.rest.Work.{Work}
-use Rattle.shared_value.specs.declared.rest.Work.TheVariants.{Calls, Result}
+use Rattle.shared_value.specs.declared.task_at_rest.Rest.{Rest}
+use Rattle.shared_value.specs.declared.task_at_rest.Work.{Work}
+use Rattle.shared_value.specs.declared.task_at_rest.Work.TheVariants.{Calls, Result}
 use Rattle.shared_value.specs.RestingHeaps.{refs_in}
 use Rattle.shared_value.specs.Roots.{heaps_of, sources_of}
 use Rattle.shared_value.specs.World.{World, rest_at}

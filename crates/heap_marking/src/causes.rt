@@ -7,6 +7,7 @@ use crate::mark_places::is_marking;
 use heap_tree::{State, Tree};
 use inner_mark_gc::Marking;
 use listed::Listed;
+use out_of_line::Apart;
 use run_ledger::Refused;
 use run_trace::Settings;
 use write_barrier::SetOf;
@@ -41,7 +42,7 @@ pub fn waiting_cause(tree: &Tree, sets: &[SetOf], t: u32) -> Option<Refused>
     }
     match sets.get(t as usize) {
         Some(set) => {
-            if set.keeps {
+            if set.keeps() {
                 None
             } else {
                 Some(Refused::Swept)
@@ -55,7 +56,7 @@ pub fn waiting_cause(tree: &Tree, sets: &[SetOf], t: u32) -> Option<Refused>
 pub fn marking_cause(
     tree: &Tree,
     sets: &[SetOf],
-    marks: &Listed<Option<Marking>>,
+    marks: &Listed<Option<Apart<Marking>>>,
     t: u32,
 ) -> Option<Refused>
     ensures { result ≡ marking_cause_in tree.now sets.now marks.now t }

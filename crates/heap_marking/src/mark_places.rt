@@ -5,11 +5,12 @@ ghost use Rattle.shared_value.specs.World.{marks_at};
 
 use inner_mark_gc::Marking;
 use listed::Listed;
+use out_of_line::Apart;
 use std::alloc::{AllocError, Global};
 use std::mem;
 
 /// Whether the heap of a task is being marked.
-pub fn is_marking(marks: &Listed<Option<Marking>>, t: u32) -> bool
+pub fn is_marking(marks: &Listed<Option<Apart<Marking>>>, t: u32) -> bool
     ensures { result ≡ is_some (marks_at marks.now t) }
 {
     match marks.get(t as usize) {
@@ -19,7 +20,7 @@ pub fn is_marking(marks: &Listed<Option<Marking>>, t: u32) -> bool
 }
 
 // Puts in tasks without a marking, up to so many.
-fn fill(marks: &mut Vec<Option<Marking>>, count: usize)
+fn fill(marks: &mut Vec<Option<Apart<Marking>>>, count: usize)
     requires { count - vec_len marks.old ≤ vec_capacity marks.old - vec_len marks.old }
     ensures same { (t : ℕ) → marks_at marks.new.items t ≡ marks_at marks.old.items t }
     ensures there { count ≤ length marks.new.items }
@@ -30,7 +31,7 @@ fn fill(marks: &mut Vec<Option<Marking>>, count: usize)
 }
 
 // Makes room for the marking of a task.
-fn reserve_place(marks: &mut Vec<Option<Marking>>, t: u32) -> Result<(), AllocError>
+fn reserve_place(marks: &mut Vec<Option<Apart<Marking>>>, t: u32) -> Result<(), AllocError>
     ensures same { marks.new.items ≡ marks.old.items }
     ensures room { OnOk result (t + 1 - vec_len marks.new ≤ vec_capacity marks.new - vec_len marks.new) }
 {
@@ -43,10 +44,10 @@ fn reserve_place(marks: &mut Vec<Option<Marking>>, t: u32) -> Result<(), AllocEr
 
 // With the marking of a task in its place.
 fn with_marking(
-    mut marks: Vec<Option<Marking>>,
+    mut marks: Vec<Option<Apart<Marking>>>,
     t: u32,
-    marking: Marking,
-) -> Listed<Option<Marking>>
+    marking: Apart<Marking>,
+) -> Listed<Option<Apart<Marking>>>
     requires { t + 1 - vec_len marks ≤ vec_capacity marks - vec_len marks }
     ensures there { marks_at result t ≡ Some marking }
     ensures others { (u : ℕ) → (u ≡ t → ⊥) → marks_at result u ≡ marks_at marks.items u }
@@ -60,7 +61,7 @@ fn with_marking(
 /// Puts the marking of a task in its place.
 pub fn put_marking(
     alloc: Global,
-    marks: &mut Listed<Option<Marking>>,
+    marks: &mut Listed<Option<Apart<Marking>>>,
     t: u32,
     marking: Marking,
 ) -> Result<(), AllocError>
@@ -68,6 +69,7 @@ pub fn put_marking(
     ensures there { OnOk result (marks_at marks.new t ≡ Some marking) }
     ensures others { OnOk result ((u : ℕ) → (u ≡ t → ⊥) → marks_at marks.new u ≡ marks_at marks.old u) }
 {
+    let marking = Apart::new(alloc, marking)?;
     let mut items = mem::replace(marks, Listed::new(alloc)).into_vec();
     match reserve_place(&mut items, t) {
         Ok(()) => {

@@ -17,6 +17,7 @@ use chunk_pool::Pool;
 use inner_mark_gc::Marking;
 use listed::Listed;
 use object_layout::Addr;
+use out_of_line::Apart;
 use shared_value::{Heaps, Rest, Work, targets_in};
 use std::alloc::{AllocError, Global};
 use std::mem;
@@ -95,6 +96,7 @@ fn begun_in(alloc: Global, sets: &[SetOf], heaps: &Heaps, task: u32) -> Result<M
 {
     match heaps.homes.get(task as usize) {
         Some(Some(rest)) => {
+            let rest = rest.get();
             let starts = starts_in(alloc, sets, heaps, task, rest)?;
             Marking::begin(alloc, &rest.heap, &starts)
         }
@@ -107,7 +109,7 @@ fn begun_in(alloc: Global, sets: &[SetOf], heaps: &Heaps, task: u32) -> Result<M
 pub fn begin_marking(
     alloc: Global,
     sets: &[SetOf],
-    homes: &mut Listed<Option<Rest>>,
+    homes: &mut Listed<Option<Apart<Rest>>>,
     pool: &mut Pool,
     task: u32,
 ) -> Result<Marking, AllocError>

@@ -4,12 +4,13 @@ ghost use Rattle.std.specs.Prelude.{◌≡◌, ◌≢◌, ◌<◌, ℕ, IsSome, 
 ghost use Rattle.write_barrier.specs.Stored.{content_at};
 ghost use Rattle.inner_mark_gc.specs.Marks.{Marks};
 ghost use Rattle.shared_value.specs.World.{marks_at, rest_at};
-ghost use Rattle.shared_value.specs.declared.rest.Rest.{Rest as RestOf};
+ghost use Rattle.shared_value.specs.declared.task_at_rest.Rest.{Rest as RestOf};
 ghost use Rattle.heap_marking.specs.Sweeping.{forgotten, CanSweep, SweepsHome};
 
 use chunk_pool::Pool;
 use inner_mark_gc::Marking;
 use listed::Listed;
+use out_of_line::Apart;
 use shared_value::Rest;
 use std::mem;
 use write_barrier::SetOf;
@@ -22,14 +23,13 @@ pub fn forget_kept(sets: &mut Vec<SetOf>, t: u32)
     ensures others { (u : ℕ) → u ≢ t → slice_get sets.new.items u ≡ slice_get sets.old.items u }
 {
     let set = &mut sets[t as usize];
-    set.keeps = false;
-    set.kept.clear();
+    set.set_keeps(false);
 }
 
 /// Drops what isn't marked of the heap of a task that no worker holds, and ends its marking.
 pub fn drop_unmarked(
-    homes: &mut Listed<Option<Rest>>,
-    marks: &mut Listed<Option<Marking>>,
+    homes: &mut Listed<Option<Apart<Rest>>>,
+    marks: &mut Listed<Option<Apart<Marking>>>,
     pool: &mut Pool,
     t: u32,
 )
@@ -46,6 +46,6 @@ pub fn drop_unmarked(
         unreachable!()
     };
     let mut rest = rest;
-    let _ = marking.sweep(&mut rest.heap, pool);
+    let _ = marking.into_inner().sweep(&mut rest.get_mut().heap, pool);
     homes.set(t as usize, Some(rest));
 }

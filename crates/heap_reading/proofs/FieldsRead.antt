@@ -18,7 +18,7 @@ use Rattle.write_barrier.specs.declared.sets.SetOf.{SetOf}
 use Rattle.ledger_steps.specs.Accounts.{own}
 use Rattle.core_relation.specs.Value.{In as HasItem, Seen, Source as SeenSource, objects_in, sources}
 use Rattle.core_relation.specs.Whole.{handed}
-use Rattle.shared_value.specs.declared.rest.Rest.{Rest}
+use Rattle.shared_value.specs.declared.task_at_rest.Rest.{Rest}
 use Rattle.shared_value.specs.Stands.{IsWorld}
 use Rattle.shared_value.specs.World.{World, accounts, home_in, noted_in, rest_at, source_of, value_of}
 use Rattle.shared_value.proofs.FieldsLed.{home_chunks}

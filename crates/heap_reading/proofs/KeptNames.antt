@@ -38,7 +38,7 @@ use Rattle.core_relation.specs.Stands.{HasNames, Stands, large_chunks, names_of,
 use Rattle.core_relation.specs.Value.{In, Seen, objects_in}
 use Rattle.core_relation.specs.Whole.{Node as SeenNode, State as SeenState, by_end, handed, state_by}
 use Rattle.core_relation.specs.Whole.{Ready as IsReady, Out as IsOut, Waits, HasEnded, HasJoined}
-use Rattle.shared_value.specs.declared.rest.Rest.{Rest}
+use Rattle.shared_value.specs.declared.task_at_rest.Rest.{Rest}
 use Rattle.shared_value.specs.Objects.{chunk_of, chunks_of}
 use Rattle.shared_value.specs.World.{World, accounts, home_in, node_of, rest_at, state_of, value_of}
 use Rattle.shared_value.specs.Stands.{IsWorld}

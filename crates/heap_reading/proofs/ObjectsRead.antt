@@ -13,7 +13,7 @@ use Rattle.chunk_pool.specs.Chunks.{owner_of}
 use Rattle.alloc_path.proofs.HeapLemmas.{none_there, place_found}
 use Rattle.heap_tree.specs.Node.{state_of}
 use Rattle.core_relation.specs.Value.{Home, In, Seen}
-use Rattle.shared_value.specs.declared.rest.Rest.{Rest}
+use Rattle.shared_value.specs.declared.task_at_rest.Rest.{Rest}
 use Rattle.shared_value.specs.Objects.{chunk_of, chunks_of, objects_from, seen, seen_by}
 use Rattle.shared_value.specs.World.{World, home_in, rest_at}
 use Rattle.shared_value.proofs.FieldsLed.{home_chunks}

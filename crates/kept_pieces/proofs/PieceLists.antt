@@ -1,97 +1,204 @@
--- Pieces of chunks, as chunks are changed, added and joined.
-use Rattle.std.proofs.Common.{◌≡◌, ℕ, zero, suc, ◌+◌, ◌-◌, ◌<◌, ◌≤◌, Bool, true, false, List, [], ◌∷◌, ◌++◌, length, get_or, set, refl, sym, ap, ◌∙◌, subst, arith, inl, inr, ◌⊎◌, ⊎_elim, Option, Some, None, length-append, length-set, map, replicate, take, drop, append_assoc, not, option_map}
-use Rattle.std.proofs.lemmas.List.{drop_at, length-map, map-append, take_at, take_more, take_more_set}
-use Rattle.std.proofs.lemmas.Bool.{cases_lt, le-leb, lt-leb}
-use Rattle.object_layout.specs.Cell.{Born, Cell, Hole, Mark, Moved, no_cell, size_of}
+-- Pieces of chunks by their numbers, as chunks are changed, added and joined.
+use Rattle.std.proofs.Common.{◌≡◌, ℕ, zero, suc, ◌+◌, ◌-◌, ◌<◌, ◌≤◌, Bool, true, false, cond, List, [], ◌∷◌, ◌++◌, length, get_or, set, refl, sym, ap, ◌∙◌, subst, arith, inl, inr, ⊎_elim, eqb, Option, Some, None, map, option_map}
+use Rattle.std.specs.Option.{option_or}
+use Rattle.std.proofs.lemmas.List.{map-append}
+use Rattle.std.proofs.lemmas.Bool.{cases_Bool, cases_lt, eq-eqb, eqb-true, le-leb, lt-leb, ne_eqb}
+use Rattle.object_layout.specs.Cell.{Born, Cell, Hole, Mark, Moved, size_of}
 use Rattle.object_layout.specs.Content.{Content}
-use Rattle.object_layout.specs.Chunks.{chunk_at, no_chunk, with_cell}
+use Rattle.object_layout.specs.Chunks.{chunk_at, no_chunk, place_in, place_of, with_cell}
 use Rattle.object_layout.specs.Place.{cell_at, put_cell}
 use Rattle.object_layout.specs.Piece.{Frozen, frozen_from, frozen_of, is_frozen, lasts}
-use Rattle.kept_pieces.specs.Kept.{ArePiecesOf, IsPieceOf, Kept, filled_up, joined, pieces_of, written}
-use Rattle.std.specs.Prelude.{if◌then◌else◌, leb}
+use Rattle.kept_pieces.specs.Level.{Level, level_of, nearest, piece_in}
+use Rattle.kept_pieces.specs.Kept.{is_among, needed, numbers_of, written, Forgets, Kept, Shows}
+use Rattle.kept_pieces.proofs.Levels as levels
 
-pub few : (ps : List (Option Frozen)) (ks : List Content) → ArePiecesOf ps ks → length ps ≤ length ks
-few [] ks h = omega arith
-few (p ∷ ps) [] h = absurd h
-few (p ∷ ps) (k ∷ ks) h = let ih = few ps ks h.1 in omega arith
+-- ---- numbers
 
--- what is kept of the chunk at a place is its piece
-pub piece_at : (ps : List (Option Frozen)) (ks : List Content) → ArePiecesOf ps ks → (i : ℕ) (d : Content) → IsPieceOf (get_or ps i None) (get_or ks i d)
-piece_at [] ks h i d = tt
-piece_at (p ∷ ps) [] h i d = absurd h
-piece_at (p ∷ ps) (k ∷ ks) h zero d = h.0
-piece_at (p ∷ ps) (k ∷ ks) h (suc i) d = piece_at ps ks h.1 i d
+pub among_both : (xs ys : List ℕ) (n : ℕ) → is_among (xs ++ ys) n ≡ cond (is_among xs n) true (is_among ys n)
+among_both [] ys n = refl
+among_both (x ∷ xs) ys n =
+    elim (cases_Bool (eqb x n)) [
+      | inl e ↦ rw e refl
+      | inr e ↦ rw (e, among_both xs ys n) refl
+    ]
 
-pub piece_read : (ps : List (Option Frozen)) (ks : List Content) → ArePiecesOf ps ks → (i : ℕ) (k : Content) → k ≡ get_or ks i k → IsPieceOf (get_or ps i None) k
-piece_read ps ks h i k read = subst (IsPieceOf (get_or ps i None)) (sym read) (piece_at ps ks h i k)
+neither : (a b : Bool) → cond a true b ≡ false → (a ≡ false) × (b ≡ false)
+neither true b e = cc
+neither false b e = (refl, e)
 
--- a chunk changes: its piece goes, or stays where what it shows stays
-pub changed : (ps : List (Option Frozen)) (ks : List Content) → ArePiecesOf ps ks → (i : ℕ) (k : Content) → ArePiecesOf (set ps i None) (set ks i k)
-changed [] ks h i k = tt
-changed (p ∷ ps) [] h i k = absurd h
-changed (p ∷ ps) (x ∷ ks) h zero k = (tt, h.1)
-changed (p ∷ ps) (x ∷ ks) h (suc i) k = (h.0, changed ps ks h.1 i k)
+-- a number that isn't among two lists is in neither
+pub in_neither : (xs ys : List ℕ) (n : ℕ) → is_among (xs ++ ys) n ≡ false → (is_among xs n ≡ false) × (is_among ys n ≡ false)
+in_neither xs ys n e = neither (is_among xs n) (is_among ys n) (sym (among_both xs ys n) ∙ e)
 
-stays : (p : Option Frozen) (k x : Content) → frozen_of k ≡ frozen_of x → IsPieceOf p k → IsPieceOf p x
-stays None k x e h = tt
-stays (Some f) k x e h = h ∙ e
+-- the number of a chunk is among these exactly where a piece of it is
+pub not_among : (ks : List Content) (n : ℕ) → is_among (numbers_of ks) n ≡ false → piece_in (level_of ks) n ≡ None
+not_among [] n e = refl
+not_among (k ∷ ks) n e =
+    elim (cases_Bool (eqb k.number n)) [
+      | inl b ↦ let f = rw b at e in cc
+      | inr b ↦ rw b (not_among ks n (rw b at e))
+    ]
 
-pub same : (ps : List (Option Frozen)) (ks : List Content) → ArePiecesOf ps ks → (i : ℕ) (k d : Content) → frozen_of (get_or ks i d) ≡ frozen_of k → ArePiecesOf ps (set ks i k)
-same [] ks h i k d e = tt
-same (p ∷ ps) [] h i k d e = absurd h
-same (p ∷ ps) (x ∷ ks) h zero k d e = (stays p x k e h.0, h.1)
-same (p ∷ ps) (x ∷ ks) h (suc i) k d e = (h.0, same ps ks h.1 i k d e)
+-- ---- what is forgotten
 
--- a piece is made
-pub made : (ps : List (Option Frozen)) (ks : List Content) → ArePiecesOf ps ks → (i : ℕ) (d : Content) → ArePiecesOf (set ps i (Some (frozen_of (get_or ks i d)))) ks
-made [] ks h i d = tt
-made (p ∷ ps) [] h i d = absurd h
-made (p ∷ ps) (k ∷ ks) h zero d = (refl, h.1)
-made (p ∷ ps) (k ∷ ks) h (suc i) d = (h.0, made ps ks h.1 i d)
-
-pub made_read : (ps : List (Option Frozen)) (ks : List Content) → ArePiecesOf ps ks → (i : ℕ) (k : Content) → k ≡ get_or ks i k → ArePiecesOf (set ps i (Some (frozen_of k))) ks
-made_read ps ks h i k read = subst (λ (x : Content). ArePiecesOf (set ps i (Some (frozen_of x))) ks) (sym read) (made ps ks h i k)
-
--- one more of those that stand first is made
-pub first_more : (ps : List (Option Frozen)) (ks : List Content) (i : ℕ) (k : Content) → length ps ≡ length ks → i < length ks → k ≡ get_or ks i k → take i ps ≡ take i (pieces_of ks) → take (i + 1) (set ps i (Some (frozen_of k))) ≡ take (i + 1) (pieces_of ks)
-first_more ps ks i k e l read first =
-    let n : length (pieces_of ks) ≡ length ks = length-map ks (λ (x : Content). Some (frozen_of x)) in
-    let p : Option Frozen = Some (frozen_of k) in
-    let there : p ≡ get_or (pieces_of ks) i p = ap (λ (x : Content). Some (frozen_of x)) read ∙ sym (mapped ks i k) in
-    take_more_set ps i p (omega arith) ∙ ap (λ (xs : List (Option Frozen)). xs ++ p ∷ []) first ∙ (ap (λ (x : Option Frozen). take i (pieces_of ks) ++ x ∷ []) there ∙ sym (take_more (pieces_of ks) i p (omega arith)))
+pub forgets_nothing : (p : Kept) → Forgets p p []
+forgets_nothing p = record {
+  held = λ l. l;
+  layers = λ l. refl;
+  stale = λ l n. ap (λ (xs : List ℕ). is_among xs n) (nothing_behind p.stale);
+}
   where
-    mapped : (xs : List Content) (j : ℕ) (d : Content) → get_or (pieces_of xs) j (Some (frozen_of d)) ≡ Some (frozen_of (get_or xs j d))
-    mapped [] j d = refl
-    mapped (x ∷ xs) zero d = refl
-    mapped (x ∷ xs) (suc j) d = mapped xs j d
+    nothing_behind : (xs : List ℕ) → xs ≡ xs ++ []
+    nothing_behind [] = refl
+    nothing_behind (x ∷ xs) = ap (λ (ys : List ℕ). x ∷ ys) (nothing_behind xs)
 
--- chunks are added
-pub added : (ps : List (Option Frozen)) (ks ls : List Content) → ArePiecesOf ps ks → ArePiecesOf ps (ks ++ ls)
-added [] ks ls h = tt
-added (p ∷ ps) [] ls h = absurd h
-added (p ∷ ps) (k ∷ ks) ls h = (h.0, added ps ks ls h.1)
+-- what was among them before stays what it was
+pub forgets_known : (p : Kept) (m : ℕ) → (p.lost ≡ false → is_among p.stale m ≡ true) → Forgets p p (m ∷ [])
+forgets_known p m known = record {
+  held = λ l. l;
+  layers = λ l. refl;
+  stale = λ l n. sym (among_both p.stale (m ∷ []) n ∙ same n (known l));
+}
+  where
+    at_once : (a b : Bool) → (b ≡ true → a ≡ true) → cond a true (cond b true false) ≡ a
+    at_once true b h = refl
+    at_once false true h = let f = h refl in cc
+    at_once false false h = refl
 
-pub none : (n : ℕ) (ks : List Content) → n ≤ length ks → ArePiecesOf (replicate n None) ks
-none zero ks l = tt
-none (suc n) [] l = absurd (omega arith)
-none (suc n) (k ∷ ks) l = (tt, none n ks (omega arith))
+    same : (n : ℕ) → is_among p.stale m ≡ true → cond (is_among p.stale n) true (cond (eqb m n) true false) ≡ is_among p.stale n
+    same n k = at_once (is_among p.stale n) (eqb m n) (λ e. subst (λ (q : ℕ). is_among p.stale q ≡ true) (eqb-true m n e) k)
 
-pub filled : (n : ℕ) (ps : List (Option Frozen)) (ks : List Content) → length ps + n ≤ length ks → ArePiecesOf ps ks → ArePiecesOf (ps ++ replicate n None) ks
-filled n [] ks l h = none n ks (omega arith)
-filled n (p ∷ ps) [] l h = absurd h
-filled n (p ∷ ps) (k ∷ ks) l h = (h.0, filled n ps ks (omega arith) h.1)
+pub forgets_all : (p q : Kept) (ns : List ℕ) → q.lost ≡ true → Forgets p q ns
+forgets_all p q ns gone = record {
+  held = λ l. cc;
+  layers = λ l. cc;
+  stale = λ l n. cc;
+}
 
--- two lists of chunks come one behind the other
-behind : (n : ℕ) (ps qs : List (Option Frozen)) (ks ls : List Content) → length ps + n ≡ length ks → ArePiecesOf ps ks → ArePiecesOf qs ls → ArePiecesOf ((ps ++ replicate n None) ++ qs) (ks ++ ls)
-behind zero [] qs [] ls e h g = g
-behind zero [] qs (k ∷ ks) ls e h g = absurd (omega arith)
-behind (suc n) [] qs [] ls e h g = absurd (omega arith)
-behind (suc n) [] qs (k ∷ ks) ls e h g = (tt, behind n [] qs ks ls (omega arith) tt g)
-behind n (p ∷ ps) qs [] ls e h g = absurd h
-behind n (p ∷ ps) qs (k ∷ ks) ls e h g = (h.0, behind n ps qs ks ls (omega arith) h.1 g)
+-- one after the other
+pub forgets_both : (p q r : Kept) (xs ys : List ℕ) → Forgets p q xs → Forgets q r ys → Forgets p r (xs ++ ys)
+forgets_both p q r xs ys f g = record {
+  held = λ l. f.held (g.held l);
+  layers = λ l. g.layers l ∙ f.layers (g.held l);
+  stale = λ l n.
+      g.stale l n
+      ∙ (among_both q.stale ys n
+      ∙ (ap (λ (b : Bool). cond b true (is_among ys n)) (f.stale (g.held l) n ∙ among_both p.stale xs n)
+      ∙ (three (is_among p.stale n) (is_among xs n) (is_among ys n)
+      ∙ (ap (λ (b : Bool). cond (is_among p.stale n) true b) (sym (among_both xs ys n)) ∙ sym (among_both p.stale (xs ++ ys) n)))));
+}
+  where
+    three : (a b c : Bool) → cond (cond a true b) true c ≡ cond a true (cond b true c)
+    three true b c = refl
+    three false b c = refl
 
-one_behind : (ps qs : List (Option Frozen)) (ks ls : List Content) → ArePiecesOf ps ks → ArePiecesOf qs ls → ArePiecesOf (filled_up ps (length ks) ++ qs) (ks ++ ls)
-one_behind ps qs ks ls h g = let l = few ps ks h in behind (length ks - length ps) ps qs ks ls (omega arith) h g
+-- ---- what is shown
+
+pub lost_shows : (p : Kept) (ks : List Content) → p.lost ≡ true → Shows p ks
+lost_shows p ks gone = record { same = λ l n a. cc; no_other = λ l n a. cc }
+
+-- where chunks change of which the numbers are forgotten, and others show what they did
+pub still_shows : (p q : Kept) (ks new : List Content) (ns : List ℕ) → Forgets p q ns →
+    ((n : ℕ) → is_among ns n ≡ false → piece_in (level_of new) n ≡ piece_in (level_of ks) n) →
+    ((n : ℕ) → piece_in (level_of new) n ≡ None → piece_in (level_of ks) n ≡ None) → Shows p ks → Shows q new
+still_shows p q ks new ns f same none h = record {
+  same = λ l n a.
+      let both = in_neither p.stale ns n (sym (f.stale l n) ∙ a) in
+      ap (λ (ls : List Level). nearest ls n) (f.layers l) ∙ (h.same (f.held l) n both.0 ∙ sym (same n both.1));
+  no_other = λ l n a. ap (λ (ls : List Level). nearest ls n) (f.layers l) ∙ h.no_other (f.held l) n (none n a);
+}
+
+-- one chunk changes, and keeps its number
+one_number : (k : Content) (n : ℕ) → is_among (k.number ∷ []) n ≡ false → eqb k.number n ≡ false
+one_number k n e =
+    elim (cases_Bool (eqb k.number n)) [
+      | inl b ↦ let f = rw b at e in cc
+      | inr b ↦ b
+    ]
+
+set_other : (ks : List Content) (i : ℕ) (new d : Content) → new.number ≡ (get_or ks i d).number → (n : ℕ) → eqb new.number n ≡ false → piece_in (level_of (set ks i new)) n ≡ piece_in (level_of ks) n
+set_other [] i new d e n other = refl
+set_other (k ∷ ks) zero new d e n other = let o = rw e at other in rw (other, o) refl
+set_other (k ∷ ks) (suc i) new d e n other = rw (set_other ks i new d e n other) refl
+
+set_none : (ks : List Content) (i : ℕ) (new d : Content) → new.number ≡ (get_or ks i d).number → (n : ℕ) → piece_in (level_of (set ks i new)) n ≡ None → piece_in (level_of ks) n ≡ None
+set_none [] i new d e n h = h
+set_none (k ∷ ks) zero new d e n h =
+    elim (cases_Bool (eqb new.number n)) [
+      | inl b ↦ let f = rw b at h in cc
+      | inr b ↦ let f = rw b at h in let g = rw e at b in rw g f
+    ]
+set_none (k ∷ ks) (suc i) new d e n h =
+    elim (cases_Bool (eqb k.number n)) [
+      | inl b ↦ let f = rw b at h in cc
+      | inr b ↦ rw b (set_none ks i new d e n (rw b at h))
+    ]
+
+pub changed : (p q : Kept) (ks : List Content) (i m : ℕ) (new d : Content) → new.number ≡ (get_or ks i d).number → m ≡ new.number → Forgets p q (m ∷ []) → Shows p ks → Shows q (set ks i new)
+changed p q ks i m new d e same f h =
+    still_shows p q ks (set ks i new) (new.number ∷ []) (subst (λ (x : ℕ). Forgets p q (x ∷ [])) same f)
+    (λ n a. set_other ks i new d e n (one_number new n a)) (λ n a. set_none ks i new d e n a) h
+
+-- a chunk is added
+pub added : (p q : Kept) (ks : List Content) (m : ℕ) (k : Content) → m ≡ k.number → Forgets p q (m ∷ []) → Shows p ks → Shows q (ks ++ k ∷ [])
+added p q ks m k same f h =
+    still_shows p q ks (ks ++ k ∷ []) (k.number ∷ []) (subst (λ (x : ℕ). Forgets p q (x ∷ [])) same f)
+    (λ n a. behind n ∙ (ap (option_or (piece_in (level_of ks) n)) (here n (one_number k n a)) ∙ or_none (piece_in (level_of ks) n)))
+    (λ n a. first_none (piece_in (level_of ks) n) (piece_in (level_of (k ∷ [])) n) (sym (behind n) ∙ a)) h
+  where
+    behind : (n : ℕ) → piece_in (level_of (ks ++ k ∷ [])) n ≡ option_or (piece_in (level_of ks) n) (piece_in (level_of (k ∷ [])) n)
+    behind n = ap (λ (l : Level). piece_in l n) (map-append frozen_of ks (k ∷ [])) ∙ levels.found_in_both (level_of ks) (level_of (k ∷ [])) n
+
+    here : (n : ℕ) → eqb k.number n ≡ false → piece_in (level_of (k ∷ [])) n ≡ None
+    here n e = rw e refl
+
+    or_none : (o : Option Frozen) → option_or o None ≡ o
+    or_none None = refl
+    or_none (Some f) = refl
+
+    first_none : (o r : Option Frozen) → option_or o r ≡ None → o ≡ None
+    first_none None r e = refl
+    first_none (Some f) r e = cc
+
+-- the chunks of other lists come before these
+pub before : (p q : Kept) (xs ks : List Content) → Forgets p q (numbers_of xs) → Shows p ks → Shows q (xs ++ ks)
+before p q xs ks f h =
+    still_shows p q ks (xs ++ ks) (numbers_of xs) f
+    (λ n a. front n ∙ ap (λ (o : Option Frozen). option_or o (piece_in (level_of ks) n)) (not_among xs n a))
+    (λ n a. last_none (piece_in (level_of xs) n) (piece_in (level_of ks) n) (sym (front n) ∙ a)) h
+  where
+    front : (n : ℕ) → piece_in (level_of (xs ++ ks)) n ≡ option_or (piece_in (level_of xs) n) (piece_in (level_of ks) n)
+    front n = ap (λ (l : Level). piece_in l n) (map-append frozen_of xs ks) ∙ levels.found_in_both (level_of xs) (level_of ks) n
+
+    last_none : (o r : Option Frozen) → option_or o r ≡ None → r ≡ None
+    last_none None r e = e
+    last_none (Some f) r e = cc
+
+pub three : (p q r : Kept) (ls rs ks : List Content) → Forgets p q (numbers_of rs) → Forgets q r (numbers_of ls) → Shows p ks → Shows r (ls ++ (rs ++ ks))
+three p q r ls rs ks f g h = before q r ls (rs ++ ks) g (before p q rs ks f h)
+
+-- ---- the pieces that were missing are made
+
+nothing_lost : (p : Kept) (ks : List Content) → Shows p ks → (b : Bool) → p.lost ≡ b → (n : ℕ) →
+    option_or (cond (cond b true (is_among p.stale n)) (piece_in (level_of ks) n) None) (cond b None (nearest p.layers n)) ≡ piece_in (level_of ks) n
+nothing_lost p ks h true l n = or_none (piece_in (level_of ks) n)
+  where
+    or_none : (o : Option Frozen) → option_or o None ≡ o
+    or_none None = refl
+    or_none (Some f) = refl
+nothing_lost p ks h false l n = by (is_among p.stale n) refl (piece_in (level_of ks) n) refl
+  where
+    by : (b : Bool) → is_among p.stale n ≡ b → (o : Option Frozen) → piece_in (level_of ks) n ≡ o → option_or (cond b o None) (nearest p.layers n) ≡ o
+    by true e (Some f) is = refl
+    by true e None is = h.no_other l n is
+    by false e o is = h.same l n e ∙ is
+
+-- with those that were missing before the layers, each chunk is shown
+pub all_shown : (p : Kept) (ks : List Content) → Shows p ks → (n : ℕ) → option_or (needed p ks n) (cond p.lost None (nearest p.layers n)) ≡ piece_in (level_of ks) n
+all_shown p ks h n = nothing_lost p ks h p.lost refl n
+
+pub shown_again : (q : Kept) (ks : List Content) → ((n : ℕ) → nearest q.layers n ≡ piece_in (level_of ks) n) → Shows q ks
+shown_again q ks h = record { same = λ l n a. h n; no_other = λ l n a. h n ∙ a }
 
 -- ---- an object is written that no piece shows
 
@@ -112,49 +219,18 @@ frozen_put (c ∷ cs) (suc m) n d was is s =
     rw (t, frozen_put cs (suc m - size_of c) (n + size_of c) d (rw t at was) is (rw t at s)) refl)
     (cases_lt (suc m) (size_of c))
 
+pub same_level : (ks : List Content) (i : ℕ) (new d : Content) → frozen_of new ≡ frozen_of (get_or ks i d) → level_of (set ks i new) ≡ level_of ks
+same_level [] i new d e = refl
+same_level (k ∷ ks) zero new d e = ap (λ (f : Frozen). f ∷ level_of ks) e
+same_level (k ∷ ks) (suc i) new d e = ap (λ (l : Level). frozen_of k ∷ l) (same_level ks i new d e)
+
 -- the pieces of the chunks, once an object of the chunk at a place is written that is as mutable as it was
-pub written_shown : (p : Kept) (ks : List Content) → ArePiecesOf p.pieces ks → (i : ℕ) (k : Content) → k ≡ chunk_at ks i → (at : ℕ) (d : Cell) (mutable : Bool) → (cell_at k.cells at).mutable ≡ mutable → d.mutable ≡ (cell_at k.cells at).mutable →
-    size_of d ≡ size_of (cell_at k.cells at) → ArePiecesOf (written p i mutable).pieces (set ks i (with_cell k at d))
-written_shown p ks h i k read at d false was is s = changed p.pieces ks h i (with_cell k at d)
-written_shown p ks h i k read at d true was is s =
+pub written_shown : (p q : Kept) (ks : List Content) → Shows p ks → (i : ℕ) (k : Content) → k ≡ chunk_at ks i → (at : ℕ) (d : Cell) (mutable : Bool) → Forgets p q (written mutable k.number) → (cell_at k.cells at).mutable ≡ mutable → d.mutable ≡ (cell_at k.cells at).mutable →
+    size_of d ≡ size_of (cell_at k.cells at) → Shows q (set ks i (with_cell k at d))
+written_shown p q ks h i k read at d false f was is s = changed p q ks i k.number (with_cell k at d) no_chunk (ap (λ (x : Content). x.number) read) refl f h
+written_shown p q ks h i k read at d true f was is s =
     let before : is_frozen (cell_at k.cells at) ≡ false = ap (lasts (cell_at k.cells at).mark) was ∙ unseen (cell_at k.cells at).mark in
     let after : is_frozen d ≡ false = ap (lasts d.mark) (is ∙ was) ∙ unseen d.mark in
     let shows : frozen_from 0 (put_cell k.cells at d) ≡ frozen_from 0 k.cells = frozen_put k.cells at 0 d before after s in
-    same p.pieces ks h i (with_cell k at d) no_chunk (ap frozen_of (sym read) ∙ ap (λ (os : List (ℕ × Cell)). record { number = k.number; objects = os }) (sym shows))
-
--- the chunks of two lists come before others
-pub three : (ps qs rs : List (Option Frozen)) (ks ls ms : List Content) → ArePiecesOf ps ks → ArePiecesOf qs ls → ArePiecesOf rs ms → ArePiecesOf (filled_up ps (length ks) ++ (filled_up qs (length ls) ++ rs)) (ks ++ (ls ++ ms))
-three ps qs rs ks ls ms h g f = one_behind ps (filled_up qs (length ls) ++ rs) ks (ls ++ ms) h (one_behind qs rs ls ms g f)
-
-either : (b : Bool) (ps : List (Option Frozen)) (ks : List Content) → ArePiecesOf ps ks → ArePiecesOf (if b then ps else []) ks
-either true ps ks h = h
-either false ps ks h = tt
-
-pub joined_shown : (own : Kept) (ps qs : List (Option Frozen)) (ks ls ms : List Content) → ArePiecesOf ps ks → ArePiecesOf qs ls → ArePiecesOf own.pieces ms → ArePiecesOf (joined own ps (length ks) qs (length ls)) (ks ++ (ls ++ ms))
-joined_shown own ps qs ks ls ms h g f =
-    either (leb (length own.pieces + (length ks + length ls)) own.places) (filled_up ps (length ks) ++ (filled_up qs (length ls) ++ own.pieces)) (ks ++ (ls ++ ms)) (three ps qs own.pieces ks ls ms h g f)
-
--- ---- lists in which nothing stands at the end, and what of them is seen
-
-module _ {X Y : Type 0} (f : X → Y) where
-  pub mapped_fill : (xs : List (Option X)) (n : ℕ) → map (option_map f) (xs ++ replicate n None) ≡ map (option_map f) xs ++ replicate n None
-  mapped_fill [] zero = refl
-  mapped_fill [] (suc n) = ap (λ (ys : List (Option Y)). None ∷ ys) (mapped_fill [] n)
-  mapped_fill (x ∷ xs) n = ap (λ (ys : List (Option Y)). option_map f x ∷ ys) (mapped_fill xs n)
-
-  -- the front of the list is put behind the rest
-  turned : (own left right zs : List (Option X)) (n : ℕ) → n ≡ length own → zs ≡ (own ++ left) ++ right → drop n zs ++ take n zs ≡ left ++ (right ++ own)
-  turned own left right zs n len e =
-      let all : zs ≡ own ++ (left ++ right) = e ∙ append_assoc own left right in
-      rw (all, drop_at own (left ++ right) n (sym len), take_at own (left ++ right) n (sym len)) (append_assoc left right own)
-
-  pub turned_fill : (own left right zs : List (Option X)) (n a b : ℕ) → n ≡ length own → zs ≡ (own ++ (left ++ replicate a None)) ++ (right ++ replicate b None) →
-      map (option_map f) (drop n zs ++ take n zs) ≡ (map (option_map f) left ++ replicate a None) ++ ((map (option_map f) right ++ replicate b None) ++ map (option_map f) own)
-  turned_fill own left right zs n a b len e =
-      ap (map (option_map f)) (turned own (left ++ replicate a None) (right ++ replicate b None) zs n len e)
-      ∙ (map-append (option_map f) (left ++ replicate a None) ((right ++ replicate b None) ++ own)
-      ∙ rw (map-append (option_map f) (right ++ replicate b None) own, mapped_fill left a, mapped_fill right b) refl)
-
-pub is_false : (b : Bool) → not b ≡ true → b ≡ false
-is_false true e = cc
-is_false false e = refl
+    let level : level_of (set ks i (with_cell k at d)) ≡ level_of ks = same_level ks i (with_cell k at d) no_chunk (ap (λ (os : List (ℕ × Cell)). let r : Frozen = record { number = k.number; objects = os } in r) shows ∙ ap frozen_of read) in
+    still_shows p q ks (set ks i (with_cell k at d)) [] f (λ n a. ap (λ (l : Level). piece_in l n) level) (λ n a. ap (λ (l : Level). piece_in l n) (sym level) ∙ a) h

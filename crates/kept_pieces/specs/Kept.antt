@@ -1,45 +1,52 @@
 -- The pieces that are kept of a list of chunks.
-use Rattle.std.specs.Prelude.{◌≡◌, ℕ, ◌+◌, ◌-◌, Bool, List, [], ◌∷◌, ◌++◌, Option, Some, None, if◌then◌else◌, length, map, nat_le, replicate, slice_index_or, slice_set}
+use Rattle.std.specs.Prelude.{◌≡◌, ℕ, ◌==◌, Bool, true, false, List, [], ◌∷◌, ◌++◌, Option, Some, None, if◌then◌else◌, map}
 use Rattle.object_layout.specs.Content.{Content}
-use Rattle.object_layout.specs.Piece.{Frozen, frozen_of}
+use Rattle.object_layout.specs.Piece.{Frozen}
+use Rattle.kept_pieces.specs.Level.{Level, level_of, nearest, piece_in}
 
--- what is kept of each of the first chunks, in their order, and of none of the others; and for how many chunks there are places
+-- the layers of pieces, the last made first; the numbers of the chunks that changed since; and whether all was let go
 pub record Kept : Type 0 where
-  pub pieces : List (Option Frozen)
-  pub places : ℕ
+  pub layers : List Level
+  pub stale : List ℕ
+  pub lost : Bool
 
--- what is kept of the chunk at a place
-abbrev pub kept_at : Kept → ℕ → Option Frozen
-kept_at p place = slice_index_or p.pieces place None
+-- the layers, and the numbers of the chunks that changed since
+pub record Layers : Type 0 where
+  pub layers : List Level
+  pub stale : List ℕ
 
--- the piece shows what the chunk holds, if one is kept
-abbrev pub IsPieceOf : Option Frozen → Content → Type 0
-IsPieceOf None k = Unit {0}
-IsPieceOf (Some f) k = f ≡ frozen_of k
+-- what is kept, if not all was let go
+abbrev pub kept_of : Option Layers → Kept
+kept_of None = record { layers = []; stale = []; lost = true }
+kept_of (Some l) = record { layers = l.layers; stale = l.stale; lost = false }
 
--- so does each that is kept of these chunks, and none is kept of others
-abbrev pub ArePiecesOf : List (Option Frozen) → List Content → Type 0
-ArePiecesOf [] ks = Unit {0}
-ArePiecesOf (p ∷ ps) [] = ⊥
-ArePiecesOf (p ∷ ps) (k ∷ ks) = IsPieceOf p k × ArePiecesOf ps ks
+-- whether a number is among these
+abbrev pub is_among : List ℕ → ℕ → Bool
+is_among [] n = false
+is_among (m ∷ ms) n = if m == n then true else is_among ms n
 
--- the piece of each of these chunks
-abbrev pub pieces_of : List Content → List (Option Frozen)
-pieces_of ks = map (λ k. Some (frozen_of k)) ks
+abbrev pub numbers_of : List Content → List ℕ
+numbers_of ks = map (λ k. k.number) ks
 
--- nothing is kept of the chunk at a place
-abbrev pub forgotten : Kept → ℕ → Kept
-forgotten p place = record p { pieces = slice_set p.pieces place None }
+-- the piece that a number needs: none where one is kept that is right
+abbrev pub needed : Kept → List Content → ℕ → Option Frozen
+needed p ks number = if (if p.lost then true else is_among p.stale number) then piece_in (level_of ks) number else None
 
--- the same where an object of the chunk is written that isn't mutable: a mutable one is in no piece
-abbrev pub written : Kept → ℕ → Bool → Kept
-written p place mutable = if mutable then p else forgotten p place
+-- ---- what holds
 
--- these pieces, and none of so many chunks that follow up to this number
-abbrev pub filled_up : List (Option Frozen) → ℕ → List (Option Frozen)
-filled_up ps chunks = ps ++ replicate (chunks - length ps) None
+-- where not all was let go, the layers show of each chunk what it holds, unless it changed since, and nothing of other numbers
+pub record Shows (p : Kept) (ks : List Content) : Type 0 where
+  pub same : p.lost ≡ false → (number : ℕ) → is_among p.stale number ≡ false → nearest p.layers number ≡ piece_in (level_of ks) number
+  pub no_other : p.lost ≡ false → (number : ℕ) → piece_in (level_of ks) number ≡ None → nearest p.layers number ≡ None
 
--- what is kept of the chunks of two other lists, so many each, before its own, where there are places for it; else nothing
-abbrev pub joined : Kept → List (Option Frozen) → ℕ → List (Option Frozen) → ℕ → List (Option Frozen)
-joined own left lefts right rights =
-    if nat_le (length own.pieces + (lefts + rights)) own.places then filled_up left lefts ++ (filled_up right rights ++ own.pieces) else []
+-- ---- changes
+
+-- the chunks of these numbers count as changed, and others as before; or all is let go
+pub record Forgets (old new : Kept) (numbers : List ℕ) : Type 0 where
+  pub held : new.lost ≡ false → old.lost ≡ false
+  pub layers : new.lost ≡ false → new.layers ≡ old.layers
+  pub stale : new.lost ≡ false → (n : ℕ) → is_among new.stale n ≡ is_among (old.stale ++ numbers) n
+
+-- the number of a chunk of which an object is written; none where the object is mutable, since no piece shows it
+abbrev pub written : Bool → ℕ → List ℕ
+written mutable number = if mutable then [] else number ∷ []

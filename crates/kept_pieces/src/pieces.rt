@@ -1,203 +1,242 @@
 // The pieces that are kept of a list of chunks.
 
-ghost use Rattle.std.specs.Prelude.{◌≡◌, ◌+◌, ◌-◌, ◌^◌, ◌<◌, ◌≤◌, ◌++◌, [], IfOk, None, OnErr, OnOk, Some, length, map, option_map, replicate, slice_index_or, slice_set, vec_capacity, vec_len};
+ghost use Rattle.std.specs.Prelude.{◌≡◌, ℕ, ◌+◌, ◌^◌, ◌<◌, ◌≤◌, ◌++◌, ◌∷◌, [], false, true, IfOk, None, OnErr, OnOk, if◌then◌else◌, length, map, vec_len};
 ghost use Rattle.std.specs.Arc.{arc_value};
-ghost use Rattle.object_layout.specs.Piece.{frozen_of};
+ghost use Rattle.std.specs.Option.{option_or};
 ghost use Rattle.object_layout.specs.Place.{object_at, IsObjectAt};
-ghost use Rattle.kept_pieces.specs.Kept.{forgotten, joined, kept_at, pieces_of, written, ArePiecesOf, IsPieceOf};
+ghost use Rattle.kept_pieces.specs.Level.{nearest, piece_in};
+ghost use Rattle.kept_pieces.specs.Kept.{is_among, numbers_of, written, Forgets};
 
-use object_layout::{Chunk, Piece, header_at};
+use super::layer::Layer;
+use object_layout::{Chunk, header_at};
+use out_of_line::Apart;
 use std::alloc::{AllocError, Global};
 use std::marker::Model;
 use std::sync::Arc;
 
-/// What is kept of the chunks of a list, by their places: the piece of a chunk that didn't change since it was made.
+/// Layers of pieces, the last made first, and the numbers of the chunks that changed since.
 ///
-/// Who changes the chunks says so here. Of chunks past the end of the list nothing is kept.
+/// A layer has at most half as many pieces as the one below it, so that there are few, and each piece moves seldom.
+#[derive(Drop)]
+struct Held {
+    layers: Vec<Arc<Layer, Global>>,
+    stale: Vec<u32>,
+}
+
+impl Held {
+    // Counts the chunk of a number as changed, and says whether there was a place for it.
+    fn note(&mut self, number: u32) -> bool
+        ensures layers { self.new.layers.items ≡ self.old.layers.items }
+        ensures noted { result ≡ true → (n : ℕ) → is_among self.new.stale.items n ≡ is_among (self.old.stale.items ++ number ∷ []) n }
+    {
+        if ends_in(&self.stale, number) {
+            return true;
+        }
+        if self.stale.len() == self.stale.capacity() {
+            return false;
+        }
+        self.stale.push_reserved(number);
+        true
+    }
+}
+
+/// What is kept of the chunks of a list, by their numbers: layers of pieces, and which chunks changed since the last was
+/// made.
+///
+/// Who changes the chunks says so here. A change costs no memory: where the list of the changed is full, all is let go.
+/// As long as nothing is kept it takes the place of a pointer.
 #[derive(Drop)]
 pub struct Pieces {
-    made: Vec<Option<Arc<Piece, Global>>>,
+    held: Option<Apart<Held>>,
 }
 
 impl Model for Pieces {
-    ghost use Rattle.std.specs.Prelude.{map, option_map, vec_capacity};
+    ghost use Rattle.std.specs.Prelude.{map, option_map};
     ghost use Rattle.std.specs.Arc.{arc_value};
-    ghost use Rattle.kept_pieces.specs.Kept.{Kept};
+    ghost use Rattle.kept_pieces.specs.Kept.{kept_of, Kept};
 
     ghost Value = { Kept };
 
-    ghost view = { λ p. record { pieces = map (option_map arc_value) p.made.items; places = vec_capacity p.made } };
+    ghost view = { λ p. kept_of (option_map (λ h. record { layers = map arc_value h.layers.items; stale = h.stale.items }) p.held) };
 }
 
 impl Pieces {
     /// Nothing is kept.
-    pub fn new(alloc: Global) -> Pieces
-        ensures { result.pieces ≡ [] }
+    pub fn new() -> Pieces
+        ensures { result.lost ≡ true }
     {
-        Pieces {
-            made: Vec::new(alloc),
-        }
+        Pieces { held: None }
     }
 
-    /// Makes places for the pieces of so many chunks in all.
+    /// Makes places for the numbers of so many chunks that change.
     pub fn make_places(&mut self, chunks: usize) -> Result<(), AllocError>
-        ensures kept { self.new.pieces ≡ self.old.pieces }
-        ensures places { OnOk result (chunks ≤ self.new.places) }
-        ensures more { self.old.places ≤ self.new.places }
+        ensures { self.new ≡ self.old }
     {
-        let len = self.made.len();
-        if chunks <= len {
-            return Ok(());
+        match &mut self.held {
+            None => Ok(()),
+            Some(held) => held.get_mut().stale.reserve(chunks),
         }
-        self.made.reserve(chunks - len)
     }
 
-    /// Lets the piece of the chunk at a place go, which is about to change.
-    pub fn forget(&mut self, place: usize)
-        ensures { self.new ≡ forgotten self.old place }
+    /// Whether all was let go.
+    pub fn lost(&self) -> bool
+        ensures { result ≡ self.now.lost }
     {
-        if place < self.made.len() {
-            put(&mut self.made, place, None);
+        self.held.is_none()
+    }
+
+    /// Whether the layers show what all chunks hold.
+    pub fn is_settled(&self) -> bool
+        ensures held { result ≡ true → self.now.lost ≡ false }
+        ensures none { result ≡ true → self.now.stale ≡ [] }
+    {
+        match &self.held {
+            None => false,
+            Some(held) => held.get().stale.is_empty(),
+        }
+    }
+
+    /// The numbers of the chunks that changed since the last layer was made.
+    pub fn stale(&self) -> &[u32]
+        ensures { result.now ≡ self.now.stale }
+    {
+        match &self.held {
+            None => &[],
+            Some(held) => &held.get().stale,
+        }
+    }
+
+    /// The chunk of a number is about to change.
+    pub fn forget(&mut self, number: u32)
+        ensures { Forgets self.old self.new (number ∷ []) }
+    {
+        let noted = match &mut self.held {
+            None => true,
+            Some(held) => held.get_mut().note(number),
+        };
+        if !noted {
+            self.held = None;
         }
     }
 
     /// The same of a chunk of which an object is about to be written: the piece stays where the object is mutable.
-    pub fn forget_written(&mut self, place: usize, chunk: &Chunk, at: u32)
+    pub fn forget_written(&mut self, chunk: &Chunk, at: u32)
         requires { IsObjectAt chunk.now.cells at }
-        ensures { self.new ≡ written self.old place (object_at chunk.now.cells at).mutable }
+        ensures { Forgets self.old self.new (written (object_at chunk.now.cells at).mutable chunk.now.number) }
     {
-        if place < self.made.len() && !header_at(chunk, at).mutable {
-            put(&mut self.made, place, None);
+        if !header_at(chunk, at).mutable {
+            self.forget(chunk.number());
         }
     }
 
-    /// Lets all pieces go. The places stay.
+    /// The same of each of these chunks.
+    pub fn forget_each(&mut self, chunks: &[Chunk])
+        ensures { Forgets self.old self.new (numbers_of chunks.now) }
+    {
+        for chunk in chunks {
+            self.forget(chunk.number());
+        }
+    }
+
+    /// Lets all pieces go.
     pub fn forget_all(&mut self)
-        ensures { self.new ≡ record self.old { pieces = [] } }
+        ensures { self.new.lost ≡ true }
     {
-        self.made.clear();
+        self.held = None;
     }
 
-    /// Puts what is kept of the chunks of two other lists, of so many each, before its own, where there are places for
-    /// it; else it lets all go. It takes no memory.
-    pub fn put_before(&mut self, left: Pieces, lefts: usize, right: Pieces, rights: usize)
-        requires left { length left.pieces ≤ lefts }
-        requires right { length right.pieces ≤ rights }
-        requires few { lefts + rights < 2 ^ 63 }
-        ensures { self.new.pieces ≡ joined self.old left.pieces lefts right.pieces rights }
+    /// The layers, of which this is the first. Where all was let go there is no other.
+    pub fn layers_below(
+        &self,
+        alloc: Global,
+        first: Layer,
+    ) -> Result<Vec<Arc<Layer, Global>>, AllocError>
+        ensures { IfOk result (λ layers. (n : ℕ) → nearest (map arc_value layers.items) n ≡ option_or (piece_in first n) (if self.now.lost then None else nearest self.now.layers n)) }
     {
-        let own = self.made.len();
-        if self.made.capacity() < own + (lefts + rights) {
-            self.made.clear();
-        } else {
-            take_in(&mut self.made, left.made, lefts);
-            take_in(&mut self.made, right.made, rights);
-            self.made.rotate_left(own);
+        let mut layers = Vec::new(alloc);
+        layers.push(Arc::new(alloc, first)?)?;
+        if let Some(held) = &self.held {
+            share_all(&mut layers, &held.get().layers)?;
         }
+        Ok(layers)
     }
 
-    /// Makes the pieces that aren't kept of these chunks. Where memory is wanting, those that were made before stay.
-    pub fn settle(&mut self, chunks: &[Chunk]) -> Result<(), AllocError>
-        requires { ArePiecesOf self.old.pieces chunks.now }
-        ensures each { ArePiecesOf self.new.pieces chunks.now }
-        ensures all { OnOk result (self.new.pieces ≡ pieces_of chunks.now) }
-        ensures places { self.old.places ≤ self.new.places }
+    /// The layers as they are.
+    pub fn layers(&self, alloc: Global) -> Result<Vec<Arc<Layer, Global>>, AllocError>
+        ensures { IfOk result (λ layers. map arc_value layers.items ≡ self.now.layers) }
     {
-        let missing = chunks.len() - self.made.len();
-        self.made.reserve(missing)?;
-        fill_up(&mut self.made, missing);
-        make_all(&mut self.made, chunks)
-    }
-
-    /// The piece of the chunk at a place: the one that is kept, or a new one.
-    pub fn piece(&self, place: usize, chunk: &Chunk) -> Result<Arc<Piece, Global>, AllocError>
-        requires { IsPieceOf (kept_at self.now place) chunk.now }
-        ensures { IfOk result (λ piece. arc_value piece ≡ frozen_of chunk.now) }
-    {
-        if place < self.made.len() {
-            if let Some(piece) = &self.made[place] {
-                return Arc::try_clone(piece);
-            }
+        let mut layers = Vec::new(alloc);
+        if let Some(held) = &self.held {
+            share_all(&mut layers, &held.get().layers)?;
         }
-        new_piece(*self.made.allocator(), chunk)
+        Ok(layers)
+    }
+
+    /// Puts a layer before the others, counts no chunk as changed, and makes places for the numbers of so many that
+    /// change. Where memory is wanting, all stays as it was.
+    pub fn put(&mut self, alloc: Global, first: Layer, places: usize) -> Result<(), AllocError>
+        ensures layers { OnOk result ((n : ℕ) → nearest self.new.layers n ≡ option_or (piece_in first n) (if self.old.lost then None else nearest self.old.layers n)) }
+        ensures stale { OnOk result (self.new.stale ≡ []) }
+        ensures held { OnOk result (self.new.lost ≡ false) }
+        ensures err { OnErr result (self.new ≡ self.old) }
+    {
+        let mut layers = self.layers_below(alloc, first)?;
+        shorten(alloc, &mut layers)?;
+        let stale = Vec::with_capacity(alloc, places)?;
+        self.held = Some(Apart::new(alloc, Held { layers, stale })?);
+        Ok(())
     }
 }
 
-// A new piece of a chunk.
-fn new_piece(alloc: Global, chunk: &Chunk) -> Result<Arc<Piece, Global>, AllocError>
-    ensures { IfOk result (λ piece. arc_value piece ≡ frozen_of chunk.now) }
+// Whether this number is the last of them.
+fn ends_in(numbers: &[u32], number: u32) -> bool
+    ensures { result ≡ true → is_among numbers.now number ≡ true }
 {
-    Ok(Arc::new(alloc, Piece::of(alloc, chunk)?)?)
-}
-
-// Puts what is kept of the chunk at a place.
-fn put(made: &mut Vec<Option<Arc<Piece, Global>>>, place: usize, piece: Option<Arc<Piece, Global>>)
-    requires { place < vec_len made.old }
-    ensures items { made.new.items ≡ slice_set made.old.items place piece }
-    ensures len { vec_len made.new ≡ vec_len made.old }
-    ensures capacity { vec_capacity made.new ≡ vec_capacity made.old }
-{
-    made[place] = piece;
-}
-
-// Says of so many chunks more that nothing is kept of them.
-fn fill_up(made: &mut Vec<Option<Arc<Piece, Global>>>, chunks: usize)
-    requires { vec_len made.old + chunks ≤ vec_capacity made.old }
-    ensures items { made.new.items ≡ made.old.items ++ replicate chunks None }
-    ensures len { vec_len made.new ≡ vec_len made.old + chunks }
-    ensures capacity { vec_capacity made.new ≡ vec_capacity made.old }
-{
-    for _ in 0..chunks {
-        made.push_reserved(None);
+    match numbers.last() {
+        None => false,
+        Some(last) => *last == number,
     }
 }
 
-// Puts what is kept of so many chunks behind the others.
-fn take_in(
-    made: &mut Vec<Option<Arc<Piece, Global>>>,
-    mut more: Vec<Option<Arc<Piece, Global>>>,
-    chunks: usize,
-)
-    requires few { vec_len more ≤ chunks }
-    requires places { vec_len made.old + chunks ≤ vec_capacity made.old }
-    ensures items { made.new.items ≡ made.old.items ++ (more.items ++ replicate (chunks - length more.items) None) }
-    ensures capacity { vec_capacity made.old ≤ vec_capacity made.new }
-{
-    let rest = chunks - more.len();
-    let _ = made.append(&mut more);
-    fill_up(made, rest);
-}
-
-// Makes the piece of the chunk at a place, if none is kept.
-fn make(
-    made: &mut Vec<Option<Arc<Piece, Global>>>,
-    place: usize,
-    chunk: &Chunk,
+// Shares these layers too, behind the others.
+fn share_all(
+    layers: &mut Vec<Arc<Layer, Global>>,
+    more: &[Arc<Layer, Global>],
 ) -> Result<(), AllocError>
-    requires place { place < vec_len made.old }
-    requires piece { IsPieceOf (slice_index_or (map (option_map arc_value) made.old.items) place None) chunk.now }
-    ensures made { OnOk result (map (option_map arc_value) made.new.items ≡ slice_set (map (option_map arc_value) made.old.items) place (Some (frozen_of chunk.now))) }
-    ensures kept { OnErr result (made.new.items ≡ made.old.items) }
-    ensures len { vec_len made.new ≡ vec_len made.old }
-    ensures capacity { vec_capacity made.new ≡ vec_capacity made.old }
+    ensures { OnOk result (map arc_value layers.new.items ≡ map arc_value layers.old.items ++ map arc_value more.now) }
 {
-    if made[place].is_none() {
-        let piece = new_piece(*made.allocator(), chunk)?;
-        put(made, place, Some(piece));
+    for layer in more {
+        layers.push(Arc::try_clone(layer)?)?;
     }
     Ok(())
 }
 
-// Makes the piece of each of these chunks of which none is kept.
-fn make_all(made: &mut Vec<Option<Arc<Piece, Global>>>, chunks: &[Chunk]) -> Result<(), AllocError>
-    requires each { ArePiecesOf (map (option_map arc_value) made.old.items) chunks.now }
-    requires all { vec_len made.old ≡ length chunks.now }
-    ensures each { ArePiecesOf (map (option_map arc_value) made.new.items) chunks.now }
-    ensures all { OnOk result (map (option_map arc_value) made.new.items ≡ pieces_of chunks.now) }
-    ensures capacity { vec_capacity made.new ≡ vec_capacity made.old }
+// Whether the first layer has more than half as many pieces as the second.
+fn is_high(layers: &[Arc<Layer, Global>]) -> bool
+    ensures { result ≡ true → 2 ≤ length layers.now }
 {
-    for (i, chunk) in chunks.iter().enumerate() {
-        make(made, i, chunk)?;
+    layers.len() >= 2 && layers[0].len() > layers[1].len() / 2
+}
+
+// Puts the first two layers together.
+fn join_first(alloc: Global, layers: &mut Vec<Arc<Layer, Global>>) -> Result<(), AllocError>
+    requires { 2 ≤ vec_len layers.old }
+    ensures nearest { OnOk result ((n : ℕ) → nearest (map arc_value layers.new.items) n ≡ nearest (map arc_value layers.old.items) n) }
+    ensures len { OnOk result (vec_len layers.new + 1 ≡ vec_len layers.old) }
+{
+    let second = layers.remove(1);
+    let first = layers.remove(0);
+    let both = Layer::of_both(alloc, &first, &second)?;
+    layers.insert(0, Arc::new(alloc, both)?)?;
+    Ok(())
+}
+
+// Puts layers together until each has at most half as many pieces as the next.
+fn shorten(alloc: Global, layers: &mut Vec<Arc<Layer, Global>>) -> Result<(), AllocError>
+    ensures { OnOk result ((n : ℕ) → nearest (map arc_value layers.new.items) n ≡ nearest (map arc_value layers.old.items) n) }
+{
+    while is_high(layers) {
+        join_first(alloc, layers)?;
     }
     Ok(())
 }

@@ -5,7 +5,7 @@ use Rattle.std.proofs.lemmas.Option.{same_Some}
 use Rattle.listed.specs.Space.{Space}
 use Rattle.hh_model.specs.declared.data.State.{State}
 use Rattle.hh_model.specs.Effect.{row_of}
-use Rattle.hh_model.specs.Step.{asked, is_waiting, waits}
+use Rattle.hh_model.specs.Step.{asked, is_joined, is_waiting, waits}
 use Rattle.run_trace.specs.declared.entry.Kind.TheVariants.{Chunk as ChunkOf}
 use Rattle.run_trace.specs.Entry.{Event}
 use Rattle.run_ledger.specs.declared.data.Heap.{Heap as Account}
@@ -242,7 +242,7 @@ module _ (w : World) (k : ℕ) (p : Private) (I : IsWorld w) (F : Fits w k (reco
 
     objects_same : SameObjects v v' l L
     objects_same = record {
-      home = λ u r. home_kept v v' l L u refl (λ c e. owner_kept c u e) (ap or_fresh (heap_off u (not_t u r))) (ap (λ (m : State). length (row_of (slice_get m.store u))) same_machine) (S.homes.homes u (rested_before u r));
+      home = λ u r. home_kept v v' l L u refl (λ c e. owner_kept c u e) (ap or_fresh (heap_off u (not_t u r))) (ap (λ (m : State). length (row_of (slice_get m.store u))) same_machine) (ap (λ (m : State). is_joined (slice_get m.tasks u)) same_machine) (S.homes.homes u (rested_before u r));
       objects = λ u. refl;
       chunks = λ u e. refl;
       frames = λ u. refl;
@@ -382,12 +382,15 @@ module _ (w : World) (k : ℕ) (p : Private) (I : IsWorld w) (F : Fits w k (reco
     form_then : HeapForm g
     form_then = form_more p.heap F.form number u slots spare (omega (arith, size_least)) none_reserved shaped_then chunks_are counted_then.last counted_then.last_large
 
+    rested_same : (rested l t).machine ≡ (rested L t).machine
+    rested_same = with_machine l t let_go ∙ (sym same_machine ∙ sym (with_machine L t let_go))
+
     home_then : HomeStands after_ (rested L t) t
     home_then = record {
       names = subst (λ (z : Home). HasNames z.chunks (heap_of (rested L t) t)) (sym here') names_then;
       room = ap (λ (z : Home). z.room) here' ∙ counted_rested.room;
       since = ap (λ (z : Home). z.since) here' ∙ (added_since ∙ (ap (λ (z : Home). z.since) (sym here) ∙ (H.since ∙ (ap (λ (z : Account). z.since) account_before ∙ (sym (chunk_since words there.0) ∙ ap (λ (z : Account). z.since) (sym account_then))))));
-      count = ap (λ (z : Home). z.count) here' ∙ (ap (λ (z : Home). z.count) (sym here) ∙ (H.count ∙ ap (λ (m : State). length (row_of (slice_get m.store t))) (with_machine l t let_go ∙ (sym same_machine ∙ sym (with_machine L t let_go)))));
+      count = λ live. ap (λ (z : Home). z.count) here' ∙ (ap (λ (z : Home). z.count) (sym here) ∙ (H.count (ap (λ (m : State). is_joined (slice_get m.tasks t)) rested_same ∙ live) ∙ ap (λ (m : State). length (row_of (slice_get m.store t))) rested_same));
       owned = λ c i. elim (chunk_cases c i) [
         | inl q ↦ owner_kept c.number t (H.owned c q)
         | inr q ↦ ap (λ (z : Chunk). v'.owner z.number) (sym q) ∙ owner_new
@@ -442,6 +445,7 @@ module _ (w : World) (k : ℕ) (p : Private) (I : IsWorld w) (F : Fits w k (reco
               let rests : Rests (rested l t) u = ap (λ (z : Account). z.worker) (sym same) ∙ r in
               home_kept before after_ (rested l t) (rested L t) u (off_home v' t (home_of_part Q) u ne ∙ sym (off_home v t (home_of_part P) u ne)) (λ c e. owner_kept c u e) same
               (ap (λ (m : State). length (row_of (slice_get m.store u))) (with_machine L t let_go ∙ (same_machine ∙ sym (with_machine l t let_go))))
+              (ap (λ (m : State). is_joined (slice_get m.tasks u)) (with_machine L t let_go ∙ (same_machine ∙ sym (with_machine l t let_go))))
               ((fits_now w k P I F on).stands.homes u rests)
         ]
 

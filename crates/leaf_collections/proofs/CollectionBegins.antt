@@ -5,7 +5,7 @@ use Rattle.std.proofs.lemmas.Option.{same_Some}
 use Rattle.listed.specs.Space.{Space}
 use Rattle.hh_model.specs.declared.data.State.{State}
 use Rattle.hh_model.specs.Effect.{row_of}
-use Rattle.hh_model.specs.Step.{is_waiting, waits}
+use Rattle.hh_model.specs.Step.{is_joined, is_waiting, waits}
 use Rattle.run_trace.specs.declared.entry.Kind.TheVariants.{Begin}
 use Rattle.run_trace.specs.Entry.{Event}
 use Rattle.run_ledger.specs.declared.data.Heap.{Heap as Account}
@@ -146,7 +146,7 @@ module _ (w : World) (k : ℕ) (p : Private) (I : IsWorld w) (F : Fits w k (reco
 
     pub same : SameObjects v v' l L
     same = record {
-      home = λ u r. home_kept v v' l L u refl (λ c q. owner_kept c u q) (ap or_fresh (heap_off u (not_t u r))) (ap (λ (m : State). length (row_of (slice_get m.store u))) same_machine) (S.homes.homes u (rested_before u r));
+      home = λ u r. home_kept v v' l L u refl (λ c q. owner_kept c u q) (ap or_fresh (heap_off u (not_t u r))) (ap (λ (m : State). length (row_of (slice_get m.store u))) same_machine) (ap (λ (m : State). is_joined (slice_get m.tasks u)) same_machine) (S.homes.homes u (rested_before u r));
       objects = λ u. refl;
       chunks = λ u e. refl;
       frames = λ u. refl;

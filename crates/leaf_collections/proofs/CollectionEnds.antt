@@ -53,7 +53,7 @@ use Rattle.core_relation.proofs.parts.WorkersPast.{ends_leave}
 use Rattle.core_relation.proofs.parts.Quiet.{aside_is}
 use Rattle.task_machine.specs.declared.part.Private.{Private}
 use Rattle.shared_value.specs.declared.heaps.Heaps.{Heaps}
-use Rattle.shared_value.specs.declared.rest.Rest.{Rest}
+use Rattle.shared_value.specs.declared.task_at_rest.Rest.{Rest}
 use Rattle.shared_value.specs.Objects.{chunk_of, chunks_of}
 use Rattle.shared_value.specs.World.{World, accounts, home_in, rest_at, source_of, totals_of, value_of}
 use Rattle.shared_value.specs.Measured.{KeepsUnits, RestsAreMeasured}

@@ -4,7 +4,7 @@ use Rattle.std.proofs.lemmas.Bool.{cases_eq}
 use Rattle.listed.specs.Space.{Space}
 use Rattle.hh_model.specs.declared.data.State.{State}
 use Rattle.hh_model.specs.Effect.{row_of}
-use Rattle.hh_model.specs.Step.{is_waiting}
+use Rattle.hh_model.specs.Step.{is_joined, is_waiting}
 use Rattle.run_trace.specs.declared.entry.Kind.TheVariants.{Begin}
 use Rattle.run_trace.specs.Entry.{Event}
 use Rattle.run_ledger.specs.declared.data.Heap.{Heap as Account}
@@ -158,13 +158,16 @@ module _ (w : World) (k : ℕ) (p : Private) (I : IsWorld w) (F : Fits w k (reco
     object_was : (o : Seen) → In (objects after_ t) o → In (objects before t) o
     object_was o i = subst (λ (z : Home). In (objects_in z.chunks) o) (sym here) (subst (λ (z : Home). In (objects_in z.chunks) o) here' i)
 
+    rested_same : (rested l t).machine ≡ (rested L t).machine
+    rested_same = with_machine l t let_go ∙ (sym same_machine ∙ sym (with_machine L t let_go))
+
     home_then : HomeStands after_ (rested L t) t
     home_then = record {
       names = subst (λ (z : Home). HasNames z.chunks (heap_of (rested L t) t)) (sym here')
           (subst (HasNames (home_of_part Q).chunks) (sym account_same) (record { small = names.small; large = names.large }));
       room = ap (λ (z : Home). z.room) here' ∙ (ap (λ (z : Home). z.room) (sym here) ∙ (H.room ∙ sym (ap (λ (z : Account). z.room) account_same)));
       since = ap (λ (z : Home). z.since) here' ∙ (ap (λ (z : Home). z.since) (sym here) ∙ (H.since ∙ sym (ap (λ (z : Account). z.since) account_same)));
-      count = ap (λ (z : Home). z.count) here' ∙ (ap (λ (z : Home). z.count) (sym here) ∙ (H.count ∙ ap (λ (m : State). length (row_of (slice_get m.store t))) (with_machine l t let_go ∙ (sym same_machine ∙ sym (with_machine L t let_go)))));
+      count = λ live. ap (λ (z : Home). z.count) here' ∙ (ap (λ (z : Home). z.count) (sym here) ∙ (H.count (ap (λ (m : State). is_joined (slice_get m.tasks t)) rested_same ∙ live) ∙ ap (λ (m : State). length (row_of (slice_get m.store t))) rested_same));
       owned = λ c i. owner_kept c.number t (H.owned c (was c i));
       inside = λ c o i q. H.inside c o (was c i) q;
       once = λ o q a b z. H.once o q (object_was o a) (object_was q b) z;
@@ -221,6 +224,7 @@ module _ (w : World) (k : ℕ) (p : Private) (I : IsWorld w) (F : Fits w k (reco
               let rests : Rests (rested l t) u = ap (λ (z : Account). z.worker) (sym same) ∙ r in
               home_kept before after_ (rested l t) (rested L t) u (off_home v' t (home_of_part Q) u ne ∙ sym (off_home v t (home_of_part P) u ne)) (λ c q. owner_kept c u q) same
               (ap (λ (m : State). length (row_of (slice_get m.store u))) (with_machine L t let_go ∙ (same_machine ∙ sym (with_machine l t let_go))))
+              (ap (λ (m : State). is_joined (slice_get m.tasks u)) (with_machine L t let_go ∙ (same_machine ∙ sym (with_machine l t let_go))))
               ((fits_now w k P I F on).stands.homes u rests)
         ]
 

@@ -23,8 +23,8 @@ pub fn lead(sets: &[SetOf], task: u32, heaps: &mut Heaps, moved: &[(Addr, Addr)]
     ensures once { StandOnce (sources_of (slice_get sets.now task)) }
 {
     if let Some(set) = sets.get(task as usize) {
-        let _ = set.remembered.sources();
-        set.remembered.rewrite(heaps, moved);
+        let _ = set.sources();
+        set.rewrite(heaps, moved);
     }
 }
 

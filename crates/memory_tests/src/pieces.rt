@@ -1,35 +1,72 @@
 // Pieces that are kept of chunks.
 
-ghost use Rattle.kept_pieces.specs.Kept.{kept_at, IsPieceOf};
-
-use kept_pieces::Pieces;
+use kept_pieces::{Layer, Pieces, piece_of};
 use object_layout::Chunk;
 use std::alloc::Global;
 use std::sync::Arc;
 
-// How many share the first of two pieces that are asked for of a list's first chunk.
-fn owners(pieces: &Pieces, chunk: &Chunk) -> Option<usize>
-    requires { IsPieceOf (kept_at pieces.now 0) chunk.now }
-{
-    let first = pieces.piece(0, chunk).ok()?;
-    let _second = pieces.piece(0, chunk).ok()?;
-    Some(Arc::strong_count(&first))
+// Whether all was let go, whether all is shown, how many layers there are, and how many share the first.
+fn state(alloc: Global, pieces: &Pieces) -> Option<(bool, bool, usize, usize)> {
+    let layers = pieces.layers(alloc).ok()?;
+    let owners = match layers.first() {
+        None => 0,
+        Some(layer) => Arc::strong_count(layer),
+    };
+    Some((pieces.lost(), pieces.is_settled(), layers.len(), owners))
 }
 
-// How many do so before the piece is kept, then, and once it is let go.
-fn sharing(alloc: Global) -> Option<[Option<usize>; 3]> {
-    let chunks = [Chunk::new(alloc, 4, 1).ok()?];
-    let mut pieces = Pieces::new(alloc);
-    let before = owners(&pieces, &chunks[0]);
-    let Ok(()) = pieces.settle(&chunks) else {
-        return None;
-    };
-    let kept = owners(&pieces, &chunks[0]);
-    pieces.forget(0);
-    Some([before, kept, owners(&pieces, &chunks[0])])
+// Puts a layer with the piece of an empty chunk of a number.
+fn put_one(alloc: Global, pieces: &mut Pieces, number: u32) -> Option<()> {
+    let chunk = Chunk::new(alloc, number, 1).ok()?;
+    let mut layer = Layer::new(alloc);
+    layer.add(alloc, &chunk).ok()?;
+    pieces.put(alloc, layer, 1).ok()
+}
+
+// The states before a piece is kept, then, once its chunk changed, and once all is let go.
+fn states(alloc: Global) -> Option<[Option<(bool, bool, usize, usize)>; 4]> {
+    let mut pieces = Pieces::new();
+    let none = state(alloc, &pieces);
+    put_one(alloc, &mut pieces, 4)?;
+    let kept = state(alloc, &pieces);
+    pieces.forget(4);
+    let changed = state(alloc, &pieces);
+    pieces.forget_all();
+    Some([none, kept, changed, state(alloc, &pieces)])
 }
 
 #[test]
 fn kept_pieces_are_shared(rt: HostRuntime) {
-    assert!(rt; sharing(rt.alloc()) == Some([Some(1), Some(3), Some(1)]));
+    assert!(rt;
+        states(rt.alloc())
+            == Some([
+                Some((true, false, 0, 0)),
+                Some((false, true, 1, 2)),
+                Some((false, false, 1, 2)),
+                Some((true, false, 0, 0)),
+            ])
+    );
+}
+
+// How many layers there are once so many pieces were put one by one, and how many of them are found.
+fn layers_of(alloc: Global, count: u32) -> Option<(usize, usize)> {
+    let mut pieces = Pieces::new();
+    for number in 0..count {
+        put_one(alloc, &mut pieces, number)?;
+    }
+    let layers = pieces.layers(alloc).ok()?;
+    let mut found: usize = 0;
+    for number in 0..count {
+        if piece_of(&layers, number).is_some() {
+            found = found.saturating_add(1);
+        }
+    }
+    Some((layers.len(), found))
+}
+
+#[test]
+fn layers_are_few(rt: HostRuntime) {
+    assert!(rt; layers_of(rt.alloc(), 3) == Some((2, 3)));
+    assert!(rt; layers_of(rt.alloc(), 8) == Some((1, 8)));
+    assert!(rt; layers_of(rt.alloc(), 15) == Some((4, 15)));
 }

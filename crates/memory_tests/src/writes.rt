@@ -92,7 +92,7 @@ fn add_sets(alloc: Global, sets: &mut Vec<SetOf>) -> bool {
 
 // The number of sources and of kept references of a set.
 fn count(set: &SetOf) -> (usize, usize) {
-    (set.remembered.sources().len(), set.kept.as_slice().len())
+    (set.sources().len(), set.kept().len())
 }
 
 // Each change says whether it was made.
@@ -128,7 +128,9 @@ impl Scene {
     // Whether the root's heap keeps from now on.
     fn set_keeps(&mut self, keeps: bool) {
         if let Some(set) = self.sets.first_mut() {
-            set.keeps = keeps;
+            if set.keeps() != keeps {
+                set.set_keeps(keeps);
+            }
         }
     }
 

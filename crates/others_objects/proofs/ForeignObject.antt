@@ -25,9 +25,9 @@ use Rattle.core_relation.proofs.objects.Carry.{field_of}
 use Rattle.core_relation.proofs.changes.With.{at_home}
 use Rattle.task_machine.specs.declared.part.Private.{Private}
 use Rattle.task_machine.specs.Plan.{int_of, ref_of}
-use Rattle.shared_value.specs.declared.rest.Rest.{Rest}
-use Rattle.shared_value.specs.declared.rest.Work.{Work}
-use Rattle.shared_value.specs.declared.rest.Work.TheVariants.{Calls, Result}
+use Rattle.shared_value.specs.declared.task_at_rest.Rest.{Rest}
+use Rattle.shared_value.specs.declared.task_at_rest.Work.{Work}
+use Rattle.shared_value.specs.declared.task_at_rest.Work.TheVariants.{Calls, Result}
 use Rattle.shared_value.specs.World.{World, accounts, frame_of, frames_of, home_by, home_in, rest_at, value_of}
 use Rattle.shared_value.specs.Objects.{chunks_of}
 use Rattle.shared_value.specs.Stands.{IsWorld}

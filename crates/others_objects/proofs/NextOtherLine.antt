@@ -34,7 +34,7 @@ use Rattle.shared_value.specs.World.{World, accounts, flat, value_of}
 use Rattle.shared_value.specs.Stands.{IsWorld}
 use Rattle.shared_value.specs.Fits.{Fits, home_of_part}
 use Rattle.shared_value.specs.Next.{next_line}
-use Rattle.shared_value.specs.declared.rest.Rest.{Rest}
+use Rattle.shared_value.specs.declared.task_at_rest.Rest.{Rest}
 use Rattle.shared_value.proofs.PartFitsMachine as link
 use Rattle.own_steps.specs.Alone.{IsShared}
 use Rattle.own_steps.proofs.LastSteps.{machine_same}

@@ -24,9 +24,9 @@ use Rattle.core_relation.specs.Stands.{HomeStands}
 use Rattle.core_relation.proofs.objects.Members.{in_chunk}
 use Rattle.core_relation.proofs.changes.With.{at_home, off_home}
 use Rattle.task_machine.specs.declared.part.Private.{Private}
-use Rattle.shared_value.specs.declared.rest.Rest.{Rest}
-use Rattle.shared_value.specs.declared.rest.Work.{Work}
-use Rattle.shared_value.specs.declared.rest.Work.TheVariants.{Calls, Result}
+use Rattle.shared_value.specs.declared.task_at_rest.Rest.{Rest}
+use Rattle.shared_value.specs.declared.task_at_rest.Work.{Work}
+use Rattle.shared_value.specs.declared.task_at_rest.Work.TheVariants.{Calls, Result}
 use Rattle.shared_value.specs.World.{World, accounts, flat, home_by, home_in, home_of, no_home, rest_at, value_by, value_of, with_marks}
 use Rattle.shared_value.specs.Objects.{chunks_of, seen}
 use Rattle.shared_value.specs.Measured.{AreMeasured, RestsAreMeasured}

@@ -33,7 +33,7 @@ use Rattle.core_relation.specs.Since.{StoresNotes}
 use Rattle.task_machine.specs.declared.part.Private.{Private}
 use Rattle.task_machine.specs.Plan.{int_of, ref_of}
 use Rattle.task_machine.proofs.Owned.{born_object}
-use Rattle.shared_value.specs.declared.rest.Rest.{Rest}
+use Rattle.shared_value.specs.declared.task_at_rest.Rest.{Rest}
 use Rattle.shared_value.specs.World.{World, accounts, frame_of, value_of}
 use Rattle.shared_value.specs.Stands.{IsWorld}
 use Rattle.shared_value.specs.Fits.{Fits, OthersFit, home_of_part}

@@ -32,7 +32,7 @@ use Rattle.core_relation.specs.Reads.{Reads}
 use Rattle.core_relation.specs.Stands.{Place}
 use Rattle.task_machine.specs.declared.part.Private.{Private}
 use Rattle.task_machine.specs.Plan.{int_of, ref_of}
-use Rattle.shared_value.specs.declared.rest.Rest.{Rest}
+use Rattle.shared_value.specs.declared.task_at_rest.Rest.{Rest}
 use Rattle.shared_value.specs.World.{World, rest_at, value_of}
 use Rattle.shared_value.specs.Fits.{Fits, home_of_part}
 use Rattle.own_steps.specs.declared.alone.Alone.{Alone}

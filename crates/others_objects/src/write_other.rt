@@ -6,7 +6,7 @@ ghost use Rattle.object_layout.specs.Chunks.{cell_of, object_of};
 ghost use Rattle.chunk_pool.specs.Chunks.{held_at, owner_of};
 ghost use Rattle.write_barrier.specs.Stored.{content_after, content_at, IsOwned};
 ghost use Rattle.shared_value.specs.World.{rest_at};
-ghost use Rattle.shared_value.specs.declared.rest.Rest.{Rest as RestOf};
+ghost use Rattle.shared_value.specs.declared.task_at_rest.Rest.{Rest as RestOf};
 ghost use Rattle.others_objects.specs.Other.{store_frames, put_rest, IsWritable};
 
 use chunk_pool::Pool;
@@ -14,6 +14,7 @@ use heap_tree::Tree;
 use hh_lang::IntReg;
 use listed::Listed;
 use object_layout::Addr;
+use out_of_line::Apart;
 use shared_value::Rest;
 use std::alloc::AllocError;
 use std::mem;
@@ -24,7 +25,7 @@ use write_barrier::{SetOf, store};
 pub fn write_reference(
     tree: &Tree,
     pool: &Pool,
-    homes: &mut Listed<Option<Rest>>,
+    homes: &mut Listed<Option<Apart<Rest>>>,
     sets: &mut [SetOf],
     object: Addr,
     field: u32,
@@ -44,7 +45,15 @@ pub fn write_reference(
         unreachable!()
     };
     let mut rest = rest;
-    let done = store(tree, pool, &mut rest.heap, sets, object, field, value);
+    let done = store(
+        tree,
+        pool,
+        &mut rest.get_mut().heap,
+        sets,
+        object,
+        field,
+        value,
+    );
     homes.set(owner as usize, Some(rest));
     done
 }
@@ -52,7 +61,7 @@ pub fn write_reference(
 /// Writes a number.
 pub fn write_number(
     pool: &Pool,
-    homes: &mut Listed<Option<Rest>>,
+    homes: &mut Listed<Option<Apart<Rest>>>,
     object: Addr,
     field: u32,
     value: i64,
@@ -68,7 +77,7 @@ pub fn write_number(
         unreachable!()
     };
     let mut rest = rest;
-    rest.heap.own_set_int(object, field, value);
+    rest.get_mut().heap.own_set_int(object, field, value);
     homes.set(owner as usize, Some(rest));
 }
 

@@ -23,7 +23,7 @@ use Rattle.core_relation.specs.Whole.{handed}
 use Rattle.task_machine.specs.declared.part.Private.{Private}
 use Rattle.task_machine.specs.Ready.{FitsSome, IsSafe}
 use Rattle.task_machine.proofs.Agreement.{some_next, some_safe}
-use Rattle.shared_value.specs.declared.next.Ending.TheVariants.{Beyond, Prints, Returns, Traps}
+use Rattle.shared_value.specs.declared.next_step.Ending.TheVariants.{Beyond, Prints, Returns, Traps}
 use Rattle.shared_value.specs.World.{World, accounts}
 use Rattle.shared_value.specs.Stands.{IsWorld}
 use Rattle.shared_value.specs.Fits.{Fits, OthersFit}

@@ -25,7 +25,7 @@ use Rattle.task_machine.specs.declared.part.Private.{Private}
 use Rattle.shared_value.specs.World.{World, accounts, value_of}
 use Rattle.shared_value.specs.Stands.{IsWorld}
 use Rattle.shared_value.specs.Fits.{Fits, part_of}
-use Rattle.shared_value.specs.declared.next.Ending.{Ending}
+use Rattle.shared_value.specs.declared.next_step.Ending.{Ending}
 use Rattle.shared_value.specs.Entered.{refused}
 use Rattle.shared_value.proofs.CollectionUnderWay.{none_begun}
 use Rattle.shared_value.proofs.PartFitsMachine as link

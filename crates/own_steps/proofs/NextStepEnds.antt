@@ -33,8 +33,8 @@ use Rattle.task_machine.proofs.Fitting.{is_alone, step_by, x}
 use Rattle.task_machine.proofs.Owned.{other_at, own_object}
 use Rattle.task_machine.proofs.OwnReads.{Own, ints_index, nil_effect, object_effect, owned_here, refs_index}
 use Rattle.task_machine.proofs.Registers.{does, int_here, ref_here}
-use Rattle.shared_value.specs.declared.next.Ending.{Ending}
-use Rattle.shared_value.specs.declared.next.Ending.TheVariants.{Prints, Returns, Traps, Beyond}
+use Rattle.shared_value.specs.declared.next_step.Ending.{Ending}
+use Rattle.shared_value.specs.declared.next_step.Ending.TheVariants.{Prints, Returns, Traps, Beyond}
 use Rattle.shared_value.specs.Next.{ending, instr_asks, is_joint, on_own, on_own_cell, unwritten}
 use Rattle.own_steps.specs.Alone.{SaysOf, TellsOf}
 

@@ -23,7 +23,7 @@ use Rattle.core_relation.proofs.whole.RanWhole.{ran_stands_for}
 use Rattle.core_relation.proofs.parts.Sets.{numbers_go}
 use Rattle.core_relation.proofs.parts.Workers.{ran_leaves}
 use Rattle.task_machine.specs.declared.part.Private.{Private}
-use Rattle.shared_value.specs.declared.next.Ending.TheVariants.{Prints as PrintsOf}
+use Rattle.shared_value.specs.declared.next_step.Ending.TheVariants.{Prints as PrintsOf}
 use Rattle.shared_value.specs.World.{World, accounts, frame_of, totals_of, value_of}
 use Rattle.shared_value.specs.Stands.{IsWorld}
 use Rattle.shared_value.specs.Fits.{Fits, OthersFit, home_of_part, part_of}

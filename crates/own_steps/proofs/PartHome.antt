@@ -109,7 +109,7 @@ module _ (program : ProgramText) (q : Private) (L : Ledger) (above : Places) (G 
     names = subst (λ cs. HasNames cs a_t) (sym home_chunks) (record { small = small_names cells ∙ C.chunks; large = large_are cells ∙ C.large });
     room = ap (λ (h : Home). h.room) here ∙ C.room;
     since = ap (λ (h : Home). h.since) here ∙ (C.since ∙ (let e : min a_t.since (2 ^ 64 - 1) ≡ a_t.since = omega (arith, few) in e));
-    count = ap (λ (h : Home). h.count) here ∙ G.count;
+    count = λ live. ap (λ (h : Home). h.count) here ∙ G.count;
     owned = λ k i. owned_chunk k (subst (λ cs. In cs k) home_chunks i);
     inside = λ k o i j. inside_from cells k o (subst (λ cs. In cs k) home_chunks i) j;
     once = λ o r i j. same_place o r (in_part o i) (in_part r j);

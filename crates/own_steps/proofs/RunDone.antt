@@ -33,8 +33,8 @@ use Rattle.core_relation.proofs.whole.RanWhole.{ran_stands_for}
 use Rattle.core_relation.proofs.changes.With.{at_home, off_home}
 use Rattle.core_relation.proofs.parts.Workers.{ran_leaves}
 use Rattle.task_machine.specs.declared.part.Private.{Private}
-use Rattle.shared_value.specs.declared.next.Ending.TheVariants.{Returns}
-use Rattle.shared_value.specs.declared.rest.Rest.{Rest}
+use Rattle.shared_value.specs.declared.next_step.Ending.TheVariants.{Returns}
+use Rattle.shared_value.specs.declared.task_at_rest.Rest.{Rest}
 use Rattle.shared_value.specs.World.{World, accounts, begun_of, flat, frame_of, home_in, home_of, node_of, rest_at, totals_of, value_of}
 use Rattle.shared_value.specs.Measured.{AreMeasured, RestsAreMeasured}
 use Rattle.shared_value.specs.Stands.{HeapForm, IsWorld}

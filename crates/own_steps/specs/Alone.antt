@@ -19,10 +19,10 @@ use Rattle.ledger_steps.specs.Accounts.{Rests}
 use Rattle.core_relation.specs.Whole.{handed}
 use Rattle.task_machine.specs.declared.part.Private.{Private}
 use Rattle.task_machine.specs.Plan.{int_of, ref_of}
-use Rattle.shared_value.specs.declared.next.Ending.{Ending}
-use Rattle.shared_value.specs.declared.next.Ending.TheVariants.{Prints, Returns, Traps, Beyond}
-use Rattle.shared_value.specs.declared.rest.Rest.{Rest}
-use Rattle.shared_value.specs.declared.rest.Work.TheVariants.{Result}
+use Rattle.shared_value.specs.declared.next_step.Ending.{Ending}
+use Rattle.shared_value.specs.declared.next_step.Ending.TheVariants.{Prints, Returns, Traps, Beyond}
+use Rattle.shared_value.specs.declared.task_at_rest.Rest.{Rest}
+use Rattle.shared_value.specs.declared.task_at_rest.Work.TheVariants.{Result}
 use Rattle.shared_value.specs.World.{World, accounts}
 use Rattle.shared_value.specs.Fits.{Fits, OthersFit, beyond}
 use Rattle.shared_value.specs.Next.{is_beyond, is_joint}

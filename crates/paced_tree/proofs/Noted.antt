@@ -29,8 +29,8 @@ use Rattle.heap_marking.specs.declared.pace.Fork.{Fork}
 use Rattle.heap_marking.specs.Pace.{IsForkOf, KeepsPace, previous_of}
 use Rattle.heap_marking.proofs.PaceKeeps.{mark_kept, steps_kept}
 use Rattle.heap_marking.proofs.ForksTold.{entered_accounts, paces_stay}
-use Rattle.shared_tree.specs.declared.ran_last.Ran.{Ran as RanOf}
-use Rattle.shared_tree.specs.declared.ran_last.Ran.TheVariants.{Goes as GoesOn, Forked as ForksInto, Ended as EndsWith, Over as IsOver, Done as IsDone}
+use Rattle.shared_tree.specs.declared.ran.Ran.{Ran as RanOf}
+use Rattle.shared_tree.specs.declared.ran.Ran.TheVariants.{Goes as GoesOn, Forked as ForksInto, Ended as EndsWith, Over as IsOver, Done as IsDone}
 use Rattle.shared_tree.specs.Ran.{RanTo}
 use Rattle.paced_tree.specs.Owed.{KeepsNoted, KeepsPaces, NotesAt, NotesOther, Pays, noted_of}
 

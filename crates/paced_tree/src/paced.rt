@@ -2,7 +2,7 @@
 
 ghost use Rattle.std.specs.Prelude.{◌≡◌, ◌<◌, [], ℕ, IfOk, OnOk, None, Some, false, true};
 ghost use Rattle.run_ledger.specs.Entries.{is_pool_enough};
-ghost use Rattle.run_ledger.specs.Heaps.{heap_of, in_use, left_in, sweep_number};
+ghost use Rattle.run_ledger.specs.Heaps.{heap_of, left_in, sweep_number};
 ghost use Rattle.run_ledger.specs.Pace.{is_paced};
 ghost use Rattle.task_machine.specs.declared.part.Private.{Private as Part};
 ghost use Rattle.shared_value.specs.Causes.{first_cause};
@@ -10,7 +10,7 @@ ghost use Rattle.shared_value.specs.Due.{IsHeld};
 ghost use Rattle.shared_value.specs.Fits.{AllFit, Fits};
 ghost use Rattle.shared_value.specs.Stands.{IsWorld};
 ghost use Rattle.shared_value.specs.World.{accounts, rest_at};
-ghost use Rattle.shared_value.specs.declared.rest.Rest.{Rest as RestOf};
+ghost use Rattle.shared_value.specs.declared.task_at_rest.Rest.{Rest as RestOf};
 ghost use Rattle.heap_marking.specs.MarkCauses.{marking_cause};
 ghost use Rattle.paced_tree.specs.Owed.{owed_by};
 
@@ -83,13 +83,6 @@ impl Paced {
         shared.into_inner()
     }
 
-    /// Its journal is paced.
-    pub fn is_paced(&self)
-        ensures { is_paced self.now.program self.now.settings self.now.journal.items ≡ true }
-    {
-        let _ = &self.shared;
-    }
-
     /// Makes place for one entry.
     pub fn reserve(&mut self) -> Result<(), AllocError>
         ensures same { self.new ≡ record self.old { journal = record { items = self.old.journal.items; room = self.new.journal.room } } }
@@ -130,20 +123,6 @@ impl Paced {
         self.shared.get().stands();
     }
 
-    /// The program that is run.
-    pub fn program(&self) -> &Program
-        ensures { result.now ≡ self.now.program }
-    {
-        self.shared.get().program()
-    }
-
-    /// The limits of the run.
-    pub fn settings(&self) -> Settings
-        ensures { result ≡ self.now.settings }
-    {
-        self.shared.get().settings()
-    }
-
     /// How the run has ended, if it has.
     pub fn ended(&self) -> Option<RunEnd>
         ensures { result ≡ (accounts self.now).end }
@@ -156,27 +135,6 @@ impl Paced {
         ensures { result.now ≡ self.now.journal.items }
     {
         self.shared.get().journal()
-    }
-
-    /// What was written out.
-    pub fn outputs(&self) -> &[i64]
-        ensures { result.now ≡ (accounts self.now).machine.outputs }
-    {
-        self.shared.get().outputs()
-    }
-
-    /// The steps taken.
-    pub fn steps(&self) -> u64
-        ensures { result ≡ (accounts self.now).steps }
-    {
-        self.shared.get().steps()
-    }
-
-    /// The chunks in use.
-    pub fn in_use(&self) -> u32
-        ensures { result ≡ in_use (accounts self.now) }
-    {
-        self.shared.get().in_use()
     }
 
     /// Why a worker may make no entry but the end for spent fuel: the run has ended, its fuel is spent, or there is no

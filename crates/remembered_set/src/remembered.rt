@@ -47,9 +47,9 @@ fn opened(alloc: Global, table: Option<Apart<Table>>) -> Result<Apart<Table>, Al
 }
 
 impl Remembered {
-    /// A set without sources.
+    /// A set without sources, and without places.
     pub fn new(alloc: Global) -> Remembered
-        ensures { result.sources ≡ [] }
+        ensures { result ≡ record { sources = []; slots = 0; spare = 0; numbers = 0 } }
     {
         Remembered { alloc, table: None }
     }

@@ -9,7 +9,7 @@ use Rattle.chunk_pool.specs.Chunks.{owner_of}
 use Rattle.heap_tree.specs.Node.{state_of}
 use Rattle.core_relation.specs.Value.{Chunk, In, Seen, Value, objects}
 use Rattle.core_relation.proofs.objects.Members.{in_map, in_objects, map_in}
-use Rattle.shared_value.specs.declared.rest.Rest.{Rest}
+use Rattle.shared_value.specs.declared.task_at_rest.Rest.{Rest}
 use Rattle.shared_value.specs.Objects.{chunk_of, chunks_of, objects_from, seen_by}
 use Rattle.shared_value.specs.Stands.{IsWorld}
 use Rattle.shared_value.specs.World.{World, home_in, rest_at, value_of}

@@ -17,7 +17,7 @@ use Rattle.core_relation.specs.Reads.{AllRead, IsRead}
 use Rattle.core_relation.specs.Stands.{HomeStands, Place, Stands}
 use Rattle.core_relation.specs.Value.{Chunk as ChunkOf, In, Seen, Value, objects, objects_in}
 use Rattle.core_relation.proofs.objects.Members.{in_chunk, map_in, object_held}
-use Rattle.shared_value.specs.declared.rest.Rest.{Rest}
+use Rattle.shared_value.specs.declared.task_at_rest.Rest.{Rest}
 use Rattle.shared_value.specs.Measured.{IsUnheld}
 use Rattle.shared_value.specs.Objects.{chunk_of}
 use Rattle.shared_value.specs.Stands.{IsWorld}

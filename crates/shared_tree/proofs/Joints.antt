@@ -38,8 +38,8 @@ use Rattle.child_tasks.specs.declared.fork.Forking.{Forking}
 use Rattle.child_tasks.specs.declared.fork.Forking.TheVariants.{Forked, Over}
 use Rattle.child_tasks.proofs.JoinPlaces.{same_itself, same_world}
 use Rattle.others_objects.specs.Other.{IsOther, SameButRoom, is_other, is_other_by, is_other_line}
-use Rattle.shared_tree.specs.declared.ran_last.Ran.{Ran}
-use Rattle.shared_tree.specs.declared.ran_last.Ran.TheVariants.{Forked as RanForked, Over as RanOver}
+use Rattle.shared_tree.specs.declared.ran.Ran.{Ran}
+use Rattle.shared_tree.specs.declared.ran.Ran.TheVariants.{Forked as RanForked, Over as RanOver}
 use Rattle.shared_tree.specs.Ran.{IsJoint, RanTo}
 
 or_false : (a : Bool) → (a || false) ≡ true → a ≡ true

@@ -8,10 +8,10 @@ use Rattle.child_tasks.specs.ChildEnds.{EndsChild, IsAtEnd}
 use Rattle.child_tasks.specs.Forks.{ForksOn, IsAtFork}
 use Rattle.child_tasks.specs.Hands.{HoldsNone}
 use Rattle.others_objects.specs.Other.{IsOther}
-use Rattle.shared_tree.specs.declared.ran_last.Joint.{Joint}
-use Rattle.shared_tree.specs.declared.ran_last.Joint.TheVariants.{Forks, Returns, Works}
-use Rattle.shared_tree.specs.declared.ran_last.Ran.{Ran}
-use Rattle.shared_tree.specs.declared.ran_last.Ran.TheVariants.{Goes, Forked, Ended, Over, Done}
+use Rattle.shared_tree.specs.declared.ran.Joint.{Joint}
+use Rattle.shared_tree.specs.declared.ran.Joint.TheVariants.{Forks, Returns, Works}
+use Rattle.shared_tree.specs.declared.ran.Ran.{Ran}
+use Rattle.shared_tree.specs.declared.ran.Ran.TheVariants.{Goes, Forked, Ended, Over, Done}
 
 -- other tasks have part in the part's next step
 abbrev pub IsJoint : World → Private → Type 0

@@ -22,7 +22,7 @@ impl Shared {
             return (0, 0);
         }
         match self.homes.at(t as usize) {
-            Some(rest) => (rest.heap.objects(), rest.heap.words()),
+            Some(rest) => (rest.get().heap.objects(), rest.get().heap.words()),
             None => (0, 0),
         }
     }

@@ -16,7 +16,7 @@ impl Shared {
         ensures { result ≡ counted (words_in (accounts self.now).machine (heap_of (accounts self.now) t)) }
     {
         match self.homes.at(t as usize) {
-            Some(rest) => rest.heap.words(),
+            Some(rest) => rest.get().heap.words(),
             None => unreachable!(),
         }
     }
@@ -27,12 +27,12 @@ impl Shared {
         requires marking { marking_cause self.now t ≡ None }
         ensures { result ≡ (left_in (heap_of (accounts self.now) t) == 0) }
     {
-        let kept = self.sets[t as usize].kept.as_slice();
+        let kept = self.sets[t as usize].kept();
         let Some(rest) = self.homes.at(t as usize) else {
             unreachable!()
         };
         match self.marks.at(t as usize) {
-            Some(marking) => marking.ready(&rest.heap, kept),
+            Some(marking) => marking.get().ready(&rest.get().heap, kept),
             None => unreachable!(),
         }
     }

@@ -36,7 +36,14 @@ impl Shared {
         let Some(rest) = self.homes.at(owner as usize) else {
             unreachable!()
         };
-        let does = step_on(&self.tree, &self.pool, part, &rest.heap, object, line.instr);
+        let does = step_on(
+            &self.tree,
+            &self.pool,
+            part,
+            &rest.get().heap,
+            object,
+            line.instr,
+        );
         (does, line.number)
     }
 

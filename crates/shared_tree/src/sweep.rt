@@ -23,7 +23,7 @@ impl Shared {
     {
         if !self.is_marked(t) {
             return match self.marks.at(t as usize) {
-                Some(marking) => Some(Refused::Left(marking.marked() as u32)),
+                Some(marking) => Some(Refused::Left(marking.get().marked() as u32)),
                 None => unreachable!(),
             };
         }
@@ -76,7 +76,7 @@ impl Shared {
         let Some(marking) = self.marks.at(t as usize) else {
             unreachable!()
         };
-        marking.would_give(&rest.heap)
+        marking.get().would_give(&rest.get().heap)
     }
 
     /// The heap of a waiting task is swept: of its objects just those that were reached at the task's fork stay, each where

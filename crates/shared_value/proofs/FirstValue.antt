@@ -21,7 +21,7 @@ use Rattle.core_relation.specs.Value.{Noted, Value}
 use Rattle.core_relation.specs.Stands.{Stands}
 use Rattle.core_relation.specs.Whole.{BegunBy, StandsFor}
 use Rattle.core_relation.proofs.whole.Journals.{first, first_stands}
-use Rattle.shared_value.specs.declared.rest.Rest.{Rest}
+use Rattle.shared_value.specs.declared.task_at_rest.Rest.{Rest}
 use Rattle.shared_value.specs.World.{World, flat, rest_at, source_of, value_of, totals_of, first_rest}
 use Rattle.shared_value.specs.Measured.{AreMeasured, RestsAreMeasured}
 use Rattle.shared_value.specs.Stands.{HeapForm, IsWorld}

@@ -50,7 +50,7 @@ module _ (v : Value) (hs : ℕ → Home) (l : Ledger) (same : (u : ℕ) → Rest
   pub stands_held : Stands v l → Stands v' l
   stands_held V = record {
     made = V.made;
-    homes = λ u r. home_kept v v' l l u (same u r) (λ k e. e) refl refl (V.homes u r);
+    homes = λ u r. home_kept v v' l l u (same u r) (λ k e. e) refl refl refl (V.homes u r);
     contents = λ u o r i. (let c = V.contents u o r (was u o r i) in (c.0, c.1, object_kept (Place v l) (Place v' l) o c.0 (λ n j. place n) c.2));
     tasks = λ u x r e. subst (λ (h : Home). TaskIsRead (Place v' l) h x) (sym (same u r)) (task_kept (Place v l) (Place v' l) (v.homes u) x (λ n j. place n) (V.tasks u x r e));
     remembered = λ u o x i n r j e at. V.remembered u o x i n r (was u o r j) e at;

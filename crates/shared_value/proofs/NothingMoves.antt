@@ -3,6 +3,7 @@ use Rattle.std.proofs.Common.{◌≡◌, ℕ, Option, Some, None, length, slice_
 use Rattle.listed.specs.Space.{Space}
 use Rattle.hh_model.specs.declared.data.State.{State}
 use Rattle.hh_model.specs.Effect.{row_of}
+use Rattle.hh_model.specs.Step.{is_joined}
 use Rattle.run_trace.specs.declared.entry.Kind.TheVariants.{Fuel}
 use Rattle.run_trace.specs.Entry.{Event}
 use Rattle.run_ledger.specs.declared.data.Heap.{Heap}
@@ -83,7 +84,7 @@ module _ (w : World) (e : Event) (I : IsWorld w) (free : refused w e ≡ None) (
 -- where the machine and the accounts of heaps stay, the value may
 pub same_value : (v : Value) (l L : Ledger) → L.machine ≡ l.machine → ((u : ℕ) → heap_of L u ≡ heap_of l u) → ((u : ℕ) → Rests l u → HomeStands v l u) → SameObjects v v l L
 same_value v l L m heaps homes = record {
-  home = λ u r. home_kept v v l L u refl (λ k e. e) (heaps u) (ap (λ (z : State). length (row_of (slice_get z.store u))) m) (homes u (ap (λ (h : Heap). h.worker) (sym (heaps u)) ∙ r));
+  home = λ u r. home_kept v v l L u refl (λ k e. e) (heaps u) (ap (λ (z : State). length (row_of (slice_get z.store u))) m) (ap (λ (z : State). is_joined (slice_get z.tasks u)) m) (homes u (ap (λ (h : Heap). h.worker) (sym (heaps u)) ∙ r));
   objects = λ u. refl;
   chunks = λ u e. refl;
   frames = λ u. refl;

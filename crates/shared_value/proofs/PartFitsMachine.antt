@@ -60,9 +60,9 @@ use Rattle.task_machine.specs.Place.{AreAt, FrameStands, FramesStand, IsAt, birt
 use Rattle.task_machine.specs.Fits.{FitsNow as FitsMachine, HeapStands, IsOwn, IsRun, IsShownBy, StackStands}
 use Rattle.shared_value.specs.Objects.{chunk_of, seen}
 use Rattle.shared_value.specs.World.{World, accounts, frame_of, frames_of, rest_at, value_of, home_in, home_by}
-use Rattle.shared_value.specs.declared.rest.Rest.{Rest}
-use Rattle.shared_value.specs.declared.rest.Work.{Work}
-use Rattle.shared_value.specs.declared.rest.Work.TheVariants.{Calls, Result}
+use Rattle.shared_value.specs.declared.task_at_rest.Rest.{Rest}
+use Rattle.shared_value.specs.declared.task_at_rest.Work.{Work}
+use Rattle.shared_value.specs.declared.task_at_rest.Work.TheVariants.{Calls, Result}
 use Rattle.shared_value.specs.Stands.{HeapForm, IsWorld}
 use Rattle.shared_value.specs.Fits.{Fits, home_of_part, part_of}
 use Rattle.shared_value.specs.Links.{FitsFirst, above_of, find_at}
@@ -519,7 +519,7 @@ module _ (w : World) (k : ℕ) (p : Private) (I : IsWorld w) (F : Fits w k p) (o
     is = is;
     running = ap runs run_status;
     limit = F.field_limit ∙ sym (ap (λ (m : State). m.field_limit) machine_is ∙ (A.limit ∙ limit));
-    count = ap (λ (z : Home). z.count) (sym here) ∙ (W.homes t at_rest).count;
+    count = ap (λ (z : Home). z.count) (sym here) ∙ (W.homes t at_rest).count live;
     place = place;
     stack = stack;
     heap = heap;

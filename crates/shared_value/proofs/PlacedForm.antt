@@ -1,5 +1,5 @@
 -- What of a heap's chunks is known stays known when an object is placed.
-use Rattle.std.proofs.Common.{◌≡◌, ℕ, ◌+◌, ◌-◌, ◌*◌, ◌/◌, ◌<◌, ◌≤◌, ◌^◌, arith, Option, Some, None, List, [], ◌∷◌, ◌++◌, length, length-set, nat_le, option_map, inl, inr, refl, ap, sym, subst, ◌∙◌, le-leb}
+use Rattle.std.proofs.Common.{◌≡◌, ℕ, ◌+◌, ◌-◌, ◌*◌, ◌/◌, ◌<◌, ◌≤◌, ◌^◌, arith, true, false, Option, Some, None, List, [], ◌∷◌, ◌++◌, length, length-set, nat_le, option_map, inl, inr, refl, ap, sym, subst, ◌∙◌, le-leb}
 use Rattle.std.proofs.lemmas.Bool.{cases_eq, cases_lt, cond-true}
 use Rattle.std.proofs.lemmas.Option.{same_Some}
 use Rattle.std.proofs.lemmas.List.{get_or_default, get_or-set_other, get_or-set_same}
@@ -40,6 +40,9 @@ not_empty : {A : Type 0} (xs : List A) (x : A) → xs ++ x ∷ [] ≡ [] → ⊥
 not_empty [] x e = absurd cc
 not_empty (y ∷ xs) x e = absurd cc
 
+none_lost : {A : Type 0} → true ≡ false → A
+none_lost e = absurd cc
+
 -- ---- AN OBJECT IS PLACED
 
 module _ (h : Heap) (F : Formed h) (i : ℕ) (c : Cell) (b : Birth) (born : c.mark ≡ Born b) (fits : place_for h (size_of c) ≡ Some i) where
@@ -55,7 +58,7 @@ module _ (h : Heap) (F : Formed h) (i : ℕ) (c : Cell) (b : Birth) (born : c.ma
   abbrev table : ℕ → Option ℕ
   table n = option_map (λ j. 2 ^ 63 - j) (place_in h.chunks n)
 
-  keeps : IsKept h.chunks [] h.current h.reserved (counted (held_words h.chunks)) (counted (object_count h.chunks)) (counted (small_words h.chunks)) (2 ^ 63) table (length h.chunks)
+  keeps : IsKept h.chunks (record { layers = []; stale = []; lost = true }) h.current h.reserved (counted (held_words h.chunks)) (counted (object_count h.chunks)) (counted (small_words h.chunks)) (2 ^ 63) table (length h.chunks)
   keeps = record {
     current = F.shaped.current;
     reserved = F.shaped.reserved;
@@ -67,7 +70,7 @@ module _ (h : Heap) (F : Formed h) (i : ℕ) (c : Cell) (b : Birth) (born : c.ma
     moved = omega arith;
     table = λ n. refl;
     each = refl;
-    shown = tt;
+    shown = record { same = λ on. none_lost on; no_other = λ on. none_lost on };
   }
 
   inside : i < length h.chunks

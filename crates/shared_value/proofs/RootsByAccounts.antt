@@ -16,9 +16,9 @@ use Rattle.core_relation.specs.Value.{Home, In, Seen, Value, objects, objects_in
 use Rattle.core_relation.proofs.objects.Members.{in_chunk}
 use Rattle.core_relation.proofs.changes.With.{at_home, off_home}
 use Rattle.task_machine.specs.declared.part.Private.{Private}
-use Rattle.shared_value.specs.declared.rest.Rest.{Rest}
-use Rattle.shared_value.specs.declared.rest.Work.{Work}
-use Rattle.shared_value.specs.declared.rest.Work.TheVariants.{Calls, Result}
+use Rattle.shared_value.specs.declared.task_at_rest.Rest.{Rest}
+use Rattle.shared_value.specs.declared.task_at_rest.Work.{Work}
+use Rattle.shared_value.specs.declared.task_at_rest.Work.TheVariants.{Calls, Result}
 use Rattle.shared_value.specs.Objects.{chunks_of}
 use Rattle.shared_value.specs.World.{World, accounts, home_by, home_in, home_of, noted_in, rest_at, source_of, value_of}
 use Rattle.shared_value.specs.Stands.{IsWorld}

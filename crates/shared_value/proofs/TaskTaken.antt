@@ -35,9 +35,9 @@ use Rattle.core_relation.proofs.whole.EntriesWhole.{took_stands_for}
 use Rattle.core_relation.proofs.parts.TookFits.{took_fits_then}
 use Rattle.core_relation.proofs.parts.WorkersPast.{took_leaves}
 use Rattle.task_machine.specs.declared.part.Private.{Private}
-use Rattle.shared_value.specs.declared.rest.Rest.{Rest}
-use Rattle.shared_value.specs.declared.rest.Work.{Work}
-use Rattle.shared_value.specs.declared.rest.Work.TheVariants.{Calls, Result}
+use Rattle.shared_value.specs.declared.task_at_rest.Rest.{Rest}
+use Rattle.shared_value.specs.declared.task_at_rest.Work.{Work}
+use Rattle.shared_value.specs.declared.task_at_rest.Work.TheVariants.{Calls, Result}
 use Rattle.shared_value.specs.World.{World, accounts, flat, home_in, home_by, home_of, node_of, rest_at, state_of, totals_of, value_of}
 use Rattle.shared_value.specs.Measured.{RestsAreMeasured}
 use Rattle.shared_value.specs.Stands.{HeapForm, IsWorld}

@@ -5,7 +5,7 @@ use Rattle.chunk_pool.specs.Chunks.{Chunks, held_at, one_unit}
 use Rattle.core_relation.specs.Value.{In}
 use Rattle.task_machine.specs.declared.part.Begun.{Begun}
 use Rattle.task_machine.specs.declared.part.Private.{Private}
-use Rattle.shared_value.specs.declared.rest.Rest.{Rest}
+use Rattle.shared_value.specs.declared.task_at_rest.Rest.{Rest}
 use Rattle.shared_value.specs.World.{flat, rest_at}
 
 -- it has each of these chunks for the task, with as many units as the chunk has

@@ -19,8 +19,8 @@ use Rattle.object_layout.specs.Content.{Content}
 use Rattle.task_frames.specs.declared.frames.Frame.{Frame}
 use Rattle.task_machine.specs.declared.part.Private.{Private}
 use Rattle.task_machine.specs.Plan.{int_of, ref_of}
-use Rattle.shared_value.specs.declared.next.Ending.{Ending}
-use Rattle.shared_value.specs.declared.next.Ending.TheVariants.{Prints, Returns, Traps, Beyond}
+use Rattle.shared_value.specs.declared.next_step.Ending.{Ending}
+use Rattle.shared_value.specs.declared.next_step.Ending.TheVariants.{Prints, Returns, Traps, Beyond}
 
 -- the words that an instruction allocates, where it allocates
 abbrev pub instr_asks : ℕ → Frame → Instr → Option ℕ

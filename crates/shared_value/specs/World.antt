@@ -19,14 +19,14 @@ use Rattle.heap_tree.specs.Node.{Node}
 use Rattle.remembered_set.specs.declared.remembered.Source.{Source}
 use Rattle.write_barrier.specs.declared.sets.SetOf.{SetOf}
 use Rattle.inner_mark_gc.specs.Marks.{Marks}
-pub use Rattle.core_relation.specs.First.{no_home}
+pub use Rattle.core_relation.specs.Value.{no_home}
 use Rattle.core_relation.specs.Value.{Begun, Frame as SeenFrame, Home, Noted, Source as SeenSource, Value}
 use Rattle.core_relation.specs.Whole.{Node as SeenNode, State as SeenState, Totals}
 use Rattle.core_relation.specs.Whole.{Ready as IsReady, Out as IsOut, Waits, HasEnded, HasJoined}
 use Rattle.task_machine.specs.declared.part.Begun.{Begun as BegunPart}
-use Rattle.shared_value.specs.declared.rest.Rest.{Rest}
-use Rattle.shared_value.specs.declared.rest.Work.{Work}
-use Rattle.shared_value.specs.declared.rest.Work.TheVariants.{Calls, Result}
+use Rattle.shared_value.specs.declared.task_at_rest.Rest.{Rest}
+use Rattle.shared_value.specs.declared.task_at_rest.Work.{Work}
+use Rattle.shared_value.specs.declared.task_at_rest.Work.TheVariants.{Calls, Result}
 use Rattle.shared_value.specs.Objects.{chunks_of, levels_of}
 
 pub record World : Type 0 where

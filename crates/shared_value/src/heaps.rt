@@ -3,15 +3,16 @@
 ghost use Rattle.std.specs.Prelude.{◌≡◌};
 ghost use Rattle.chunk_pool.specs.Chunks.{owner_of};
 
-use crate::rest::Rest;
+use crate::task_at_rest::Rest;
 use chunk_pool::Pool;
 use listed::Listed;
 use object_layout::{Addr, Words};
+use out_of_line::Apart;
 
 /// The heaps of the tasks that no worker holds, and which task owns each chunk.
 #[derive(Drop)]
 pub struct Heaps {
-    pub homes: Listed<Option<Rest>>,
+    pub homes: Listed<Option<Apart<Rest>>>,
     pub pool: Pool,
 }
 
@@ -39,7 +40,7 @@ impl Words for Heaps {
             unreachable!()
         };
         match self.homes.at(owner as usize) {
-            Some(rest) => rest.heap.own_ref(object, field),
+            Some(rest) => rest.get().heap.own_ref(object, field),
             None => unreachable!(),
         }
     }
@@ -49,7 +50,7 @@ impl Words for Heaps {
             unreachable!()
         };
         match self.homes.at_mut(owner as usize) {
-            Some(rest) => rest.heap.own_set_ref(object, field, value),
+            Some(rest) => rest.get_mut().heap.own_set_ref(object, field, value),
             None => unreachable!(),
         }
     }

@@ -6,14 +6,14 @@ mod answer;
 mod causes;
 mod copy;
 mod heaps;
-mod next;
-mod rest;
+mod next_step;
 mod roots;
+mod task_at_rest;
 
 pub use answer::{NotEntered, NotRan};
 pub use causes::first_cause;
 pub use copy::copy_program;
 pub use heaps::Heaps;
-pub use next::{Ending, field_index, last_step, number, reference, words_asked};
-pub use rest::{Rest, Work, opened};
+pub use next_step::{Ending, field_index, last_step, number, reference, words_asked};
 pub use roots::targets_in;
+pub use task_at_rest::{Rest, Work, opened, put_rest, rest_block, take_out};

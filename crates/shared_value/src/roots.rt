@@ -22,7 +22,7 @@ pub fn targets_in(
     ensures { IfOk result (λ v. v.items ≡ targets_of refs_in heaps.now chunks.now (sources_of (slice_get sets.now task))) }
 {
     match sets.get(task as usize) {
-        Some(set) => set.remembered.targets(alloc, heaps, chunks),
+        Some(set) => set.targets(alloc, heaps, chunks),
         None => Ok(Vec::new(alloc)),
     }
 }

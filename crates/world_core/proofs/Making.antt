@@ -20,8 +20,8 @@ use Rattle.own_steps.specs.Alone.{IsShared, alone_event}
 use Rattle.own_steps.proofs.LastSteps.{alone_answer}
 use Rattle.child_tasks.specs.Joins.{IsUnchanged}
 use Rattle.leaf_collections.specs.LeafEnd.{ended}
-use Rattle.shared_tree.specs.declared.ran_last.Ran.{Ran}
-use Rattle.shared_tree.specs.declared.ran_last.Ran.TheVariants.{Done, Ended, Forked, Goes, Over}
+use Rattle.shared_tree.specs.declared.ran.Ran.{Ran}
+use Rattle.shared_tree.specs.declared.ran.Ran.TheVariants.{Done, Ended, Forked, Goes, Over}
 use Rattle.shared_tree.specs.Ran.{RanTo}
 use Rattle.shared_tree.proofs.Joints.{fit_by}
 use Rattle.world_core.specs.declared.held.Held.{Held}

@@ -11,8 +11,8 @@ use Rattle.shared_value.specs.Entered.{Enters, refused}
 use Rattle.shared_value.specs.Fits.{AllFit, OthersFit}
 use Rattle.shared_value.specs.World.{World}
 use Rattle.child_tasks.specs.Joins.{SameButPlaces}
-use Rattle.shared_tree.specs.declared.ran_last.Ran.{Ran}
-use Rattle.shared_tree.specs.declared.ran_last.Ran.TheVariants.{Done, Ended, Forked, Goes, Over}
+use Rattle.shared_tree.specs.declared.ran.Ran.{Ran}
+use Rattle.shared_tree.specs.declared.ran.Ran.TheVariants.{Done, Ended, Forked, Goes, Over}
 use Rattle.world_core.specs.declared.held.Held.{Held}
 use Rattle.world_core.specs.declared.held.Held.TheVariants.{Nothing, Part, Copied}
 use Rattle.world_core.specs.declared.held.Made.{Made}

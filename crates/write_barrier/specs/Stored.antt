@@ -1,5 +1,5 @@
 -- What a write of a reference does to the sets of the heaps.
-use Rattle.std.specs.Prelude.{◌≡◌, ℕ, ◌<◌, Bool, false, List, ◌++◌, ◌==◌, ◌&&◌, if◌then◌else◌, not, Option, Some, None, IsSome, option_map, option_to_list, slice_get}
+use Rattle.std.specs.Prelude.{◌≡◌, ℕ, ◌<◌, Bool, true, false, List, ◌++◌, ◌==◌, ◌&&◌, if◌then◌else◌, not, Option, Some, None, IsSome, IfSome, option_map, option_to_list, slice_get}
 use Rattle.object_layout.specs.declared.word.Addr.{Addr}
 use Rattle.heap_tree.specs.Node.{Node, is_on_path}
 use Rattle.chunk_pool.specs.Chunks.{Chunks, held_at, owner_of}
@@ -20,6 +20,10 @@ content_of s = record { sources = s.remembered.sources; kept = s.kept.items; kee
 -- what the set of a task's heap holds; None where there is no such set
 abbrev pub content_at : List SetOf → ℕ → Option Content
 content_at sets t = option_map content_of (slice_get sets t)
+
+-- the set of a heap, if it keeps, has a place for one reference more
+abbrev pub IsRoomy : List SetOf → ℕ → Type 0
+IsRoomy sets h = IfSome (slice_get sets h) (λ s. s.keeps ≡ true → 0 < s.kept.room)
 
 -- the heap that a reference points into, if it isn't nil: that of the owner of its chunk
 abbrev pub heap_of : Chunks → Option Addr → Option ℕ

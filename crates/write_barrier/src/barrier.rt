@@ -6,7 +6,8 @@ ghost use Rattle.remembered_set.specs.declared.remembered.Source.{Source};
 ghost use Rattle.remembered_set.specs.Moved.{held_by};
 ghost use Rattle.write_barrier.specs.Stored.{content_after, content_at, heap_of, noted_in, IsOwned};
 
-use crate::sets::{SetOf, keep, note_source, reserve_kept};
+use crate::noting::{keep, note_source, reserve_kept};
+use crate::sets::SetOf;
 use chunk_pool::Pool;
 use heap_tree::Tree;
 use object_layout::{Addr, Words};

@@ -2,7 +2,8 @@
 #![tactic(auto)]
 
 mod barrier;
+mod noting;
 mod sets;
 
 pub use barrier::store;
-pub use sets::SetOf;
+pub use sets::{SetBlock, SetOf};

@@ -1,17 +1,22 @@
-// The sets of the heaps, one for each task, and what a write changes in them.
+// What is noted for the collections of one heap, which takes no memory until there is something.
 
-ghost use Rattle.std.specs.Prelude.{◌≡◌, ℕ, ◌<◌, [], OnErr, OnOk, IfSome, Some, true, false, length, option_map, slice_get};
-ghost use Rattle.listed.specs.Space.{Space};
-ghost use Rattle.write_barrier.specs.Stored.{content_at, content_of, with_kept, with_source};
+ghost use Rattle.std.specs.Prelude.{◌≡◌, ◌<◌, ◌≤◌, ◌++◌, ◌∷◌, [], IfErr, IfOk, OnErr, OnOk, false, fold, true};
+ghost use Rattle.remembered_set.specs.Moved.{redirected, targets_of, AreFields, AreInOrder, ArePlaces};
+ghost use Rattle.remembered_set.specs.Sources.{noted as noted_with, StandOnce};
+ghost use Rattle.write_barrier.specs.Held.{held_in};
+ghost use Rattle.write_barrier.specs.Stored.{content_of};
 
 use listed::Roomy;
-use object_layout::Addr;
+use object_layout::{Addr, Chunk, Words};
+use out_of_line::Apart;
 use remembered_set::{Remembered, Source};
 use std::alloc::{AllocError, Global};
+use std::marker::Model;
+use std::mem;
 
 /// What is noted for the collections of a heap.
 #[derive(Drop)]
-pub struct SetOf {
+pub struct Noted {
     /// The fields of objects of heaps above that were seen to point down into this heap.
     pub remembered: Remembered,
     /// The references into this heap that were overwritten while it keeps them.
@@ -20,67 +25,268 @@ pub struct SetOf {
     pub keeps: bool,
 }
 
+/// Where it is held.
+#[derive(Drop)]
+pub enum Form {
+    /// Nowhere, since there is nothing; but whether the heap keeps is known.
+    Bare(bool),
+    /// In a block of its own.
+    Full(Apart<Noted>),
+}
+
+/// What is noted for the collections of a heap. It takes no memory until it is to hold something.
+#[derive(Drop)]
+pub struct SetOf {
+    alloc: Global,
+    form: Form,
+}
+
+impl Model for SetOf {
+    ghost use Rattle.write_barrier.specs.declared.sets.Noted.{Noted as NotedOf};
+
+    ghost Value = { NotedOf };
+
+    ghost use Rattle.write_barrier.specs.Held.{held_in};
+
+    ghost view = { λ s. held_in s.form };
+}
+
+// The block that there is, or a new one; for want of memory the form is handed back.
+fn opened(alloc: Global, form: Form) -> Result<Apart<Noted>, Form>
+    ensures ok { IfOk result (λ n. content_of n ≡ content_of (held_in form)) }
+    ensures places { IfOk result (λ n. (held_in form).kept.room ≤ n.kept.room) }
+    ensures back { IfErr result (λ f. f ≡ form) }
+{
+    match form {
+        Form::Full(noted) => Ok(noted),
+        Form::Bare(keeps) => {
+            let noted = Noted {
+                remembered: Remembered::new(alloc),
+                kept: Roomy::new(alloc),
+                keeps,
+            };
+            match Apart::new(alloc, noted) {
+                Ok(noted) => Ok(noted),
+                Err(_) => Err(Form::Bare(keeps)),
+            }
+        }
+    }
+}
+
 impl SetOf {
     /// A set that holds nothing, of a heap that keeps nothing.
     pub fn new(alloc: Global) -> SetOf
         ensures { content_of result ≡ record { sources = []; kept = []; keeps = false } }
     {
         SetOf {
-            remembered: Remembered::new(alloc),
-            kept: Roomy::new(alloc),
-            keeps: false,
+            alloc,
+            form: Form::Bare(false),
+        }
+    }
+
+    /// The fields that it remembers, in the order in which they were noted.
+    pub fn sources(&self) -> &[Source]
+        ensures sources { result.now ≡ self.now.remembered.sources }
+        ensures once { StandOnce self.now.remembered.sources }
+    {
+        match &self.form {
+            Form::Bare(_) => &[],
+            Form::Full(noted) => noted.get().remembered.sources(),
+        }
+    }
+
+    /// The overwritten references that it has kept.
+    pub fn kept(&self) -> &[Addr]
+        ensures { result.now ≡ self.now.kept.items }
+    {
+        match &self.form {
+            Form::Bare(_) => &[],
+            Form::Full(noted) => noted.get().kept.as_slice(),
+        }
+    }
+
+    /// Whether it keeps such.
+    pub fn keeps(&self) -> bool
+        ensures { result ≡ self.now.keeps }
+    {
+        match &self.form {
+            Form::Bare(keeps) => *keeps,
+            Form::Full(noted) => noted.get().keeps,
+        }
+    }
+
+    /// Whether it keeps such from now on; it has none yet, or none any more.
+    pub fn set_keeps(&mut self, keeps: bool)
+        ensures remembered { self.new.remembered ≡ self.old.remembered }
+        ensures kept { self.new.kept.items ≡ [] }
+        ensures keeps { self.new.keeps ≡ keeps }
+    {
+        match mem::replace(&mut self.form, Form::Bare(keeps)) {
+            Form::Bare(_) => {}
+            Form::Full(noted) => {
+                let mut noted = noted;
+                noted.get_mut().kept.clear();
+                noted.get_mut().keeps = keeps;
+                self.form = Form::Full(noted);
+            }
+        }
+    }
+
+    /// Makes places for so many sources more.
+    pub fn make_room(&mut self, sources: u32) -> Result<(), AllocError>
+        ensures same { content_of self.new ≡ content_of self.old }
+        ensures slots { OnOk result (sources ≤ self.new.remembered.slots) }
+        ensures spare { OnOk result (sources ≤ self.new.remembered.spare) }
+    {
+        if sources == 0 {
+            return Ok(());
+        }
+        match opened(self.alloc, mem::replace(&mut self.form, Form::Bare(false))) {
+            Ok(noted) => {
+                let mut noted = noted;
+                let made = noted.get_mut().remembered.make_room(sources, 0);
+                self.form = Form::Full(noted);
+                made
+            }
+            Err(form) => {
+                self.form = form;
+                Err(AllocError)
+            }
+        }
+    }
+
+    // Makes a place for one overwritten reference more.
+    pub(crate) fn reserve_kept(&mut self) -> Result<(), AllocError>
+        ensures same { content_of self.new ≡ content_of self.old }
+        ensures room { OnOk result (0 < self.new.kept.room) }
+    {
+        match opened(self.alloc, mem::replace(&mut self.form, Form::Bare(false))) {
+            Ok(noted) => {
+                let mut noted = noted;
+                let made = noted.get_mut().kept.reserve(1);
+                self.form = Form::Full(noted);
+                made
+            }
+            Err(form) => {
+                self.form = form;
+                Err(AllocError)
+            }
+        }
+    }
+
+    // Notes a source, unless it is known.
+    pub(crate) fn note(&mut self, source: Source) -> Result<(), AllocError>
+        ensures ok { OnOk result (content_of self.new ≡ record (content_of self.old) { sources = noted_with self.old.remembered.sources source }) }
+        ensures err { OnErr result (content_of self.new ≡ content_of self.old) }
+        ensures room { self.old.kept.room ≤ self.new.kept.room }
+    {
+        match opened(self.alloc, mem::replace(&mut self.form, Form::Bare(false))) {
+            Ok(noted) => {
+                let mut noted = noted;
+                let done = noted.get_mut().remembered.note(source.object, source.field);
+                self.form = Form::Full(noted);
+                done
+            }
+            Err(form) => {
+                self.form = form;
+                Err(AllocError)
+            }
+        }
+    }
+
+    // Keeps an overwritten reference, for which there is a place.
+    pub(crate) fn push_kept(&mut self, reference: Addr)
+        requires { 0 < self.old.kept.room }
+        ensures { content_of self.new ≡ record (content_of self.old) { kept = self.old.kept.items ++ reference ∷ [] } }
+    {
+        let Form::Full(noted) = mem::replace(&mut self.form, Form::Bare(false)) else {
+            unreachable!()
+        };
+        let mut noted = noted;
+        noted.get_mut().kept.push_reserved(reference);
+        self.form = Form::Full(noted);
+    }
+
+    /// What the sources hold now, as far as it points into these chunks: the addresses in the
+    /// order of the sources. Without sources it looks at no chunk.
+    pub fn targets<W: Words>(
+        &self,
+        alloc: Global,
+        words: &W,
+        heap: &[Chunk],
+    ) -> Result<Vec<Addr>, AllocError>
+        requires { AreFields W.refs_at words.now self.now.remembered.sources }
+        ensures { IfOk result (λ v. v.items ≡ targets_of W.refs_at words.now heap.now self.now.remembered.sources) }
+    {
+        match &self.form {
+            Form::Bare(_) => Ok(Vec::new(alloc)),
+            Form::Full(noted) => noted.get().remembered.targets(alloc, words, heap),
+        }
+    }
+
+    /// Leads each source that still holds an old address to the new one, and leaves the others. The
+    /// relocation list stands in order of the old addresses.
+    pub fn rewrite<W: Words>(&self, words: &mut W, moved: &[(Addr, Addr)])
+        requires fields { AreFields W.refs_at words.old self.now.remembered.sources }
+        requires order { AreInOrder moved.now }
+        requires places { ArePlaces moved.now }
+        ensures { words.new ≡ fold (redirected W.refs_at W.with_ref_at moved.now) words.old self.now.remembered.sources }
+    {
+        match &self.form {
+            Form::Bare(_) => {}
+            Form::Full(noted) => noted.get().remembered.rewrite(words, moved),
+        }
+    }
+
+    /// What it remembers alone.
+    pub fn into_remembered(self) -> Remembered
+        ensures { result ≡ self.remembered }
+    {
+        let SetOf { alloc, form } = self;
+        match form {
+            Form::Bare(_) => Remembered::new(alloc),
+            Form::Full(noted) => noted.into_inner().remembered,
         }
     }
 }
 
-// Makes a place for one reference more, if the heap keeps.
-pub(crate) fn reserve_kept(sets: &mut [SetOf], heap: Option<u32>) -> Result<(), AllocError>
-    requires { IfSome heap (λ h. h < length sets.old) }
-    ensures same { (t : ℕ) → content_at sets.new t ≡ content_at sets.old t }
-    ensures room { OnOk result (IfSome heap (λ h. IfSome (slice_get sets.new h) (λ s. s.keeps ≡ true → 0 < s.kept.room))) }
-{
-    let Some(h) = heap else {
-        return Ok(());
-    };
-    let set = &mut sets[h as usize];
-    if !set.keeps {
-        return Ok(());
+/// A block for what is noted for the collections of a heap.
+#[derive(Drop)]
+pub struct SetBlock {
+    alloc: Global,
+    noted: Apart<Noted>,
+}
+
+impl SetBlock {
+    /// Takes its memory.
+    pub fn new(alloc: Global) -> Result<SetBlock, AllocError> {
+        let noted = Noted {
+            remembered: Remembered::new(alloc),
+            kept: Roomy::new(alloc),
+            keeps: false,
+        };
+        let noted = Apart::new(alloc, noted)?;
+        Ok(SetBlock { alloc, noted })
     }
-    set.kept.reserve(1)
-}
 
-// Notes a down-pointer into a heap.
-pub(crate) fn note_source(
-    sets: &mut [SetOf],
-    into: Option<u32>,
-    source: Source,
-) -> Result<(), AllocError>
-    requires { IfSome into (λ h. h < length sets.old) }
-    ensures ok { OnOk result ((t : ℕ) → content_at sets.new t ≡ option_map (with_source into source t) (content_at sets.old t)) }
-    ensures err { OnErr result ((t : ℕ) → content_at sets.new t ≡ content_at sets.old t) }
-    ensures kept { (t : ℕ) → option_map (λ s. s.kept) (slice_get sets.new t) ≡ option_map (λ s. s.kept) (slice_get sets.old t) }
-{
-    let Some(h) = into else {
-        return Ok(());
-    };
-    let set = &mut sets[h as usize];
-    set.remembered.note(source.object, source.field)
-}
-
-// Keeps an overwritten reference, if the heap into which it points keeps such.
-pub(crate) fn keep(sets: &mut [SetOf], heap: Option<u32>, overwritten: Option<Addr>)
-    requires made { IfSome heap (λ h. h < length sets.old) }
-    requires room { IfSome heap (λ h. IfSome (slice_get sets.old h) (λ s. s.keeps ≡ true → 0 < s.kept.room)) }
-    ensures { (t : ℕ) → content_at sets.new t ≡ option_map (with_kept heap overwritten t) (content_at sets.old t) }
-{
-    let Some(h) = heap else {
-        return;
-    };
-    let Some(reference) = overwritten else {
-        return;
-    };
-    let set = &mut sets[h as usize];
-    if set.keeps {
-        set.kept.push_reserved(reference);
+    /// The set that remembers this, of a heap that keeps nothing. It takes no memory, and needs the block only if there is
+    /// something.
+    pub fn into_set(self, remembered: Remembered) -> SetOf
+        ensures { content_of result ≡ record { sources = remembered.sources; kept = []; keeps = false } }
+    {
+        let SetBlock { alloc, noted } = self;
+        if remembered.sources().is_empty() {
+            return SetOf::new(alloc);
+        }
+        let mut noted = noted;
+        *noted.get_mut() = Noted {
+            remembered,
+            kept: Roomy::new(alloc),
+            keeps: false,
+        };
+        SetOf {
+            alloc,
+            form: Form::Full(noted),
+        }
     }
 }

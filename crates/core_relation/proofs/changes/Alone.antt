@@ -4,7 +4,7 @@ use Rattle.std.proofs.lemmas.Bool.{both_ways}
 use Rattle.object_layout.specs.declared.word.Addr.{Addr}
 use Rattle.hh_model.specs.declared.data.Name.{Name}
 use Rattle.hh_model.specs.Effect.{row_of}
-use Rattle.hh_model.specs.Step.{is_waiting, is_on_path}
+use Rattle.hh_model.specs.Step.{is_joined, is_waiting, is_on_path}
 use Rattle.run_ledger.specs.declared.data.Heap.{Heap}
 use Rattle.run_ledger.specs.declared.data.Ledger.{Ledger}
 use Rattle.run_ledger.specs.Heaps.{heap_of}
@@ -22,12 +22,12 @@ home_own v l S t H o i = (S.owners t o.name (object_held (v.homes t).chunks (hea
 
 -- what a home's account says stays with it
 pub home_kept : (v v' : Value) (l l' : Ledger) (t : ℕ) → v'.homes t ≡ v.homes t → ((k : ℕ) → v.owner k ≡ Some t → v'.owner k ≡ Some t) → heap_of l' t ≡ heap_of l t → length (row_of (slice_get l'.machine.store t)) ≡ length (row_of (slice_get l.machine.store t))
-    → HomeStands v l t → HomeStands v' l' t
-home_kept v v' l l' t eh ow el er H = record {
+    → is_joined (slice_get l'.machine.tasks t) ≡ is_joined (slice_get l.machine.tasks t) → HomeStands v l t → HomeStands v' l' t
+home_kept v v' l l' t eh ow el er ej H = record {
   names = subst (λ (h : Home). HasNames h.chunks (heap_of l' t)) (sym eh) (subst (HasNames (v.homes t).chunks) (sym el) H.names);
   room = ap (λ (h : Home). h.room) eh ∙ (H.room ∙ sym (ap (λ (h : Heap). h.room) el));
   since = ap (λ (h : Home). h.since) eh ∙ (H.since ∙ sym (ap (λ (h : Heap). h.since) el));
-  count = ap (λ (h : Home). h.count) eh ∙ (H.count ∙ sym er);
+  count = λ live. ap (λ (h : Home). h.count) eh ∙ (H.count (sym ej ∙ live) ∙ sym er);
   owned = λ k i. ow k.number (H.owned k (subst (λ (h : Home). In h.chunks k) eh i));
   inside = λ k o i j. H.inside k o (subst (λ (h : Home). In h.chunks k) eh i) j;
   once = λ o p i j e. H.once o p (subst (λ (h : Home). In (objects_in h.chunks) o) eh i) (subst (λ (h : Home). In (objects_in h.chunks) p) eh j) e;
@@ -56,7 +56,7 @@ module _ (v : Value) (l l' : Ledger) (t w : ℕ) (S : SoundLedger l) (V : Stands
     views = λ u r j z o up ne rz i. V.views u (rest u r) (sym (A.tree.joins u) ∙ j) z o (sym (A.tree.paths z u) ∙ up) ne (rest z rz) i;
     gives = λ u z r j up ne w rz. V.gives u z (rest u r) (sym (A.tree.joins u) ∙ j) (sym (A.tree.paths z u) ∙ up) ne (sym (A.tree.waits z) ∙ w) (rest z rz);
     made = λ k u e. A.tree.made u ∙ V.made k u e;
-    homes = λ u r. home_kept v v l l' u refl (λ k e. e) (A.heaps u (other u r)) (A.rows u (other u r)) (V.homes u (rest u r));
+    homes = λ u r. home_kept v v l l' u refl (λ k e. e) (A.heaps u (other u r)) (A.rows u (other u r)) (A.tree.joins u) (V.homes u (rest u r));
     contents = λ u o r i.
         let c = V.contents u o (rest u r) i in
         let ne : own l o.name ≡ t → ⊥ = λ e. other u r (sym (home_own v l S u (V.homes u (rest u r)) o i) ∙ e) in

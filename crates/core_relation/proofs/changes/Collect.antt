@@ -97,7 +97,7 @@ module _ (v v' : Value) (l l' : Ledger) (t : ℕ) (x : Task) (f : Addr → Addr)
   home : (u : ℕ) → Rests l' u → HomeStands v' l' u
   home u r = elim (cases_eq u t) [
     | inl e ↦ subst (HomeStands v' l') (sym e) C.home
-    | inr ne ↦ home_mapped (rewritten f (sources v t)) (λ o. refl) (λ o. refl) v v' l l' u (C.others u ne) (λ k. C.owners k u ne) (L.others u ne) (ap (λ (m : State). slice_get m.store u) L.machine) (rewritten_words f (sources v t)) (V.homes u (rest u r))
+    | inr ne ↦ home_mapped (rewritten f (sources v t)) (λ o. refl) (λ o. refl) v v' l l' u (C.others u ne) (λ k. C.owners k u ne) (L.others u ne) (ap (λ (m : State). slice_get m.store u) L.machine) (ap (λ (m : State). is_joined (slice_get m.tasks u)) L.machine) (rewritten_words f (sources v t)) (V.homes u (rest u r))
   ]
 
   -- what stands in another home, before the rewriting

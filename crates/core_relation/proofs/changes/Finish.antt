@@ -6,7 +6,7 @@ use Rattle.hh_model.specs.declared.data.Name.{Name}
 use Rattle.hh_model.specs.declared.data.Status.TheVariants.{Ended}
 use Rattle.hh_model.specs.declared.data.Task.{Task}
 use Rattle.hh_model.specs.Effect.{row_of}
-use Rattle.hh_model.specs.Step.{is_waiting, result_of}
+use Rattle.hh_model.specs.Step.{is_joined, is_waiting, result_of}
 use Rattle.run_ledger.specs.declared.data.Heap.{Heap}
 use Rattle.run_ledger.specs.declared.data.Ledger.{Ledger}
 use Rattle.run_ledger.specs.Heaps.{heap_of}
@@ -23,12 +23,12 @@ use Rattle.core_relation.proofs.changes.Own.{stepped, place_own}
 
 -- a home's account stays, and so do its chunks and counts
 pub home_alike : (v v' : Value) (l l' : Ledger) (t : ℕ) → (v'.homes t).chunks ≡ (v.homes t).chunks → (v'.homes t).room ≡ (v.homes t).room → (v'.homes t).since ≡ (v.homes t).since → (v'.homes t).count ≡ (v.homes t).count
-    → ((k : ℕ) → v.owner k ≡ Some t → v'.owner k ≡ Some t) → heap_of l' t ≡ heap_of l t → length (row_of (slice_get l'.machine.store t)) ≡ length (row_of (slice_get l.machine.store t)) → HomeStands v l t → HomeStands v' l' t
-home_alike v v' l l' t ec eo es en ow el er H = record {
+    → ((k : ℕ) → v.owner k ≡ Some t → v'.owner k ≡ Some t) → heap_of l' t ≡ heap_of l t → length (row_of (slice_get l'.machine.store t)) ≡ length (row_of (slice_get l.machine.store t)) → is_joined (slice_get l'.machine.tasks t) ≡ is_joined (slice_get l.machine.tasks t) → HomeStands v l t → HomeStands v' l' t
+home_alike v v' l l' t ec eo es en ow el er ej H = record {
   names = subst (λ ks. HasNames ks (heap_of l' t)) (sym ec) (subst (HasNames (v.homes t).chunks) (sym el) H.names);
   room = eo ∙ (H.room ∙ sym (ap (λ (h : Heap). h.room) el));
   since = es ∙ (H.since ∙ sym (ap (λ (h : Heap). h.since) el));
-  count = en ∙ (H.count ∙ sym er);
+  count = λ live. en ∙ (H.count (sym ej ∙ live) ∙ sym er);
   owned = λ k i. ow k.number (H.owned k (subst (λ ks. In ks k) ec i));
   inside = λ k o i j. H.inside k o (subst (λ ks. In ks k) ec i) j;
   once = λ o p i j e. H.once o p (subst (λ ks. In (objects_in ks) o) ec i) (subst (λ ks. In (objects_in ks) p) ec j) e;
@@ -65,7 +65,7 @@ module _ (v v' : Value) (l l' : Ledger) (t : ℕ) (x : Task) (f : Frame) (fs : L
 
   pub finished : Stands v' l'
   finished = stepped v v' l l' t S S' V L.alone rests rests' idle at_home (record {
-    home = home_alike v v' l l' t C.chunks C.room C.since C.count (λ k e. C.owner k ∙ e) L.heap L.row (V.homes t rests);
+    home = home_alike v v' l l' t C.chunks C.room C.since C.count (λ k e. C.owner k ∙ e) L.heap L.row (L.alone.tree.joins t) (V.homes t rests);
     contents = λ o i.
         let c = V.contents t o rests (subst (λ ks. In (objects_in ks) o) C.chunks i) in
         (c.0, L.store o.name ∙ c.1, object_kept (Place v l) (Place v' l') o c.0 (λ n j. place n) c.2);

@@ -107,6 +107,9 @@ module _ (v v' : Value) (l l' : Ledger) (t a b g h : ℕ) (x : Task) (S : SoundL
         let nb : z ≡ b → ⊥ = λ e. none_new z o (inr e) i in
         (na, nb, rest z na nb r, subst (λ ks. In (objects_in ks) o) (chunks_same z na nb) i)
 
+    running : is_joined (slice_get l.machine.tasks t) ≡ false
+    running = ap is_joined F.task ∙ ap (λ s. is_joined (Some (record x { status = s }))) runs
+
     old_home : HomeStands v' l' t
     old_home =
         let H = V.homes t rests in
@@ -117,7 +120,7 @@ module _ (v v' : Value) (l l' : Ledger) (t a b g h : ℕ) (x : Task) (S : SoundL
           };
           room = ap (λ (i : Home). i.room) C.home ∙ (H.room ∙ sym (ap (λ (i : Heap). i.room) F.heap));
           since = ap (λ (i : Home). i.since) C.home ∙ (H.since ∙ sym (ap (λ (i : Heap). i.since) F.heap));
-          count = ap (λ (i : Home). i.count) C.home ∙ (H.count ∙ sym (F.rows t));
+          count = λ live. ap (λ (i : Home). i.count) C.home ∙ (H.count running ∙ sym (F.rows t));
           owned = λ k i. C.owner k.number ∙ H.owned k (subst (λ (j : Home). In j.chunks k) C.home i);
           inside = λ k o i j. H.inside k o (subst (λ (j : Home). In j.chunks k) C.home i) j;
           once = λ o q i j e. H.once o q (subst (λ (j : Home). In (objects_in j.chunks) o) C.home i) (subst (λ (j : Home). In (objects_in j.chunks) q) C.home j) e;
@@ -130,7 +133,7 @@ module _ (v v' : Value) (l l' : Ledger) (t a b g h : ℕ) (x : Task) (S : SoundL
       names = subst (λ (i : Home). HasNames i.chunks (heap_of l' z)) (sym eh) (subst (HasNames []) (sym el) (record { small = refl; large = refl }));
       room = ap (λ (i : Home). i.room) eh ∙ sym (ap (λ (i : Heap). i.room) el);
       since = ap (λ (i : Home). i.since) eh ∙ sym (ap (λ (i : Heap). i.since) el);
-      count = ap (λ (i : Home). i.count) eh ∙ sym (F.rows z ∙ er);
+      count = λ live. ap (λ (i : Home). i.count) eh ∙ sym (F.rows z ∙ er);
       owned = λ k i. absurd (subst (λ (j : Home). In j.chunks k) eh i);
       inside = λ k o i j. absurd (subst (λ (j : Home). In j.chunks k) eh i);
       once = λ o q i j e. absurd (subst (λ (j : Home). In (objects_in j.chunks) o) eh i);
@@ -145,7 +148,7 @@ module _ (v v' : Value) (l l' : Ledger) (t a b g h : ℕ) (x : Task) (S : SoundL
         | inl e ↦ subst (HomeStands v' l') (sym e) (new_home a g C.left F.heap_left F.new_left)
         | inr w' ↦ elim w' [
           | inl e ↦ subst (HomeStands v' l') (sym e) (new_home b h C.right F.heap_right F.new_right)
-          | inr o ↦ home_kept v v' l l' z (C.others z o.0 o.1 o.2) (λ k e. C.owner k ∙ e) (F.heaps z o.0 o.1 o.2) (F.rows z) (V.homes z (rest z o.1 o.2 r))
+          | inr o ↦ home_kept v v' l l' z (C.others z o.0 o.1 o.2) (λ k e. C.owner k ∙ e) (F.heaps z o.0 o.1 o.2) (F.rows z) (ap is_joined (F.tasks z o.0 o.1 o.2)) (V.homes z (rest z o.1 o.2 r))
         ]
       ]
     ]
@@ -221,9 +224,6 @@ module _ (v v' : Value) (l l' : Ledger) (t a b g h : ℕ) (x : Task) (S : SoundL
           | inl e ↦ ap (λ u. is_joined (slice_get l'.machine.tasks u)) e ∙ ap is_joined F.waits
           | inr nt ↦ ap is_joined (F.tasks z nt na nb) ∙ k
         ]
-
-    running : is_joined (slice_get l.machine.tasks t) ≡ false
-    running = ap is_joined F.task ∙ ap (λ s. is_joined (Some (record x { status = s }))) runs
 
     view_same : (z : ℕ) → (z ≡ a → ⊥) → (z ≡ b → ⊥) → (v'.homes z).view ≡ (v.homes z).view
     view_same z na nb = elim (cases_eq z t) [

@@ -9,12 +9,11 @@ use Rattle.hh_model.specs.declared.data.Task.{Task}
 use Rattle.hh_model.specs.Step.{is_joined, is_on_path, is_over, is_waiting, waits as waits_by}
 use Rattle.run_ledger.specs.declared.data.Heap.{Heap}
 use Rattle.run_ledger.specs.declared.data.Ledger.{Ledger}
-use Rattle.run_ledger.specs.Heaps.{heap_of}
 use Rattle.run_ledger.specs.Sound.{SoundLedger}
 use Rattle.ledger_steps.specs.Accounts.{Rests}
 use Rattle.ledger_steps.specs.Kinds.{ForksTask}
 use Rattle.ledger_steps.proofs.Tree.{leaf_alone}
-use Rattle.core_relation.specs.Value.{Chunk, Home, In, Value, frozen_chunk, frozen_chunks}
+use Rattle.core_relation.specs.Value.{Chunk, Home, Value, frozen_chunk, frozen_chunks}
 use Rattle.core_relation.specs.Changes.{ForksHome}
 use Rattle.core_relation.specs.Stands.{Gives, HasNumber, HomeStands, Stands}
 use Rattle.core_relation.proofs.objects.Members.{map_in}

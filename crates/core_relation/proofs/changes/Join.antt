@@ -19,7 +19,7 @@ use Rattle.run_ledger.specs.declared.data.Heap.{Heap}
 use Rattle.run_ledger.specs.declared.data.Ledger.{Ledger}
 use Rattle.run_ledger.specs.Heaps.{heap_of, emptied}
 use Rattle.run_ledger.specs.Sound.{SoundLedger}
-use Rattle.core_relation.specs.Value.{Seen, Chunk, Frame, Source, Home, Value, In, objects, objects_in, sources, Lies}
+use Rattle.core_relation.specs.Value.{Seen, Chunk, Frame, Source, Home, no_home, Value, In, objects, objects_in, sources, Lies}
 use Rattle.core_relation.specs.Reads.{Reads, IsRead, FrameIsRead, FramesAreRead, HoldsRead, TaskIsRead}
 use Rattle.ledger_steps.specs.Accounts.{own, Rests}
 use Rattle.core_relation.specs.Layout.{AreLaidOut}
@@ -64,6 +64,9 @@ module _ (v v' : Value) (l l' : Ledger) (p c d : ℕ) (x : Task) (rl rr : ℤ ×
 
   parent_waits : is_waiting (slice_get l.machine.tasks p) ≡ true
   parent_waits = ap is_waiting J.parent ∙ ap (λ s. is_waiting (Some (record x { status = s }))) T.waits
+
+  parent_was_live : is_joined (slice_get l.machine.tasks p) ≡ false
+  parent_was_live = ap is_joined J.parent ∙ ap (λ s. is_joined (Some (record x { status = s }))) T.waits
 
   child_parent : (z : ℕ) → IsChild z → par z ≡ Some p
   child_parent z (inl e) = ap par e ∙ T.left
@@ -250,7 +253,7 @@ module _ (v v' : Value) (l l' : Ledger) (p c d : ℕ) (x : Task) (rl rr : ℤ ×
         let b : (v.homes c).since ≡ (heap_of l c).since = (V.homes c T.left_rests).since in
         let e : (v.homes d).since ≡ (heap_of l d).since = (V.homes d T.right_rests).since in
         H.since ∙ (ap₂ (λ i j. i + j) (ap₂ (λ i j. i + j) a b) e ∙ sym (ap (λ (h : Heap). h.since) J.heap));
-    count = H.count ∙ ((V.homes p T.rests).count ∙ sym (row_same p));
+    count = λ live. H.count ∙ ((V.homes p T.rests).count parent_was_live ∙ sym (row_same p));
     owned = λ k i. let w = chunk_was k i in relabelled w.0 k w.1 w.2;
     inside = λ k o i j. let w = chunk_was k i in (V.homes w.0 (part_rests w.0 w.1)).inside k o w.2 j;
     once = λ o q i j e.
@@ -285,12 +288,12 @@ module _ (v v' : Value) (l l' : Ledger) (p c d : ℕ) (x : Task) (rl rr : ℤ ×
       rests' : Rests l' p
       rests' = ap (λ (h : Heap). h.worker) J.heap ∙ T.rests
 
-  empty_home : (z : ℕ) → Rests l z → (heap_of l z).reserved ≡ 0 → v'.homes z ≡ record (v.homes z) { chunks = []; room = 0; since = 0; view = [] } → heap_of l' z ≡ emptied (heap_of l z) → HomeStands v' l' z
-  empty_home z r spare eh el = record {
+  empty_home : (z : ℕ) → is_joined (slice_get l'.machine.tasks z) ≡ true → (heap_of l z).reserved ≡ 0 → v'.homes z ≡ no_home → heap_of l' z ≡ emptied (heap_of l z) → HomeStands v' l' z
+  empty_home z gone spare eh el = record {
     names = subst (λ (h : Home). HasNames h.chunks (heap_of l' z)) (sym eh) (subst (HasNames []) (sym el) (record { small = refl; large = refl }));
     room = ap (λ (h : Home). h.room) eh ∙ sym (ap (λ (h : Heap). h.room) el);
     since = ap (λ (h : Home). h.since) eh ∙ sym (ap (λ (h : Heap). h.since) el);
-    count = ap (λ (h : Home). h.count) eh ∙ ((V.homes z r).count ∙ sym (row_same z));
+    count = λ live. absurd (both_ways (is_joined (slice_get l'.machine.tasks z)) live gone);
     owned = λ k i. absurd (subst (λ (h : Home). In h.chunks k) eh i);
     inside = λ k o i j. absurd (subst (λ (h : Home). In h.chunks k) eh i);
     once = λ o q i j e. absurd (subst (λ (h : Home). In (objects_in h.chunks) o) eh i);
@@ -303,10 +306,10 @@ module _ (v v' : Value) (l l' : Ledger) (p c d : ℕ) (x : Task) (rl rr : ℤ ×
     | inl e ↦ subst (HomeStands v' l') (sym e) merged_home
     | inr w ↦ elim w [
       | inl ch ↦ elim ch [
-        | inl e ↦ subst (HomeStands v' l') (sym e) (empty_home c T.left_rests T.left_spares H.left J.heap_left)
-        | inr e ↦ subst (HomeStands v' l') (sym e) (empty_home d T.right_rests T.right_spares H.right J.heap_right)
+        | inl e ↦ subst (HomeStands v' l') (sym e) (empty_home c J.left T.left_spares H.left J.heap_left)
+        | inr e ↦ subst (HomeStands v' l') (sym e) (empty_home d J.right T.right_spares H.right J.heap_right)
       ]
-      | inr o ↦ home_kept v v' l l' z (H.others z o.0 o.1 o.2) (λ k. H.owners k z o.1 o.2) (J.heaps z o.0 o.1 o.2) (row_same z) (V.homes z (rest z r))
+      | inr o ↦ home_kept v v' l l' z (H.others z o.0 o.1 o.2) (λ k. H.owners k z o.1 o.2) (J.heaps z o.0 o.1 o.2) (row_same z) (ap is_joined (J.tasks z o.0 o.1 o.2)) (V.homes z (rest z r))
     ]
   ]
 
@@ -494,7 +497,7 @@ module _ (v v' : Value) (l l' : Ledger) (p c d : ℕ) (x : Task) (rl rr : ℤ ×
       let nd : z ≡ d → ⊥ = gone d J.right in
       let shown : Rests l z → is_joined (slice_get l.machine.tasks z) ≡ false → (v'.homes z).view ≡ (v.homes z).view → IsShown v' l' z = λ rz lz same. join_shown v v' l l' p c d x rl rr al ar only_children V.views J H T z same rz lz j in
       elim (cases_eq z p) [
-        | inl e ↦ shown (ap (λ k. (heap_of l k).worker) e ∙ T.rests) (ap (λ k. is_joined (slice_get l.machine.tasks k)) e ∙ (ap is_joined J.parent ∙ ap (λ s. is_joined (Some (record x { status = s }))) T.waits)) (ap (λ k. (v'.homes k).view) e ∙ (H.view ∙ ap (λ k. (v.homes k).view) (sym e)))
+        | inl e ↦ shown (ap (λ k. (heap_of l k).worker) e ∙ T.rests) (ap (λ k. is_joined (slice_get l.machine.tasks k)) e ∙ parent_was_live) (ap (λ k. (v'.homes k).view) e ∙ (H.view ∙ ap (λ k. (v.homes k).view) (sym e)))
         | inr np ↦ shown (ap (λ (k : Heap). k.worker) (sym (J.heaps z np nc nd)) ∙ r) (ap is_joined (sym (J.tasks z np nc nd)) ∙ j) (ap (λ (k : Home). k.view) (H.others z np nc nd))
       ]
 
@@ -514,7 +517,7 @@ module _ (v v' : Value) (l l' : Ledger) (p c d : ℕ) (x : Task) (rl rr : ℤ ×
       let nc = gone z c J.left j in
       let nd = gone z d J.right j in
       elim (cases_eq z p) [
-        | inl e ↦ kept (ap (λ k. (v'.homes k).view) e ∙ (H.view ∙ ap (λ k. (v.homes k).view) (sym e))) (ap (λ k. (heap_of l k).worker) e ∙ T.rests) (ap (λ k. is_joined (slice_get l.machine.tasks k)) e ∙ (ap is_joined J.parent ∙ ap (λ s. is_joined (Some (record x { status = s }))) T.waits))
+        | inl e ↦ kept (ap (λ k. (v'.homes k).view) e ∙ (H.view ∙ ap (λ k. (v.homes k).view) (sym e))) (ap (λ k. (heap_of l k).worker) e ∙ T.rests) (ap (λ k. is_joined (slice_get l.machine.tasks k)) e ∙ parent_was_live)
         | inr np ↦ kept (ap (λ (k : Home). k.view) (H.others z np nc nd)) (ap (λ (k : Heap). k.worker) (sym (J.heaps z np nc nd)) ∙ r) (ap is_joined (sym (J.tasks z np nc nd)) ∙ j)
       ]
 

@@ -1,6 +1,6 @@
 -- What the last step of an entry changes of the accounts and of the value, it changes so of those with the steps and the home
 -- of another task's part.
-use Rattle.std.proofs.Common.{◌≡◌, ℕ, ℤ, ◌+◌, false, Option, List, [], ◌++◌, map, length, slice_get, ◌⊎◌, inl, inr, refl, ap, ap₂, sym, subst, ◌∙◌}
+use Rattle.std.proofs.Common.{◌≡◌, ℕ, ℤ, ◌+◌, false, Option, List, ◌++◌, map, length, slice_get, ◌⊎◌, inl, inr, refl, ap, ap₂, sym, subst, ◌∙◌}
 use Rattle.std.proofs.lemmas.Bool.{cases_eq, both_ways}
 use Rattle.object_layout.specs.declared.word.Addr.{Addr}
 use Rattle.hh_model.specs.declared.data.Name.{Name}
@@ -221,8 +221,8 @@ module _ (v v' : Value) (u : ℕ) (h : Home) where
         begun = ap (λ (y : Home). y.begun) ep' ∙ (J.begun ∙ sym (ap (λ (y : Home). y.begun) ep));
         view = ap (λ (y : Home). y.view) ep' ∙ (J.view ∙ sym (ap (λ (y : Home). y.view) ep));
         frames = ap (λ (y : Home). y.frames) ep' ∙ (J.frames ∙ sym (ap (λ (y : Home). top_with_results rl rr y.frames) ep));
-        left = off_home v' u h c nc ∙ (J.left ∙ sym (ap (λ (y : Home). record y { chunks = []; room = 0; since = 0; view = [] }) ec));
-        right = off_home v' u h d nd ∙ (J.right ∙ sym (ap (λ (y : Home). record y { chunks = []; room = 0; since = 0; view = [] }) ed));
+        left = off_home v' u h c nc ∙ J.left;
+        right = off_home v' u h d nd ∙ J.right;
         others = λ z zp zc zd. homes_too z (J.others z zp zc zd);
         owner_left = λ k i. J.owner_left k (subst (λ (y : Home). In y.chunks k) ec i);
         owner_right = λ k i. J.owner_right k (subst (λ (y : Home). In y.chunks k) ed i);

@@ -137,7 +137,7 @@ module _ (v v' : Value) (l l' : Ledger) (t : ℕ) (S : SoundLedger l) (S' : Soun
       made = λ k u e. A.tree.made u ∙ V.made k u (sym (C.owner k) ∙ e);
       homes = λ u r. elim (cases_eq u t) [
         | inl e ↦ subst (HomeStands v' l') (sym e) H.home
-        | inr ne ↦ home_kept v v' l l' u (C.others u ne) (λ k e. C.owner k ∙ e) (A.heaps u ne) (A.rows u ne) (V.homes u (rest u r))
+        | inr ne ↦ home_kept v v' l l' u (C.others u ne) (λ k e. C.owner k ∙ e) (A.heaps u ne) (A.rows u ne) (A.tree.joins u) (V.homes u (rest u r))
       ];
       contents = content;
       tasks = task;

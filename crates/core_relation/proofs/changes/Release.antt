@@ -46,7 +46,7 @@ module _ (v v' : Value) (l l' : Ledger) (t w : ℕ) (V : Stands v l) (idle : is_
         gives_kept v v' z u (ap (λ (h : Home). h.view) (C.homes u (other u r))) (ap (λ (h : Home). h.view) (C.homes z (other z rz))) (λ n o. sym (C.owner n) ∙ o)
         (V.gives u z (rest u r) (sym (ap (λ (m : State). is_joined (slice_get m.tasks u)) L.machine) ∙ j) (sym (path_same l l' L.machine z u) ∙ up) ne (sym (ap (λ (m : State). is_waiting (slice_get m.tasks z)) L.machine) ∙ w) (rest z rz));
     made = λ k u e. ap (λ (m : State). is_some (slice_get m.tasks u)) L.machine ∙ V.made k u (sym (C.owner k) ∙ e);
-    homes = λ u r. home_kept v v' l l' u (C.homes u (other u r)) (λ k e. C.owner k ∙ e) (L.heaps u (other u r)) (ap (λ (m : State). length (row_of (slice_get m.store u))) L.machine) (V.homes u (rest u r));
+    homes = λ u r. home_kept v v' l l' u (C.homes u (other u r)) (λ k e. C.owner k ∙ e) (L.heaps u (other u r)) (ap (λ (m : State). length (row_of (slice_get m.store u))) L.machine) (ap (λ (m : State). is_joined (slice_get m.tasks u)) L.machine) (V.homes u (rest u r));
     contents = λ u o r i.
         let c = V.contents u o (rest u r) (was u o r i) in
         (c.0, store_same l l' L.machine o.name ∙ c.1, object_kept (Place v l) (Place v' l') o c.0 (λ n j. place n) c.2);

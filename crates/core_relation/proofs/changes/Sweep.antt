@@ -113,7 +113,7 @@ module _ (v v' : Value) (l l' : Ledger) (t : ℕ) (names : List Name) (S : Sound
   home : (u : ℕ) → Rests l' u → HomeStands v' l' u
   home u r = elim (cases_eq u t) [
     | inl e ↦ subst (HomeStands v' l') (sym e) C.home
-    | inr ne ↦ home_kept v v' l l' u (C.others u ne) (λ k. C.owners k u ne) (L.others u ne) (ap (λ (m : State). length (row_of (slice_get m.store u))) L.machine) (V.homes u (rest u r))
+    | inr ne ↦ home_kept v v' l l' u (C.others u ne) (λ k. C.owners k u ne) (L.others u ne) (ap (λ (m : State). length (row_of (slice_get m.store u))) L.machine) (ap (λ (m : State). is_joined (slice_get m.tasks u)) L.machine) (V.homes u (rest u r))
   ]
 
   live_object : (u : ℕ) (o : Seen) → Rests l' u → In (objects v' u) o → Live l t S snapshot spares o.name

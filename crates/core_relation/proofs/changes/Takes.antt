@@ -5,7 +5,7 @@ use Rattle.hh_lang.specs.Form.{ProgramText}
 use Rattle.run_trace.specs.Settings.{Limits}
 use Rattle.hh_model.specs.declared.data.State.{State}
 use Rattle.hh_model.specs.Effect.{row_of}
-use Rattle.hh_model.specs.Step.{is_waiting}
+use Rattle.hh_model.specs.Step.{is_joined, is_waiting}
 use Rattle.run_ledger.specs.declared.data.Heap.{Heap}
 use Rattle.run_ledger.specs.declared.data.Ledger.{Ledger}
 use Rattle.run_ledger.specs.Heaps.{heap_of, or_fresh, with_heap, let_go}
@@ -67,7 +67,7 @@ module _ (p : ProgramText) (s : Limits) (v : Value) (l : Ledger) (t w : ℕ) (h 
     stands = renewed v (with_home v t (v.homes t)) l back V
         (record { machine = machine_back; worker = λ u. ap (λ (z : Heap). z.worker) (heap_back u); snapshot = λ u. ap (λ (z : Heap). z.snapshot) (heap_back u) })
         (record {
-          home = λ u r. home_kept v (with_home v t (v.homes t)) l back u (same_home u) (λ k e. e) (heap_back u) (ap (λ (m : State). length (row_of (slice_get m.store u))) machine_back) (V.homes u (ap (λ (z : Heap). z.worker) (sym (heap_back u)) ∙ r));
+          home = λ u r. home_kept v (with_home v t (v.homes t)) l back u (same_home u) (λ k e. e) (heap_back u) (ap (λ (m : State). length (row_of (slice_get m.store u))) machine_back) (ap (λ (m : State). is_joined (slice_get m.tasks u)) machine_back) (V.homes u (ap (λ (z : Heap). z.worker) (sym (heap_back u)) ∙ r));
           objects = λ u. ap (λ (z : Home). objects_in z.chunks) (same_home u);
           chunks = λ u e. ap (λ (z : Home). length z.chunks) (same_home u);
           frames = λ u. ap (λ (z : Home). z.frames) (same_home u);

@@ -52,7 +52,7 @@ module _ (v v' : Value) (l l' k k' : Ledger) (t u : ℕ) (h : Home) (apart : t �
 
   pub keeps_with : (names : List Name) → KeepsJust v v' l l' t names → KeepsJust w w' k k' t names
   keeps_with names C = record {
-    home = home_kept v' w' l' k' t here' (λ i e. e) (A'.heaps t apart) (A'.rows t apart) C.home;
+    home = home_kept v' w' l' k' t here' (λ i e. e) (A'.heaps t apart) (A'.rows t apart) (A'.tree.joins t) C.home;
     kept = λ o i j. subst (λ (y : Home). In (objects_in y.chunks) o) (sym here') (C.kept o (subst (λ (y : Home). In (objects_in y.chunks) o) here i) j);
     only = λ o i. let q = C.only o (subst (λ (y : Home). In (objects_in y.chunks) o) here' i) in (subst (λ (y : Home). In (objects_in y.chunks) o) (sym here) q.0, q.1);
     frames = ap (λ (y : Home). y.frames) here' ∙ (C.frames ∙ ap (λ (y : Home). y.frames) (sym here));
@@ -86,7 +86,7 @@ moves_with v v' l l' k k' t u h apart A A' names f none C =
     let here : (with_home v u h).homes t ≡ v.homes t = off_home v u h t apart in
     let here' : (with_home v' u h).homes t ≡ v'.homes t = off_home v' u h t apart in
     record {
-      home = home_kept v' (with_home v' u h) l' k' t here' (λ i e. e) (A'.heaps t apart) (A'.rows t apart) C.home;
+      home = home_kept v' (with_home v' u h) l' k' t here' (λ i e. e) (A'.heaps t apart) (A'.rows t apart) (A'.tree.joins t) C.home;
       kept = λ o i j. subst (λ (y : Home). In (objects_in y.chunks) (led_object f o)) (sym here') (C.kept o (subst (λ (y : Home). In (objects_in y.chunks) o) here i) j);
       only = λ o i. let q = C.only o (subst (λ (y : Home). In (objects_in y.chunks) o) here' i) in (q.0, subst (λ (y : Home). In (objects_in y.chunks) q.0) (sym here) q.1, q.2, q.3);
       frames = ap (λ (y : Home). y.frames) here' ∙ (C.frames ∙ ap (λ (y : Home). map (led_frame f) y.frames) (sym here));

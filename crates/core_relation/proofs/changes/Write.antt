@@ -1,7 +1,7 @@
 -- A step writes a field, of an object of its task or of one above it: nothing moves, and a reference that points down is
 -- remembered.
-use Rattle.std.proofs.Common.{◌≡◌, ℕ, ◌<◌, ◌==◌, Bool, true, false, cond, Some, length, slice_get, ◌⊎◌, inl, inr, refl, ap, sym, subst, ◌∙◌}
-use Rattle.std.proofs.lemmas.Bool.{cases_eq, both_ways, and_from, and_parts, eq-eqb, eqb-true, cond-true, cond-false}
+use Rattle.std.proofs.Common.{◌≡◌, ℕ, ◌<◌, Bool, true, false, cond, Some, length, slice_get, ◌⊎◌, inl, inr, refl, ap, sym, subst, ◌∙◌}
+use Rattle.std.proofs.lemmas.Bool.{cases_eq, both_ways, cond-true, cond-false}
 use Rattle.std.proofs.lemmas.Option.{same_Some}
 use Rattle.object_layout.specs.declared.word.Addr.{Addr}
 use Rattle.hh_model.specs.declared.data.Name.{Name}
@@ -183,7 +183,7 @@ module _ (v v' : Value) (l l' : Ledger) (t : ℕ) (n : Name) (a : Addr) (x x' : 
   pub written : Stands v' l'
   written = record {
     made = λ k u e. L.tree.made u ∙ V.made k u (sym (C.owner k) ∙ e);
-    homes = λ u r. home_mapped_by one one_name one_at v v' l l' u (C.chunks u) (C.room u) (C.since u) (C.count u) (λ k e. C.owner k ∙ e) (L.heaps u) (L.rows u) one_words (V.homes u (rest u r));
+    homes = λ u r. home_mapped_by one one_name one_at v v' l l' u (C.chunks u) (C.room u) (C.since u) (C.count u) (λ k e. C.owner k ∙ e) (L.heaps u) (L.rows u) (L.tree.joins u) one_words (V.homes u (rest u r));
     contents = content;
     tasks = task;
     remembered = remember;

@@ -1,5 +1,5 @@
 -- A marking that can go on still can, where objects stay and what was overwritten was kept.
-use Rattle.std.proofs.Common.{◌≡◌, ℕ, ◌+◌, ◌<◌, ◌≤◌, ◌++◌, arith, Some, List, [], length, length-append, Contains, ◌⊎◌, ◌↔◌, inl, inr, refl, ap, sym, subst, ◌∙◌}
+use Rattle.std.proofs.Common.{◌≡◌, ℕ, ◌+◌, ◌<◌, ◌≤◌, ◌++◌, arith, Some, List, length, length-append, ◌⊎◌, ◌↔◌, inl, inr, ap, sym, subst, ◌∙◌}
 use Rattle.object_layout.specs.declared.word.Addr.{Addr}
 use Rattle.object_layout.specs.Graph.{IsHeld, Leads}
 use Rattle.hh_model.specs.declared.data.Name.{Name}
@@ -8,7 +8,7 @@ use Rattle.walks.proofs.Reached.{reached_more, reached_start, reached_within}
 use Rattle.inner_mark_gc.specs.Marks.{IsMarking, Marks}
 use Rattle.inner_mark_gc.specs.Snapshot.{Fork, IsInSnapshot, Starts}
 use Rattle.inner_mark_gc.proofs.GoingOn.{marking_goes_on}
-use Rattle.core_relation.specs.Value.{Home, In, Seen, Value, objects}
+use Rattle.core_relation.specs.Value.{In, Seen, Value, objects}
 use Rattle.core_relation.specs.Marking.{GoesOn}
 use Rattle.core_relation.specs.Since.{kept}
 

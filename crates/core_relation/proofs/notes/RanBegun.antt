@@ -133,9 +133,9 @@ module _ (p : ProgramText) (s : Limits) (v v' : Value) (l l' : Ledger) (t w k : 
       joined u r = elim (cases_eq u K.parent) [
         | inl e ↦ ap (λ z. (v'.homes z).begun) e ∙ (C.2.begun ∙ before K.parent K.can.rests)
         | inr np ↦ elim (cases_eq u K.left) [
-          | inl e ↦ ap (λ z. (v'.homes z).begun) e ∙ (ap (λ (z : Home). z.begun) C.2.left ∙ before K.left K.can.left_rests)
+          | inl e ↦ ap (λ z. (v'.homes z).begun) e ∙ ap (λ (z : Home). z.begun) C.2.left
           | inr nl ↦ elim (cases_eq u (K.left + 1)) [
-            | inl e ↦ ap (λ z. (v'.homes z).begun) e ∙ (ap (λ (z : Home). z.begun) C.2.right ∙ before (K.left + 1) K.can.right_rests)
+            | inl e ↦ ap (λ z. (v'.homes z).begun) e ∙ ap (λ (z : Home). z.begun) C.2.right
             | inr nr ↦ ap (λ (z : Home). z.begun) (C.2.others u np nl nr) ∙ before u (ap (λ (z : Heap). z.worker) (sym (K.joins.heaps u np nl nr)) ∙ r)
           ]
         ]

@@ -12,13 +12,13 @@ use Rattle.run_ledger.specs.declared.data.Heap.{Heap}
 use Rattle.run_ledger.specs.declared.data.Ledger.{Ledger}
 use Rattle.run_ledger.specs.Heaps.{heap_of, within}
 use Rattle.run_ledger.specs.Sound.{SoundLedger}
-use Rattle.core_relation.specs.Value.{Frame, Seen, Home, Value, In, objects, objects_in, is_at, put_at}
+use Rattle.core_relation.specs.Value.{Seen, Home, Value, In, objects, objects_in, is_at, put_at}
 use Rattle.ledger_steps.specs.Accounts.{Rests, WritesOne}
 use Rattle.core_relation.specs.Stands.{Stands}
 use Rattle.core_relation.specs.Begins.{IsReachedAt, IsRoot, AreRoots}
 use Rattle.core_relation.specs.Since.{Since, Keeps, kept}
 use Rattle.ledger_steps.specs.Kinds.{ForksTask}
-use Rattle.core_relation.specs.Changes.{ForksHome, WritesAt, advanced, with_field}
+use Rattle.core_relation.specs.Changes.{ForksHome, WritesAt, with_field}
 use Rattle.core_relation.proofs.objects.Mapped.{from_mapped, to_mapped}
 use Rattle.core_relation.proofs.notes.Rooted.{in_advanced, lies_in, noted_by, root_apart, root_by, root_same}
 use Rattle.core_relation.proofs.notes.Roots.{reached_both, index_of}

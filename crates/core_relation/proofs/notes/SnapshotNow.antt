@@ -2,23 +2,22 @@
 use Rattle.std.proofs.Common.{◌≡◌, ◌⊎◌, ◌↔◌, ℕ, true, Some, List, ◌∷◌, slice_get, inl, inr, refl, ap, sym, subst, ◌∙◌}
 use Rattle.std.proofs.lemmas.Option.{same_Some}
 use Rattle.listed.proofs.Members.{got_in}
-use Rattle.walks.specs.Reached.{IsReached}
 use Rattle.walks.proofs.Reached.{reached_more, reached_start, reached_within}
 use Rattle.object_layout.specs.declared.word.Addr.{Addr}
 use Rattle.hh_model.specs.declared.data.Name.{Name}
 use Rattle.hh_model.specs.declared.data.Status.{Status}
 use Rattle.hh_model.specs.declared.data.Status.TheVariants.{Running, Waiting, Ended, Joined}
 use Rattle.hh_model.specs.declared.data.Task.{Task}
-use Rattle.hh_model.specs.Names.{held_by, registers, task_names}
+use Rattle.hh_model.specs.Names.{held_by, registers}
 use Rattle.hh_model.specs.Step.{is_waiting, waits}
 use Rattle.run_ledger.specs.declared.data.Ledger.{Ledger}
 use Rattle.run_ledger.specs.Heaps.{heap_at, heap_of}
 use Rattle.run_ledger.specs.Sound.{InHeaps, Keeps, SoundLedger, Spares, names_of, snapshot_at}
 use Rattle.ledger_steps.specs.Accounts.{Rests, own}
-use Rattle.core_relation.specs.Value.{Frame, In, Seen, Value, objects, objects_in}
+use Rattle.core_relation.specs.Value.{Frame, In, Seen, Value, objects}
 use Rattle.core_relation.specs.Reads.{FramesAreRead, HoldsRead}
 use Rattle.core_relation.specs.Stands.{Place, Stands}
-use Rattle.core_relation.specs.Begins.{IsAt, IsReachedAt, IsRoot, LeadsAt, StartsAt}
+use Rattle.core_relation.specs.Begins.{IsReachedAt, IsRoot, LeadsAt, StartsAt}
 use Rattle.core_relation.specs.Now.{IsReachedNow, StartsNow}
 use Rattle.core_relation.specs.Since.{Since, kept}
 use Rattle.core_relation.proofs.changes.Alone.{home_own}

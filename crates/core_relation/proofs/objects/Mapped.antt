@@ -3,6 +3,7 @@ use Rattle.std.proofs.Common.{suc, ◌≡◌, ℕ, Bool, true, false, not, cond,
 use Rattle.object_layout.specs.declared.word.Addr.{Addr}
 use Rattle.hh_model.specs.declared.data.Name.{Name}
 use Rattle.hh_model.specs.Effect.{row_of}
+use Rattle.hh_model.specs.Step.{is_joined}
 use Rattle.run_ledger.specs.declared.data.Heap.{Heap}
 use Rattle.run_ledger.specs.declared.data.Ledger.{Ledger}
 use Rattle.run_ledger.specs.Heaps.{heap_of}
@@ -68,12 +69,12 @@ module _ (one : Seen → Seen) (same_name : (o : Seen) → (one o).name ≡ o.na
 
   pub home_mapped_by : (v v' : Value) (l l' : Ledger) (t : ℕ) → (v'.homes t).chunks ≡ map chunk (v.homes t).chunks → (v'.homes t).room ≡ (v.homes t).room → (v'.homes t).since ≡ (v.homes t).since → (v'.homes t).count ≡ (v.homes t).count
       → ((k : ℕ) → v.owner k ≡ Some t → v'.owner k ≡ Some t) → heap_of l' t ≡ heap_of l t → length (row_of (slice_get l'.machine.store t)) ≡ length (row_of (slice_get l.machine.store t))
-      → ((o : Seen) → words (one o) ≡ words o) → HomeStands v l t → HomeStands v' l' t
-  home_mapped_by v v' l l' t ec eo es en ow el er same_words H = record {
+      → is_joined (slice_get l'.machine.tasks t) ≡ is_joined (slice_get l.machine.tasks t) → ((o : Seen) → words (one o) ≡ words o) → HomeStands v l t → HomeStands v' l' t
+  home_mapped_by v v' l l' t ec eo es en ow el er ej same_words H = record {
     names = subst (λ ks. HasNames ks (heap_of l' t)) (sym ec) (subst (HasNames (map chunk (v.homes t).chunks)) (sym el) (names_mapped (v.homes t).chunks (heap_of l t) H.names));
     room = eo ∙ (H.room ∙ sym (ap (λ (h : Heap). h.room) el));
     since = es ∙ (H.since ∙ sym (ap (λ (h : Heap). h.since) el));
-    count = en ∙ (H.count ∙ sym er);
+    count = λ live. en ∙ (H.count (sym ej ∙ live) ∙ sym er);
     owned = λ k i. let q = map_in chunk (v.homes t).chunks k (subst (λ ks. In ks k) ec i) in
         ow k.number (ap (λ (c : Chunk). v.owner c.number) (sym q.2) ∙ H.owned q.0 q.1);
     inside = λ k o i j.
@@ -94,6 +95,6 @@ module _ (one : Seen → Seen) (same_name : (o : Seen) → (one o).name ≡ o.na
   }
 
   pub home_mapped : (v v' : Value) (l l' : Ledger) (t : ℕ) → v'.homes t ≡ mapped_home one (v.homes t) → ((k : ℕ) → v.owner k ≡ Some t → v'.owner k ≡ Some t) → heap_of l' t ≡ heap_of l t → slice_get l'.machine.store t ≡ slice_get l.machine.store t
-      → ((o : Seen) → words (one o) ≡ words o) → HomeStands v l t → HomeStands v' l' t
-  home_mapped v v' l l' t eh ow el er same_words H =
-      home_mapped_by v v' l l' t (ap (λ (h : Home). h.chunks) eh) (ap (λ (h : Home). h.room) eh) (ap (λ (h : Home). h.since) eh) (ap (λ (h : Home). h.count) eh) ow el (ap (λ r. length (row_of r)) er) same_words H
+      → is_joined (slice_get l'.machine.tasks t) ≡ is_joined (slice_get l.machine.tasks t) → ((o : Seen) → words (one o) ≡ words o) → HomeStands v l t → HomeStands v' l' t
+  home_mapped v v' l l' t eh ow el er ej same_words H =
+      home_mapped_by v v' l l' t (ap (λ (h : Home). h.chunks) eh) (ap (λ (h : Home). h.room) eh) (ap (λ (h : Home). h.since) eh) (ap (λ (h : Home). h.count) eh) ow el (ap (λ r. length (row_of r)) er) ej same_words H

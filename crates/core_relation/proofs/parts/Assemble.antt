@@ -89,8 +89,8 @@ module _ (v v1 v2 : Value) (l l1 l2 : Ledger) (t u : ℕ) (apart : t ≡ u → �
   home z r = elim (cases_eq z u) [
     | inl e ↦
         let ne : z ≡ t → ⊥ = λ f. apart (sym f ∙ e) in
-        home_kept v2 v l2 l z (C2.homes z ne) (λ k g. C2.owner k ∙ g) (A2.heaps z ne) (A2.rows z ne) (V2.homes z (rest2 z ne r))
-    | inr ne ↦ home_kept v1 v l1 l z (C1.homes z ne) (λ k g. C1.owner k ∙ g) (A1.heaps z ne) (A1.rows z ne) (V1.homes z (rest1 z ne r))
+        home_kept v2 v l2 l z (C2.homes z ne) (λ k g. C2.owner k ∙ g) (A2.heaps z ne) (A2.rows z ne) (A2.tree.joins z) (V2.homes z (rest2 z ne r))
+    | inr ne ↦ home_kept v1 v l1 l z (C1.homes z ne) (λ k g. C1.owner k ∙ g) (A1.heaps z ne) (A1.rows z ne) (A1.tree.joins z) (V1.homes z (rest1 z ne r))
   ]
 
   owner1 : (z : ℕ) (o : Seen) → (z ≡ u → ⊥) → Rests l z → In (objects v z) o → own l1 o.name ≡ z

@@ -8,6 +8,7 @@ use Rattle.hh_model.specs.declared.data.Status.TheVariants.{Running}
 use Rattle.hh_model.specs.declared.data.Task.{Task}
 use Rattle.hh_model.specs.declared.data.State.{State}
 use Rattle.hh_model.specs.Effect.{row_of}
+use Rattle.hh_model.specs.Step.{is_joined}
 use Rattle.run_ledger.specs.declared.data.Heap.{Heap}
 use Rattle.run_ledger.specs.declared.data.Ledger.{Ledger}
 use Rattle.run_ledger.specs.Heaps.{heap_of, or_fresh, let_go, collected, with_heap}
@@ -125,7 +126,9 @@ module _ (p : ProgramText) (s : Limits) (t : ℕ) (h h' : Home) (f : Addr → Ad
     };
     room = ap (λ (z : Home). z.room) new_home ∙ (C.copy.room ∙ (ap (λ (z : Heap). z.room) (sym heap') ∙ sym (rested_view (λ z. z.room) (λ z. refl) l' t)));
     since = ap (λ (z : Home). z.since) new_home ∙ (C.copy.since ∙ (ap (λ (z : Heap). z.since) (sym heap') ∙ sym (rested_view (λ z. z.since) (λ z. refl) l' t)));
-    count = ap (λ (z : Home). z.count) new_home ∙ (C.copy.count ∙ (sym (ap (λ (z : Home). z.count) old_home) ∙ (H.count ∙ sym (ap (λ (m : State). length (row_of (slice_get m.store t))) rested_changes.machine))));
+    count = λ live.
+        ap (λ (z : Home). z.count) new_home
+        ∙ (C.copy.count ∙ (sym (ap (λ (z : Home). z.count) old_home) ∙ (H.count (sym (ap (λ (m : State). is_joined (slice_get m.tasks t)) rested_changes.machine) ∙ live) ∙ sym (ap (λ (m : State). length (row_of (slice_get m.store t))) rested_changes.machine))));
     owned = λ c i. E.mine c (subst (λ (z : Home). In z.chunks c) new_home i);
     inside = λ c o i j. C.copy.inside c o (subst (λ (z : Home). In z.chunks c) new_home i) j;
     once = λ o q i j e. C.copy.once o q (subst (λ (z : Home). In (objects_in z.chunks) o) new_home i) (subst (λ (z : Home). In (objects_in z.chunks) q) new_home j) e;

@@ -5,7 +5,7 @@ use Rattle.hh_lang.specs.Form.{ProgramText}
 use Rattle.run_trace.specs.Settings.{Limits}
 use Rattle.hh_model.specs.declared.data.State.{State}
 use Rattle.hh_model.specs.Effect.{row_of}
-use Rattle.hh_model.specs.Step.{is_waiting}
+use Rattle.hh_model.specs.Step.{is_joined, is_waiting}
 use Rattle.run_ledger.specs.declared.data.Heap.{Heap}
 use Rattle.run_ledger.specs.declared.data.Ledger.{Ledger}
 use Rattle.run_ledger.specs.Heaps.{heap_of, or_fresh}
@@ -98,7 +98,7 @@ module _ (p : ProgramText) (s : Limits) (q : Part) (v : Value) (l l' : Ledger) (
         (record {
           home = λ z r.
               let e : heap_of k' z ≡ heap_of k z = heap_too (λ h. h) z (heaps z) in
-              home_kept (with_home v u q.home) (with_home v u q.home) k k' z refl (λ i e. e) e (ap (λ (m : State). length (row_of (slice_get m.store z))) then_.1.machine) (F.stands.homes z (ap (λ (h : Heap). h.worker) (sym e) ∙ r));
+              home_kept (with_home v u q.home) (with_home v u q.home) k k' z refl (λ i e. e) e (ap (λ (m : State). length (row_of (slice_get m.store z))) then_.1.machine) (ap (λ (m : State). is_joined (slice_get m.tasks z)) then_.1.machine) (F.stands.homes z (ap (λ (h : Heap). h.worker) (sym e) ∙ r));
           objects = λ z. refl;
           chunks = λ z e. refl;
           frames = λ z. refl;
@@ -154,9 +154,9 @@ module _ (p : ProgramText) (s : Limits) (q : Part) (v : Value) (l l' : Ledger) (
             let rests : Rests k u = rested_worker (task_steps p l u q.fresh) u in
             subst (HomeStands (with_home v' u q.home) k') (sym f)
             (home_kept (with_home v u q.home) (with_home v' u q.home) k k' u (at_home v' u q.home ∙ sym (at_home v u q.home)) (λ i e. C.owner i u e) (ap or_fresh then_.1.heap)
-            (ap (λ (m : State). length (row_of (slice_get m.store u))) then_.1.machine) (F.stands.homes u rests))
+            (ap (λ (m : State). length (row_of (slice_get m.store u))) then_.1.machine) (ap (λ (m : State). is_joined (slice_get m.tasks u)) then_.1.machine) (F.stands.homes u rests))
         | inr ne ↦
-            home_kept v' (with_home v' u q.home) l' k' z (off_home v' u q.home z ne) (λ i e. e) (N'.heaps z ne) (N'.rows z ne) (C.home z (ap (λ (h : Heap). h.worker) (sym (N'.heaps z ne)) ∙ r))
+            home_kept v' (with_home v' u q.home) l' k' z (off_home v' u q.home z ne) (λ i e. e) (N'.heaps z ne) (N'.rows z ne) (N'.tree.joins z) (C.home z (ap (λ (h : Heap). h.worker) (sym (N'.heaps z ne)) ∙ r))
       ]
 
 -- THE RUN ENDS

@@ -145,7 +145,7 @@ module _ (p : ProgramText) (s : Limits) (t k : ℕ) (h : Home) (v : Value) (l l'
   frames_step = (
     at_step,
     record {
-      home = home_alike vt vt' lt lt' t chunks_same (seen (λ z. z.room) refl) (seen (λ z. z.since) refl) (seen (λ z. z.count) refl) (λ n e. e) heap_same row_same (F.stands.homes t rests);
+      home = home_alike vt vt' lt lt' t chunks_same (seen (λ z. z.room) refl) (seen (λ z. z.since) refl) (seen (λ z. z.count) refl) (λ n e. e) heap_same row_same (alone.tree.joins t) (F.stands.homes t rests);
       contents = content;
       task = λ y e. subst (λ (z : Task). TaskIsRead (Place vt' lt') (vt'.homes t) z) (same_Some z' y (sym at_lt' ∙ e)) (task_kept (Place vt lt) (Place vt' lt') (vt'.homes t) z' (λ n j. place n) read_now);
     },

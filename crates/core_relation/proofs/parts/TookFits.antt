@@ -53,7 +53,7 @@ module _ (p : ProgramText) (s : Limits) (q : Part) (v v' : Value) (l : Ledger) (
     private = F.private;
     stands = renewed (with_home v q.task q.home) (with_home v' q.task q.home) k k F.stands (record { machine = refl; worker = λ u. refl; snapshot = λ u. refl })
         (record {
-          home = λ u r. home_kept (with_home v q.task q.home) (with_home v' q.task q.home) k k u (same u) (λ i e. C.owner i ∙ e) refl refl (F.stands.homes u r);
+          home = λ u r. home_kept (with_home v q.task q.home) (with_home v' q.task q.home) k k u (same u) (λ i e. C.owner i ∙ e) refl refl refl (F.stands.homes u r);
           objects = λ u. ap (λ (z : Home). objects_in z.chunks) (same u);
           chunks = λ u e. ap (λ (z : Home). length z.chunks) (same u);
           frames = λ u. ap (λ (z : Home). z.frames) (same u);

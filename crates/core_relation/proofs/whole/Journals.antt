@@ -55,7 +55,7 @@ first_stands p s = record {
       names = record { small = refl; large = refl };
       room = refl;
       since = refl;
-      count = refl;
+      count = λ live. refl;
       owned = λ k i. absurd i;
       inside = λ k o i j. absurd i;
       once = λ o q i j e. absurd i;
@@ -66,7 +66,7 @@ first_stands p s = record {
       names = record { small = refl; large = refl };
       room = refl;
       since = refl;
-      count = refl;
+      count = λ live. refl;
       owned = λ k i. absurd i;
       inside = λ k o i j. absurd i;
       once = λ o q i j e. absurd i;

@@ -7,5 +7,5 @@ use Rattle.child_tasks.proofs.fork.fork_sets.Goals as goal
 pub returns : goal.returns
 returns c =
     subst (λ (xs : List SetOf). SetsFork c.args.sets.now.items xs c.args.t) (sym (c.push_reserved-2.ensures.items ∙ ap (λ (zs : List SetOf). zs ++ c.new-2.result ∷ []) c.push_reserved.ensures.items))
-    (sets_fork c.args.sets.now.items c.args.t c.index_mut.result.now c.keep.new.set c.new.result c.new-2.result (item_is c.args.sets.now.items c.args.t c.index_mut.result.now c.requires.made c.index_mut.ensures.value)
-    (keeping_by c.index_mut.result.now c.keep.new.set c.keep.ensures.sources c.keep.ensures.kept c.keep.ensures.keeps) c.new.ensures c.new-2.ensures)
+    (sets_fork c.args.sets.now.items c.args.t c.index_mut.result.now c.set_keeps.new.self c.new.result c.new-2.result (item_is c.args.sets.now.items c.args.t c.index_mut.result.now c.requires.made c.index_mut.ensures.value)
+    (keeping_by c.index_mut.result.now c.set_keeps.new.self c.set_keeps.ensures.remembered c.set_keeps.ensures.kept c.set_keeps.ensures.keeps) c.new.ensures c.new-2.ensures)

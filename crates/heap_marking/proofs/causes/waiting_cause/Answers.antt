@@ -16,16 +16,16 @@ returns-then-not-is_waiting c =
     let waits : is_state_waiting (state_of c.args.tree.now c.args.t) ≡ false = sym (ap is_state_waiting c.state.ensures) ∙ (sym c.is_waiting.ensures ∙ c.if-not-is_waiting.true) in
     sym (ap (λ b. refused_unless b NotWaiting (refused_unless (noted_in (slice_get c.args.sets.now c.args.t)).keeps Swept None)) waits)
 
-pub returns-then-set : goal.returns-then-set
-returns-then-set c =
+pub returns-then-keeps : goal.returns-then-keeps
+returns-then-keeps c =
     let waits : is_state_waiting (state_of c.args.tree.now c.args.t) ≡ true = sym (ap is_state_waiting c.state.ensures) ∙ (sym c.is_waiting.ensures ∙ c.if-not-is_waiting.false) in
-    let noted = ap (λ (o : Option SetOf). (noted_in o).keeps) (slice_get-get_or c.args.sets.now c.args.t c.in-Some.set.now c.in-Some.ensures.lookup.3.0 ∙ ap Some (sym c.in-Some.ensures.lookup.1)) ∙ c.if-set.true in
+    let noted = ap (λ (o : Option SetOf). (noted_in o).keeps) (slice_get-get_or c.args.sets.now c.args.t c.in-Some.set.now c.in-Some.ensures.lookup.3.0 ∙ ap Some (sym c.in-Some.ensures.lookup.1)) ∙ (sym c.keeps.ensures ∙ c.if-keeps.true) in
     sym (cause_is c.args.tree.now c.args.sets.now c.args.t waits noted)
 
-pub returns-else-set : goal.returns-else-set
-returns-else-set c =
+pub returns-else-keeps : goal.returns-else-keeps
+returns-else-keeps c =
     let waits : is_state_waiting (state_of c.args.tree.now c.args.t) ≡ true = sym (ap is_state_waiting c.state.ensures) ∙ (sym c.is_waiting.ensures ∙ c.if-not-is_waiting.false) in
-    let noted = ap (λ (o : Option SetOf). (noted_in o).keeps) (slice_get-get_or c.args.sets.now c.args.t c.in-Some.set.now c.in-Some.ensures.lookup.3.0 ∙ ap Some (sym c.in-Some.ensures.lookup.1)) ∙ c.if-set.false in
+    let noted = ap (λ (o : Option SetOf). (noted_in o).keeps) (slice_get-get_or c.args.sets.now c.args.t c.in-Some.set.now c.in-Some.ensures.lookup.3.0 ∙ ap Some (sym c.in-Some.ensures.lookup.1)) ∙ (sym c.keeps.ensures ∙ c.if-keeps.false) in
     sym (cause_is c.args.tree.now c.args.sets.now c.args.t waits noted)
 
 pub returns-in-None : goal.returns-in-None

@@ -4,7 +4,7 @@ use Rattle.std.specs.Prelude.{IsSome}
 use Rattle.listed.proofs.Members.{got_within}
 use Rattle.alloc_path.specs.Heap.{Heap}
 use Rattle.inner_mark_gc.specs.Marks.{Marks}
-use Rattle.shared_value.specs.declared.rest.Rest.{Rest}
+use Rattle.shared_value.specs.declared.task_at_rest.Rest.{Rest}
 use Rattle.shared_value.specs.World.{flat, marks_at, rest_at}
 use Rattle.shared_value.proofs.Replaced.{set_twice}
 use Rattle.heap_marking.specs.Sweeping.{SweepsHome}
@@ -12,15 +12,15 @@ use Rattle.heap_marking.proofs.sweep.drop_unmarked.Goals as goal
 
 pub sweep-requires-clause-room : goal.sweep-requires-clause-room
 sweep-requires-clause-room c =
-    let is : rest_at c.args.homes.now c.args.t ≡ Some c.in-Some.rest = ap flat c.at_mut.ensures.value ∙ (sym c.replace.ensures.value ∙ c.in-Some.is) in
-    let at : marks_at c.args.marks.now c.args.t ≡ Some c.in-Some-replace.marking = ap flat c.at_mut-2.ensures.value ∙ (sym c.replace-2.ensures.value ∙ c.in-Some-replace.is) in
-    (c.requires.can c.in-Some.rest c.in-Some-replace.marking is at).room
+    let is : rest_at c.args.homes.now c.args.t ≡ Some c.get_mut.result.now = ap flat c.at_mut.ensures.value ∙ (sym c.replace.ensures.value ∙ (c.in-Some.is ∙ ap Some (sym c.get_mut.ensures.value))) in
+    let at : marks_at c.args.marks.now c.args.t ≡ Some c.into_inner.result = ap flat c.at_mut-2.ensures.value ∙ (sym c.replace-2.ensures.value ∙ (c.in-Some-replace.is ∙ ap Some (sym c.into_inner.ensures))) in
+    (c.requires.can c.get_mut.result.now c.into_inner.result is at).room
 
 pub sweep-requires-clause-in_use : goal.sweep-requires-clause-in_use
 sweep-requires-clause-in_use c =
-    let is : rest_at c.args.homes.now c.args.t ≡ Some c.in-Some.rest = ap flat c.at_mut.ensures.value ∙ (sym c.replace.ensures.value ∙ c.in-Some.is) in
-    let at : marks_at c.args.marks.now c.args.t ≡ Some c.in-Some-replace.marking = ap flat c.at_mut-2.ensures.value ∙ (sym c.replace-2.ensures.value ∙ c.in-Some-replace.is) in
-    (c.requires.can c.in-Some.rest c.in-Some-replace.marking is at).in_use
+    let is : rest_at c.args.homes.now c.args.t ≡ Some c.get_mut.result.now = ap flat c.at_mut.ensures.value ∙ (sym c.replace.ensures.value ∙ (c.in-Some.is ∙ ap Some (sym c.get_mut.ensures.value))) in
+    let at : marks_at c.args.marks.now c.args.t ≡ Some c.into_inner.result = ap flat c.at_mut-2.ensures.value ∙ (sym c.replace-2.ensures.value ∙ (c.in-Some-replace.is ∙ ap Some (sym c.into_inner.ensures))) in
+    (c.requires.can c.get_mut.result.now c.into_inner.result is at).in_use
 
 pub set-requires : goal.set-requires
 set-requires c =
@@ -30,17 +30,17 @@ set-requires c =
 
 pub returns-clause-swept : goal.returns-clause-swept
 returns-clause-swept c = λ r m there marked.
-    let is : rest_at c.args.homes.now c.args.t ≡ Some c.in-Some.rest = ap flat c.at_mut.ensures.value ∙ (sym c.replace.ensures.value ∙ c.in-Some.is) in
-    let at : marks_at c.args.marks.now c.args.t ≡ Some c.in-Some-replace.marking = ap flat c.at_mut-2.ensures.value ∙ (sym c.replace-2.ensures.value ∙ c.in-Some-replace.is) in
-    let same_r : c.in-Some.rest ≡ r = same_Some c.in-Some.rest r (sym is ∙ there) in
-    let same_m : c.in-Some-replace.marking ≡ m = same_Some c.in-Some-replace.marking m (sym at ∙ marked) in
+    let is : rest_at c.args.homes.now c.args.t ≡ Some c.get_mut.result.now = ap flat c.at_mut.ensures.value ∙ (sym c.replace.ensures.value ∙ (c.in-Some.is ∙ ap Some (sym c.get_mut.ensures.value))) in
+    let at : marks_at c.args.marks.now c.args.t ≡ Some c.into_inner.result = ap flat c.at_mut-2.ensures.value ∙ (sym c.replace-2.ensures.value ∙ (c.in-Some-replace.is ∙ ap Some (sym c.into_inner.ensures))) in
+    let same_r : c.get_mut.result.now ≡ r = same_Some c.get_mut.result.now r (sym is ∙ there) in
+    let same_m : c.into_inner.result ≡ m = same_Some c.into_inner.result m (sym at ∙ marked) in
     let Swept : Rest → Marks → Type 0 = λ x y. SweepsHome c.args.homes.now c.set.new.self c.args.pool.now c.sweep.new.pool c.args.t x y in
-    subst (λ (x : Rest). Swept x m) same_r (subst (λ (y : Marks). Swept c.in-Some.rest y) same_m (record {
+    subst (λ (x : Rest). Swept x m) same_r (subst (λ (y : Marks). Swept c.get_mut.result.now y) same_m (record {
       slots = c.sweep.new.heap.slots;
       spare = c.sweep.new.heap.spare;
       homes = c.set.ensures
           ∙ (set_twice c.args.homes.now c.args.t c.replace.new.dest _
-          ∙ ap (λ (h : Heap). slice_set c.args.homes.now c.args.t (Some (let z : Rest = record c.in-Some.rest { heap = h } in z))) c.sweep.ensures.heap);
+          ∙ ap (λ (h : Heap). slice_set c.args.homes.now c.args.t (Some (let z : Rest = record c.get_mut.result.now { heap = h } in z))) c.sweep.ensures.heap);
       given = c.sweep.ensures.pool;
     }))
 
@@ -63,9 +63,9 @@ unreachable-requires c = not_some (subst IsSome (ap flat c.at_mut.ensures.value 
 
 pub sweep-requires-clause-done : goal.sweep-requires-clause-done
 sweep-requires-clause-done c =
-    let is : rest_at c.args.homes.now c.args.t ≡ Some c.in-Some.rest = ap flat c.at_mut.ensures.value ∙ (sym c.replace.ensures.value ∙ c.in-Some.is) in
-    let at : marks_at c.args.marks.now c.args.t ≡ Some c.in-Some-replace.marking = ap flat c.at_mut-2.ensures.value ∙ (sym c.replace-2.ensures.value ∙ c.in-Some-replace.is) in
-    (c.requires.can c.in-Some.rest c.in-Some-replace.marking is at).done
+    let is : rest_at c.args.homes.now c.args.t ≡ Some c.get_mut.result.now = ap flat c.at_mut.ensures.value ∙ (sym c.replace.ensures.value ∙ (c.in-Some.is ∙ ap Some (sym c.get_mut.ensures.value))) in
+    let at : marks_at c.args.marks.now c.args.t ≡ Some c.into_inner.result = ap flat c.at_mut-2.ensures.value ∙ (sym c.replace-2.ensures.value ∙ (c.in-Some-replace.is ∙ ap Some (sym c.into_inner.ensures))) in
+    (c.requires.can c.get_mut.result.now c.into_inner.result is at).done
 
 pub returns-clause-marks : goal.returns-clause-marks
 returns-clause-marks c = ap (slice_set c.args.marks.now c.args.t) c.replace-2.ensures.after

@@ -5,8 +5,8 @@ use Rattle.object_layout.proofs.ChunkLaws as chunks
 use Rattle.alloc_path.proofs.HeapLemmas as heap
 use Rattle.alloc_path.proofs.space.Space.chunk_in.Goals as goal
 
-pub index-requires : goal.index-requires
-index-requires c =
+pub at-requires : goal.at-requires
+at-requires c =
     let l = (heap.place_found c.self.inside.chunks.items c.args.object.chunk c.args.place (rw (← c.self.view_is) at c.requires)).1 in
     omega arith
 
@@ -15,5 +15,5 @@ returns c =
     let at = heap.place_found c.self.inside.chunks.items c.args.object.chunk c.args.place (rw (← c.self.view_is) at c.requires) in
     let place = at.0 in
     let l = at.1 in
-    let found = chunks.cell_of-found c.self.inside.chunks.items c.args.object c.index.result.now (omega arith) in
-    rw (← c.self.view_is) (ap (λ (k : Content). cell_at k.cells c.args.object.offset) (rw place at c.index.ensures) ∙ sym found)
+    let found = chunks.cell_of-found c.self.inside.chunks.items c.args.object c.at.result.now (omega arith) in
+    rw (← c.self.view_is) (ap (λ (k : Content). cell_at k.cells c.args.object.offset) (rw place at c.at.ensures) ∙ sym found)

@@ -8,5 +8,5 @@ pub returns : goal.returns
 returns c =
     let in' = rw (← c.self.view_is) at c.requires in
     let place = rw (← c.self.view_is) at c.own_place.ensures in
-    let found = chunks.cell_of-found c.self.inside.chunks.items c.args.object c.index.result.now in' in
-    rw (← c.self.view_is) (ap (λ (k : Content). cell_at k.cells c.args.object.offset) (rw place at c.index.ensures) ∙ sym found)
+    let found = chunks.cell_of-found c.self.inside.chunks.items c.args.object c.at.result.now in' in
+    rw (← c.self.view_is) (ap (λ (k : Content). cell_at k.cells c.args.object.offset) (rw place at c.at.ensures) ∙ sym found)

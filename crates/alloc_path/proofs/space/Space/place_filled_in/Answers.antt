@@ -1,5 +1,6 @@
 use Rattle.std.proofs.Common.{◌≡◌, ◌+◌, ◌∙◌, ap, arith, refl}
 use Rattle.object_layout.specs.Chunks.{small_part}
+use Rattle.object_layout.specs.Content.{Content}
 use Rattle.alloc_path.specs.Heap.{counted}
 use Rattle.object_layout.specs.Cell.{filled_cell, size_of}
 use Rattle.alloc_path.specs.contracts.space.Space.{the_view}
@@ -19,17 +20,17 @@ invariant_of-self c =
       | then-words-gt-SMALL w ↦
           let more = w.if-words-gt-SMALL.true in
           let sum = rw w.self-inside-is at c.saturating_add-self-inside-2.ensures in
-          rw (w.self-inside-is, c.forget.ensures, c.write_filled.ensures)
-          (heap.placed_kept (the_view c.self.inside) _ _ _ _ _ _ _ c.self.invariant c.args.i c.index_mut-chunk.result.now c.index_mut-chunk.ensures.value (filled_cell c.args.new.header c.args.new.birth c.args.refs.now c.args.ints.now) (λ n. refl) fits
+          rw (w.self-inside-is, c.write_filled.ensures)
+          (heap.placed_kept (the_view c.self.inside) _ _ _ _ _ _ _ c.self.invariant c.args.i c.at_mut-chunk.result.now c.at_mut-chunk.ensures.value (filled_cell c.args.new.header c.args.new.birth c.args.refs.now c.args.ints.now) (λ n. refl) fits
           _ (λ l. absurd (omega arith)) (λ l. refl) _ _ _ (rw size (sum ∙ omega arith)) (rw w.self-inside-is at c.saturating_add-self-inside-3.ensures) (rw w.self-inside-is at c.saturating_add-self-inside-4.ensures ∙ ap (λ n. counted (c.self.inside.small + n)) part)
-          _ (lists.changed c.self.inside.pieces.pieces c.self.inside.chunks.items c.self.invariant.shown c.args.i _))
+          _ (lists.changed _ _ c.self.inside.chunks.items c.args.i c.number-number.result _ c.at_mut-chunk.result.now (ap (λ (x : Content). x.number) c.at_mut-chunk.ensures.value) c.number-number.ensures c.forget.ensures c.self.invariant.shown))
       | else-words-gt-SMALL w ↦
           let less = w.if-words-gt-SMALL.false in
           let sum = rw w.self-inside-is at c.saturating_add-self-inside-2.ensures in
-          rw (w.self-inside-is, c.forget.ensures, c.write_filled.ensures)
-          (heap.placed_kept (the_view c.self.inside) _ _ _ _ _ _ _ c.self.invariant c.args.i c.index_mut-chunk.result.now c.index_mut-chunk.ensures.value (filled_cell c.args.new.header c.args.new.birth c.args.refs.now c.args.ints.now) (λ n. refl) fits
+          rw (w.self-inside-is, c.write_filled.ensures)
+          (heap.placed_kept (the_view c.self.inside) _ _ _ _ _ _ _ c.self.invariant c.args.i c.at_mut-chunk.result.now c.at_mut-chunk.ensures.value (filled_cell c.args.new.header c.args.new.birth c.args.refs.now c.args.ints.now) (λ n. refl) fits
           _ (λ l. refl) (λ l. absurd (omega arith)) _ _ _ (rw size (sum ∙ omega arith)) (rw w.self-inside-is at c.saturating_add-self-inside-3.ensures) (rw w.self-inside-is at c.saturating_add-self-inside-4.ensures ∙ ap (λ n. counted (c.self.inside.small + n)) part)
-          _ (lists.changed c.self.inside.pieces.pieces c.self.inside.chunks.items c.self.invariant.shown c.args.i _))
+          _ (lists.changed _ _ c.self.inside.chunks.items c.args.i c.number-number.result _ c.at_mut-chunk.result.now (ap (λ (x : Content). x.number) c.at_mut-chunk.ensures.value) c.number-number.ensures c.forget.ensures c.self.invariant.shown))
     ]
 
 pub returns-clause-settled : goal.returns-clause-settled
@@ -39,15 +40,15 @@ returns-clause-settled c = λ s.
     elim c.if-words-gt-SMALL.branch [
       | then-words-gt-SMALL w ↦
           rw (w.self-inside-is, c.write_filled.ensures)
-          (settled.settled_placed (the_view c.self.inside) _ _ _ _ _ _ _ c.self.invariant c.args.i (filled_cell c.args.new.header c.args.new.birth c.args.refs.now c.args.ints.now) fits refl c.index_mut-chunk.result.now c.index_mut-chunk.ensures.value was)
+          (settled.settled_placed (the_view c.self.inside) _ _ _ _ _ _ _ c.self.invariant c.args.i (filled_cell c.args.new.header c.args.new.birth c.args.refs.now c.args.ints.now) fits refl c.at_mut-chunk.result.now c.at_mut-chunk.ensures.value was)
       | else-words-gt-SMALL w ↦
           rw (w.self-inside-is, c.write_filled.ensures)
-          (settled.settled_placed (the_view c.self.inside) _ _ _ _ _ _ _ c.self.invariant c.args.i (filled_cell c.args.new.header c.args.new.birth c.args.refs.now c.args.ints.now) fits refl c.index_mut-chunk.result.now c.index_mut-chunk.ensures.value was)
+          (settled.settled_placed (the_view c.self.inside) _ _ _ _ _ _ _ c.self.invariant c.args.i (filled_cell c.args.new.header c.args.new.birth c.args.refs.now c.args.ints.now) fits refl c.at_mut-chunk.result.now c.at_mut-chunk.ensures.value was)
     ]
 
 pub returns-clause-near : goal.returns-clause-near
 returns-clause-near c =
     let fits = rw (← c.self.view_is) at c.requires.fits in
     let near =
-    settled.placed_near (the_view c.self.inside) _ _ _ _ _ _ _ c.self.invariant c.args.i (filled_cell c.args.new.header c.args.new.birth c.args.refs.now c.args.ints.now) fits refl c.index_mut-chunk.result.now c.index_mut-chunk.ensures.value in
+    settled.placed_near (the_view c.self.inside) _ _ _ _ _ _ _ c.self.invariant c.args.i (filled_cell c.args.new.header c.args.new.birth c.args.refs.now c.args.ints.now) fits refl c.at_mut-chunk.result.now c.at_mut-chunk.ensures.value in
     rw c.used-offset.ensures.words near

@@ -8,8 +8,8 @@ use Rattle.object_layout.proofs.PlaceLemmas as place
 use Rattle.alloc_path.proofs.HeapLemmas as heap
 use Rattle.alloc_path.proofs.space.Space.set_int_in.Goals as goal
 
-pub index_mut-chunk-requires : goal.index_mut-chunk-requires
-index_mut-chunk-requires c =
+pub at_mut-chunk-requires : goal.at_mut-chunk-requires
+at_mut-chunk-requires c =
     let o = rw (← c.self.view_is) at (chunks.object_with_int c.args.self.now.chunks c.args.object c.args.field c.requires.field) in
     let found = (heap.place_found c.self.inside.chunks.items c.args.object.chunk c.args.place (rw (← c.self.view_is) at c.requires.place)).0 in
     let in' = chunks.chunk_of_object c.self.inside.chunks.items c.args.object o in
@@ -20,28 +20,28 @@ set_int-requires c =
     let o = rw (← c.self.view_is) at (chunks.object_with_int c.args.self.now.chunks c.args.object c.args.field c.requires.field) in
     let found = (heap.place_found c.self.inside.chunks.items c.args.object.chunk c.args.place (rw (← c.self.view_is) at c.requires.place)).0 in
     let field = rw (← c.self.view_is) at c.requires.field in
-    rw (heap.own_cell c.self.inside.chunks.items c.args.object c.args.place c.index_mut-chunk.result.now o found c.index_mut-chunk.ensures.value) at field
+    rw (heap.own_cell c.self.inside.chunks.items c.args.object c.args.place c.at_mut-chunk.result.now o found c.at_mut-chunk.ensures.value) at field
 
 pub forget_written-requires : goal.forget_written-requires
 forget_written-requires c =
     let o = rw (← c.self.view_is) at (chunks.object_with_int c.args.self.now.chunks c.args.object c.args.field c.requires.field) in
     let found = (heap.place_found c.self.inside.chunks.items c.args.object.chunk c.args.place (rw (← c.self.view_is) at c.requires.place)).0 in
-    rw (heap.own_cell c.self.inside.chunks.items c.args.object c.args.place c.index_mut-chunk.result.now o found c.index_mut-chunk.ensures.value) at o
+    rw (heap.own_cell c.self.inside.chunks.items c.args.object c.args.place c.at_mut-chunk.result.now o found c.at_mut-chunk.ensures.value) at o
 
 pub invariant_of-self : goal.invariant_of-self
 invariant_of-self c =
     let o = rw (← c.self.view_is) at (chunks.object_with_int c.args.self.now.chunks c.args.object c.args.field c.requires.field) in
     let found = (heap.place_found c.self.inside.chunks.items c.args.object.chunk c.args.place (rw (← c.self.view_is) at c.requires.place)).0 in
     let back = to_z-of_z w64 c.args.value c.ranges.value in
-    rw (c.forget_written.ensures, c.set_int.ensures, back)
-    (heap.own_written c.self.inside.chunks.items c.args.object c.args.place c.index_mut-chunk.result.now o found c.index_mut-chunk.ensures.value
-    _ _ _ _ _ _ _ _ _ c.self.invariant (with_int (cell_at c.index_mut-chunk.result.now.cells c.args.object.offset) c.args.field c.args.value) refl refl (place.size_of-with_int (cell_at c.index_mut-chunk.result.now.cells c.args.object.offset) c.args.field c.args.value))
+    rw (c.set_int.ensures, back)
+    (heap.own_written c.self.inside.chunks.items c.args.object c.args.place c.at_mut-chunk.result.now o found c.at_mut-chunk.ensures.value
+    _ _ _ _ _ _ _ _ _ c.self.invariant (with_int (cell_at c.at_mut-chunk.result.now.cells c.args.object.offset) c.args.field c.args.value) refl refl (place.size_of-with_int (cell_at c.at_mut-chunk.result.now.cells c.args.object.offset) c.args.field c.args.value) _ c.forget_written.ensures)
 
 pub returns : goal.returns
 returns c =
     let o = rw (← c.self.view_is) at (chunks.object_with_int c.args.self.now.chunks c.args.object c.args.field c.requires.field) in
     let found = (heap.place_found c.self.inside.chunks.items c.args.object.chunk c.args.place (rw (← c.self.view_is) at c.requires.place)).0 in
-    let cell = heap.own_cell c.self.inside.chunks.items c.args.object c.args.place c.index_mut-chunk.result.now o found c.index_mut-chunk.ensures.value in
-    let put = heap.own_put c.self.inside.chunks.items c.args.object c.args.place c.index_mut-chunk.result.now o found c.index_mut-chunk.ensures.value in
+    let cell = heap.own_cell c.self.inside.chunks.items c.args.object c.args.place c.at_mut-chunk.result.now o found c.at_mut-chunk.ensures.value in
+    let put = heap.own_put c.self.inside.chunks.items c.args.object c.args.place c.at_mut-chunk.result.now o found c.at_mut-chunk.ensures.value in
     let back = to_z-of_z w64 c.args.value c.ranges.value in
-    rw (← c.self.view_is, c.set_int.ensures, back, cell, put (with_int (cell_at c.index_mut-chunk.result.now.cells c.args.object.offset) c.args.field c.args.value))
+    rw (← c.self.view_is, c.set_int.ensures, back, cell, put (with_int (cell_at c.at_mut-chunk.result.now.cells c.args.object.offset) c.args.field c.args.value))

@@ -4,8 +4,8 @@ use Rattle.run_ledger.specs.declared.data.RunEnd.TheVariants.{Machine}
 use Rattle.heap_tree.specs.declared.state.State.TheVariants.{Ended}
 use Rattle.heap_tree.specs.Node.{with_state}
 use Rattle.task_machine.specs.declared.part.Private.{Private}
-use Rattle.shared_value.specs.declared.next.Ending.TheVariants.{Returns}
-use Rattle.shared_value.specs.declared.rest.Rest.{Rest}
+use Rattle.shared_value.specs.declared.next_step.Ending.TheVariants.{Returns}
+use Rattle.shared_value.specs.declared.task_at_rest.Rest.{Rest}
 use Rattle.shared_value.specs.Stands.{IsWorld}
 use Rattle.shared_value.specs.World.{World}
 use Rattle.shared_value.specs.Fits.{Fits}
@@ -61,7 +61,7 @@ invariant_of-self c =
     let T : Tells w p Returns c.args.line = subst (λ (z : World). Tells z p Returns c.args.line) (sym c.self.view_is) c.requires.returns in
     let v : World = record w { steps = w.steps + (p.fresh + 1); end = Some (Machine Done) } in
     subst IsWorld (sym (four_changed v (with_state w.tree p.task Ended) _ (slice_set w.homes p.task (Some (ended_rest p))) _ (slice_set w.hands k None) _ (record { items = _; room = w.journal.room - 1 }) _
-    c.set_state.ensures (c.set-2.ensures ∙ ap (λ (r : Rest). slice_set w.homes p.task (Some r)) c.at_end.ensures) c.set.ensures (journal_by w.journal _ _ (alone_event k p) c.new.ensures c.push_reserved.ensures)))
+    c.set_state.ensures (c.set-2.ensures ∙ ap (λ (r : Rest). slice_set w.homes p.task (Some r)) (c.put_rest-rest.ensures ∙ c.at_end.ensures)) c.set.ensures (journal_by w.journal _ _ (alone_event k p) c.new.ensures c.push_reserved.ensures)))
     (finished_world w k p c.self.invariant F shared free c.args.line T c.requires.root (record { items = []; room = w.journal.room - 1 }))
 
 pub returns : goal.returns
@@ -76,5 +76,5 @@ returns c =
     let v : World = record w { steps = w.steps + (p.fresh + 1); end = Some (Machine Done) } in
     subst (λ (z : World). FinishesAlone z (record v { tree = c.set_state.new.self; homes = c.set-2.new.self; hands = c.set.new.self; journal = c.push_reserved.new.self }) k p) c.self.view_is
     (subst (λ (z : World). FinishesAlone w z k p) (sym (four_changed v (with_state w.tree p.task Ended) _ (slice_set w.homes p.task (Some (ended_rest p))) _ (slice_set w.hands k None) _ (record { items = _; room = w.journal.room - 1 }) _
-    c.set_state.ensures (c.set-2.ensures ∙ ap (λ (r : Rest). slice_set w.homes p.task (Some r)) c.at_end.ensures) c.set.ensures (journal_by w.journal _ _ (alone_event k p) c.new.ensures c.push_reserved.ensures)))
+    c.set_state.ensures (c.set-2.ensures ∙ ap (λ (r : Rest). slice_set w.homes p.task (Some r)) (c.put_rest-rest.ensures ∙ c.at_end.ensures)) c.set.ensures (journal_by w.journal _ _ (alone_event k p) c.new.ensures c.push_reserved.ensures)))
     (finishes_alone w k p c.self.invariant F shared free c.args.line T c.requires.root (record { items = []; room = w.journal.room - 1 })))

@@ -3,7 +3,7 @@ use Rattle.heap_tree.specs.declared.state.State.TheVariants.{Ended}
 use Rattle.heap_tree.specs.Node.{state_of, with_state}
 use Rattle.heap_tree.specs.Pairs.{sibling}
 use Rattle.task_machine.specs.declared.part.Private.{Private}
-use Rattle.shared_value.specs.declared.rest.Rest.{Rest}
+use Rattle.shared_value.specs.declared.task_at_rest.Rest.{Rest}
 use Rattle.shared_value.specs.Stands.{IsWorld}
 use Rattle.shared_value.specs.World.{World}
 use Rattle.shared_value.specs.Fits.{Fits}
@@ -64,7 +64,7 @@ invariant_of-self c =
     let no : state_of w.tree (sibling p.task) ≡ Some Ended → ⊥ = λ e. c.requires.alone (subst (λ (z : World). state_of z.tree (sibling p.task) ≡ Some Ended) c.self.view_is e) in
     let v : World = record w { steps = w.steps + (p.fresh + 1) } in
     subst IsWorld (sym (four_changed v (with_state w.tree p.task Ended) _ (slice_set w.homes p.task (Some (ended_rest p))) _ (slice_set w.hands k None) _ (record { items = _; room = w.journal.room - 1 }) _
-    c.set_state.ensures (c.set-2.ensures ∙ ap (λ (r : Rest). slice_set w.homes p.task (Some r)) c.at_end.ensures) c.set.ensures (journal_by w.journal _ _ (alone_event k p) c.new.ensures c.push_reserved.ensures)))
+    c.set_state.ensures (c.set-2.ensures ∙ ap (λ (r : Rest). slice_set w.homes p.task (Some r)) (c.put_rest-rest.ensures ∙ c.at_end.ensures)) c.set.ensures (journal_by w.journal _ _ (alone_event k p) c.new.ensures c.push_reserved.ensures)))
     (alone_world w k p I F at free no (record { items = []; room = w.journal.room - 1 }))
 
 pub returns-clause-ended : goal.returns-clause-ended
@@ -80,7 +80,7 @@ returns-clause-ended c =
     let v : World = record w { steps = w.steps + (p.fresh + 1) } in
     subst (λ (z : World). EndsChild z (record v { tree = c.set_state.new.self; homes = c.set-2.new.self; hands = c.set.new.self; journal = c.push_reserved.new.self }) k p None) c.self.view_is
     (subst (λ (z : World). EndsChild w z k p None) (sym (four_changed v (with_state w.tree p.task Ended) _ (slice_set w.homes p.task (Some (ended_rest p))) _ (slice_set w.hands k None) _ (record { items = _; room = w.journal.room - 1 }) _
-    c.set_state.ensures (c.set-2.ensures ∙ ap (λ (r : Rest). slice_set w.homes p.task (Some r)) c.at_end.ensures) c.set.ensures (journal_by w.journal _ _ (alone_event k p) c.new.ensures c.push_reserved.ensures)))
+    c.set_state.ensures (c.set-2.ensures ∙ ap (λ (r : Rest). slice_set w.homes p.task (Some r)) (c.put_rest-rest.ensures ∙ c.at_end.ensures)) c.set.ensures (journal_by w.journal _ _ (alone_event k p) c.new.ensures c.push_reserved.ensures)))
     (alone_ends w k p I F at free no (record { items = []; room = w.journal.room - 1 })))
 
 pub returns-clause-hand : goal.returns-clause-hand

@@ -5,7 +5,7 @@ use Rattle.heap_tree.specs.Node.{Node, depth_of, forked}
 use Rattle.write_barrier.specs.declared.sets.SetOf.{SetOf}
 use Rattle.fork_join.specs.declared.forks.Child.{Child}
 use Rattle.task_machine.specs.declared.part.Private.{Private}
-use Rattle.shared_value.specs.declared.rest.Rest.{Rest}
+use Rattle.shared_value.specs.declared.task_at_rest.Rest.{Rest}
 use Rattle.shared_value.specs.Stands.{IsWorld}
 use Rattle.shared_value.specs.World.{World}
 use Rattle.shared_value.specs.Fits.{Fits}
@@ -61,7 +61,7 @@ fork_sets-requires-clause-made c =
     let B : ForksTo w p c.args.left c.args.right c.args.line = subst (λ (z : World). ForksTo z p c.args.left c.args.right c.args.line) (sym c.self.view_is) c.requires.by in
     let low : depth_of w.tree p.task < 1000 = subst (λ (z : World). depth_of z.tree p.task < 1000) (sym c.self.view_is) c.requires.shallow in
     let I : IsWorld w = c.self.invariant in
-    subst (λ (xs : List SetOf). p.task < length xs) (sym c.in-Ok.ensures.sets) (own_set w k p I F at free c.args.left c.args.right c.args.line B low)
+    subst (λ (xs : List SetOf). p.task < length xs) (sym c.in-Ok-grown.ensures.sets) (own_set w k p I F at free c.args.left c.args.right c.args.line B low)
 
 pub put_homes-requires-clause-made : goal.put_homes-requires-clause-made
 put_homes-requires-clause-made c =
@@ -75,7 +75,7 @@ put_homes-requires-clause-made c =
     let low : depth_of w.tree p.task < 1000 = subst (λ (z : World). depth_of z.tree p.task < 1000) (sym c.self.view_is) c.requires.shallow in
     let I : IsWorld w = c.self.invariant in
     let made : p.task < length w.homes = own_home w k p I F at free c.args.left c.args.right c.args.line B low in
-    subst (λ xs. p.task < length xs) (sym c.in-Ok.ensures.homes) (let e = length-append w.homes (None ∷ (None ∷ [])) in omega (arith, made, e))
+    subst (λ xs. p.task < length xs) (sym c.in-Ok-grown.ensures.homes) (let e = length-append w.homes (None ∷ (None ∷ [])) in omega (arith, made, e))
 
 pub put_homes-requires-clause-next : goal.put_homes-requires-clause-next
 put_homes-requires-clause-next c =
@@ -99,14 +99,14 @@ invariant_of-self-2 c =
     let low : depth_of w.tree p.task < 1000 = subst (λ (z : World). depth_of z.tree p.task < 1000) (sym c.self.view_is) c.requires.shallow in
     let I : IsWorld w = c.self.invariant in
     let made : p.task < length w.homes = own_home w k p I F at free c.args.left c.args.right c.args.line B low in
-    let first : c.in-Ok.first ≡ part_child p (length w.homes) c.args.left c.in-Ok.first.heap.slots c.in-Ok.first.heap.spare = c.in-Ok.ensures.left_child ∙ ap (λ n. part_child p n c.args.left c.in-Ok.first.heap.slots c.in-Ok.first.heap.spare) (sym I.made) in
-    let second : c.in-Ok.second ≡ part_child p (length w.homes + 1) c.args.right c.in-Ok.second.heap.slots c.in-Ok.second.heap.spare = c.in-Ok.ensures.right_child ∙ ap (λ n. part_child p (n + 1) c.args.right c.in-Ok.second.heap.slots c.in-Ok.second.heap.spare) (sym I.made) in
-    let H : HomesFork w.homes c.put_homes.new.homes p c.args.left c.args.right = homes_fork_by w.homes c.grow-grown.new.homes c.put_homes.new.homes p c.args.left c.args.right c.in-Ok.first c.in-Ok.second made c.in-Ok.ensures.homes first second c.put_homes.ensures in
-    let N : SetsFork w.sets c.fork_sets.new.sets.items p.task = subst (λ (xs : List SetOf). SetsFork xs c.fork_sets.new.sets.items p.task) c.in-Ok.ensures.sets c.fork_sets.ensures in
+    let first : c.in-Ok-grown.first ≡ part_child p (length w.homes) c.args.left c.in-Ok-grown.first.heap.slots c.in-Ok-grown.first.heap.spare = c.in-Ok-grown.ensures.left_child ∙ ap (λ n. part_child p n c.args.left c.in-Ok-grown.first.heap.slots c.in-Ok-grown.first.heap.spare) (sym I.made) in
+    let second : c.in-Ok-grown.second ≡ part_child p (length w.homes + 1) c.args.right c.in-Ok-grown.second.heap.slots c.in-Ok-grown.second.heap.spare = c.in-Ok-grown.ensures.right_child ∙ ap (λ n. part_child p (n + 1) c.args.right c.in-Ok-grown.second.heap.slots c.in-Ok-grown.second.heap.spare) (sym I.made) in
+    let H : HomesFork w.homes c.put_homes.new.homes p c.args.left c.args.right = homes_fork_by w.homes c.grow-grown.new.homes c.put_homes.new.homes p c.args.left c.args.right c.in-Ok-grown.first c.in-Ok-grown.second made c.in-Ok-grown.ensures.homes first second c.put_homes.ensures in
+    let N : SetsFork w.sets c.fork_sets.new.sets.items p.task = subst (λ (xs : List SetOf). SetsFork xs c.fork_sets.new.sets.items p.task) c.in-Ok-grown.ensures.sets c.fork_sets.ensures in
     let j : Space Event = record { items = []; room = w.journal.room - 1 } in
     let v : World = record w { steps = w.steps + (p.fresh + 1); sets = c.fork_sets.new.sets.items; marks = c.clear_marks.new.marks } in
     subst IsWorld (sym (four_changed v (forked w.tree p.task) _ c.put_homes.new.homes c.put_homes.new.homes (slice_set w.hands k None) _ (record { items = _; room = w.journal.room - 1 }) _
-    c.in-Ok.ensures.tree refl c.set.ensures (journal_by w.journal _ _ (alone_event k p) c.new.ensures c.push_reserved.ensures)))
+    c.in-Ok-grown.ensures.tree refl c.set.ensures (journal_by w.journal _ _ (alone_event k p) c.new-2.ensures c.push_reserved.ensures)))
     (alone_world w k p I F at free c.args.left c.args.right c.args.line B low c.put_homes.new.homes c.fork_sets.new.sets.items H N c.clear_marks.new.marks c.clear_marks.ensures j)
 
 pub returns-clause-answered : goal.returns-clause-answered
@@ -121,17 +121,17 @@ returns-clause-answered c =
     let low : depth_of w.tree p.task < 1000 = subst (λ (z : World). depth_of z.tree p.task < 1000) (sym c.self.view_is) c.requires.shallow in
     let I : IsWorld w = c.self.invariant in
     let made : p.task < length w.homes = own_home w k p I F at free c.args.left c.args.right c.args.line B low in
-    let first : c.in-Ok.first ≡ part_child p (length w.homes) c.args.left c.in-Ok.first.heap.slots c.in-Ok.first.heap.spare = c.in-Ok.ensures.left_child ∙ ap (λ n. part_child p n c.args.left c.in-Ok.first.heap.slots c.in-Ok.first.heap.spare) (sym I.made) in
-    let second : c.in-Ok.second ≡ part_child p (length w.homes + 1) c.args.right c.in-Ok.second.heap.slots c.in-Ok.second.heap.spare = c.in-Ok.ensures.right_child ∙ ap (λ n. part_child p (n + 1) c.args.right c.in-Ok.second.heap.slots c.in-Ok.second.heap.spare) (sym I.made) in
-    let H : HomesFork w.homes c.put_homes.new.homes p c.args.left c.args.right = homes_fork_by w.homes c.grow-grown.new.homes c.put_homes.new.homes p c.args.left c.args.right c.in-Ok.first c.in-Ok.second made c.in-Ok.ensures.homes first second c.put_homes.ensures in
-    let N : SetsFork w.sets c.fork_sets.new.sets.items p.task = subst (λ (xs : List SetOf). SetsFork xs c.fork_sets.new.sets.items p.task) c.in-Ok.ensures.sets c.fork_sets.ensures in
+    let first : c.in-Ok-grown.first ≡ part_child p (length w.homes) c.args.left c.in-Ok-grown.first.heap.slots c.in-Ok-grown.first.heap.spare = c.in-Ok-grown.ensures.left_child ∙ ap (λ n. part_child p n c.args.left c.in-Ok-grown.first.heap.slots c.in-Ok-grown.first.heap.spare) (sym I.made) in
+    let second : c.in-Ok-grown.second ≡ part_child p (length w.homes + 1) c.args.right c.in-Ok-grown.second.heap.slots c.in-Ok-grown.second.heap.spare = c.in-Ok-grown.ensures.right_child ∙ ap (λ n. part_child p (n + 1) c.args.right c.in-Ok-grown.second.heap.slots c.in-Ok-grown.second.heap.spare) (sym I.made) in
+    let H : HomesFork w.homes c.put_homes.new.homes p c.args.left c.args.right = homes_fork_by w.homes c.grow-grown.new.homes c.put_homes.new.homes p c.args.left c.args.right c.in-Ok-grown.first c.in-Ok-grown.second made c.in-Ok-grown.ensures.homes first second c.put_homes.ensures in
+    let N : SetsFork w.sets c.fork_sets.new.sets.items p.task = subst (λ (xs : List SetOf). SetsFork xs c.fork_sets.new.sets.items p.task) c.in-Ok-grown.ensures.sets c.fork_sets.ensures in
     let j : Space Event = record { items = []; room = w.journal.room - 1 } in
     let v : World = record w { steps = w.steps + (p.fresh + 1); sets = c.fork_sets.new.sets.items; marks = c.clear_marks.new.marks } in
-    subst (λ (z : World). ForksOn z (record v { tree = c.grow-grown.new.tree; homes = c.put_homes.new.homes; hands = c.set.new.self; journal = c.push_reserved.new.self }) k p c.in-Ok.first.task c.in-Ok.second.task) c.self.view_is
-    (subst (λ (z : World). ForksOn w z k p c.in-Ok.first.task c.in-Ok.second.task) (sym (four_changed v (forked w.tree p.task) _ c.put_homes.new.homes c.put_homes.new.homes (slice_set w.hands k None) _ (record { items = _; room = w.journal.room - 1 }) _
-    c.in-Ok.ensures.tree refl c.set.ensures (journal_by w.journal _ _ (alone_event k p) c.new.ensures c.push_reserved.ensures)))
-    (alone_forks w k p I F at free c.args.left c.args.right c.args.line B low c.put_homes.new.homes c.fork_sets.new.sets.items H N c.clear_marks.new.marks c.clear_marks.ensures j c.in-Ok.first.task c.in-Ok.second.task
-    (ap (λ (z : Child). z.task) c.in-Ok.ensures.left_child) (ap (λ (z : Child). z.task) c.in-Ok.ensures.right_child)))
+    subst (λ (z : World). ForksOn z (record v { tree = c.grow-grown.new.tree; homes = c.put_homes.new.homes; hands = c.set.new.self; journal = c.push_reserved.new.self }) k p c.in-Ok-grown.first.task c.in-Ok-grown.second.task) c.self.view_is
+    (subst (λ (z : World). ForksOn w z k p c.in-Ok-grown.first.task c.in-Ok-grown.second.task) (sym (four_changed v (forked w.tree p.task) _ c.put_homes.new.homes c.put_homes.new.homes (slice_set w.hands k None) _ (record { items = _; room = w.journal.room - 1 }) _
+    c.in-Ok-grown.ensures.tree refl c.set.ensures (journal_by w.journal _ _ (alone_event k p) c.new-2.ensures c.push_reserved.ensures)))
+    (alone_forks w k p I F at free c.args.left c.args.right c.args.line B low c.put_homes.new.homes c.fork_sets.new.sets.items H N c.clear_marks.new.marks c.clear_marks.ensures j c.in-Ok-grown.first.task c.in-Ok-grown.second.task
+    (ap (λ (z : Child). z.task) c.in-Ok-grown.ensures.left_child) (ap (λ (z : Child). z.task) c.in-Ok-grown.ensures.right_child)))
 
 -- the same value, by what a call left that failed
 unchanged_by : (w : World) (n : List Node) (hs : List (Option Rest)) (ss : List SetOf) → n ≡ w.tree → hs ≡ w.homes → ss ≡ w.sets → record w { tree = n; homes = hs; sets = ss } ≡ w
@@ -141,12 +141,12 @@ unchanged_by w n hs ss en eh es =
 
 pub invariant_of-self : goal.invariant_of-self
 invariant_of-self c =
-    let e = unchanged_by (the_view c.self.inside) c.grow-grown.new.tree c.grow-grown.new.homes c.grow-grown.new.sets.items c.in_default.ensures.same_tree c.in_default.ensures.same_homes c.in_default.ensures.sets in
+    let e = unchanged_by (the_view c.self.inside) c.grow-grown.new.tree c.grow-grown.new.homes c.grow-grown.new.sets.items c.in_default-grown.ensures.same_tree c.in_default-grown.ensures.same_homes c.in_default-grown.ensures.sets in
     subst IsWorld (sym e) c.self.invariant
 
-pub returns-in_default-clause-same : goal.returns-in_default-clause-same
-returns-in_default-clause-same c =
-    unchanged_by (the_view c.self.inside) c.grow-grown.new.tree c.grow-grown.new.homes c.grow-grown.new.sets.items c.in_default.ensures.same_tree c.in_default.ensures.same_homes c.in_default.ensures.sets ∙ c.self.view_is
+pub returns-in_default-grown-clause-same : goal.returns-in_default-grown-clause-same
+returns-in_default-grown-clause-same c =
+    unchanged_by (the_view c.self.inside) c.grow-grown.new.tree c.grow-grown.new.homes c.grow-grown.new.sets.items c.in_default-grown.ensures.same_tree c.in_default-grown.ensures.same_homes c.in_default-grown.ensures.sets ∙ c.self.view_is
 
 pub returns-clause-hand : goal.returns-clause-hand
 returns-clause-hand c = c.set.ensures ∙ ap (λ (z : World). slice_set z.hands c.args.worker None) c.self.view_is
@@ -158,4 +158,4 @@ pub push_reserved-requires : goal.push_reserved-requires
 push_reserved-requires c = subst (λ (z : World). 0 < z.journal.room) (sym c.self.view_is) c.requires.room
 
 pub fork_sets-requires-clause-room : goal.fork_sets-requires-clause-room
-fork_sets-requires-clause-room c = c.in-Ok.ensures.room
+fork_sets-requires-clause-room c = c.in-Ok-grown.ensures.room

@@ -1,4 +1,5 @@
 use Rattle.std.proofs.Common.{◌≡◌, ℕ, ◌+◌, ◌-◌, arith, Option, Some, None, List, [], length, length-set, slice_set, refl, ap, sym, subst, ◌∙◌}
+use Rattle.std.specs.Prelude.{IsSome}
 use Rattle.listed.specs.Space.{Space}
 use Rattle.run_trace.specs.Entry.{Event}
 use Rattle.chunk_pool.specs.Chunks.{Chunks}
@@ -10,8 +11,8 @@ use Rattle.write_barrier.specs.declared.sets.SetOf.{SetOf}
 use Rattle.fork_join.specs.declared.sides.EndedChild.{EndedChild}
 use Rattle.fork_join.specs.Joined.{joined_nodes}
 use Rattle.task_machine.specs.declared.part.Private.{Private}
-use Rattle.shared_value.specs.declared.rest.Rest.{Rest}
-use Rattle.shared_value.specs.World.{World}
+use Rattle.shared_value.specs.declared.task_at_rest.Rest.{Rest}
+use Rattle.shared_value.specs.World.{World, rest_at}
 use Rattle.shared_value.specs.Stands.{IsWorld}
 use Rattle.shared_value.specs.Fits.{Fits}
 use Rattle.shared_value.specs.Entered.{refused}
@@ -21,6 +22,8 @@ use Rattle.own_steps.proofs.AloneEntries.{alone_small}
 use Rattle.child_tasks.specs.ChildEnds.{EndsChild, IsAtEnd}
 use Rattle.child_tasks.specs.Joins.{CanJoin, HasPlaces, parent_side}
 use Rattle.child_tasks.proofs.ChildReturns.{end_shared, few_tasks, own_made, parent_low}
+use Rattle.child_tasks.proofs.JoinTree.{HasCalls}
+use Rattle.child_tasks.proofs.JoinEntries as entry
 use Rattle.child_tasks.proofs.JoinEntries.{other_made, other_set, own_set, parent_is, parent_made, parent_set}
 use Rattle.child_tasks.proofs.JoinValue.{Put, Taken, both_made, can_join}
 use Rattle.shared_tree.specs.contracts.shared.Shared.{the_view}
@@ -160,8 +163,8 @@ leave_other-beside-requires c =
     let m = c.leave_own-own.ensures.many in
     record { made = omega (arith, made, o, n, m) }
 
-pub take_rest-above-requires : goal.take_rest-above-requires
-take_rest-above-requires c =
+pub take_block-above-requires-clause-made : goal.take_block-above-requires-clause-made
+take_block-above-requires-clause-made c =
     let w : World = the_view c.self.inside in
     let p : Private = c.args.part in
     let k : ℕ = c.args.worker in
@@ -176,7 +179,29 @@ take_rest-above-requires c =
     let n = I.made in
     let m = c.leave_own-own.ensures.many in
     let i = c.leave_other-beside.ensures.many in
-    record { made = omega (arith, made, e, n, m, i) }
+    omega (arith, made, e, n, m, i)
+
+-- a task with frames has a home
+some_calls : (o : Option Rest) → HasCalls o → IsSome o
+some_calls None h = absurd h
+some_calls (Some r) h = refl
+
+pub take_block-above-requires-clause-there : goal.take_block-above-requires-clause-there
+take_block-above-requires-clause-there c =
+    let w : World = the_view c.self.inside in
+    let p : Private = c.args.part in
+    let k : ℕ = c.args.worker in
+    let I : IsWorld w = c.self.invariant in
+    let F : Fits w k p = subst (λ (z : World). Fits z k p) (sym c.self.view_is) c.requires.fits in
+    let at : IsAtEnd w p = subst (λ (z : World). IsAtEnd z p) (sym c.self.view_is) c.requires.ends in
+    let free : refused w (alone_event k p) ≡ None = subst (λ (z : World). refused z (alone_event k p) ≡ None) (sym c.self.view_is) c.requires.free in
+    let ended : state_of w.tree (sibling p.task) ≡ Some Ended = subst (λ (z : World). state_of z.tree (sibling p.task) ≡ Some Ended) (sym c.self.view_is) c.requires.ended in
+    let par : parent_of w.tree p.task ≡ Some c.args.parent = subst (λ (z : World). parent_of z.tree p.task ≡ Some c.args.parent) (sym c.self.view_is) c.requires.parent in
+    let q : ℕ = entry.q w k p I F at free ended in
+    let same : rest_at c.leave_other-beside.new.homes q ≡ rest_at w.homes q =
+    c.leave_other-beside.ensures.others q (λ f. entry.parent_other w k p I F at free ended (f ∙ c.sibling_of-other.ensures)) ∙ c.leave_own-own.ensures.others q (entry.parent_apart w k p I F at free ended) in
+    subst (λ u. IsSome (rest_at c.leave_other-beside.new.homes u)) (parent_is w k p I F at free ended c.args.parent par)
+    (subst IsSome (sym same) (some_calls (rest_at w.homes q) (entry.calls w k p I F at free ended)))
 
 pub join_children-rest-requires-clause-work : goal.join_children-rest-requires-clause-work
 join_children-rest-requires-clause-work c =
@@ -200,7 +225,7 @@ join_children-rest-requires-clause-work c =
     let n1 : Notes = c.take_remembered-own_noted.result in
     let n2 : Notes = c.take_remembered-other_noted.result in
     let n3 : Notes = c.take_remembered-noted.result in
-    let above : Rest = c.take_rest-above.result in
+    let above : Rest = c.take_block-above.result in
     let left : EndedChild = c.in_order-children.result.0 in
     let right : EndedChild = c.in_order-children.result.1 in
     let T : Taken w p c.args.parent c.sibling_of-other.result n1 n2 n3 x1 x2 x3 h1 h2 above c.leave_own-own.result c.leave_other-beside.result left right = record {
@@ -223,7 +248,7 @@ join_children-rest-requires-clause-work c =
       m2 = c.leave_other-beside.ensures.many;
       other_home = c.leave_other-beside.ensures.child;
       i2 = c.leave_other-beside.ensures.others;
-      above_is = c.take_rest-above.ensures.rest;
+      above_is = c.take_block-above.ensures.rest;
       left_is = c.in_order-children.ensures.left;
       right_is = c.in_order-children.ensures.right;
     } in
@@ -251,7 +276,7 @@ join_children-rest-requires-clause-can c =
     let n1 : Notes = c.take_remembered-own_noted.result in
     let n2 : Notes = c.take_remembered-other_noted.result in
     let n3 : Notes = c.take_remembered-noted.result in
-    let above : Rest = c.take_rest-above.result in
+    let above : Rest = c.take_block-above.result in
     let left : EndedChild = c.in_order-children.result.0 in
     let right : EndedChild = c.in_order-children.result.1 in
     let T : Taken w p c.args.parent c.sibling_of-other.result n1 n2 n3 x1 x2 x3 h1 h2 above c.leave_own-own.result c.leave_other-beside.result left right = record {
@@ -274,7 +299,7 @@ join_children-rest-requires-clause-can c =
       m2 = c.leave_other-beside.ensures.many;
       other_home = c.leave_other-beside.ensures.child;
       i2 = c.leave_other-beside.ensures.others;
-      above_is = c.take_rest-above.ensures.rest;
+      above_is = c.take_block-above.ensures.rest;
       left_is = c.in_order-children.ensures.left;
       right_is = c.in_order-children.ensures.right;
     } in
@@ -297,7 +322,7 @@ set-requires-2 c =
     let n = I.made in
     let m = c.leave_own-own.ensures.many in
     let i = c.leave_other-beside.ensures.many in
-    let l : length c.take_rest-above.new.homes ≡ length c.leave_other-beside.new.homes = ap (λ (hs : List (Option Rest)). length hs) c.take_rest-above.ensures.homes ∙ length-set c.leave_other-beside.new.homes c.args.parent None in
+    let l : length c.take_block-above.new.homes ≡ length c.leave_other-beside.new.homes = ap (λ (hs : List (Option Rest)). length hs) c.take_block-above.ensures.homes ∙ length-set c.leave_other-beside.new.homes c.args.parent None in
     omega (arith, made, e, n, m, i, l)
 
 pub put_remembered-requires-clause-made : goal.put_remembered-requires-clause-made
@@ -340,7 +365,7 @@ invariant_of-self c =
     let n1 : Notes = c.take_remembered-own_noted.result in
     let n2 : Notes = c.take_remembered-other_noted.result in
     let n3 : Notes = c.take_remembered-noted.result in
-    let above : Rest = c.take_rest-above.result in
+    let above : Rest = c.take_block-above.result in
     let left : EndedChild = c.in_order-children.result.0 in
     let right : EndedChild = c.in_order-children.result.1 in
     let T : Taken w p c.args.parent c.sibling_of-other.result n1 n2 n3 x1 x2 x3 h1 h2 above c.leave_own-own.result c.leave_other-beside.result left right = record {
@@ -363,7 +388,7 @@ invariant_of-self c =
       m2 = c.leave_other-beside.ensures.many;
       other_home = c.leave_other-beside.ensures.child;
       i2 = c.leave_other-beside.ensures.others;
-      above_is = c.take_rest-above.ensures.rest;
+      above_is = c.take_block-above.ensures.rest;
       left_is = c.in_order-children.ensures.left;
       right_is = c.in_order-children.ensures.right;
     } in
@@ -376,7 +401,7 @@ invariant_of-self c =
       pool_is = c.join_children-rest.ensures.pool;
       side = c.join_children-rest.ensures.side;
       rest_is = c.join_children-rest.ensures.rest;
-      homes_are = c.set-2.ensures ∙ ap (λ hs. slice_set hs c.args.parent (Some rest)) c.take_rest-above.ensures.homes;
+      homes_are = c.set-2.ensures ∙ ap (λ hs. slice_set hs c.args.parent (Some rest)) c.take_block-above.ensures.homes;
       many = c.put_remembered.ensures.many;
       at = c.put_remembered.ensures.at;
       others = c.put_remembered.ensures.others;
@@ -410,7 +435,7 @@ returns-clause-joined c =
     let n1 : Notes = c.take_remembered-own_noted.result in
     let n2 : Notes = c.take_remembered-other_noted.result in
     let n3 : Notes = c.take_remembered-noted.result in
-    let above : Rest = c.take_rest-above.result in
+    let above : Rest = c.take_block-above.result in
     let left : EndedChild = c.in_order-children.result.0 in
     let right : EndedChild = c.in_order-children.result.1 in
     let T : Taken w p c.args.parent c.sibling_of-other.result n1 n2 n3 x1 x2 x3 h1 h2 above c.leave_own-own.result c.leave_other-beside.result left right = record {
@@ -433,7 +458,7 @@ returns-clause-joined c =
       m2 = c.leave_other-beside.ensures.many;
       other_home = c.leave_other-beside.ensures.child;
       i2 = c.leave_other-beside.ensures.others;
-      above_is = c.take_rest-above.ensures.rest;
+      above_is = c.take_block-above.ensures.rest;
       left_is = c.in_order-children.ensures.left;
       right_is = c.in_order-children.ensures.right;
     } in
@@ -446,7 +471,7 @@ returns-clause-joined c =
       pool_is = c.join_children-rest.ensures.pool;
       side = c.join_children-rest.ensures.side;
       rest_is = c.join_children-rest.ensures.rest;
-      homes_are = c.set-2.ensures ∙ ap (λ hs. slice_set hs c.args.parent (Some rest)) c.take_rest-above.ensures.homes;
+      homes_are = c.set-2.ensures ∙ ap (λ hs. slice_set hs c.args.parent (Some rest)) c.take_block-above.ensures.homes;
       many = c.put_remembered.ensures.many;
       at = c.put_remembered.ensures.at;
       others = c.put_remembered.ensures.others;

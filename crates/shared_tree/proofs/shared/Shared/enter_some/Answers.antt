@@ -92,10 +92,10 @@ some-count-requires-clause-closed c =
     let free : refused w e ≡ None = subst (λ (z : World). refused z e ≡ None) (sym c.self.view_is) c.requires.free in
     let on : (accounts w).end ≡ None = entry_on w e free in
     let marks : marking_cause w t ≡ None = some_marks w c.self.invariant k t n free in
-    let there : rest_at w.homes t ≡ Some c.in-Some.rest = ap flat c.at.ensures ∙ c.in-Some.is in
-    let at : marks_at w.marks t ≡ Some c.in-Some-replace.marking = ap flat c.at_mut.ensures.value ∙ (sym c.replace.ensures.value ∙ c.in-Some-replace.is) in
-    let same : c.as_slice-kept.result.now ≡ kept (value_of w) t = c.as_slice-kept.ensures ∙ kept_is w.sets t c.index.result.now (keeps w c.self.invariant on t marks) c.index.ensures in
-    let F : Further w t c.in-Some.rest c.in-Some-replace.marking = further w c.self.invariant on t marks c.in-Some.rest c.in-Some-replace.marking there at in
+    let there : rest_at w.homes t ≡ Some c.get.result.now = (ap flat c.at.ensures ∙ c.in-Some.is) ∙ ap Some (sym c.get.ensures) in
+    let at : marks_at w.marks t ≡ Some c.get_mut.result.now = ap flat c.at_mut.ensures.value ∙ (sym c.replace.ensures.value ∙ (c.in-Some-replace.is ∙ ap Some (sym c.get_mut.ensures.value))) in
+    let same : c.kept-kept.result.now ≡ kept (value_of w) t = c.kept-kept.ensures ∙ kept_is w.sets t c.index.result.now (keeps w c.self.invariant on t marks) c.index.ensures in
+    let F : Further w t c.get.result.now c.get_mut.result.now = further w c.self.invariant on t marks c.get.result.now c.get_mut.result.now there at in
     F.closed
 
 pub some-count-requires-clause-kept : goal.some-count-requires-clause-kept
@@ -108,11 +108,11 @@ some-count-requires-clause-kept c =
     let free : refused w e ≡ None = subst (λ (z : World). refused z e ≡ None) (sym c.self.view_is) c.requires.free in
     let on : (accounts w).end ≡ None = entry_on w e free in
     let marks : marking_cause w t ≡ None = some_marks w c.self.invariant k t n free in
-    let there : rest_at w.homes t ≡ Some c.in-Some.rest = ap flat c.at.ensures ∙ c.in-Some.is in
-    let at : marks_at w.marks t ≡ Some c.in-Some-replace.marking = ap flat c.at_mut.ensures.value ∙ (sym c.replace.ensures.value ∙ c.in-Some-replace.is) in
-    let same : c.as_slice-kept.result.now ≡ kept (value_of w) t = c.as_slice-kept.ensures ∙ kept_is w.sets t c.index.result.now (keeps w c.self.invariant on t marks) c.index.ensures in
-    let F : Further w t c.in-Some.rest c.in-Some-replace.marking = further w c.self.invariant on t marks c.in-Some.rest c.in-Some-replace.marking there at in
-    subst (λ (xs : List Addr). All (IsHeld c.in-Some.rest.heap.chunks) xs) (sym same) F.kept
+    let there : rest_at w.homes t ≡ Some c.get.result.now = (ap flat c.at.ensures ∙ c.in-Some.is) ∙ ap Some (sym c.get.ensures) in
+    let at : marks_at w.marks t ≡ Some c.get_mut.result.now = ap flat c.at_mut.ensures.value ∙ (sym c.replace.ensures.value ∙ (c.in-Some-replace.is ∙ ap Some (sym c.get_mut.ensures.value))) in
+    let same : c.kept-kept.result.now ≡ kept (value_of w) t = c.kept-kept.ensures ∙ kept_is w.sets t c.index.result.now (keeps w c.self.invariant on t marks) c.index.ensures in
+    let F : Further w t c.get.result.now c.get_mut.result.now = further w c.self.invariant on t marks c.get.result.now c.get_mut.result.now there at in
+    subst (λ (xs : List Addr). All (IsHeld c.get.result.now.heap.chunks) xs) (sym same) F.kept
 
 pub some-count-requires-clause-own : goal.some-count-requires-clause-own
 some-count-requires-clause-own c =
@@ -124,11 +124,11 @@ some-count-requires-clause-own c =
     let free : refused w e ≡ None = subst (λ (z : World). refused z e ≡ None) (sym c.self.view_is) c.requires.free in
     let on : (accounts w).end ≡ None = entry_on w e free in
     let marks : marking_cause w t ≡ None = some_marks w c.self.invariant k t n free in
-    let there : rest_at w.homes t ≡ Some c.in-Some.rest = ap flat c.at.ensures ∙ c.in-Some.is in
-    let at : marks_at w.marks t ≡ Some c.in-Some-replace.marking = ap flat c.at_mut.ensures.value ∙ (sym c.replace.ensures.value ∙ c.in-Some-replace.is) in
-    let same : c.as_slice-kept.result.now ≡ kept (value_of w) t = c.as_slice-kept.ensures ∙ kept_is w.sets t c.index.result.now (keeps w c.self.invariant on t marks) c.index.ensures in
-    let F : Further w t c.in-Some.rest c.in-Some-replace.marking = further w c.self.invariant on t marks c.in-Some.rest c.in-Some-replace.marking there at in
-    subst (λ (xs : List Addr). IsOf c.in-Some.rest.heap.chunks xs c.in-Some-replace.marking) (sym same) F.own
+    let there : rest_at w.homes t ≡ Some c.get.result.now = (ap flat c.at.ensures ∙ c.in-Some.is) ∙ ap Some (sym c.get.ensures) in
+    let at : marks_at w.marks t ≡ Some c.get_mut.result.now = ap flat c.at_mut.ensures.value ∙ (sym c.replace.ensures.value ∙ (c.in-Some-replace.is ∙ ap Some (sym c.get_mut.ensures.value))) in
+    let same : c.kept-kept.result.now ≡ kept (value_of w) t = c.kept-kept.ensures ∙ kept_is w.sets t c.index.result.now (keeps w c.self.invariant on t marks) c.index.ensures in
+    let F : Further w t c.get.result.now c.get_mut.result.now = further w c.self.invariant on t marks c.get.result.now c.get_mut.result.now there at in
+    subst (λ (xs : List Addr). IsOf c.get.result.now.heap.chunks xs c.get_mut.result.now) (sym same) F.own
 
 pub set-requires : goal.set-requires
 set-requires c =
@@ -152,17 +152,17 @@ invariant_of-self c =
     let free : refused w e ≡ None = subst (λ (z : World). refused z e ≡ None) (sym c.self.view_is) c.requires.free in
     let on : (accounts w).end ≡ None = entry_on w e free in
     let marks : marking_cause w t ≡ None = some_marks w c.self.invariant k t n free in
-    let there : rest_at w.homes t ≡ Some c.in-Some.rest = ap flat c.at.ensures ∙ c.in-Some.is in
-    let at : marks_at w.marks t ≡ Some c.in-Some-replace.marking = ap flat c.at_mut.ensures.value ∙ (sym c.replace.ensures.value ∙ c.in-Some-replace.is) in
-    let same : c.as_slice-kept.result.now ≡ kept (value_of w) t = c.as_slice-kept.ensures ∙ kept_is w.sets t c.index.result.now (keeps w c.self.invariant on t marks) c.index.ensures in
-    let own : IsOf c.in-Some.rest.heap.chunks (kept (value_of w) t) c.some-count.new.self = subst (λ (xs : List Addr). IsOf c.in-Some.rest.heap.chunks xs c.some-count.new.self) same c.some-count.ensures.own in
-    let goes : (f : Fork) → IsSince f (kept (value_of w) t) c.in-Some.rest.heap.chunks → IsMarking f (kept (value_of w) t) c.in-Some-replace.marking → IsMarking f (kept (value_of w) t) c.some-count.new.self =
-    subst (λ (xs : List Addr). (f : Fork) → IsSince f xs c.in-Some.rest.heap.chunks → IsMarking f xs c.in-Some-replace.marking → IsMarking f xs c.some-count.new.self) same c.some-count.ensures.marking in
-    let left : (f : Fork) → IsSince f (kept (value_of w) t) c.in-Some.rest.heap.chunks → IsMarking f (kept (value_of w) t) c.in-Some-replace.marking → c.some-count.result < n → IsAllMarked f (kept (value_of w) t) c.some-count.new.self =
-    subst (λ (xs : List Addr). (f : Fork) → IsSince f xs c.in-Some.rest.heap.chunks → IsMarking f xs c.in-Some-replace.marking → c.some-count.result < n → IsAllMarked f xs c.some-count.new.self) same c.some-count.ensures.left in
+    let there : rest_at w.homes t ≡ Some c.get.result.now = (ap flat c.at.ensures ∙ c.in-Some.is) ∙ ap Some (sym c.get.ensures) in
+    let at : marks_at w.marks t ≡ Some c.get_mut.result.now = ap flat c.at_mut.ensures.value ∙ (sym c.replace.ensures.value ∙ (c.in-Some-replace.is ∙ ap Some (sym c.get_mut.ensures.value))) in
+    let same : c.kept-kept.result.now ≡ kept (value_of w) t = c.kept-kept.ensures ∙ kept_is w.sets t c.index.result.now (keeps w c.self.invariant on t marks) c.index.ensures in
+    let own : IsOf c.get.result.now.heap.chunks (kept (value_of w) t) c.some-count.new.self = subst (λ (xs : List Addr). IsOf c.get.result.now.heap.chunks xs c.some-count.new.self) same c.some-count.ensures.own in
+    let goes : (f : Fork) → IsSince f (kept (value_of w) t) c.get.result.now.heap.chunks → IsMarking f (kept (value_of w) t) c.get_mut.result.now → IsMarking f (kept (value_of w) t) c.some-count.new.self =
+    subst (λ (xs : List Addr). (f : Fork) → IsSince f xs c.get.result.now.heap.chunks → IsMarking f xs c.get_mut.result.now → IsMarking f xs c.some-count.new.self) same c.some-count.ensures.marking in
+    let left : (f : Fork) → IsSince f (kept (value_of w) t) c.get.result.now.heap.chunks → IsMarking f (kept (value_of w) t) c.get_mut.result.now → c.some-count.result < n → IsAllMarked f (kept (value_of w) t) c.some-count.new.self =
+    subst (λ (xs : List Addr). (f : Fork) → IsSince f xs c.get.result.now.heap.chunks → IsMarking f xs c.get_mut.result.now → c.some-count.result < n → IsAllMarked f xs c.some-count.new.self) same c.some-count.ensures.left in
     let journal : c.push_reserved.new.self ≡ record { items = w.journal.items ++ e ∷ []; room = w.journal.room - 1 } = journal_by w.journal _ _ e c.new.ensures c.push_reserved.ensures in
     let put = put_back w.marks t c.replace.new.dest c.some-count.new.self (marks_within w c.self.invariant on t marks) in
-    let both = some_enters w c.self.invariant k t n free c.in-Some.rest c.in-Some-replace.marking c.some-count.new.self c.some-count.result there at own c.some-count.ensures.count c.some-count.ensures.most goes left c.set.new.self (w.journal.room - 1) (ap (λ ms. marks_at ms t) c.set.ensures ∙ put.0) (λ u ne. ap (λ ms. marks_at ms u) c.set.ensures ∙ put.1 u ne) in
+    let both = some_enters w c.self.invariant k t n free c.get.result.now c.get_mut.result.now c.some-count.new.self c.some-count.result there at own c.some-count.ensures.count c.some-count.ensures.most goes left c.set.new.self (w.journal.room - 1) (ap (λ ms. marks_at ms t) c.set.ensures ∙ put.0) (λ u ne. ap (λ ms. marks_at ms u) c.set.ensures ∙ put.1 u ne) in
     subst (λ (j : Space Event). IsWorld (record w { marks = c.set.new.self; journal = j })) (sym journal) both.0
 
 pub returns-clause-count : goal.returns-clause-count
@@ -175,15 +175,15 @@ returns-clause-count c =
     let free : refused w e ≡ None = subst (λ (z : World). refused z e ≡ None) (sym c.self.view_is) c.requires.free in
     let on : (accounts w).end ≡ None = entry_on w e free in
     let marks : marking_cause w t ≡ None = some_marks w c.self.invariant k t n free in
-    let there : rest_at w.homes t ≡ Some c.in-Some.rest = ap flat c.at.ensures ∙ c.in-Some.is in
-    let at : marks_at w.marks t ≡ Some c.in-Some-replace.marking = ap flat c.at_mut.ensures.value ∙ (sym c.replace.ensures.value ∙ c.in-Some-replace.is) in
-    let same : c.as_slice-kept.result.now ≡ kept (value_of w) t = c.as_slice-kept.ensures ∙ kept_is w.sets t c.index.result.now (keeps w c.self.invariant on t marks) c.index.ensures in
-    let own : IsOf c.in-Some.rest.heap.chunks (kept (value_of w) t) c.some-count.new.self = subst (λ (xs : List Addr). IsOf c.in-Some.rest.heap.chunks xs c.some-count.new.self) same c.some-count.ensures.own in
-    let goes : (f : Fork) → IsSince f (kept (value_of w) t) c.in-Some.rest.heap.chunks → IsMarking f (kept (value_of w) t) c.in-Some-replace.marking → IsMarking f (kept (value_of w) t) c.some-count.new.self =
-    subst (λ (xs : List Addr). (f : Fork) → IsSince f xs c.in-Some.rest.heap.chunks → IsMarking f xs c.in-Some-replace.marking → IsMarking f xs c.some-count.new.self) same c.some-count.ensures.marking in
-    let left : (f : Fork) → IsSince f (kept (value_of w) t) c.in-Some.rest.heap.chunks → IsMarking f (kept (value_of w) t) c.in-Some-replace.marking → c.some-count.result < n → IsAllMarked f (kept (value_of w) t) c.some-count.new.self =
-    subst (λ (xs : List Addr). (f : Fork) → IsSince f xs c.in-Some.rest.heap.chunks → IsMarking f xs c.in-Some-replace.marking → c.some-count.result < n → IsAllMarked f xs c.some-count.new.self) same c.some-count.ensures.left in
-    some_count w c.self.invariant k t n free c.in-Some.rest c.in-Some-replace.marking c.some-count.new.self c.some-count.result there at own c.some-count.ensures.count c.some-count.ensures.most goes left ∙ ap (λ (z : World). min n (left_in (heap_of (accounts z) t))) c.self.view_is
+    let there : rest_at w.homes t ≡ Some c.get.result.now = (ap flat c.at.ensures ∙ c.in-Some.is) ∙ ap Some (sym c.get.ensures) in
+    let at : marks_at w.marks t ≡ Some c.get_mut.result.now = ap flat c.at_mut.ensures.value ∙ (sym c.replace.ensures.value ∙ (c.in-Some-replace.is ∙ ap Some (sym c.get_mut.ensures.value))) in
+    let same : c.kept-kept.result.now ≡ kept (value_of w) t = c.kept-kept.ensures ∙ kept_is w.sets t c.index.result.now (keeps w c.self.invariant on t marks) c.index.ensures in
+    let own : IsOf c.get.result.now.heap.chunks (kept (value_of w) t) c.some-count.new.self = subst (λ (xs : List Addr). IsOf c.get.result.now.heap.chunks xs c.some-count.new.self) same c.some-count.ensures.own in
+    let goes : (f : Fork) → IsSince f (kept (value_of w) t) c.get.result.now.heap.chunks → IsMarking f (kept (value_of w) t) c.get_mut.result.now → IsMarking f (kept (value_of w) t) c.some-count.new.self =
+    subst (λ (xs : List Addr). (f : Fork) → IsSince f xs c.get.result.now.heap.chunks → IsMarking f xs c.get_mut.result.now → IsMarking f xs c.some-count.new.self) same c.some-count.ensures.marking in
+    let left : (f : Fork) → IsSince f (kept (value_of w) t) c.get.result.now.heap.chunks → IsMarking f (kept (value_of w) t) c.get_mut.result.now → c.some-count.result < n → IsAllMarked f (kept (value_of w) t) c.some-count.new.self =
+    subst (λ (xs : List Addr). (f : Fork) → IsSince f xs c.get.result.now.heap.chunks → IsMarking f xs c.get_mut.result.now → c.some-count.result < n → IsAllMarked f xs c.some-count.new.self) same c.some-count.ensures.left in
+    some_count w c.self.invariant k t n free c.get.result.now c.get_mut.result.now c.some-count.new.self c.some-count.result there at own c.some-count.ensures.count c.some-count.ensures.most goes left ∙ ap (λ (z : World). min n (left_in (heap_of (accounts z) t))) c.self.view_is
 
 pub returns-clause-fits : goal.returns-clause-fits
 returns-clause-fits c =
@@ -195,16 +195,16 @@ returns-clause-fits c =
     let free : refused w e ≡ None = subst (λ (z : World). refused z e ≡ None) (sym c.self.view_is) c.requires.free in
     let on : (accounts w).end ≡ None = entry_on w e free in
     let marks : marking_cause w t ≡ None = some_marks w c.self.invariant k t n free in
-    let there : rest_at w.homes t ≡ Some c.in-Some.rest = ap flat c.at.ensures ∙ c.in-Some.is in
-    let at : marks_at w.marks t ≡ Some c.in-Some-replace.marking = ap flat c.at_mut.ensures.value ∙ (sym c.replace.ensures.value ∙ c.in-Some-replace.is) in
-    let same : c.as_slice-kept.result.now ≡ kept (value_of w) t = c.as_slice-kept.ensures ∙ kept_is w.sets t c.index.result.now (keeps w c.self.invariant on t marks) c.index.ensures in
-    let own : IsOf c.in-Some.rest.heap.chunks (kept (value_of w) t) c.some-count.new.self = subst (λ (xs : List Addr). IsOf c.in-Some.rest.heap.chunks xs c.some-count.new.self) same c.some-count.ensures.own in
-    let goes : (f : Fork) → IsSince f (kept (value_of w) t) c.in-Some.rest.heap.chunks → IsMarking f (kept (value_of w) t) c.in-Some-replace.marking → IsMarking f (kept (value_of w) t) c.some-count.new.self =
-    subst (λ (xs : List Addr). (f : Fork) → IsSince f xs c.in-Some.rest.heap.chunks → IsMarking f xs c.in-Some-replace.marking → IsMarking f xs c.some-count.new.self) same c.some-count.ensures.marking in
-    let left : (f : Fork) → IsSince f (kept (value_of w) t) c.in-Some.rest.heap.chunks → IsMarking f (kept (value_of w) t) c.in-Some-replace.marking → c.some-count.result < n → IsAllMarked f (kept (value_of w) t) c.some-count.new.self =
-    subst (λ (xs : List Addr). (f : Fork) → IsSince f xs c.in-Some.rest.heap.chunks → IsMarking f xs c.in-Some-replace.marking → c.some-count.result < n → IsAllMarked f xs c.some-count.new.self) same c.some-count.ensures.left in
+    let there : rest_at w.homes t ≡ Some c.get.result.now = (ap flat c.at.ensures ∙ c.in-Some.is) ∙ ap Some (sym c.get.ensures) in
+    let at : marks_at w.marks t ≡ Some c.get_mut.result.now = ap flat c.at_mut.ensures.value ∙ (sym c.replace.ensures.value ∙ (c.in-Some-replace.is ∙ ap Some (sym c.get_mut.ensures.value))) in
+    let same : c.kept-kept.result.now ≡ kept (value_of w) t = c.kept-kept.ensures ∙ kept_is w.sets t c.index.result.now (keeps w c.self.invariant on t marks) c.index.ensures in
+    let own : IsOf c.get.result.now.heap.chunks (kept (value_of w) t) c.some-count.new.self = subst (λ (xs : List Addr). IsOf c.get.result.now.heap.chunks xs c.some-count.new.self) same c.some-count.ensures.own in
+    let goes : (f : Fork) → IsSince f (kept (value_of w) t) c.get.result.now.heap.chunks → IsMarking f (kept (value_of w) t) c.get_mut.result.now → IsMarking f (kept (value_of w) t) c.some-count.new.self =
+    subst (λ (xs : List Addr). (f : Fork) → IsSince f xs c.get.result.now.heap.chunks → IsMarking f xs c.get_mut.result.now → IsMarking f xs c.some-count.new.self) same c.some-count.ensures.marking in
+    let left : (f : Fork) → IsSince f (kept (value_of w) t) c.get.result.now.heap.chunks → IsMarking f (kept (value_of w) t) c.get_mut.result.now → c.some-count.result < n → IsAllMarked f (kept (value_of w) t) c.some-count.new.self =
+    subst (λ (xs : List Addr). (f : Fork) → IsSince f xs c.get.result.now.heap.chunks → IsMarking f xs c.get_mut.result.now → c.some-count.result < n → IsAllMarked f xs c.some-count.new.self) same c.some-count.ensures.left in
     let journal : c.push_reserved.new.self ≡ record { items = w.journal.items ++ e ∷ []; room = w.journal.room - 1 } = journal_by w.journal _ _ e c.new.ensures c.push_reserved.ensures in
     let put = put_back w.marks t c.replace.new.dest c.some-count.new.self (marks_within w c.self.invariant on t marks) in
-    let both = some_enters w c.self.invariant k t n free c.in-Some.rest c.in-Some-replace.marking c.some-count.new.self c.some-count.result there at own c.some-count.ensures.count c.some-count.ensures.most goes left c.set.new.self (w.journal.room - 1) (ap (λ ms. marks_at ms t) c.set.ensures ∙ put.0) (λ u ne. ap (λ ms. marks_at ms u) c.set.ensures ∙ put.1 u ne) in
+    let both = some_enters w c.self.invariant k t n free c.get.result.now c.get_mut.result.now c.some-count.new.self c.some-count.result there at own c.some-count.ensures.count c.some-count.ensures.most goes left c.set.new.self (w.journal.room - 1) (ap (λ ms. marks_at ms t) c.set.ensures ∙ put.0) (λ u ne. ap (λ ms. marks_at ms u) c.set.ensures ∙ put.1 u ne) in
     subst (λ (z : World). AllFit z (record w { marks = c.set.new.self; journal = c.push_reserved.new.self })) c.self.view_is
     (subst (λ (j : Space Event). AllFit w (record w { marks = c.set.new.self; journal = j })) (sym journal) both.1)

@@ -28,16 +28,16 @@ returns-in-Some-clause-objects c =
     let w : World = c.args.self.now in
     let state : c.is_running.result ≡ is_state_running (state_of w.tree c.args.t) = c.is_running.ensures ∙ (ap is_state_running c.state.ensures ∙ ap (λ (z : World). is_state_running (state_of z.tree c.args.t)) c.self.view_is) in
     let idle : is_running (slice_get (accounts w).machine.tasks c.args.t) ≡ false = sym (runs_is w c.stands.ensures c.args.t) ∙ (sym state ∙ c.if-is_running.false) in
-    let there : rest_at w.homes c.args.t ≡ Some c.in-Some.rest = ap (λ (z : World). rest_at z.homes c.args.t) (sym c.self.view_is) ∙ (ap flat c.at.ensures ∙ c.in-Some.is) in
-    c.objects.ensures ∙ ap counted (objects_are w c.stands.ensures c.args.t idle c.in-Some.rest there)
+    let there : rest_at w.homes c.args.t ≡ Some c.get.result.now = ap (λ (z : World). rest_at z.homes c.args.t) (sym c.self.view_is) ∙ ((ap flat c.at.ensures ∙ c.in-Some.is) ∙ ap Some (sym c.get.ensures)) in
+    c.objects.ensures ∙ ap counted (objects_are w c.stands.ensures c.args.t idle c.get.result.now there)
 
 pub returns-in-Some-clause-words : goal.returns-in-Some-clause-words
 returns-in-Some-clause-words c =
     let w : World = c.args.self.now in
     let state : c.is_running.result ≡ is_state_running (state_of w.tree c.args.t) = c.is_running.ensures ∙ (ap is_state_running c.state.ensures ∙ ap (λ (z : World). is_state_running (state_of z.tree c.args.t)) c.self.view_is) in
     let idle : is_running (slice_get (accounts w).machine.tasks c.args.t) ≡ false = sym (runs_is w c.stands.ensures c.args.t) ∙ (sym state ∙ c.if-is_running.false) in
-    let there : rest_at w.homes c.args.t ≡ Some c.in-Some.rest = ap (λ (z : World). rest_at z.homes c.args.t) (sym c.self.view_is) ∙ (ap flat c.at.ensures ∙ c.in-Some.is) in
-    c.words.ensures ∙ ap counted (words_kept w c.stands.ensures c.args.t idle c.in-Some.rest there)
+    let there : rest_at w.homes c.args.t ≡ Some c.get-in-Some.result.now = ap (λ (z : World). rest_at z.homes c.args.t) (sym c.self.view_is) ∙ ((ap flat c.at.ensures ∙ c.in-Some.is) ∙ ap Some (sym c.get-in-Some.ensures)) in
+    c.words.ensures ∙ ap counted (words_kept w c.stands.ensures c.args.t idle c.get-in-Some.result.now there)
 
 pub returns-in-None-clause-objects : goal.returns-in-None-clause-objects
 returns-in-None-clause-objects c =

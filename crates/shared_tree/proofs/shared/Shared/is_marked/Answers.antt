@@ -35,11 +35,11 @@ ready-requires-clause-kept c =
     let t : ℕ = c.args.t in
     let on : (accounts w).end ≡ None = ap (λ (z : World). (accounts z).end) c.self.view_is ∙ c.requires.goes in
     let free : marking_cause w t ≡ None = ap (λ (z : World). marking_cause z t) c.self.view_is ∙ c.requires.marking in
-    let there : rest_at w.homes t ≡ Some c.in-Some.rest = ap flat c.at.ensures ∙ c.in-Some.is in
-    let at : marks_at w.marks t ≡ Some c.in-Some-at.marking = ap flat c.at-2.ensures ∙ c.in-Some-at.is in
-    let same : c.as_slice-kept.result.now ≡ kept (value_of w) t = c.as_slice-kept.ensures ∙ kept_is w.sets t c.index.result.now (keeps w c.self.invariant on t free) c.index.ensures in
-    let F : Further w t c.in-Some.rest c.in-Some-at.marking = further w c.self.invariant on t free c.in-Some.rest c.in-Some-at.marking there at in
-    subst (λ (xs : List Addr). All (IsHeld c.in-Some.rest.heap.chunks) xs) (sym same) F.kept
+    let there : rest_at w.homes t ≡ Some c.get-in-Some-at.result.now = (ap flat c.at.ensures ∙ c.in-Some.is) ∙ ap Some (sym c.get-in-Some-at.ensures) in
+    let at : marks_at w.marks t ≡ Some c.get.result.now = (ap flat c.at-2.ensures ∙ c.in-Some-at.is) ∙ ap Some (sym c.get.ensures) in
+    let same : c.kept-kept.result.now ≡ kept (value_of w) t = c.kept-kept.ensures ∙ kept_is w.sets t c.index.result.now (keeps w c.self.invariant on t free) c.index.ensures in
+    let F : Further w t c.get-in-Some-at.result.now c.get.result.now = further w c.self.invariant on t free c.get-in-Some-at.result.now c.get.result.now there at in
+    subst (λ (xs : List Addr). All (IsHeld c.get-in-Some-at.result.now.heap.chunks) xs) (sym same) F.kept
 
 pub ready-requires-clause-own : goal.ready-requires-clause-own
 ready-requires-clause-own c =
@@ -47,11 +47,11 @@ ready-requires-clause-own c =
     let t : ℕ = c.args.t in
     let on : (accounts w).end ≡ None = ap (λ (z : World). (accounts z).end) c.self.view_is ∙ c.requires.goes in
     let free : marking_cause w t ≡ None = ap (λ (z : World). marking_cause z t) c.self.view_is ∙ c.requires.marking in
-    let there : rest_at w.homes t ≡ Some c.in-Some.rest = ap flat c.at.ensures ∙ c.in-Some.is in
-    let at : marks_at w.marks t ≡ Some c.in-Some-at.marking = ap flat c.at-2.ensures ∙ c.in-Some-at.is in
-    let same : c.as_slice-kept.result.now ≡ kept (value_of w) t = c.as_slice-kept.ensures ∙ kept_is w.sets t c.index.result.now (keeps w c.self.invariant on t free) c.index.ensures in
-    let F : Further w t c.in-Some.rest c.in-Some-at.marking = further w c.self.invariant on t free c.in-Some.rest c.in-Some-at.marking there at in
-    subst (λ (xs : List Addr). IsOf c.in-Some.rest.heap.chunks xs c.in-Some-at.marking) (sym same) F.own
+    let there : rest_at w.homes t ≡ Some c.get-in-Some-at.result.now = (ap flat c.at.ensures ∙ c.in-Some.is) ∙ ap Some (sym c.get-in-Some-at.ensures) in
+    let at : marks_at w.marks t ≡ Some c.get.result.now = (ap flat c.at-2.ensures ∙ c.in-Some-at.is) ∙ ap Some (sym c.get.ensures) in
+    let same : c.kept-kept.result.now ≡ kept (value_of w) t = c.kept-kept.ensures ∙ kept_is w.sets t c.index.result.now (keeps w c.self.invariant on t free) c.index.ensures in
+    let F : Further w t c.get-in-Some-at.result.now c.get.result.now = further w c.self.invariant on t free c.get-in-Some-at.result.now c.get.result.now there at in
+    subst (λ (xs : List Addr). IsOf c.get-in-Some-at.result.now.heap.chunks xs c.get.result.now) (sym same) F.own
 
 pub returns : goal.returns
 returns c =
@@ -59,10 +59,10 @@ returns c =
     let t : ℕ = c.args.t in
     let on : (accounts w).end ≡ None = ap (λ (z : World). (accounts z).end) c.self.view_is ∙ c.requires.goes in
     let free : marking_cause w t ≡ None = ap (λ (z : World). marking_cause z t) c.self.view_is ∙ c.requires.marking in
-    let there : rest_at w.homes t ≡ Some c.in-Some.rest = ap flat c.at.ensures ∙ c.in-Some.is in
-    let at : marks_at w.marks t ≡ Some c.in-Some-at.marking = ap flat c.at-2.ensures ∙ c.in-Some-at.is in
-    let same : c.as_slice-kept.result.now ≡ kept (value_of w) t = c.as_slice-kept.ensures ∙ kept_is w.sets t c.index.result.now (keeps w c.self.invariant on t free) c.index.ensures in
-    let F : Further w t c.in-Some.rest c.in-Some-at.marking = further w c.self.invariant on t free c.in-Some.rest c.in-Some-at.marking there at in
-    left_by w c.self.invariant on t free c.in-Some.rest c.in-Some-at.marking there at c.ready.result
-    (subst (λ (xs : List Addr). (f : Fork) → IsSince f xs c.in-Some.rest.heap.chunks → IsMarking f xs c.in-Some-at.marking → IsTrue c.ready.result ↔ IsAllMarked f xs c.in-Some-at.marking) same c.ready.ensures.ready)
+    let there : rest_at w.homes t ≡ Some c.get-in-Some-at.result.now = (ap flat c.at.ensures ∙ c.in-Some.is) ∙ ap Some (sym c.get-in-Some-at.ensures) in
+    let at : marks_at w.marks t ≡ Some c.get.result.now = (ap flat c.at-2.ensures ∙ c.in-Some-at.is) ∙ ap Some (sym c.get.ensures) in
+    let same : c.kept-kept.result.now ≡ kept (value_of w) t = c.kept-kept.ensures ∙ kept_is w.sets t c.index.result.now (keeps w c.self.invariant on t free) c.index.ensures in
+    let F : Further w t c.get-in-Some-at.result.now c.get.result.now = further w c.self.invariant on t free c.get-in-Some-at.result.now c.get.result.now there at in
+    left_by w c.self.invariant on t free c.get-in-Some-at.result.now c.get.result.now there at c.ready.result
+    (subst (λ (xs : List Addr). (f : Fork) → IsSince f xs c.get-in-Some-at.result.now.heap.chunks → IsMarking f xs c.get.result.now → IsTrue c.ready.result ↔ IsAllMarked f xs c.get.result.now) same c.ready.ensures.ready)
     ∙ ap (λ (z : World). left_in (heap_of (accounts z) t) == 0) c.self.view_is

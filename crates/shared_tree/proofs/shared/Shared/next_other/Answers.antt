@@ -95,7 +95,7 @@ step_on-does-requires c =
     let on : (accounts w).end ≡ None = runs_on w k p c.self.invariant F shared free in
     let other : IsOther w p = subst (λ (z : World). IsOther z p) (sym c.self.view_is) c.requires.other in
     let next : next_line w.program p ≡ Some c.in-Some.line = ap₂ (line_at w.program) (sym c.fun.ensures) (sym c.next.ensures) ∙ (sym c.line.ensures ∙ c.in-Some.is) in
-    lines.can_read w k p c.self.invariant F shared other on c.in-Some.line next c.in-Some-named.object (sym c.named.ensures ∙ c.in-Some-named.is) c.owner-owner.result c.owner-owner.ensures c.in-Some-at.rest (c.at.ensures ∙ ap Some c.in-Some-at.is)
+    lines.can_read w k p c.self.invariant F shared other on c.in-Some.line next c.in-Some-named.object (sym c.named.ensures ∙ c.in-Some-named.is) c.owner-owner.result c.owner-owner.ensures c.get.result.now (c.at.ensures ∙ ap Some (c.in-Some-at.is ∙ ap Some (sym c.get.ensures)))
 
 pub returns : goal.returns
 returns c =
@@ -110,4 +110,4 @@ returns c =
     let next : next_line w.program p ≡ Some c.in-Some.line = ap₂ (line_at w.program) (sym c.fun.ensures) (sym c.next.ensures) ∙ (sym c.line.ensures ∙ c.in-Some.is) in
     subst (λ (z : World). TellsOther z p c.step_on-does.result c.in-Some.line.number) c.self.view_is
     (subst (λ (e : OtherStep). TellsOther w p e c.in-Some.line.number) (sym c.step_on-does.ensures)
-    (lines.does_so w k p c.self.invariant F shared other on c.in-Some.line next c.in-Some-named.object (sym c.named.ensures ∙ c.in-Some-named.is) c.owner-owner.result c.owner-owner.ensures c.in-Some-at.rest (c.at.ensures ∙ ap Some c.in-Some-at.is)))
+    (lines.does_so w k p c.self.invariant F shared other on c.in-Some.line next c.in-Some-named.object (sym c.named.ensures ∙ c.in-Some-named.is) c.owner-owner.result c.owner-owner.ensures c.get.result.now (c.at.ensures ∙ ap Some (c.in-Some-at.is ∙ ap Some (sym c.get.ensures)))))

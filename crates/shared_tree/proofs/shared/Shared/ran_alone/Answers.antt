@@ -1,9 +1,9 @@
 use Rattle.std.proofs.Common.{◌≡◌, ℕ, None, refl, sym, subst, ◌∙◌}
 use Rattle.task_machine.specs.declared.part.Private.{Private}
-use Rattle.shared_value.specs.declared.next.Ending.{Ending}
-use Rattle.shared_value.specs.declared.next.Ending.TheVariants.{Beyond, Returns}
+use Rattle.shared_value.specs.declared.next_step.Ending.{Ending}
+use Rattle.shared_value.specs.declared.next_step.Ending.TheVariants.{Beyond, Returns}
 use Rattle.shared_value.specs.World.{World}
-use Rattle.shared_value.specs.Entered.{refused}
+use Rattle.shared_value.specs.Entered.{RanAnswers, refused}
 use Rattle.own_steps.specs.Alone.{Tells, alone_event}
 use Rattle.own_steps.proofs.AloneEntries.{child_beyond, other_beyond, trap_is}
 use Rattle.shared_tree.proofs.shared.Shared.ran_alone.Goals as goal
@@ -45,7 +45,7 @@ pub returns-in-Traps-clause-refused : goal.returns-in-Traps-clause-refused
 returns-in-Traps-clause-refused c = sym c.alone_refused.ensures ∙ c.in_default.is
 
 pub returns-then-part-eq0-clause-refused : goal.returns-then-part-eq0-clause-refused
-returns-then-part-eq0-clause-refused c = sym c.alone_refused.ensures ∙ c.in_default.is
+returns-then-part-eq0-clause-refused c = subst (RanAnswers c.ran_done.result) (sym (sym c.alone_refused.ensures ∙ c.in_default.is)) c.ran_done.ensures.refused
 
 pub returns-else-part-eq0-clause-refused : goal.returns-else-part-eq0-clause-refused
 returns-else-part-eq0-clause-refused c = sym c.alone_refused.ensures ∙ c.in_default.is
@@ -62,8 +62,8 @@ enter_output-requires-clause-free c = sym c.alone_refused.ensures ∙ c.in_defau
 pub enter_halt-requires-clause-free : goal.enter_halt-requires-clause-free
 enter_halt-requires-clause-free c = sym c.alone_refused.ensures ∙ c.in_default.is
 
-pub enter_done-requires-clause-free : goal.enter_done-requires-clause-free
-enter_done-requires-clause-free c = sym c.alone_refused.ensures ∙ c.in_default.is
+pub ran_done-requires-clause-free : goal.ran_done-requires-clause-free
+ran_done-requires-clause-free c = sym c.alone_refused.ensures ∙ c.in_default.is
 
 pub returns-in-Ok-clause-answered : goal.returns-in-Ok-clause-answered
 returns-in-Ok-clause-answered c = c.in-Ok.ensures.goes
@@ -72,13 +72,13 @@ pub returns-in-Traps-clause-answered : goal.returns-in-Traps-clause-answered
 returns-in-Traps-clause-answered c = c.enter_halt.ensures
 
 pub returns-then-part-eq0-clause-answered : goal.returns-then-part-eq0-clause-answered
-returns-then-part-eq0-clause-answered c = c.enter_done.ensures
+returns-then-part-eq0-clause-answered c = c.ran_done.ensures.answered
 
 pub returns-in-Err-clause-same : goal.returns-in-Err-clause-same
 returns-in-Err-clause-same c = c.in-Err.ensures.same
 
-pub enter_done-requires-clause-returns : goal.enter_done-requires-clause-returns
-enter_done-requires-clause-returns c = subst (λ (e : Ending). Tells c.args.self.now c.args.part e c.next_ending-ending.result.1) c.in-Returns.is c.next_ending-ending.ensures
+pub ran_done-requires-clause-returns : goal.ran_done-requires-clause-returns
+ran_done-requires-clause-returns c = subst (λ (e : Ending). Tells c.args.self.now c.args.part e c.next_ending-ending.result.1) c.in-Returns.is c.next_ending-ending.ensures
 
 pub enter_halt-requires-clause-other : goal.enter_halt-requires-clause-other
 enter_halt-requires-clause-other c = λ e. cc

@@ -1,15 +1,30 @@
 use Rattle.std.proofs.Common.{false, true, ◌≡◌, ℕ, Option, Some, None, slice_set, ap, sym, ◌∙◌, ◌<◌, arith, refl, subst}
+use Rattle.std.specs.Prelude.{IfErr, OnErr, Result, Ok, Err}
 use Rattle.heap_tree.specs.Node.{parent_of, state_of}
 use Rattle.heap_tree.specs.declared.state.State.{State}
 use Rattle.heap_tree.specs.Pairs.{sibling}
 use Rattle.task_machine.specs.declared.part.Private.{Private}
+use Rattle.shared_value.specs.declared.answer.NotEntered.{NotEntered}
+use Rattle.shared_value.specs.declared.answer.NotEntered.TheVariants.{NoMemory}
+use Rattle.shared_value.specs.declared.answer.NotRan.{NotRan}
 use Rattle.shared_value.specs.World.{World}
-use Rattle.shared_value.specs.Entered.{refused}
+use Rattle.shared_value.specs.Entered.{RanAnswers, refused}
+use Rattle.shared_value.specs.Fits.{AllFit, Fits}
 use Rattle.own_steps.specs.Alone.{alone_event}
 use Rattle.child_tasks.specs.ChildEnds.{IsAtEnd}
+use Rattle.child_tasks.specs.Joins.{IsUnchanged, SameButPlaces}
 use Rattle.child_tasks.proofs.ChildReturns.{end_shared, few_tasks, own_made, parent_low, tree_parent}
-use Rattle.child_tasks.proofs.JoinPlaces.{places_ends, places_fit, places_same}
+use Rattle.child_tasks.proofs.JoinPlaces.{places_ends, places_fit, places_same, same_world}
 use Rattle.shared_tree.proofs.shared.Shared.ran_ending.Goals as goal
+
+-- where nothing has changed for want of memory, no place was made either
+unchanged : (w after : World) (r : Result (Option ℕ) NotRan) → IfErr r (λ e. e.cause ≡ NoMemory) → OnErr r (after ≡ w) → IfErr r (λ e. IsUnchanged e.cause w after)
+unchanged w after (Ok x) m e = m
+unchanged w after (Err x) m e = subst (λ c. IsUnchanged c w after) (sym m) (subst (SameButPlaces w) (sym e) (same_world w))
+
+still : (w after : World) (r : Result (Option ℕ) NotRan) → OnErr r (after ≡ w) → OnErr r (AllFit w after)
+still w after (Ok x) e = e
+still w after (Err x) e = λ k p F. subst (λ (z : World). Fits z k p) (sym e) F
 
 none_some : {q : ℕ} → ◌≡◌ {A = Option ℕ} None (Some q) → ⊥
 none_some e = cc
@@ -46,8 +61,8 @@ enter_join-requires-clause-free c =
     let free : refused w (alone_event k p) ≡ None = sym c.alone_refused.ensures ∙ c.in_default.is in
     places_same w c.make_join_places.new.self c.make_join_places.ensures.same (λ z. refused z (alone_event k p) ≡ None) (λ hs ss g. g) free
 
-pub returns-in-Ok-clause-answered : goal.returns-in-Ok-clause-answered
-returns-in-Ok-clause-answered c =
+pub returns-in-Ok-make_join_places-clause-answered : goal.returns-in-Ok-make_join_places-clause-answered
+returns-in-Ok-make_join_places-clause-answered c =
     let w : World = c.args.self.now in
     let p : Private = c.args.part in
     let k : ℕ = c.args.worker in
@@ -62,8 +77,8 @@ returns-in-Err-clause-still c =
     let free : refused w (alone_event k p) ≡ None = sym c.alone_refused.ensures ∙ c.in_default.is in
     λ u r G. places_fit w c.make_join_places.new.self c.make_join_places.ensures.same u r G
 
-pub returns-in-Ok-clause-hand : goal.returns-in-Ok-clause-hand
-returns-in-Ok-clause-hand c =
+pub returns-in-Ok-make_join_places-clause-hand : goal.returns-in-Ok-make_join_places-clause-hand
+returns-in-Ok-make_join_places-clause-hand c =
     let w : World = c.args.self.now in
     c.enter_join.ensures.hand ∙ ap (λ (z : World). slice_set z.hands c.args.worker None) c.make_join_places.ensures.same.rest
 
@@ -77,8 +92,8 @@ state_is {f = f} {u = u} e same at = e ∙ (ap f at ∙ ap (λ (h : ℕ → Opti
 pub returns-in-Some-clause-refused : goal.returns-in-Some-clause-refused
 returns-in-Some-clause-refused c = sym c.alone_refused.ensures ∙ c.in-Some.is
 
-pub enter_end-requires-clause-alone : goal.enter_end-requires-clause-alone
-enter_end-requires-clause-alone c = λ e. not_yes (c.if-not-is_ended.ensures.1 (state_is c.state.ensures (ap (λ (z : World). state_of z.tree) c.self.view_is) c.sibling_of.ensures ∙ e))
+pub ran_first-requires-clause-alone : goal.ran_first-requires-clause-alone
+ran_first-requires-clause-alone c = λ e. not_yes (c.if-not-is_ended.ensures.1 (state_is c.state.ensures (ap (λ (z : World). state_of z.tree) c.self.view_is) c.sibling_of.ensures ∙ e))
 
 pub make_join_places-requires-clause-ended : goal.make_join_places-requires-clause-ended
 make_join_places-requires-clause-ended c = sym (state_is c.state.ensures (ap (λ (z : World). state_of z.tree) c.self.view_is) c.sibling_of.ensures) ∙ c.if-not-is_ended.ensures.0 refl
@@ -93,7 +108,7 @@ pub enter_join-requires-clause-parent : goal.enter_join-requires-clause-parent
 enter_join-requires-clause-parent c = ap (λ (z : World). parent_of z.tree c.args.part.task) c.make_join_places.ensures.same.rest ∙ (ap (λ (z : World). parent_of z.tree c.args.part.task) (sym c.self.view_is) ∙ (sym c.parent.ensures ∙ c.in-Some-parent.is))
 
 pub enter_join-requires-clause-places : goal.enter_join-requires-clause-places
-enter_join-requires-clause-places c = c.in-Ok.ensures.places
+enter_join-requires-clause-places c = c.in-Ok-make_join_places.ensures.places
 
 pub enter_join-requires-clause-room : goal.enter_join-requires-clause-room
 enter_join-requires-clause-room c = subst (λ (z : World). 0 < z.journal.room) (sym c.make_join_places.ensures.same.rest) c.requires.room
@@ -104,14 +119,26 @@ returns-in-Err-clause-same c = c.make_join_places.ensures.same
 pub returns-in-Err-clause-refused : goal.returns-in-Err-clause-refused
 returns-in-Err-clause-refused c = sym c.alone_refused.ensures ∙ c.in_default.is
 
-pub returns-in-Ok-clause-refused : goal.returns-in-Ok-clause-refused
-returns-in-Ok-clause-refused c = sym c.alone_refused.ensures ∙ c.in_default.is
+pub returns-in-Ok-make_join_places-clause-refused : goal.returns-in-Ok-make_join_places-clause-refused
+returns-in-Ok-make_join_places-clause-refused c = sym c.alone_refused.ensures ∙ c.in_default.is
+
+pub returns-then-not-is_ended-clause-refused : goal.returns-then-not-is_ended-clause-refused
+returns-then-not-is_ended-clause-refused c = subst (RanAnswers c.ran_first.result) (sym (sym c.alone_refused.ensures ∙ c.in_default.is)) c.ran_first.ensures.refused
+
+pub returns-then-not-is_ended-clause-same : goal.returns-then-not-is_ended-clause-same
+returns-then-not-is_ended-clause-same c = unchanged c.args.self.now c.ran_first.new.self c.ran_first.result c.ran_first.ensures.memory c.ran_first.ensures.same
+
+pub returns-then-not-is_ended-clause-still : goal.returns-then-not-is_ended-clause-still
+returns-then-not-is_ended-clause-still c = still c.args.self.now c.ran_first.new.self c.ran_first.result c.ran_first.ensures.same
+
+pub returns-then-not-is_ended-clause-back : goal.returns-then-not-is_ended-clause-back
+returns-then-not-is_ended-clause-back c = c.ran_first.ensures.back
 
 pub returns-then-not-is_ended-clause-answered : goal.returns-then-not-is_ended-clause-answered
-returns-then-not-is_ended-clause-answered c = c.enter_end.ensures.ended
+returns-then-not-is_ended-clause-answered c = c.ran_first.ensures.answered
 
 pub returns-then-not-is_ended-clause-hand : goal.returns-then-not-is_ended-clause-hand
-returns-then-not-is_ended-clause-hand c = c.enter_end.ensures.hand
+returns-then-not-is_ended-clause-hand c = c.ran_first.ensures.hand
 
 pub alone_refused-requires-clause-shared : goal.alone_refused-requires-clause-shared
 alone_refused-requires-clause-shared c = end_shared c.args.self.now c.args.part c.requires.ends
@@ -134,3 +161,12 @@ sibling_of-requires-clause-few c =
     let few = few_tasks w k p c.stands.ensures c.requires.fits c.requires.ends free in
     let made = own_made w k p c.stands.ensures c.requires.fits c.requires.ends free in
     omega (arith, few, made)
+
+pub returns-in_default-new-clause-same : goal.returns-in_default-new-clause-same
+returns-in_default-new-clause-same c = same_world c.args.self.now
+
+pub returns-in_default-new-clause-still : goal.returns-in_default-new-clause-still
+returns-in_default-new-clause-still c = λ u r G. G
+
+pub returns-in_default-new-clause-refused : goal.returns-in_default-new-clause-refused
+returns-in_default-new-clause-refused c = sym c.alone_refused.ensures ∙ c.in_default.is

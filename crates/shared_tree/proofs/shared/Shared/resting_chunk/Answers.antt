@@ -10,21 +10,21 @@ use Rattle.heap_reading.proofs.ObjectsRead.{none_numbered, resting_objects, some
 use Rattle.shared_tree.proofs.shared.Shared.resting_chunk.Goals as goal
 
 -- the objects of the number are those of its chunk in the heap that was found
-objects_are : (c : goal.After-chunk) → objects_of c.args.self.now c.args.number ≡ objects_numbered c.args.number (chunks_of c.in-Some-Some.rest.heap.chunks)
+objects_are : (c : goal.After-chunk) → objects_of c.args.self.now c.args.number ≡ objects_numbered c.args.number (chunks_of c.get-in-Some-Some.result.now.heap.chunks)
 objects_are c =
     let w : World = c.args.self.now in
     let t = c.in_ok-owner.field-0.owner in
     let held : owner_of w.pool c.args.number ≡ Some t = ap (λ (z : World). owner_of z.pool c.args.number) (sym c.self.view_is) ∙ ap (option_map (λ (h : Held). h.owner)) (sym c.held.ensures ∙ c.in_ok-owner.was) in
     let idle : is_state_running (state_of w.tree t) ≡ false = ap (λ (z : World). is_state_running (state_of z.tree t)) (sym c.self.view_is) ∙ (sym (ap is_state_running c.state.ensures) ∙ (sym c.is_running.ensures ∙ c.if-is_running.false)) in
-    let there : rest_at w.homes t ≡ Some c.in-Some-Some.rest = ap (λ (z : World). rest_at z.homes t) (sym c.self.view_is) ∙ (ap flat (sym c.get.ensures) ∙ (ap (λ o. flat (option_copied o)) c.in-Some-Some.is ∙ c.in-Some-Some.field-0-is)) in
-    resting_objects w c.args.number t c.in-Some-Some.rest held idle there
+    let there : rest_at w.homes t ≡ Some c.get-in-Some-Some.result.now = ap (λ (z : World). rest_at z.homes t) (sym c.self.view_is) ∙ (ap flat (sym c.get.ensures) ∙ ((ap (λ o. flat (option_copied o)) c.in-Some-Some.is ∙ c.in-Some-Some.field-0-is) ∙ ap Some (sym c.get-in-Some-Some.ensures))) in
+    resting_objects w c.args.number t c.get-in-Some-Some.result.now held idle there
 
 pub returns-in-Some-Some-clause-none : goal.returns-in-Some-Some-clause-none
-returns-in-Some-Some-clause-none c = λ none. objects_are c ∙ none_numbered c.in-Some-Some.rest.heap.chunks c.args.number c.chunk.result c.chunk.ensures none
+returns-in-Some-Some-clause-none c = λ none. objects_are c ∙ none_numbered c.get-in-Some-Some.result.now.heap.chunks c.args.number c.chunk.result c.chunk.ensures none
 
 pub returns-in-Some-Some-clause-some : goal.returns-in-Some-Some-clause-some
 returns-in-Some-Some-clause-some c =
-    subst (λ os. IfSome c.chunk.result (λ k. (chunk_of k.now).objects ≡ os)) (sym (objects_are c)) (some_numbered c.in-Some-Some.rest.heap.chunks c.args.number c.chunk.result c.chunk.ensures)
+    subst (λ os. IfSome c.chunk.result (λ k. (chunk_of k.now).objects ≡ os)) (sym (objects_are c)) (some_numbered c.get-in-Some-Some.result.now.heap.chunks c.args.number c.chunk.result c.chunk.ensures)
 
 pub returns-then-is_running-clause-none : goal.returns-then-is_running-clause-none
 returns-then-is_running-clause-none c = λ none.

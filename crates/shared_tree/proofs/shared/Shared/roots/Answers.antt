@@ -3,7 +3,7 @@ use Rattle.chunk_pool.specs.Chunks.{Chunks}
 use Rattle.remembered_set.specs.Moved.{AreFields}
 use Rattle.write_barrier.specs.declared.sets.SetOf.{SetOf}
 use Rattle.task_machine.specs.declared.part.Private.{Private}
-use Rattle.shared_value.specs.declared.rest.Rest.{Rest}
+use Rattle.shared_value.specs.declared.task_at_rest.Rest.{Rest}
 use Rattle.shared_value.specs.World.{World, accounts}
 use Rattle.shared_value.specs.Fits.{Fits}
 use Rattle.shared_value.specs.RestingHeaps.{refs_in}

@@ -22,7 +22,7 @@ returns c =
     let t : ℕ = c.args.t in
     let on : (accounts w).end ≡ None = ap (λ (z : World). (accounts z).end) c.self.view_is ∙ c.requires.goes in
     let free : waiting_cause w t ≡ None = ap (λ (z : World). waiting_cause z t) c.self.view_is ∙ c.requires.waits in
-    let there : rest_at w.homes t ≡ Some c.in-Some.rest = ap flat c.at.ensures ∙ c.in-Some.is in
+    let there : rest_at w.homes t ≡ Some c.get.result.now = (ap flat c.at.ensures ∙ c.in-Some.is) ∙ ap Some (sym c.get.ensures) in
     c.words.ensures
-    ∙ (ap counted (sym (words_now w c.self.invariant t on free c.in-Some.rest there))
+    ∙ (ap counted (sym (words_now w c.self.invariant t on free c.get.result.now there))
     ∙ ap (λ (z : World). counted (words_in (accounts z).machine (heap_of (accounts z) t))) c.self.view_is)

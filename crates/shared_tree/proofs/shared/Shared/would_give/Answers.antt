@@ -1,4 +1,4 @@
-use Rattle.std.proofs.Common.{◌≡◌, ℕ, Some, None, ap, ◌∙◌}
+use Rattle.std.proofs.Common.{◌≡◌, ℕ, Some, None, ap, sym, ◌∙◌}
 use Rattle.run_ledger.specs.Heaps.{heap_of, left_in, sweep_number}
 use Rattle.shared_value.specs.World.{World, accounts, flat, marks_at, rest_at}
 use Rattle.heap_marking.specs.MarkCauses.{marking_cause}
@@ -30,9 +30,9 @@ would_give-requires c =
     let on : (accounts w).end ≡ None = ap (λ (z : World). (accounts z).end) c.self.view_is ∙ c.requires.goes in
     let free : marking_cause w t ≡ None = ap (λ (z : World). marking_cause z t) c.self.view_is ∙ c.requires.marked in
     let none_left : left_in (heap_of (accounts w) t) ≡ 0 = ap (λ (z : World). left_in (heap_of (accounts z) t)) c.self.view_is ∙ c.requires.none_left in
-    let there : rest_at w.homes t ≡ Some c.in-Some.rest = ap flat c.at.ensures ∙ c.in-Some.is in
-    let at : marks_at w.marks t ≡ Some c.in-Some-at.marking = ap flat c.at-2.ensures ∙ c.in-Some-at.is in
-    (would_be w c.self.invariant on t free none_left c.in-Some.rest c.in-Some-at.marking there at).0
+    let there : rest_at w.homes t ≡ Some c.get-2.result.now = (ap flat c.at.ensures ∙ c.in-Some.is) ∙ ap Some (sym c.get-2.ensures) in
+    let at : marks_at w.marks t ≡ Some c.get.result.now = (ap flat c.at-2.ensures ∙ c.in-Some-at.is) ∙ ap Some (sym c.get.ensures) in
+    (would_be w c.self.invariant on t free none_left c.get-2.result.now c.get.result.now there at).0
 
 pub returns : goal.returns
 returns c =
@@ -41,7 +41,7 @@ returns c =
     let on : (accounts w).end ≡ None = ap (λ (z : World). (accounts z).end) c.self.view_is ∙ c.requires.goes in
     let free : marking_cause w t ≡ None = ap (λ (z : World). marking_cause z t) c.self.view_is ∙ c.requires.marked in
     let none_left : left_in (heap_of (accounts w) t) ≡ 0 = ap (λ (z : World). left_in (heap_of (accounts z) t)) c.self.view_is ∙ c.requires.none_left in
-    let there : rest_at w.homes t ≡ Some c.in-Some.rest = ap flat c.at.ensures ∙ c.in-Some.is in
-    let at : marks_at w.marks t ≡ Some c.in-Some-at.marking = ap flat c.at-2.ensures ∙ c.in-Some-at.is in
+    let there : rest_at w.homes t ≡ Some c.get-2.result.now = (ap flat c.at.ensures ∙ c.in-Some.is) ∙ ap Some (sym c.get-2.ensures) in
+    let at : marks_at w.marks t ≡ Some c.get.result.now = (ap flat c.at-2.ensures ∙ c.in-Some-at.is) ∙ ap Some (sym c.get.ensures) in
     c.would_give.ensures
-    ∙ ((would_be w c.self.invariant on t free none_left c.in-Some.rest c.in-Some-at.marking there at).1 ∙ ap (λ (z : World). sweep_number (accounts z).machine (heap_of (accounts z) t)) c.self.view_is)
+    ∙ ((would_be w c.self.invariant on t free none_left c.get-2.result.now c.get.result.now there at).1 ∙ ap (λ (z : World). sweep_number (accounts z).machine (heap_of (accounts z) t)) c.self.view_is)

@@ -1,0 +1,17 @@
+use Rattle.std.proofs.Common.{◌≡◌, ◌-◌, List, arith, length}
+use Rattle.std.proofs.lemmas.List.{drop_at, take_at}
+use Rattle.std.specs.Prelude.{vec_len}
+use Rattle.object_layout.specs.Content.{Content}
+use Rattle.alloc_path.proofs.Rows as rows
+use Rattle.alloc_path.proofs.row.Row.reserve_before.Goals as goal
+
+pub returns-clause-items : goal.returns-clause-items
+returns-clause-items c =
+    let xs : List Content = c.self.inside.chunks.items in
+    let es : List Content = c.in_ok-empty.empty.items in
+    let made = c.in_ok-empty.ensures in
+    let all = c.in_ok-append.ensures.len in
+    let own : length xs ≡ vec_len c.append.new.self - c.max-added.result = omega arith in
+    let k : c.max-added.result ≡ length es = omega arith in
+    rw (← c.self.view_is, c.rotate_right.ensures.items, c.in_ok-append.ensures.items, drop_at xs es (vec_len c.append.new.self - c.max-added.result) own, take_at xs es (vec_len c.append.new.self - c.max-added.result) own)
+    (rows.drop_behind es xs c.self.inside.before c.max-added.result k)

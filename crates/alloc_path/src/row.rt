@@ -1,0 +1,178 @@
+// The chunks of a heap in a row that grows at both ends.
+
+ghost use Rattle.std.specs.Prelude.{◌≡◌, ◌+◌, ◌^◌, ◌<◌, ◌≤◌, [], ◌∷◌, ◌++◌, IfOk, OnOk, length, slice_index_or, vec_len};
+
+use object_layout::Chunk;
+use std::alloc::{AllocError, Global};
+use std::marker::Model;
+use std::mem;
+
+/// Chunks in a row. It has places before them, in which empty chunks without words stand, and places behind them; so chunks
+/// are put in at both ends, and none of the others moves.
+#[derive(Drop)]
+pub(crate) struct Row {
+    chunks: Vec<Chunk>,
+    // How many of them only keep a place.
+    before: usize,
+}
+
+impl Model for Row {
+    ghost use Rattle.std.specs.Prelude.{◌+◌, ◌-◌, ◌≤◌, drop, vec_capacity, vec_len};
+    ghost use Rattle.alloc_path.specs.Row.{Places};
+
+    ghost Value = { Places };
+
+    ghost view = { λ r. record { items = drop r.before r.chunks.items; places = r.before + (vec_capacity r.chunks - vec_len r.chunks) } };
+
+    ghost invariant = { λ r. r.before ≤ vec_len r.chunks };
+}
+
+impl Row {
+    ghost use Rattle.std.specs.Prelude.{◌≡◌, ◌+◌, ◌^◌, ◌<◌, ◌≤◌, [], ◌∷◌, ◌++◌, IfOk, OnOk, length, slice_index_or, vec_len};
+    ghost use Rattle.std.specs.Borrow.{sem};
+    ghost use Rattle.alloc_path.specs.RowLends.{lends_chunk};
+
+    /// No chunk.
+    pub(crate) fn new(alloc: Global) -> Row
+        ensures { result.items ≡ [] }
+    {
+        Row {
+            chunks: Vec::new(alloc),
+            before: 0,
+        }
+    }
+
+    /// These chunks.
+    pub(crate) fn of(chunks: Vec<Chunk>) -> Row
+        ensures { result.items ≡ chunks.items }
+    {
+        Row { chunks, before: 0 }
+    }
+
+    /// What it takes memory from.
+    pub(crate) fn allocator(&self) -> Global {
+        *self.chunks.allocator()
+    }
+
+    /// How many chunks there are; with the places they are fewer than half of what a `usize` counts.
+    pub(crate) fn len(&self) -> usize
+        ensures count { result ≡ length self.now.items }
+        ensures few { length self.now.items + self.now.places < 2 ^ 63 }
+    {
+        self.chunks.len() - self.before
+    }
+
+    /// All chunks.
+    pub(crate) fn as_slice(&self) -> &[Chunk]
+        ensures { result.now ≡ self.now.items }
+    {
+        &self.chunks[self.before..]
+    }
+
+    /// The chunk at a place, to be changed.
+    pub(crate) fn at_mut(&mut self, place: usize) -> &mut Chunk
+        requires { place < length self.old.items }
+        ensures* writes_back { sem 𝓛 (lends_chunk self.entry place result) }
+        ensures value { result.now ≡ slice_index_or self.old.items place result.now }
+    {
+        &mut self.chunks[self.before + place]
+    }
+
+    /// The chunk at a place.
+    pub(crate) fn at(&self, place: usize) -> &Chunk
+        requires { place < length self.now.items }
+        ensures { result.now ≡ slice_index_or self.now.items place result.now }
+    {
+        &self.chunks[self.before + place]
+    }
+
+    /// Makes places for so many chunks more.
+    pub(crate) fn reserve(&mut self, more: usize) -> Result<(), AllocError>
+        ensures items { self.new.items ≡ self.old.items }
+        ensures ok { OnOk result (more ≤ self.new.places) }
+        ensures places { self.old.places ≤ self.new.places }
+    {
+        self.chunks.reserve(more)
+    }
+
+    /// Makes places before the others for so many chunks more, and at least as many as there are chunks where any is
+    /// made, so that a chunk is moved for it twice at most in the long run.
+    pub(crate) fn reserve_before(&mut self, more: usize) -> Result<(), AllocError>
+        ensures items { self.new.items ≡ self.old.items }
+        ensures ok { OnOk result (more ≤ self.new.places) }
+        ensures places { self.old.places ≤ self.new.places }
+    {
+        if more <= self.before {
+            return Ok(());
+        }
+        let added = more.max(self.chunks.len());
+        let mut empty = empty_chunks(self.allocator(), added)?;
+        self.chunks.append(&mut empty)?;
+        self.chunks.rotate_right(added);
+        self.before += added;
+        Ok(())
+    }
+
+    /// Puts a chunk behind the others, where there is a place. It takes no memory.
+    pub(crate) fn push_reserved(&mut self, chunk: Chunk)
+        requires { 0 < self.old.places }
+        ensures items { self.new.items ≡ self.old.items ++ chunk ∷ [] }
+        ensures places { self.old.places ≡ self.new.places + 1 }
+    {
+        if self.chunks.len() == self.chunks.capacity() {
+            let _ = self.chunks.remove(0);
+            self.before -= 1;
+        }
+        self.chunks.push_reserved(chunk);
+    }
+
+    // Puts a chunk before the others, where there is a place. It takes no memory.
+    fn push_before(&mut self, chunk: Chunk)
+        requires { 0 < self.old.places }
+        ensures items { self.new.items ≡ chunk ∷ self.old.items }
+        ensures places { self.old.places ≤ self.new.places + 1 }
+    {
+        if self.before > 0 {
+            self.before -= 1;
+            self.chunks[self.before] = chunk;
+        } else {
+            let _ = self.chunks.insert(0, chunk);
+        }
+    }
+
+    /// Puts these chunks before the others, where there are places. It takes no memory.
+    pub(crate) fn put_before(&mut self, mut more: Vec<Chunk>)
+        requires { vec_len more ≤ self.old.places }
+        ensures items { self.new.items ≡ more.items ++ self.old.items }
+        ensures places { self.old.places ≤ self.new.places + vec_len more }
+    {
+        while let Some(chunk) = more.pop() {
+            self.push_before(chunk);
+        }
+    }
+
+    /// Takes all chunks out.
+    pub(crate) fn take(&mut self) -> Vec<Chunk>
+        ensures taken { result.items ≡ self.old.items }
+        ensures left { self.new.items ≡ [] }
+    {
+        let none = Vec::new(self.allocator());
+        let mut chunks = mem::replace(&mut self.chunks, none);
+        let before = self.before;
+        self.before = 0;
+        chunks.rotate_left(before);
+        chunks.truncate(chunks.len() - before);
+        chunks
+    }
+}
+
+// So many empty chunks without words.
+fn empty_chunks(alloc: Global, count: usize) -> Result<Vec<Chunk>, AllocError>
+    ensures { IfOk result (λ chunks. vec_len chunks ≡ count) }
+{
+    let mut chunks = Vec::with_capacity(alloc, count)?;
+    for _ in 0..count {
+        chunks.push(Chunk::new(alloc, 0, 0)?)?;
+    }
+    Ok(chunks)
+}

@@ -1,0 +1,113 @@
+// What a run leaves, and its journal.
+
+ghost use Rattle.std.specs.Prelude.{◌≡◌};
+ghost use Rattle.shared_value.specs.World.{without_journal};
+
+use crate::shared::Shared;
+use chunk_pool::Pool;
+use heap_tree::Tree;
+use hh_lang::Program;
+use inner_mark_gc::Marking;
+use listed::Listed;
+use out_of_line::Apart;
+use run_ledger::RunEnd;
+use run_trace::{Entry, Settings};
+use shared_value::Rest;
+use std::marker::Model;
+use write_barrier::SetOf;
+
+/// What a run leaves beside its journal: the heaps and frames of the tasks that no worker holds, and the totals. No entry
+/// can be made any more.
+#[derive(Drop)]
+pub struct Left {
+    program: Program,
+    settings: Settings,
+    tree: Tree,
+    pool: Pool,
+    homes: Listed<Option<Apart<Rest>>>,
+    sets: Vec<SetOf>,
+    marks: Listed<Option<Apart<Marking>>>,
+    hands: Listed<Option<u32>>,
+    outputs: Listed<i64>,
+    steps: u64,
+    end: Option<RunEnd>,
+    halted: bool,
+}
+
+impl Model for Left {
+    ghost use Rattle.std.specs.Prelude.{[]};
+    ghost use Rattle.shared_value.specs.World.{World};
+
+    ghost Value = { World };
+
+    ghost view = { λ s. record { program = s.program; settings = s.settings; tree = s.tree; pool = s.pool; homes = s.homes; sets = s.sets.items; marks = s.marks; hands = s.hands; outputs = s.outputs; journal = record { items = []; room = 0 }; steps = s.steps; end = s.end; halted = s.halted } };
+}
+
+impl Left {
+    /// What was written out.
+    pub fn outputs(&self) -> &[i64]
+        ensures { result.now ≡ self.now.outputs }
+    {
+        self.outputs.as_slice()
+    }
+
+    /// The steps taken.
+    pub fn steps(&self) -> u64
+        ensures { result ≡ self.now.steps }
+    {
+        self.steps
+    }
+
+    /// How the run has ended, if it has.
+    pub fn ended(&self) -> Option<RunEnd>
+        ensures { result ≡ self.now.end }
+    {
+        self.end
+    }
+
+    /// Whether some worker has met want of memory.
+    pub fn halted(&self) -> bool
+        ensures { result ≡ self.now.halted }
+    {
+        self.halted
+    }
+}
+
+impl Shared {
+    /// Takes the journal out: no entry can be made after it.
+    pub fn take_journal(self) -> (Listed<Entry>, Left)
+        ensures journal { result.0 ≡ self.journal.items }
+        ensures rest { result.1 ≡ without_journal self }
+    {
+        let Shared {
+            program,
+            settings,
+            tree,
+            pool,
+            homes,
+            sets,
+            marks,
+            hands,
+            outputs,
+            journal,
+            steps,
+            end,
+            halted,
+        } = self;
+        let left = Left {
+            program,
+            settings,
+            tree,
+            pool,
+            homes,
+            sets,
+            marks,
+            hands,
+            outputs,
+            steps,
+            end,
+            halted,
+        };
+        (journal.into_listed(), left)
+    }
+}

@@ -1,0 +1,77 @@
+// Objects of a heap are marked.
+
+ghost use Rattle.std.specs.Prelude.{◌≡◌, ◌<◌, ◌≤◌, IfOk, OnErr, OnOk, None, min};
+ghost use Rattle.run_ledger.specs.Heaps.{heap_of, left_in};
+ghost use Rattle.shared_value.specs.Entered.{cause_of, refused, Enters};
+ghost use Rattle.shared_value.specs.Fits.{AllFit};
+ghost use Rattle.shared_value.specs.World.{accounts};
+
+use crate::shared::Shared;
+use heap_marking::marking_cause;
+use run_ledger::Refused;
+use run_trace::{Entry, Kind};
+use shared_value::first_cause;
+use std::mem;
+
+impl Shared {
+    // Why the entry is refused.
+    fn some_refused(&self, worker: u32, t: u32, n: u32) -> Option<Refused>
+        ensures { result ≡ refused self.now (record { worker = worker; kind = Kind.More t n }) }
+    {
+        let _ = n;
+        let first = first_cause(self.end, self.steps, self.settings, worker, false);
+        if first.is_some() {
+            return first;
+        }
+        let marking = marking_cause(&self.tree, &self.sets, &self.marks, t);
+        if marking.is_some() {
+            return marking;
+        }
+        if self.is_marked(t) {
+            Some(Refused::Marked)
+        } else {
+            None
+        }
+    }
+
+    // Makes the entry.
+    fn enter_some(&mut self, worker: u32, t: u32, n: u32) -> u32
+        requires room { 0 < self.old.journal.room }
+        requires some { 0 < n }
+        requires few { n ≤ 1024 }
+        requires free { refused self.old (record { worker = worker; kind = Kind.More t n }) ≡ None }
+        ensures count { result ≡ min n (left_in (heap_of (accounts self.old) t)) }
+        ensures enters { Enters self.old self.new (record { worker = worker; kind = Kind.More t n }) }
+        ensures fits { AllFit self.old self.new }
+    {
+        let Some(rest) = self.homes.at(t as usize) else {
+            unreachable!()
+        };
+        let Some(mut marking) = mem::replace(self.marks.at_mut(t as usize), None) else {
+            unreachable!()
+        };
+        let kept = self.sets[t as usize].kept();
+        let count = marking.get_mut().some(&rest.get().heap, kept, n);
+        self.marks.set(t as usize, Some(marking));
+        self.journal
+            .push_reserved(Entry::new(worker, Kind::More(t, n)));
+        count
+    }
+
+    /// Up to so many objects more of a heap are marked: the answer is how many. It takes no memory.
+    pub fn some(&mut self, worker: u32, t: u32, n: u32) -> Result<u32, Refused>
+        requires room { 0 < self.old.journal.room }
+        requires some { 0 < n }
+        requires few { n ≤ 1024 }
+        ensures refused { cause_of result ≡ refused self.old (record { worker = worker; kind = Kind.More t n }) }
+        ensures same { OnErr result (self.new ≡ self.old) }
+        ensures count { IfOk result (λ k. k ≡ min n (left_in (heap_of (accounts self.old) t))) }
+        ensures enters { OnOk result (Enters self.old self.new (record { worker = worker; kind = Kind.More t n })) }
+        ensures fits { OnOk result (AllFit self.old self.new) }
+    {
+        match self.some_refused(worker, t, n) {
+            Some(cause) => Err(cause),
+            None => Ok(self.enter_some(worker, t, n)),
+        }
+    }
+}

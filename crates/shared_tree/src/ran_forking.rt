@@ -1,0 +1,121 @@
+// A part's steps are entered with a fork.
+
+ghost use Rattle.std.specs.Prelude.{◌≡◌, ◌<◌, ◌+◌, ◌-◌, OnErr, IfErr, IfOk, None, Some};
+ghost use Rattle.heap_tree.specs.Node.{depth_of};
+ghost use Rattle.shared_value.specs.Entered.{refused, RanAnswers};
+ghost use Rattle.shared_value.specs.Fits.{Fits};
+ghost use Rattle.own_steps.specs.Alone.{alone_event};
+ghost use Rattle.child_tasks.specs.Hands.{LeavesHand};
+ghost use Rattle.child_tasks.specs.Forks.{ForkAnswered, ForksTo, IsAtFork};
+
+use crate::shared::Shared;
+use child_tasks::{ForkBlocks, Forking, clear_marks, fork_sets, grow, put_homes};
+use hh_lang::Instr;
+use hh_model::{End, Trap};
+use run_trace::{Entry, Kind};
+use shared_value::{NotEntered, NotRan};
+use task_machine::Private;
+
+// At this depth a task can't fork.
+const DEPTH_LIMIT: u32 = 1000;
+
+impl Shared {
+    // The functions that the children begin, and the line of the text where the fork stands.
+    fn fork_line(&self, worker: u32, part: &Private) -> (u32, u32, u32)
+        requires fits { Fits self.now worker part.now }
+        requires forks { IsAtFork self.now part.now }
+        requires free { refused self.now (alone_event worker part.now) ≡ None }
+        ensures { ForksTo self.now part.now result.0 result.1 result.2 }
+    {
+        let Some(line) = self.program.line(part.frames.fun(), part.frames.next()) else {
+            unreachable!()
+        };
+        match line.instr {
+            Instr::Par(left, right) => (left, right, line.number),
+            _ => unreachable!(),
+        }
+    }
+
+    // Enters a fork.
+    fn enter_fork(
+        &mut self,
+        worker: u32,
+        part: Private,
+        left: u32,
+        right: u32,
+        line: u32,
+    ) -> Result<Forking, NotRan>
+        requires room { 0 < self.old.journal.room }
+        requires fits { Fits self.old worker part }
+        requires forks { IsAtFork self.old part }
+        requires free { refused self.old (alone_event worker part) ≡ None }
+        requires by { ForksTo self.old part left right line }
+        requires shallow { depth_of self.old.tree part.task < 1000 }
+        ensures memory { IfErr result (λ e. e.cause ≡ NotEntered.NoMemory) }
+        ensures same { OnErr result (self.new ≡ self.old) }
+        ensures back { IfErr result (λ e. e.part ≡ part) }
+        ensures answered { IfOk result (ForkAnswered self.old self.new worker part) }
+        ensures hand { IfOk result (LeavesHand self.old.hands self.new.hands worker) }
+    {
+        let _ = line;
+        let Ok(blocks) = ForkBlocks::new(*self.sets.allocator()) else {
+            return Err(NotRan {
+                cause: NotEntered::NoMemory,
+                part,
+            });
+        };
+        let grown = grow(
+            &mut self.tree,
+            &mut self.homes,
+            &mut self.sets,
+            &part,
+            left,
+            right,
+        );
+        let Ok((first, second)) = grown else {
+            return Err(NotRan {
+                cause: NotEntered::NoMemory,
+                part,
+            });
+        };
+        let (left, right) = (first.task, second.task);
+        self.steps += part.fresh as u64 + 1;
+        self.journal
+            .push_reserved(Entry::new(worker, Kind::Ran(part.task, part.fresh + 1)));
+        self.hands.set(worker as usize, None);
+        fork_sets(&mut self.sets, part.task);
+        clear_marks(&mut self.marks, part.task);
+        put_homes(&mut self.homes, part, first, second, blocks);
+        Ok(Forking::Forked { left, right })
+    }
+
+    /// The fresh steps of a part, and its next one, which is a fork, are entered: its task waits for two children, or the run
+    /// ends, where too many forks are above it.
+    pub fn ran_forking(&mut self, worker: u32, part: Private) -> Result<Forking, NotRan>
+        requires room { 0 < self.old.journal.room }
+        requires fits { Fits self.old worker part }
+        requires forks { IsAtFork self.old part }
+        ensures refused { RanAnswers result (refused self.old (alone_event worker part)) }
+        ensures same { OnErr result (self.new ≡ self.old) }
+        ensures back { IfErr result (λ e. e.part ≡ part) }
+        ensures answered { IfOk result (ForkAnswered self.old self.new worker part) }
+        ensures hand { IfOk result (LeavesHand self.old.hands self.new.hands worker) }
+    {
+        if let Some(cause) = self.alone_refused(worker, &part) {
+            return Err(NotRan {
+                cause: NotEntered::Refuses(cause),
+                part,
+            });
+        }
+        self.stands();
+        let (left, right, line) = self.fork_line(worker, &part);
+        if self.tree.depth(part.task) < DEPTH_LIMIT {
+            self.enter_fork(worker, part, left, right, line)
+        } else {
+            let mut part = part;
+            let end = End::Trapped(Trap::Depth, part.task, line);
+            self.enter_halt(worker, &mut part, end);
+            Ok(Forking::Over(part))
+        }
+    }
+}

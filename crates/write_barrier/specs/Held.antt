@@ -1,0 +1,13 @@
+-- What a set holds, as contracts see it.
+use Rattle.std.specs.Prelude.{Bool, []}
+use Rattle.write_barrier.specs.declared.sets.Noted.{Noted}
+use Rattle.write_barrier.specs.declared.sets.Form.{Form}
+use Rattle.write_barrier.specs.declared.sets.Form.TheVariants.{Bare, Full}
+
+-- nothing, and places for nothing; whether its heap keeps is known all the same
+abbrev pub bare : Bool → Noted
+bare keeps = record { remembered = record { sources = []; slots = 0; spare = 0; numbers = 0 }; kept = record { items = []; room = 0 }; keeps = keeps }
+
+abbrev pub held_in : Form → Noted
+held_in (Bare keeps) = bare keeps
+held_in (Full noted) = noted
