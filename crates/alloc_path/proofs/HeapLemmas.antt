@@ -12,7 +12,7 @@ use Rattle.object_layout.specs.Content.{Content}
 use Rattle.object_layout.specs.Place.{cell_at, object_at, put_cell, words_in, IsObjectAt}
 use Rattle.object_layout.specs.Chunks.{cell_of, chunk_at, held_in, held_size, held_words, no_chunk, object_count, one_each, place_in, place_of, put_object, small_part, small_words, sum_in, sum_of, with_cell}
 use Rattle.alloc_path.specs.Heap.{AreWithin, counted, Heap, IsCurrent, IsFresh, IsKept, IsReserved, large_place, AreApart, place_for, room_at, small_place, units}
-use Rattle.kept_pieces.specs.Kept.{Forgets, Kept, Shows, written}
+use Rattle.kept_pieces.specs.Kept.{NotesChanges, Kept, Shows, written}
 use Rattle.kept_pieces.proofs.PieceLists as lists
 use Rattle.object_layout.proofs.ChunkLaws as chunks
 use Rattle.object_layout.proofs.PlaceLemmas as place
@@ -252,21 +252,21 @@ module _ (ks : List Content) (a : Addr) (i : ℕ) (k : Content) (o : IsObject (c
   -- the chunk's piece goes
   pub own_changed : (pieces : Kept) (filled kept : Option ℕ) (count many part base : ℕ) (place : ℕ → Option ℕ) (entries : ℕ) → IsKept ks pieces filled kept count many part base place entries →
       (d : Cell) → ((n : ℕ) → held_size d.mark n ≡ held_size (cell_at k.cells a.offset).mark n) → size_of d ≡ size_of (cell_at k.cells a.offset) →
-      (left : Kept) (m : ℕ) → m ≡ k.number → Forgets pieces left (m ∷ []) →
+      (left : Kept) (m : ℕ) → m ≡ k.number → NotesChanges pieces left (m ∷ []) →
       IsKept (set ks i (with_cell k a.offset d)) left filled kept count many part base place entries
-  own_changed pieces filled kept count many part base place entries h d s z left m number forgets =
-      own_kept pieces filled kept count many part base place entries h d s z left (lists.changed pieces left ks i m (with_cell k a.offset d) k (ap (λ (x : Content). x.number) read) number forgets h.shown)
+  own_changed pieces filled kept count many part base place entries h d s z left m number noted =
+      own_kept pieces filled kept count many part base place entries h d s z left (lists.changed pieces left ks i m (with_cell k a.offset d) k (ap (λ (x : Content). x.number) read) number noted h.shown)
 
   -- or stays, where the object is mutable before and after
   pub own_written : (p : Kept) (filled kept : Option ℕ) (count many part base : ℕ) (table : ℕ → Option ℕ) (entries : ℕ) → IsKept ks p filled kept count many part base table entries →
       (d : Cell) → d.mark ≡ (cell_at k.cells a.offset).mark → d.mutable ≡ (cell_at k.cells a.offset).mutable → size_of d ≡ size_of (cell_at k.cells a.offset) →
-      (left : Kept) → Forgets p left (written (object_at k.cells a.offset).mutable k.number) →
+      (left : Kept) → NotesChanges p left (written (object_at k.cells a.offset).mutable k.number) →
       IsKept (set ks i (with_cell k a.offset d)) left filled kept count many part base table entries
-  own_written p filled kept count many part base table entries h d m u z left forgets =
+  own_written p filled kept count many part base table entries h d m u z left noted =
       let there : IsObjectAt k.cells a.offset = subst (λ (c : Cell). IsObject c.mark) own_cell o in
       let is : object_at k.cells a.offset ≡ cell_at k.cells a.offset = place.object_is k.cells a.offset there in
       own_kept p filled kept count many part base table entries h d (λ n. ap (λ (x : Mark). held_size x n) m) z left
-      (lists.written_shown p left ks h.shown i k (own_read no_chunk) a.offset d (object_at k.cells a.offset).mutable forgets (ap (λ (c : Cell). c.mutable) (sym is)) u z)
+      (lists.written_shown p left ks h.shown i k (own_read no_chunk) a.offset d (object_at k.cells a.offset).mutable noted (ap (λ (c : Cell). c.mutable) (sym is)) u z)
 
 -- an object's words count
 pub held_object : (m : Mark) (n : ℕ) → IsObject m → held_size m n ≡ n

@@ -19,7 +19,7 @@ impl Space {
         ensures taken { self.new ≡ with_places (exchanged self.old [] None None) self.new.slots self.new.spare }
         ensures spare { self.old.spare + length self.old.chunks ≤ self.new.spare }
     {
-        self.pieces.forget_all();
+        self.pieces.let_go();
         self.current = None;
         self.reserved = None;
         self.words = 0;
@@ -52,7 +52,7 @@ impl Space {
         self.table.clear();
         self.base = BASE;
         index_chunks(&mut self.table, &chunks, BASE);
-        self.pieces.forget_all();
+        self.pieces.let_go();
         self.chunks = Row::of(chunks);
         self.current = current;
         self.reserved = reserved;
@@ -86,8 +86,8 @@ impl Space {
         index_chunks(&mut self.table, left.chunks.as_slice(), self.base);
         drop(left.pieces);
         drop(right.pieces);
-        self.pieces.forget_each(right.chunks.as_slice());
-        self.pieces.forget_each(left.chunks.as_slice());
+        self.pieces.note_changes(right.chunks.as_slice());
+        self.pieces.note_changes(left.chunks.as_slice());
         self.chunks.put_before(right.chunks.take());
         self.chunks.put_before(left.chunks.take());
         self.current = behind(self.current, before);

@@ -47,7 +47,7 @@ impl Space {
         let chunk = self.chunks.at_mut(i);
         let offset = chunk.used();
         let number = chunk.number();
-        self.pieces.forget(number);
+        self.pieces.note_change(number);
         write_filled(chunk, offset, new.header, new.birth, refs, ints);
         if words > SMALL {
             self.reserved = None;

@@ -241,7 +241,7 @@ impl LeafHeap {
         ensures settled { IsSettled self.old.chunks }
         ensures left { self.new ≡ record (exchanged self.old [] None None) { since = 0; slots = self.new.slots; spare = self.new.spare } }
     {
-        self.space.forget_pieces();
+        self.space.let_pieces_go();
         let none = Space::new(self.space.allocator());
         mem::replace(&mut self.space, none)
     }

@@ -127,7 +127,7 @@ impl Space {
         ensures { self.new ≡ with_ref_of self.old object field value }
     {
         let chunk = self.chunks.at_mut(place);
-        self.pieces.forget_written(chunk, object.offset);
+        self.pieces.note_write(chunk, object.offset);
         set_ref(chunk, object.offset, field, value);
     }
 
@@ -147,7 +147,7 @@ impl Space {
         ensures { self.new ≡ record self.old { chunks = put_object self.old.chunks object (with_int (cell_of self.old.chunks object) field value) } }
     {
         let chunk = self.chunks.at_mut(place);
-        self.pieces.forget_written(chunk, object.offset);
+        self.pieces.note_write(chunk, object.offset);
         set_int(chunk, object.offset, field, value);
     }
 
@@ -167,7 +167,7 @@ impl Space {
         ensures { self.new ≡ record self.old { chunks = put_object self.old.chunks object (frozen (cell_of self.old.chunks object)) } }
     {
         let chunk = self.chunks.at_mut(place);
-        self.pieces.forget(chunk.number());
+        self.pieces.note_change(chunk.number());
         freeze(chunk, object.offset);
     }
 
@@ -179,7 +179,7 @@ impl Space {
         ensures { self.new ≡ record self.old { chunks = put_object self.old.chunks object (with_mark (cell_of self.old.chunks object) (Moved to)) } }
     {
         let chunk = self.chunks.at_mut(place);
-        self.pieces.forget(chunk.number());
+        self.pieces.note_change(chunk.number());
         forward(chunk, object.offset, to);
     }
 
@@ -195,7 +195,7 @@ impl Space {
         ensures left { self.new ≡ record self.old { chunks = put_object self.old.chunks object (with_mark (cell_of self.old.chunks object) (Moved result)) } }
     {
         let chunk = self.chunks.at_mut(place);
-        self.pieces.forget(chunk.number());
+        self.pieces.note_change(chunk.number());
         move_behind(chunk, object.offset, birth, to)
     }
 
@@ -206,7 +206,7 @@ impl Space {
     {
         let i = self.own_place(object.chunk);
         let chunk = self.chunks.at_mut(i);
-        self.pieces.forget(chunk.number());
+        self.pieces.note_change(chunk.number());
         set_birth(chunk, object.offset, birth);
     }
 }

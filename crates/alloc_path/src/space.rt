@@ -20,8 +20,9 @@ pub(crate) const SMALL: u32 = 1024;
 /// From where the table counts the places of a heap with whose chunks no others were merged.
 pub(crate) const BASE: usize = 1 << 63;
 
-/// For how many chunks that change a heap has places for their numbers at least, once it has settled.
-const SPARE: usize = 8;
+/// For how many chunks that change a heap has places for their numbers at least, once it has settled. It has one more
+/// for each eight chunks.
+const LEAST_PLACES: usize = 8;
 
 /// An object to be placed: its kind and its birth name.
 #[derive(Clone, Copy)]
@@ -208,14 +209,15 @@ impl Space {
             &self.table,
             self.base,
         )?;
-        self.pieces.put(alloc, layer, SPARE)
+        let places = LEAST_PLACES + self.chunks.len() / 8;
+        self.pieces.put(alloc, layer, places)
     }
 
     // Lets all pieces go, before all chunks change.
-    pub(crate) fn forget_pieces(&mut self)
+    pub(crate) fn let_pieces_go(&mut self)
         ensures { self.new ≡ self.old }
     {
-        self.pieces.forget_all();
+        self.pieces.let_go();
     }
 
     /// Adds an empty chunk without memory, where there are places for it. A small one is filled from
@@ -233,7 +235,7 @@ impl Space {
         let place = self.chunks.len();
         let is_small = chunk.size() == SMALL;
         let number = chunk.number();
-        self.pieces.forget(number);
+        self.pieces.note_change(number);
         let _ = self.table.insert(number, self.base - place);
         self.chunks.push_reserved(chunk);
         if is_small {
@@ -298,7 +300,7 @@ impl Space {
         let chunk = self.chunks.at_mut(i);
         let offset = chunk.used();
         let number = chunk.number();
-        self.pieces.forget(number);
+        self.pieces.note_change(number);
         write_new(chunk, offset, new.header, new.birth);
         if words > SMALL {
             self.reserved = None;

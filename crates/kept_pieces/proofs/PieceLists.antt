@@ -1,5 +1,6 @@
 -- Pieces of chunks by their numbers, as chunks are changed, added and joined.
-use Rattle.std.proofs.Common.{◌≡◌, ℕ, zero, suc, ◌+◌, ◌-◌, ◌<◌, ◌≤◌, Bool, true, false, cond, List, [], ◌∷◌, ◌++◌, length, get_or, set, refl, sym, ap, ◌∙◌, subst, arith, inl, inr, ⊎_elim, eqb, Option, Some, None, map, option_map}
+use Rattle.std.proofs.Common.{◌≡◌, ℕ, zero, suc, ◌+◌, ◌-◌, ◌<◌, ◌≤◌, Bool, true, false, cond, List, [], ◌∷◌, ◌++◌, length, get_or, set, refl, sym, ap, ◌∙◌, subst, arith, inl, inr, ⊎_elim, eqb, Option, Some, None, length-append, map, option_map}
+use Rattle.std.specs.List.{list_any}
 use Rattle.std.specs.Option.{option_or}
 use Rattle.std.proofs.lemmas.List.{map-append}
 use Rattle.std.proofs.lemmas.Bool.{cases_Bool, cases_lt, eq-eqb, eqb-true, le-leb, lt-leb, ne_eqb}
@@ -9,7 +10,7 @@ use Rattle.object_layout.specs.Chunks.{chunk_at, no_chunk, place_in, place_of, w
 use Rattle.object_layout.specs.Place.{cell_at, put_cell}
 use Rattle.object_layout.specs.Piece.{Frozen, frozen_from, frozen_of, is_frozen, lasts}
 use Rattle.kept_pieces.specs.Level.{Level, level_of, nearest, piece_in}
-use Rattle.kept_pieces.specs.Kept.{is_among, needed, numbers_of, written, Forgets, Kept, Shows}
+use Rattle.kept_pieces.specs.Kept.{is_among, needed, numbers_of, written, NotesChanges, Kept, Shows}
 use Rattle.kept_pieces.proofs.Levels as levels
 
 -- ---- numbers
@@ -30,6 +31,14 @@ neither false b e = (refl, e)
 pub in_neither : (xs ys : List ℕ) (n : ℕ) → is_among (xs ++ ys) n ≡ false → (is_among xs n ≡ false) × (is_among ys n ≡ false)
 in_neither xs ys n e = neither (is_among xs n) (is_among ys n) (sym (among_both xs ys n) ∙ e)
 
+pub any_among : (ns : List ℕ) (m : ℕ) → list_any (λ y. eqb y m) ns ≡ is_among ns m
+any_among [] m = refl
+any_among (n ∷ ns) m =
+    elim (cases_Bool (eqb n m)) [
+      | inl e ↦ rw e refl
+      | inr e ↦ rw (e, any_among ns m) refl
+    ]
+
 -- the number of a chunk is among these exactly where a piece of it is
 pub not_among : (ks : List Content) (n : ℕ) → is_among (numbers_of ks) n ≡ false → piece_in (level_of ks) n ≡ None
 not_among [] n e = refl
@@ -39,13 +48,15 @@ not_among (k ∷ ks) n e =
       | inr b ↦ rw b (not_among ks n (rw b at e))
     ]
 
--- ---- what is forgotten
+-- ---- what counts as changed
 
-pub forgets_nothing : (p : Kept) → Forgets p p []
-forgets_nothing p = record {
-  held = λ l. l;
+pub nothing_changes : (p : Kept) → NotesChanges p p []
+nothing_changes p = record {
+  kept = λ l. l;
   layers = λ l. refl;
   stale = λ l n. ap (λ (xs : List ℕ). is_among xs n) (nothing_behind p.stale);
+  enough = λ l few. l;
+  places = λ l. omega arith;
 }
   where
     nothing_behind : (xs : List ℕ) → xs ≡ xs ++ []
@@ -53,39 +64,60 @@ forgets_nothing p = record {
     nothing_behind (x ∷ xs) = ap (λ (ys : List ℕ). x ∷ ys) (nothing_behind xs)
 
 -- what was among them before stays what it was
-pub forgets_known : (p : Kept) (m : ℕ) → (p.lost ≡ false → is_among p.stale m ≡ true) → Forgets p p (m ∷ [])
-forgets_known p m known = record {
-  held = λ l. l;
-  layers = λ l. refl;
-  stale = λ l n. sym (among_both p.stale (m ∷ []) n ∙ same n (known l));
-}
+pub known_before : (xs : List ℕ) (m : ℕ) → is_among xs m ≡ true → (n : ℕ) → is_among xs n ≡ is_among (xs ++ m ∷ []) n
+known_before xs m known n = sym (among_both xs (m ∷ []) n ∙ same)
   where
     at_once : (a b : Bool) → (b ≡ true → a ≡ true) → cond a true (cond b true false) ≡ a
     at_once true b h = refl
     at_once false true h = let f = h refl in cc
     at_once false false h = refl
 
-    same : (n : ℕ) → is_among p.stale m ≡ true → cond (is_among p.stale n) true (cond (eqb m n) true false) ≡ is_among p.stale n
-    same n k = at_once (is_among p.stale n) (eqb m n) (λ e. subst (λ (q : ℕ). is_among p.stale q ≡ true) (eqb-true m n e) k)
+    same : cond (is_among xs n) true (cond (eqb m n) true false) ≡ is_among xs n
+    same = at_once (is_among xs n) (eqb m n) (λ e. subst (λ (q : ℕ). is_among xs q ≡ true) (eqb-true m n e) known)
 
-pub forgets_all : (p q : Kept) (ns : List ℕ) → q.lost ≡ true → Forgets p q ns
-forgets_all p q ns gone = record {
-  held = λ l. cc;
+-- where all was let go before, it stays so
+pub lost_before : (p : Kept) (ns : List ℕ) → p.lost ≡ true → NotesChanges p p ns
+lost_before p ns gone = record {
+  kept = λ l. l;
+  layers = λ l. refl;
+  stale = λ l n. cc;
+  enough = λ l few. l;
+  places = λ l. cc;
+}
+
+-- all is let go, where there was no place
+pub none_left : (p q : Kept) (m : ℕ) → q.lost ≡ true → p.places ≡ 0 → NotesChanges p q (m ∷ [])
+none_left p q m gone none = record {
+  kept = λ l. cc;
   layers = λ l. cc;
   stale = λ l n. cc;
+  enough = λ l few. absurd (omega arith);
+  places = λ l. cc;
 }
 
 -- one after the other
-pub forgets_both : (p q r : Kept) (xs ys : List ℕ) → Forgets p q xs → Forgets q r ys → Forgets p r (xs ++ ys)
-forgets_both p q r xs ys f g = record {
-  held = λ l. f.held (g.held l);
-  layers = λ l. g.layers l ∙ f.layers (g.held l);
+pub changes_both : (p q r : Kept) (xs ys : List ℕ) → NotesChanges p q xs → NotesChanges q r ys → NotesChanges p r (xs ++ ys)
+changes_both p q r xs ys f g = record {
+  kept = λ l. f.kept (g.kept l);
+  layers = λ l. g.layers l ∙ f.layers (g.kept l);
   stale = λ l n.
       g.stale l n
       ∙ (among_both q.stale ys n
-      ∙ (ap (λ (b : Bool). cond b true (is_among ys n)) (f.stale (g.held l) n ∙ among_both p.stale xs n)
+      ∙ (ap (λ (b : Bool). cond b true (is_among ys n)) (f.stale (g.kept l) n ∙ among_both p.stale xs n)
       ∙ (three (is_among p.stale n) (is_among xs n) (is_among ys n)
       ∙ (ap (λ (b : Bool). cond (is_among p.stale n) true b) (sym (among_both xs ys n)) ∙ sym (among_both p.stale (xs ++ ys) n)))));
+  enough = λ l few.
+      let both = length-append xs ys in
+      let first : length xs ≤ p.places = omega arith in
+      let still = f.enough l first in
+      let taken = f.places still in
+      let second : length ys ≤ q.places = omega arith in
+      g.enough still second;
+  places = λ l.
+      let both = length-append xs ys in
+      let first = f.places (g.kept l) in
+      let second = g.places l in
+      omega arith;
 }
   where
     three : (a b c : Bool) → cond (cond a true b) true c ≡ cond a true (cond b true c)
@@ -97,15 +129,15 @@ forgets_both p q r xs ys f g = record {
 pub lost_shows : (p : Kept) (ks : List Content) → p.lost ≡ true → Shows p ks
 lost_shows p ks gone = record { same = λ l n a. cc; no_other = λ l n a. cc }
 
--- where chunks change of which the numbers are forgotten, and others show what they did
-pub still_shows : (p q : Kept) (ks new : List Content) (ns : List ℕ) → Forgets p q ns →
+-- where chunks change of which the numbers are noted, and others show what they did
+pub still_shows : (p q : Kept) (ks new : List Content) (ns : List ℕ) → NotesChanges p q ns →
     ((n : ℕ) → is_among ns n ≡ false → piece_in (level_of new) n ≡ piece_in (level_of ks) n) →
     ((n : ℕ) → piece_in (level_of new) n ≡ None → piece_in (level_of ks) n ≡ None) → Shows p ks → Shows q new
 still_shows p q ks new ns f same none h = record {
   same = λ l n a.
       let both = in_neither p.stale ns n (sym (f.stale l n) ∙ a) in
-      ap (λ (ls : List Level). nearest ls n) (f.layers l) ∙ (h.same (f.held l) n both.0 ∙ sym (same n both.1));
-  no_other = λ l n a. ap (λ (ls : List Level). nearest ls n) (f.layers l) ∙ h.no_other (f.held l) n (none n a);
+      ap (λ (ls : List Level). nearest ls n) (f.layers l) ∙ (h.same (f.kept l) n both.0 ∙ sym (same n both.1));
+  no_other = λ l n a. ap (λ (ls : List Level). nearest ls n) (f.layers l) ∙ h.no_other (f.kept l) n (none n a);
 }
 
 -- one chunk changes, and keeps its number
@@ -134,15 +166,15 @@ set_none (k ∷ ks) (suc i) new d e n h =
       | inr b ↦ rw b (set_none ks i new d e n (rw b at h))
     ]
 
-pub changed : (p q : Kept) (ks : List Content) (i m : ℕ) (new d : Content) → new.number ≡ (get_or ks i d).number → m ≡ new.number → Forgets p q (m ∷ []) → Shows p ks → Shows q (set ks i new)
+pub changed : (p q : Kept) (ks : List Content) (i m : ℕ) (new d : Content) → new.number ≡ (get_or ks i d).number → m ≡ new.number → NotesChanges p q (m ∷ []) → Shows p ks → Shows q (set ks i new)
 changed p q ks i m new d e same f h =
-    still_shows p q ks (set ks i new) (new.number ∷ []) (subst (λ (x : ℕ). Forgets p q (x ∷ [])) same f)
+    still_shows p q ks (set ks i new) (new.number ∷ []) (subst (λ (x : ℕ). NotesChanges p q (x ∷ [])) same f)
     (λ n a. set_other ks i new d e n (one_number new n a)) (λ n a. set_none ks i new d e n a) h
 
 -- a chunk is added
-pub added : (p q : Kept) (ks : List Content) (m : ℕ) (k : Content) → m ≡ k.number → Forgets p q (m ∷ []) → Shows p ks → Shows q (ks ++ k ∷ [])
+pub added : (p q : Kept) (ks : List Content) (m : ℕ) (k : Content) → m ≡ k.number → NotesChanges p q (m ∷ []) → Shows p ks → Shows q (ks ++ k ∷ [])
 added p q ks m k same f h =
-    still_shows p q ks (ks ++ k ∷ []) (k.number ∷ []) (subst (λ (x : ℕ). Forgets p q (x ∷ [])) same f)
+    still_shows p q ks (ks ++ k ∷ []) (k.number ∷ []) (subst (λ (x : ℕ). NotesChanges p q (x ∷ [])) same f)
     (λ n a. behind n ∙ (ap (option_or (piece_in (level_of ks) n)) (here n (one_number k n a)) ∙ or_none (piece_in (level_of ks) n)))
     (λ n a. first_none (piece_in (level_of ks) n) (piece_in (level_of (k ∷ [])) n) (sym (behind n) ∙ a)) h
   where
@@ -161,7 +193,7 @@ added p q ks m k same f h =
     first_none (Some f) r e = cc
 
 -- the chunks of other lists come before these
-pub before : (p q : Kept) (xs ks : List Content) → Forgets p q (numbers_of xs) → Shows p ks → Shows q (xs ++ ks)
+pub before : (p q : Kept) (xs ks : List Content) → NotesChanges p q (numbers_of xs) → Shows p ks → Shows q (xs ++ ks)
 before p q xs ks f h =
     still_shows p q ks (xs ++ ks) (numbers_of xs) f
     (λ n a. front n ∙ ap (λ (o : Option Frozen). option_or o (piece_in (level_of ks) n)) (not_among xs n a))
@@ -174,7 +206,7 @@ before p q xs ks f h =
     last_none None r e = e
     last_none (Some f) r e = cc
 
-pub three : (p q r : Kept) (ls rs ks : List Content) → Forgets p q (numbers_of rs) → Forgets q r (numbers_of ls) → Shows p ks → Shows r (ls ++ (rs ++ ks))
+pub three : (p q r : Kept) (ls rs ks : List Content) → NotesChanges p q (numbers_of rs) → NotesChanges q r (numbers_of ls) → Shows p ks → Shows r (ls ++ (rs ++ ks))
 three p q r ls rs ks f g h = before q r ls (rs ++ ks) g (before p q rs ks f h)
 
 -- ---- the pieces that were missing are made
@@ -225,7 +257,7 @@ same_level (k ∷ ks) zero new d e = ap (λ (f : Frozen). f ∷ level_of ks) e
 same_level (k ∷ ks) (suc i) new d e = ap (λ (l : Level). frozen_of k ∷ l) (same_level ks i new d e)
 
 -- the pieces of the chunks, once an object of the chunk at a place is written that is as mutable as it was
-pub written_shown : (p q : Kept) (ks : List Content) → Shows p ks → (i : ℕ) (k : Content) → k ≡ chunk_at ks i → (at : ℕ) (d : Cell) (mutable : Bool) → Forgets p q (written mutable k.number) → (cell_at k.cells at).mutable ≡ mutable → d.mutable ≡ (cell_at k.cells at).mutable →
+pub written_shown : (p q : Kept) (ks : List Content) → Shows p ks → (i : ℕ) (k : Content) → k ≡ chunk_at ks i → (at : ℕ) (d : Cell) (mutable : Bool) → NotesChanges p q (written mutable k.number) → (cell_at k.cells at).mutable ≡ mutable → d.mutable ≡ (cell_at k.cells at).mutable →
     size_of d ≡ size_of (cell_at k.cells at) → Shows q (set ks i (with_cell k at d))
 written_shown p q ks h i k read at d false f was is s = changed p q ks i k.number (with_cell k at d) no_chunk (ap (λ (x : Content). x.number) read) refl f h
 written_shown p q ks h i k read at d true f was is s =

@@ -1,24 +1,26 @@
 -- The pieces that are kept of a list of chunks.
-use Rattle.std.specs.Prelude.{◌≡◌, ℕ, ◌==◌, Bool, true, false, List, [], ◌∷◌, ◌++◌, Option, Some, None, if◌then◌else◌, map}
+use Rattle.std.specs.Prelude.{◌≡◌, ℕ, ◌+◌, ◌≤◌, ◌==◌, Bool, true, false, List, [], ◌∷◌, ◌++◌, Option, Some, None, if◌then◌else◌, length, map}
 use Rattle.object_layout.specs.Content.{Content}
 use Rattle.object_layout.specs.Piece.{Frozen}
 use Rattle.kept_pieces.specs.Level.{Level, level_of, nearest, piece_in}
 
--- the layers of pieces, the last made first; the numbers of the chunks that changed since; and whether all was let go
+-- the layers of pieces, the last made first; the numbers of the chunks that changed since; for how many numbers more there are places; and whether all was let go
 pub record Kept : Type 0 where
   pub layers : List Level
   pub stale : List ℕ
+  pub places : ℕ
   pub lost : Bool
 
--- the layers, and the numbers of the chunks that changed since
+-- the layers, the numbers of the chunks that changed since, and for how many more there are places
 pub record Layers : Type 0 where
   pub layers : List Level
   pub stale : List ℕ
+  pub places : ℕ
 
 -- what is kept, if not all was let go
 abbrev pub kept_of : Option Layers → Kept
-kept_of None = record { layers = []; stale = []; lost = true }
-kept_of (Some l) = record { layers = l.layers; stale = l.stale; lost = false }
+kept_of None = record { layers = []; stale = []; places = 0; lost = true }
+kept_of (Some l) = record { layers = l.layers; stale = l.stale; places = l.places; lost = false }
 
 -- whether a number is among these
 abbrev pub is_among : List ℕ → ℕ → Bool
@@ -32,6 +34,10 @@ numbers_of ks = map (λ k. k.number) ks
 abbrev pub needed : Kept → List Content → ℕ → Option Frozen
 needed p ks number = if (if p.lost then true else is_among p.stale number) then piece_in (level_of ks) number else None
 
+-- whether the layers are there, and no chunk changed since
+abbrev pub is_settled : Kept → Bool
+is_settled p = if p.lost then false else (length p.stale == 0)
+
 -- ---- what holds
 
 -- where not all was let go, the layers show of each chunk what it holds, unless it changed since, and nothing of other numbers
@@ -41,11 +47,13 @@ pub record Shows (p : Kept) (ks : List Content) : Type 0 where
 
 -- ---- changes
 
--- the chunks of these numbers count as changed, and others as before; or all is let go
-pub record Forgets (old new : Kept) (numbers : List ℕ) : Type 0 where
-  pub held : new.lost ≡ false → old.lost ≡ false
+-- the chunks of these numbers count as changed, and others as before; or all is let go, which happens only where places for the numbers were missing
+pub record NotesChanges (old new : Kept) (numbers : List ℕ) : Type 0 where
+  pub kept : new.lost ≡ false → old.lost ≡ false
   pub layers : new.lost ≡ false → new.layers ≡ old.layers
   pub stale : new.lost ≡ false → (n : ℕ) → is_among new.stale n ≡ is_among (old.stale ++ numbers) n
+  pub enough : old.lost ≡ false → length numbers ≤ old.places → new.lost ≡ false
+  pub places : new.lost ≡ false → old.places ≤ new.places + length numbers
 
 -- the number of a chunk of which an object is written; none where the object is mutable, since no piece shows it
 abbrev pub written : Bool → ℕ → List ℕ

@@ -1,11 +1,11 @@
 // The pieces that are kept of a list of chunks.
 
-ghost use Rattle.std.specs.Prelude.{◌≡◌, ℕ, ◌+◌, ◌^◌, ◌<◌, ◌≤◌, ◌++◌, ◌∷◌, [], false, true, IfOk, None, OnErr, OnOk, if◌then◌else◌, length, map, vec_len};
+ghost use Rattle.std.specs.Prelude.{◌≡◌, ℕ, ◌+◌, ◌-◌, ◌^◌, ◌<◌, ◌≤◌, ◌++◌, ◌∷◌, [], false, true, IfOk, None, OnErr, OnOk, if◌then◌else◌, length, map, vec_capacity, vec_len};
 ghost use Rattle.std.specs.Arc.{arc_value};
 ghost use Rattle.std.specs.Option.{option_or};
 ghost use Rattle.object_layout.specs.Place.{object_at, IsObjectAt};
 ghost use Rattle.kept_pieces.specs.Level.{nearest, piece_in};
-ghost use Rattle.kept_pieces.specs.Kept.{is_among, numbers_of, written, Forgets};
+ghost use Rattle.kept_pieces.specs.Kept.{is_among, is_settled, numbers_of, written, NotesChanges};
 
 use super::layer::Layer;
 use object_layout::{Chunk, header_at};
@@ -18,22 +18,26 @@ use std::sync::Arc;
 ///
 /// A layer has at most half as many pieces as the one below it, so that there are few, and each piece moves seldom.
 #[derive(Drop)]
-struct Held {
+struct Layers {
     layers: Vec<Arc<Layer, Global>>,
     stale: Vec<u32>,
 }
 
-impl Held {
-    // Counts the chunk of a number as changed, and says whether there was a place for it.
+impl Layers {
+    // Counts the chunk of a number as changed, and says whether it could: whether there was a place for the number, or
+    // it was counted before.
     fn note(&mut self, number: u32) -> bool
         ensures layers { self.new.layers.items ≡ self.old.layers.items }
         ensures noted { result ≡ true → (n : ℕ) → is_among self.new.stale.items n ≡ is_among (self.old.stale.items ++ number ∷ []) n }
+        ensures places { vec_capacity self.old.stale - length self.old.stale.items ≤ vec_capacity self.new.stale - length self.new.stale.items + 1 }
+        ensures full { result ≡ false → vec_capacity self.old.stale - length self.old.stale.items ≡ 0 }
+        ensures new { result ≡ false → is_among self.old.stale.items number ≡ false }
     {
         if ends_in(&self.stale, number) {
             return true;
         }
         if self.stale.len() == self.stale.capacity() {
-            return false;
+            return has(&self.stale, number);
         }
         self.stale.push_reserved(number);
         true
@@ -47,17 +51,17 @@ impl Held {
 /// As long as nothing is kept it takes the place of a pointer.
 #[derive(Drop)]
 pub struct Pieces {
-    held: Option<Apart<Held>>,
+    kept: Option<Apart<Layers>>,
 }
 
 impl Model for Pieces {
-    ghost use Rattle.std.specs.Prelude.{map, option_map};
+    ghost use Rattle.std.specs.Prelude.{◌-◌, length, map, option_map, vec_capacity};
     ghost use Rattle.std.specs.Arc.{arc_value};
     ghost use Rattle.kept_pieces.specs.Kept.{kept_of, Kept};
 
     ghost Value = { Kept };
 
-    ghost view = { λ p. kept_of (option_map (λ h. record { layers = map arc_value h.layers.items; stale = h.stale.items }) p.held) };
+    ghost view = { λ p. kept_of (option_map (λ l. record { layers = map arc_value l.layers.items; stale = l.stale.items; places = vec_capacity l.stale - length l.stale.items }) p.kept) };
 }
 
 impl Pieces {
@@ -65,16 +69,18 @@ impl Pieces {
     pub fn new() -> Pieces
         ensures { result.lost ≡ true }
     {
-        Pieces { held: None }
+        Pieces { kept: None }
     }
 
-    /// Makes places for the numbers of so many chunks that change.
+    /// Makes places for the numbers of so many chunks more that change, where anything is kept.
     pub fn make_places(&mut self, chunks: usize) -> Result<(), AllocError>
-        ensures { self.new ≡ self.old }
+        ensures kept { self.new ≡ record self.old { places = self.new.places } }
+        ensures places { OnOk result (self.old.lost ≡ false → chunks ≤ self.new.places) }
+        ensures more { self.old.places ≤ self.new.places }
     {
-        match &mut self.held {
+        match &mut self.kept {
             None => Ok(()),
-            Some(held) => held.get_mut().stale.reserve(chunks),
+            Some(kept) => kept.get_mut().stale.reserve(chunks),
         }
     }
 
@@ -82,17 +88,16 @@ impl Pieces {
     pub fn lost(&self) -> bool
         ensures { result ≡ self.now.lost }
     {
-        self.held.is_none()
+        self.kept.is_none()
     }
 
     /// Whether the layers show what all chunks hold.
     pub fn is_settled(&self) -> bool
-        ensures held { result ≡ true → self.now.lost ≡ false }
-        ensures none { result ≡ true → self.now.stale ≡ [] }
+        ensures { result ≡ is_settled self.now }
     {
-        match &self.held {
+        match &self.kept {
             None => false,
-            Some(held) => held.get().stale.is_empty(),
+            Some(kept) => kept.get().stale.is_empty(),
         }
     }
 
@@ -100,49 +105,51 @@ impl Pieces {
     pub fn stale(&self) -> &[u32]
         ensures { result.now ≡ self.now.stale }
     {
-        match &self.held {
+        match &self.kept {
             None => &[],
-            Some(held) => &held.get().stale,
+            Some(kept) => &kept.get().stale,
         }
     }
 
-    /// The chunk of a number is about to change.
-    pub fn forget(&mut self, number: u32)
-        ensures { Forgets self.old self.new (number ∷ []) }
+    /// The chunk of a number is about to change. Where there is no place for its number, and it isn't counted yet, all
+    /// is let go.
+    pub fn note_change(&mut self, number: u32)
+        ensures noted { NotesChanges self.old self.new (number ∷ []) }
+        ensures again { is_among self.old.stale number ≡ true → self.old.lost ≡ false → self.new.lost ≡ false }
     {
-        let noted = match &mut self.held {
+        let noted = match &mut self.kept {
             None => true,
-            Some(held) => held.get_mut().note(number),
+            Some(kept) => kept.get_mut().note(number),
         };
         if !noted {
-            self.held = None;
+            self.kept = None;
         }
     }
 
     /// The same of a chunk of which an object is about to be written: the piece stays where the object is mutable.
-    pub fn forget_written(&mut self, chunk: &Chunk, at: u32)
+    pub fn note_write(&mut self, chunk: &Chunk, at: u32)
         requires { IsObjectAt chunk.now.cells at }
-        ensures { Forgets self.old self.new (written (object_at chunk.now.cells at).mutable chunk.now.number) }
+        ensures { NotesChanges self.old self.new (written (object_at chunk.now.cells at).mutable chunk.now.number) }
     {
         if !header_at(chunk, at).mutable {
-            self.forget(chunk.number());
+            self.note_change(chunk.number());
         }
     }
 
     /// The same of each of these chunks.
-    pub fn forget_each(&mut self, chunks: &[Chunk])
-        ensures { Forgets self.old self.new (numbers_of chunks.now) }
+    pub fn note_changes(&mut self, chunks: &[Chunk])
+        ensures { NotesChanges self.old self.new (numbers_of chunks.now) }
     {
         for chunk in chunks {
-            self.forget(chunk.number());
+            self.note_change(chunk.number());
         }
     }
 
     /// Lets all pieces go.
-    pub fn forget_all(&mut self)
+    pub fn let_go(&mut self)
         ensures { self.new.lost ≡ true }
     {
-        self.held = None;
+        self.kept = None;
     }
 
     /// The layers, of which this is the first. Where all was let go there is no other.
@@ -155,8 +162,8 @@ impl Pieces {
     {
         let mut layers = Vec::new(alloc);
         layers.push(Arc::new(alloc, first)?)?;
-        if let Some(held) = &self.held {
-            share_all(&mut layers, &held.get().layers)?;
+        if let Some(kept) = &self.kept {
+            share_all(&mut layers, &kept.get().layers)?;
         }
         Ok(layers)
     }
@@ -166,8 +173,8 @@ impl Pieces {
         ensures { IfOk result (λ layers. map arc_value layers.items ≡ self.now.layers) }
     {
         let mut layers = Vec::new(alloc);
-        if let Some(held) = &self.held {
-            share_all(&mut layers, &held.get().layers)?;
+        if let Some(kept) = &self.kept {
+            share_all(&mut layers, &kept.get().layers)?;
         }
         Ok(layers)
     }
@@ -177,13 +184,14 @@ impl Pieces {
     pub fn put(&mut self, alloc: Global, first: Layer, places: usize) -> Result<(), AllocError>
         ensures layers { OnOk result ((n : ℕ) → nearest self.new.layers n ≡ option_or (piece_in first n) (if self.old.lost then None else nearest self.old.layers n)) }
         ensures stale { OnOk result (self.new.stale ≡ []) }
-        ensures held { OnOk result (self.new.lost ≡ false) }
+        ensures kept { OnOk result (self.new.lost ≡ false) }
+        ensures places { OnOk result (places ≤ self.new.places) }
         ensures err { OnErr result (self.new ≡ self.old) }
     {
         let mut layers = self.layers_below(alloc, first)?;
         shorten(alloc, &mut layers)?;
         let stale = Vec::with_capacity(alloc, places)?;
-        self.held = Some(Apart::new(alloc, Held { layers, stale })?);
+        self.kept = Some(Apart::new(alloc, Layers { layers, stale })?);
         Ok(())
     }
 }
@@ -196,6 +204,13 @@ fn ends_in(numbers: &[u32], number: u32) -> bool
         None => false,
         Some(last) => *last == number,
     }
+}
+
+// Whether this number is one of them.
+fn has(numbers: &[u32], number: u32) -> bool
+    ensures { result ≡ is_among numbers.now number }
+{
+    numbers.contains(&number)
 }
 
 // Shares these layers too, behind the others.

@@ -29,9 +29,9 @@ fn states(alloc: Global) -> Option<[Option<(bool, bool, usize, usize)>; 4]> {
     let none = state(alloc, &pieces);
     put_one(alloc, &mut pieces, 4)?;
     let kept = state(alloc, &pieces);
-    pieces.forget(4);
+    pieces.note_change(4);
     let changed = state(alloc, &pieces);
-    pieces.forget_all();
+    pieces.let_go();
     Some([none, kept, changed, state(alloc, &pieces)])
 }
 

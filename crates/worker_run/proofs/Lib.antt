@@ -3,3 +3,4 @@ mod Finding
 mod Rows
 mod Giving
 mod Rounding
+mod Sent

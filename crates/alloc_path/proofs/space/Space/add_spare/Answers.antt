@@ -13,7 +13,7 @@ invariant_of-self c =
     let none = heap.none_kept c.self.inside.chunks.items c.self.inside.base c.args.chunk.number _ (c.self.invariant.table c.args.chunk.number) fresh in
     let entries = heap.new_entry c.insert.result _ _ _ (c.insert.ensures.succeeds spare) c.insert.ensures.old c.insert.ensures.len (rw c.number-number.ensures none) in
     rw (c.push_reserved.ensures.items, len, entries)
-    (heap.small_added c.self.inside.chunks.items c.args.chunk c.requires.empty _ _ _ _ _ _ _ _ _ _ c.self.invariant fresh writes _ (lists.added _ _ c.self.inside.chunks.items c.number-number.result c.args.chunk c.number-number.ensures c.forget.ensures c.self.invariant.shown) size)
+    (heap.small_added c.self.inside.chunks.items c.args.chunk c.requires.empty _ _ _ _ _ _ _ _ _ _ c.self.invariant fresh writes _ (lists.added _ _ c.self.inside.chunks.items c.number-number.result c.args.chunk c.number-number.ensures c.note_change.ensures.noted c.self.invariant.shown) size)
 
 pub invariant_of-self-else-is_small : goal.invariant_of-self-else-is_small
 invariant_of-self-else-is_small c =
@@ -25,4 +25,4 @@ invariant_of-self-else-is_small c =
     let none = heap.none_kept c.self.inside.chunks.items c.self.inside.base c.args.chunk.number _ (c.self.invariant.table c.args.chunk.number) fresh in
     let entries = heap.new_entry c.insert.result _ _ _ (c.insert.ensures.succeeds spare) c.insert.ensures.old c.insert.ensures.len (rw c.number-number.ensures none) in
     rw (c.push_reserved.ensures.items, len, entries)
-    (heap.large_added c.self.inside.chunks.items c.args.chunk c.requires.empty _ _ _ _ _ _ _ _ _ _ c.self.invariant fresh writes _ (lists.added _ _ c.self.inside.chunks.items c.number-number.result c.args.chunk c.number-number.ensures c.forget.ensures c.self.invariant.shown) size)
+    (heap.large_added c.self.inside.chunks.items c.args.chunk c.requires.empty _ _ _ _ _ _ _ _ _ _ c.self.invariant fresh writes _ (lists.added _ _ c.self.inside.chunks.items c.number-number.result c.args.chunk c.number-number.ensures c.note_change.ensures.noted c.self.invariant.shown) size)

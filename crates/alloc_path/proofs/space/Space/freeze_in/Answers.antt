@@ -24,7 +24,7 @@ invariant_of-self c =
     let found = (heap.place_found c.self.inside.chunks.items c.args.object.chunk c.args.place (rw (← c.self.view_is) at c.requires.place)).0 in
     rw c.freeze.ensures
     (heap.own_changed c.self.inside.chunks.items c.args.object c.args.place c.at_mut-chunk.result.now o found c.at_mut-chunk.ensures.value
-    _ _ _ _ _ _ _ _ _ c.self.invariant (frozen (cell_at c.at_mut-chunk.result.now.cells c.args.object.offset)) (λ n. refl) refl _ c.number.result c.number.ensures c.forget.ensures)
+    _ _ _ _ _ _ _ _ _ c.self.invariant (frozen (cell_at c.at_mut-chunk.result.now.cells c.args.object.offset)) (λ n. refl) refl _ c.number.result c.number.ensures c.note_change.ensures.noted)
 
 pub returns : goal.returns
 returns c =

@@ -60,8 +60,8 @@ invariant_of-self c =
     let words = rw c.saturating_add-2.ensures at c.saturating_add-self-inside-2.ensures in
     let objects = heap.sum_merged one_each c.left.inside.chunks.items c.right.inside.chunks.items c.self.inside.chunks.items _ _ _ _ c.left.invariant.objects c.right.invariant.objects c.self.invariant.objects (rw c.saturating_add-3.ensures at c.saturating_add-self-inside-3.ensures) in
     let small = heap.sum_merged small_part c.left.inside.chunks.items c.right.inside.chunks.items c.self.inside.chunks.items _ _ _ _ c.left.invariant.small c.right.invariant.small c.self.invariant.small (rw c.saturating_add-4.ensures at c.saturating_add-self-inside-4.ensures) in
-    let rights = rw c.as_slice-3.ensures at c.forget_each.ensures in
-    let lefts = rw c.as_slice-4.ensures at c.forget_each-2.ensures in
+    let rights = rw c.as_slice-3.ensures at c.note_changes.ensures in
+    let lefts = rw c.as_slice-4.ensures at c.note_changes-2.ensures in
     let shown = lists.three c.self.inside.pieces _ _ c.left.inside.chunks.items c.right.inside.chunks.items c.self.inside.chunks.items rights lefts c.self.invariant.shown in
     rw (c.put_before-2.ensures.items, c.take-2.ensures.taken, c.put_before.ensures.items, c.take.ensures.taken, c.behind-self-inside.ensures, c.behind-self-inside-2.ensures, before, before-2, right, left)
     (heap.merged_kept c.left.inside.chunks.items c.right.inside.chunks.items c.self.inside.chunks.items _ _ _ _ _ _ _ _ c.self.inside.base _ _ c.self.invariant

@@ -27,7 +27,7 @@ invariant_of-self c =
     let found = rw (← c.self.view_is) at c.own_place-i.ensures in
     rw c.set_birth.ensures
     (heap.own_changed c.self.inside.chunks.items c.args.object c.own_place-i.result c.at_mut-chunk.result.now o found c.at_mut-chunk.ensures.value
-    _ _ _ _ _ _ _ _ _ c.self.invariant (with_mark (cell_at c.at_mut-chunk.result.now.cells c.args.object.offset) (Born c.args.birth)) (λ n. sym (heap.held_object (cell_at c.at_mut-chunk.result.now.cells c.args.object.offset).mark n (rw (heap.own_cell c.self.inside.chunks.items c.args.object c.own_place-i.result c.at_mut-chunk.result.now o found c.at_mut-chunk.ensures.value) at o))) refl _ c.number.result c.number.ensures c.forget.ensures)
+    _ _ _ _ _ _ _ _ _ c.self.invariant (with_mark (cell_at c.at_mut-chunk.result.now.cells c.args.object.offset) (Born c.args.birth)) (λ n. sym (heap.held_object (cell_at c.at_mut-chunk.result.now.cells c.args.object.offset).mark n (rw (heap.own_cell c.self.inside.chunks.items c.args.object c.own_place-i.result c.at_mut-chunk.result.now o found c.at_mut-chunk.ensures.value) at o))) refl _ c.number.result c.number.ensures c.note_change.ensures.noted)
 
 pub returns : goal.returns
 returns c =

@@ -2,7 +2,7 @@ use Rattle.std.proofs.Common.{◌∷◌, [], take}
 use Rattle.std.proofs.lemmas.List.{map-append, take_more}
 use Rattle.object_layout.specs.Content.{Content}
 use Rattle.kept_pieces.proofs.PieceLists as lists
-use Rattle.kept_pieces.proofs.pieces.Pieces.forget_each.Goals as goal
+use Rattle.kept_pieces.proofs.pieces.Pieces.note_changes.Goals as goal
 
 pub loop-chunk-preserved : goal.loop-chunk-preserved
 loop-chunk-preserved c =
@@ -10,4 +10,4 @@ loop-chunk-preserved c =
     let i = c.loop-chunk.chunk-index in
     let k = c.chunk-item.result in
     rw (take_more ks i k c.loop-chunk-test.true, ← c.chunk-item.is, map-append (λ (x : Content). x.number) (take i ks) (k ∷ []))
-    (lists.forgets_both _ _ _ _ _ c.loop-chunk.invariant (rw c.number.ensures at c.forget.ensures))
+    (lists.changes_both _ _ _ _ _ c.loop-chunk.invariant (rw c.number.ensures at c.note_change.ensures.noted))
