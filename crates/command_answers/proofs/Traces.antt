@@ -1,6 +1,6 @@
 -- What is answered of texts, and of programs with a trace.
-use Rattle.std.proofs.Common.{◌≡◌, ◌≤◌, ℕ, Bool, List, true, false, length, sym, subst}
-use Rattle.std.specs.Prelude.{Option, Some, Ok, nat_le}
+use Rattle.std.proofs.Common.{◌≡◌, ◌∙◌, ◌≤◌, ℕ, Bool, List, true, false, ap, length, sym, subst}
+use Rattle.std.specs.Prelude.{Option, Result, Some, Ok, nat_le}
 use Rattle.std.proofs.lemmas.Bool.{le-leb}
 use Rattle.hh_lang.specs.Form.{ProgramText}
 use Rattle.program_reader.specs.Program.{program_of, reading_of}
@@ -19,9 +19,14 @@ use Rattle.command_line.specs.declared.line.Options.{Options}
 use Rattle.command_answers.specs.declared.answer.Status.{Status}
 use Rattle.command_answers.specs.declared.answer.Status.TheVariants.{Done}
 use Rattle.command_answers.specs.declared.answer.Answer.{Answer}
+use Rattle.command_answers.specs.declared.wanted.Wanted.{Wanted}
+use Rattle.command_answers.specs.declared.wanted.Wanted.TheVariants.{Amid, Before}
 use Rattle.command_answers.specs.Status.{status_of_end}
 use Rattle.command_answers.specs.Input.{program_in, program_limit}
-use Rattle.command_answers.specs.Answers.{AnswersMake, AnswersProgram, AnswersRun, AnswersTrace, IsModelled, IsText, WhereProgram, WhereWhole, summary}
+use Rattle.command_answers.specs.Answers.{AnswersMake, AnswersProgram, AnswersRun, AnswersTrace, IsModelled, IsText, LeavesMake, LeavesRun, WhereProgram, WhereWhole, summary}
+use Rattle.command_answers.specs.Delivery.{IsWanted}
+use Rattle.command_answers.specs.Laws.{MadeAreRead}
+use Rattle.command_answers.specs.Runs.{LeavesPaced}
 
 -- what is answered of a journal, which is the trace's, within its limits
 pub trace_told : (P : ProgramText → Limits → List Event → Answer → Type 0) (l : Limits) (t : TraceInput) (s : Limits) (journal : List Event) (r : Option RefusedAt) (a : Answer)
@@ -44,6 +49,12 @@ modelled o p s journal end named bytes a ended status text h = record {
 program_read : (input : List ℕ) (p : ProgramText) → nat_le (length input) program_limit ≡ true → reading_of input ≡ Ok p → program_in input ≡ Ok p
 program_read input p within reads = rw within reads
 
+-- a text that was made is within the limit, and its program's
+pub made_are_read : MadeAreRead
+made_are_read = λ seed size some most.
+    program_read (made_text seed size) (program_of (made_text seed size))
+    (le-leb (length (made_text seed size)) program_limit (made_are_short seed size most)) (made_are_programs seed size some most)
+
 -- a text that was made, and is run
 pub made_run : (seed size : ℕ) (run : Bool) (s : Limits) (bytes : List ℕ) (a : Answer) → 1 ≤ size → size ≤ 1000 → run ≡ true → s ≡ usual_limits → bytes ≡ made_text seed size
     → AnswersRun (record { settings = s; report = true; trace = false }) bytes a → AnswersMake seed size run a
@@ -51,9 +62,22 @@ made_run seed size run s bytes a some most runs usual is h =
     let whole : AnswersRun summary (made_text seed size) a = subst (λ l. AnswersRun (record { settings = l; report = true; trace = false }) (made_text seed size) a) usual (subst (λ x. AnswersRun (record { settings = s; report = true; trace = false }) x a) is h) in
     subst (λ b. AnswersMake seed size b a) (sym runs)
     (subst (λ r. WhereProgram (AnswersProgram summary) r a)
-    (program_read (made_text seed size) (program_of (made_text seed size))
-    (le-leb (length (made_text seed size)) program_limit (made_are_short seed size most)) (made_are_programs seed size some most))
+    (made_are_read seed size some most)
     whole)
+
+one_program : {X : Type 0} (r : Result ProgramText X) (p q : ProgramText) → r ≡ Ok p → r ≡ Ok q → p ≡ q
+one_program r p q e f = let g : Ok p ≡ Ok q = sym e ∙ f in cc
+
+-- what is left of its run
+pub made_left : (seed size : ℕ) (run : Bool) (s : Limits) (bytes : List ℕ) (w : Wanted) → 1 ≤ size → size ≤ 1000 → run ≡ true → s ≡ usual_limits → bytes ≡ made_text seed size
+    → IsWanted (LeavesRun (record { settings = s; report = true; trace = false }) bytes) w → IsWanted (LeavesMake seed size run) w
+made_left seed size run s bytes Before some most runs usual is h = tt
+made_left seed size run s bytes (Amid journal left) some most runs usual is h =
+    let program = h.0 in
+    let same : program ≡ program_of (made_text seed size) = one_program (program_in bytes) program (program_of (made_text seed size)) h.1 (ap program_in is ∙ made_are_read seed size some most) in
+    subst (λ b. LeavesMake seed size b journal (Some left)) (sym runs)
+    (subst (λ p. LeavesPaced p usual_limits journal (Some left)) same
+    (subst (λ l. LeavesPaced program l journal (Some left)) usual h.2))
 
 -- a text that was made
 pub text_made : (seed size : ℕ) (bytes : List ℕ) (a : Answer) → bytes ≡ made_text seed size → IsText Done bytes a → AnswersMake seed size false a

@@ -230,7 +230,7 @@ LeavesNone journal shared = ⊥
 
 abbrev pub LeavesMake : ℕ → ℕ → Bool → List Event → Option World → Type 0
 LeavesMake seed size false = LeavesNone
-LeavesMake seed size true = LeavesRun summary (made_text seed size)
+LeavesMake seed size true = LeavesPaced (program_of (made_text seed size)) usual_limits
 
 abbrev pub LeavesLine : CommandLine → List ℕ → List Event → Option World → Type 0
 LeavesLine (Run file options) input = LeavesRun options input

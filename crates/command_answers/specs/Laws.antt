@@ -43,6 +43,10 @@ ProgramsAreRun =
     (file : Option (List ℕ)) (o : Options) (input : List ℕ) (p : ProgramText) (r : Ran) (before after : Option (List ℕ)) → IsProgramInput input p
     → DeliversLine (Run file o) input r before after → NoFault r → GivesAll (AnswersProgram o p) r before after
 
+-- a text that was made is the text of its program, and within the limit
+abbrev pub MadeAreRead : Type 0
+MadeAreRead = (seed size : ℕ) → 1 ≤ size → size ≤ 1000 → IsProgramInput (made_text seed size) (program_of (made_text seed size))
+
 -- and so is one that was made
 abbrev pub MadeAreRun : Type 0
 MadeAreRun =

@@ -1,7 +1,7 @@
 // What the contract of the top call comes to.
 
 ghost use Rattle.command_answers.specs.Headline.{RunsHoldTheHeadline};
-ghost use Rattle.command_answers.specs.Laws.{ImagesAreVerified, MadeAreAccepted, MadeAreRun, ModelWritesTheSame, NoFaultGivesAll, ProgramsAreRun, RacelessAreDisentangled, TracesAreDrawn, TracesAreReplayed};
+ghost use Rattle.command_answers.specs.Laws.{ImagesAreVerified, MadeAreAccepted, MadeAreRead, MadeAreRun, ModelWritesTheSame, NoFaultGivesAll, ProgramsAreRun, RacelessAreDisentangled, TracesAreDrawn, TracesAreReplayed};
 ghost use Rattle.command_answers.specs.Status.{StatusesOfEnds};
 
 /// A command and its input, and no fault that rose: all bytes and the status of its answer, or want of memory.
@@ -12,6 +12,11 @@ pub fn no_fault_gives_all()
 /// `run` with a program, and no fault that rose: the answer of a whole run, or want of memory.
 pub fn programs_are_run()
     ensures { ProgramsAreRun }
+{}
+
+/// A text that was made is the text of its program, and within the limit.
+pub fn made_are_read()
+    ensures { MadeAreRead }
 {}
 
 /// `make` with its run, and no fault that rose: the answer of a whole run of the text's program, or want of memory.

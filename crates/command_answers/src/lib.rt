@@ -6,25 +6,24 @@ mod answer;
 mod check;
 mod delivery;
 mod ended;
-mod images;
-mod imaging;
+mod image;
 mod input;
 mod laws;
 mod model;
 mod races;
 mod refusals;
 mod replay;
+mod verify;
 mod wanted;
 
 pub use answer::{Answer, Ran, Status};
 pub use check::answer_check;
 pub use delivery::{deliver, hand_back, nothing};
 pub use ended::{amid, answer_ended, extras_of};
-pub use images::answer_verify;
-pub use imaging::answer_image;
+pub use image::answer_image;
 pub use input::{program_in, read_input};
 pub use laws::{
-    images_are_verified, made_are_accepted, made_are_run, model_writes_the_same,
+    images_are_verified, made_are_accepted, made_are_read, made_are_run, model_writes_the_same,
     no_fault_gives_all, programs_are_run, raceless_are_disentangled, runs_hold_the_headline,
     statuses_of_ends, traces_are_drawn, traces_are_replayed,
 };
@@ -32,4 +31,5 @@ pub use model::answer_model;
 pub use races::answer_races;
 pub use refusals::{bytes_alone, refused};
 pub use replay::answer_replay;
+pub use verify::answer_verify;
 pub use wanted::Wanted;

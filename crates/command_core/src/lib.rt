@@ -6,7 +6,7 @@ mod run;
 mod top_call;
 
 pub use command_answers::{
-    Answer, Ran, Status, images_are_verified, made_are_accepted, made_are_run,
+    Answer, Ran, Status, images_are_verified, made_are_accepted, made_are_read, made_are_run,
     model_writes_the_same, no_fault_gives_all, programs_are_run, raceless_are_disentangled,
     runs_hold_the_headline, statuses_of_ends, traces_are_drawn, traces_are_replayed,
 };

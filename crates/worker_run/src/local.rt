@@ -22,20 +22,10 @@ pub fn run_part<G: Gate>(part: Private, program: &Program, gate: &G, worker: u32
     let budget = MOST_STEPS - part.fresh;
     match run_local(&mut part, program, budget, gate, worker) {
         Ok(why) => {
-            settle_before_fork(&mut part, program);
+            part.settle_before_fork(program);
             Ready::Paused(part, why)
         }
         Err(_) => Ready::Wanting,
-    }
-}
-
-// Makes ready what children will see of the part's heap, where they come next, so that under the turn nothing is left to
-// copy. Where memory is wanting for it, it is the fork that asks for it again, and says so.
-fn settle_before_fork(part: &mut Private, program: &Program)
-    ensures { part.new ≡ part.old }
-{
-    if part.forks_next(program) {
-        let _ = part.heap.settle();
     }
 }
 

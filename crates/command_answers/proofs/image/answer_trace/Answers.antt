@@ -9,7 +9,7 @@ use Rattle.command_answers.specs.Answers.{IsImaged, Refuses}
 use Rattle.command_answers.proofs.Imaged.{imaged}
 use Rattle.command_answers.proofs.Runs.{refused_first}
 use Rattle.command_answers.proofs.Traces.{trace_told}
-use Rattle.command_answers.proofs.imaging.answer_trace.Goals as goal
+use Rattle.command_answers.proofs.image.answer_trace.Goals as goal
 
 pub returns-in-Ok : goal.returns-in-Ok
 returns-in-Ok c =

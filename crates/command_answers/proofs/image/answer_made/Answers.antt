@@ -4,7 +4,7 @@ use Rattle.run_trace.specs.Entry.{Event}
 use Rattle.refusal_lines.specs.declared.refusal.Refusal.TheVariants.{Entry}
 use Rattle.command_answers.specs.Answers.{Refuses, short_of}
 use Rattle.command_answers.proofs.Imaged.{image_ended, image_short}
-use Rattle.command_answers.proofs.imaging.answer_made.Goals as goal
+use Rattle.command_answers.proofs.image.answer_made.Goals as goal
 
 pub returns-in-None : goal.returns-in-None
 returns-in-None c =

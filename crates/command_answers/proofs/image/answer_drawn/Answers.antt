@@ -1,5 +1,5 @@
 use Rattle.std.proofs.Common.{◌∙◌}
-use Rattle.command_answers.proofs.imaging.answer_drawn.Goals as goal
+use Rattle.command_answers.proofs.image.answer_drawn.Goals as goal
 
 pub returns : goal.returns
 returns c =

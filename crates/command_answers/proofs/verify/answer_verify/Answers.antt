@@ -1,7 +1,7 @@
 use Rattle.std.proofs.Common.{rules}
 use Rattle.std.proofs.lemmas.Result.{IfOk-weaker}
 use Rattle.command_answers.proofs.ImagesTold.{image_told, image_refused}
-use Rattle.command_answers.proofs.images.answer_verify.Goals as goal
+use Rattle.command_answers.proofs.verify.answer_verify.Goals as goal
 
 pub returns-in_ok-text-in-Ok : goal.returns-in_ok-text-in-Ok
 returns-in_ok-text-in-Ok c =
