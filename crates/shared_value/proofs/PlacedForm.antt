@@ -58,7 +58,7 @@ module _ (h : Heap) (F : Formed h) (i : ℕ) (c : Cell) (b : Birth) (born : c.ma
   abbrev table : ℕ → Option ℕ
   table n = option_map (λ j. 2 ^ 63 - j) (place_in h.chunks n)
 
-  keeps : IsKept h.chunks (record { layers = []; stale = []; lost = true }) h.current h.reserved (counted (held_words h.chunks)) (counted (object_count h.chunks)) (counted (small_words h.chunks)) (2 ^ 63) table (length h.chunks)
+  keeps : IsKept h.chunks (record { layers = []; stale = []; places = 0; lost = true }) h.current h.reserved (counted (held_words h.chunks)) (counted (object_count h.chunks)) (counted (small_words h.chunks)) (2 ^ 63) table (length h.chunks)
   keeps = record {
     current = F.shaped.current;
     reserved = F.shaped.reserved;
