@@ -28,6 +28,13 @@ use Rattle.atomic_table.specs.contracts.shared.Seat as Seat
 use Rattle.run_trace.specs.contracts.settings.Settings as Settings
 use Rattle.run_trace.proofs.settings.Settings.TheSendSync as settings
 use Rattle.worker_run.specs.contracts.desk.Desk as Desk
+use Rattle.run_trace.specs.contracts.entry.Entry as Entry
+use Rattle.std.specs.contracts.snapshot.Snapshot as Snapshot
+use Rattle.task_machine.specs.contracts.part.Private as Private
+use Rattle.turn_entries.specs.contracts.run.Setup as Setup
+use Rattle.turn_entries.specs.contracts.run.RunKept.TheImpl.{ghosts}
+use Rattle.turn_lock.specs.contracts.turn.Turn as Turn
+use Rattle.turn_lock.proofs.turn.Turn.TheSendSync as turn
 
 pub shelf_send : IsSend Shelf.the_row
 shelf_send = search (layer.the_send, layer.the_sync, sendable, std.crosses, maps.crosses) depth 30
@@ -76,3 +83,7 @@ settings_send = search (sendable, std.crosses) depth 300 fits 1000000
 
 pub desk_send : IsSend Desk.the_row
 desk_send = search (seat_send, hand.the_field_send, settings_send, sendable) depth 300 fits 1000000
+
+-- the turn, whose parts are seen by clauses alone
+pub turn_sync : IsSync (Turn.the_row Run.the_row Entry.the_row (Snapshot.the_row Private.the_row) Setup.the_row ghosts)
+turn_sync = turn.the_sync Run.the_row Entry.the_row (Snapshot.the_row Private.the_row) Setup.the_row ghosts run_send

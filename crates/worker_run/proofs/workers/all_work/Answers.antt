@@ -16,7 +16,7 @@ use Rattle.worker_run.specs.declared.desk.Desk.{Desk}
 use Rattle.worker_run.specs.Desks.{HasStopped, IsDesk, SameDesk}
 use Rattle.worker_run.specs.Rounds.{GoesRound}
 use Rattle.worker_run.proofs.Rows.{kept_desks}
-use Rattle.worker_run.proofs.Sent.{desk_send, run_send, run_sync}
+use Rattle.worker_run.proofs.Sent.{desk_send, run_send, run_sync, turn_sync}
 use Rattle.worker_run.proofs.workers.all_work.Goals as goal
 
 pub for_each_mut-requires-clause-accepts : goal.for_each_mut-requires-clause-accepts
@@ -48,4 +48,4 @@ pub for_each_mut-requires-sync-F : goal.for_each_mut-requires-sync-F
 for_each_mut-requires-sync-F g c κs within =
     let host = given_sync 0 g.row.R c.type_bounds.sync-R in
     let gate = given_sync 1 g.row.G c.type_bounds.sync-G in
-    record { shared = λ x b o κ. ((((λ q. tt), host.shared x.0.now x.0.ref_ptr.0 x.0.ref_ptr.1 _), (((λ q. tt), (turn.the_sync _ _ _ _ _ run_send).shared x.1.now x.1.ref_ptr.0 x.1.ref_ptr.1 _), (((λ q. tt), bell.the_sync.shared x.2.now x.2.ref_ptr.0 x.2.ref_ptr.1 _), (((λ q. tt), gate.shared x.3.now x.3.ref_ptr.0 x.3.ref_ptr.1 _), (((λ q. tt), program.the_sync.shared x.4.now x.4.ref_ptr.0 x.4.ref_ptr.1 _), tt))))), λ q. tt) }
+    record { shared = λ x b o κ. ((((λ q. tt), host.shared x.0.now x.0.ref_ptr.0 x.0.ref_ptr.1 _), (((λ q. tt), turn_sync.shared x.1.now x.1.ref_ptr.0 x.1.ref_ptr.1 _), (((λ q. tt), bell.the_sync.shared x.2.now x.2.ref_ptr.0 x.2.ref_ptr.1 _), (((λ q. tt), gate.shared x.3.now x.3.ref_ptr.0 x.3.ref_ptr.1 _), (((λ q. tt), program.the_sync.shared x.4.now x.4.ref_ptr.0 x.4.ref_ptr.1 _), tt))))), λ q. tt) }
