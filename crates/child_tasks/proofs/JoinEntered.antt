@@ -1,5 +1,5 @@
 -- A child's last frame returns after its sibling's: both join their parent, which is ready again.
-use Rattle.std.proofs.Common.{◌≡◌, ℕ, ℤ, suc, ◌+◌, ◌++◌, arith, Option, Some, None, List, [], ◌∷◌, length-set, slice_get, map, slice_set, inl, inr, refl, ap, sym, subst, ◌∙◌}
+use Rattle.std.proofs.Common.{◌≡◌, ℕ, ℤ, suc, ◌+◌, ◌++◌, arith, Option, Some, None, List, [], ◌∷◌, length-set, slice_get, slice_set, inl, inr, refl, ap, sym, subst, ◌∙◌}
 use Rattle.std.proofs.lemmas.Bool.{cases_eq}
 use Rattle.std.proofs.lemmas.Option.{same_Some}
 use Rattle.listed.proofs.Members.{got_other}
@@ -33,7 +33,7 @@ use Rattle.task_machine.specs.declared.part.Private.{Private}
 use Rattle.shared_value.specs.declared.task_at_rest.Rest.{Rest}
 use Rattle.shared_value.specs.declared.task_at_rest.Work.{Work}
 use Rattle.shared_value.specs.declared.task_at_rest.Work.TheVariants.{Calls}
-use Rattle.shared_value.specs.World.{World, no_home, noted_in, accounts, flat, home_by, home_in, rest_at, source_of, totals_of, value_of}
+use Rattle.shared_value.specs.World.{World, no_home, noted_in, accounts, flat, home_by, home_in, rest_at, totals_of, value_of}
 use Rattle.shared_value.specs.Stands.{HeapForm, IsWorld}
 use Rattle.shared_value.specs.Fits.{Fits, OthersFit, home_of_part, part_of}
 use Rattle.shared_value.specs.Entered.{refused}
@@ -134,7 +134,7 @@ module _ (w : World) (k : ℕ) (p : Private) (I : IsWorld w) (F : Fits w k p) (a
       v' = value_of w'
 
       -- ---- WHAT IS NOTED
-      sources_was : (u : ℕ) → sources vt u ≡ map source_of (sources_at w.sets u)
+      sources_was : (u : ℕ) → sources vt u ≡ sources_at w.sets u
       sources_was u = ap (λ (z : Noted). z.sources) (noted_by w.sets u) ∙ by_content (content_at w.sets u)
 
       set_then : (u : ℕ) (y : NotedOf) → content_at sets u ≡ Some y → noted_in (slice_get sets u) ≡ noted_of (Some y)

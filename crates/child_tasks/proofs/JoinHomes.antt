@@ -1,5 +1,5 @@
 -- What a join makes of two homes and their parent's, in the words of the relation.
-use Rattle.std.proofs.Common.{◌≡◌, ◌⊎◌, ℕ, ℤ, ◌+◌, ◌<◌, ◌^◌, ◌++◌, arith, true, false, Option, Some, None, List, [], map, option_map, inl, inr, refl, ap, ap₂, sym, subst, ◌∙◌, eqb, eq-eqb, eqb-true, append_assoc}
+use Rattle.std.proofs.Common.{◌≡◌, ◌⊎◌, ℕ, ℤ, ◌+◌, ◌<◌, ◌^◌, ◌++◌, arith, true, false, Option, Some, None, List, [], option_map, inl, inr, refl, ap, ap₂, sym, subst, ◌∙◌, eqb, eq-eqb, eqb-true, append_assoc}
 use Rattle.std.specs.Prelude.{Contains, IsSome}
 use Rattle.std.proofs.lemmas.Bool.{cases_Bool, false≢true}
 use Rattle.std.proofs.lemmas.List.{map-append}
@@ -15,21 +15,21 @@ use Rattle.chunk_pool.specs.Chunks.{Chunks, held_at, owner_of}
 use Rattle.alloc_path.specs.Heap.{Heap, counted, merged, room_of, with_places}
 use Rattle.alloc_path.specs.View.{Level}
 use Rattle.task_frames.specs.Stack.{Stack}
-use Rattle.remembered_set.specs.declared.remembered.Source.{Source as Noticed}
+use Rattle.remembered_set.specs.declared.remembered.Source.{Source}
 use Rattle.remembered_set.specs.Sources.{lifted}
 use Rattle.remembered_set.proofs.LiftLemmas.{lifted_are_there}
 use Rattle.write_barrier.specs.Stored.{Content as NotedOf}
 use Rattle.fork_join.specs.Joined.{AreRelabelled, with_results as with_both}
 use Rattle.fork_join.proofs.Owners.{joined_are_owned}
 use Rattle.ledger_steps.specs.Accounts.{Rests, own}
-use Rattle.core_relation.specs.Value.{Chunk, Home, no_home, In, Source, Value, sources}
+use Rattle.core_relation.specs.Value.{Chunk, Home, no_home, In, Value, sources}
 use Rattle.core_relation.specs.Changes.{IsLifted, JoinsHomes, top_with_results}
 use Rattle.core_relation.specs.Stands.{Stands}
 use Rattle.core_relation.proofs.objects.Members.{in_chunk, in_map, map_in}
 use Rattle.shared_value.specs.declared.task_at_rest.Work.{Work}
 use Rattle.shared_value.specs.declared.task_at_rest.Work.TheVariants.{Calls, Result}
 use Rattle.shared_value.specs.Objects.{chunk_of, chunks_of}
-use Rattle.shared_value.specs.World.{home_by, source_of}
+use Rattle.shared_value.specs.World.{home_by}
 use Rattle.child_tasks.specs.Joins.{sources_by}
 use Rattle.child_tasks.proofs.SetsNoted.{noted_of}
 
@@ -59,12 +59,9 @@ by_since h view n (Calls s) = refl
 by_since h view n (Result k r) = refl
 
 -- the sources that a set holds, as they are seen
-pub by_content : (o : Option NotedOf) → (noted_of o).sources ≡ map source_of (sources_by o)
+pub by_content : (o : Option NotedOf) → (noted_of o).sources ≡ sources_by o
 by_content None = refl
 by_content (Some c) = refl
-
-abbrev back : Source → Noticed
-back s = record { object = s.object; field = s.field }
 
 -- what the code makes of the homes of the task q and its children c and d
 pub record Merges (v v' : Value) (pool pool' : Chunks) (q c d : ℕ) (al ar : ℤ × Option Addr) : Type 0 where
@@ -94,13 +91,13 @@ pub record Merges (v v' : Value) (pool pool' : Chunks) (q c d : ℕ) (al ar : �
   pub owner : (n : ℕ) → v.owner n ≡ owner_of pool n
   pub owner_then : (n : ℕ) → v'.owner n ≡ owner_of pool' n
   pub relabelled : AreRelabelled pool pool' (left_heap.chunks ++ right_heap.chunks) q
-  pub own_sources : List Noticed
-  pub left_sources : List Noticed
-  pub right_sources : List Noticed
-  pub own_noted : sources v q ≡ map source_of own_sources
-  pub left_noted : sources v c ≡ map source_of left_sources
-  pub right_noted : sources v d ≡ map source_of right_sources
-  pub own_noted_then : sources v' q ≡ map source_of (lifted (lifted own_sources left_sources own_heap.chunks) right_sources own_heap.chunks)
+  pub own_sources : List Source
+  pub left_sources : List Source
+  pub right_sources : List Source
+  pub own_noted : sources v q ≡ own_sources
+  pub left_noted : sources v c ≡ left_sources
+  pub right_noted : sources v d ≡ right_sources
+  pub own_noted_then : sources v' q ≡ lifted (lifted own_sources left_sources own_heap.chunks) right_sources own_heap.chunks
   pub left_noted_then : sources v' c ≡ []
   pub right_noted_then : sources v' d ≡ []
   pub others_noted : (u : ℕ) → (u ≡ q → ⊥) → (u ≡ c → ⊥) → (u ≡ d → ⊥) → sources v' u ≡ sources v u
@@ -174,12 +171,6 @@ module _ (v v' : Value) (l : Ledger) (V : Stands v l) (pool pool' : Chunks) (q c
 
   -- ---- REMEMBERED FIELDS
 
-  to_noticed : (xs : List Noticed) (s : Source) → In (map source_of xs) s → Contains xs (back s)
-  to_noticed xs s i = let r = map_in source_of xs s i in subst (λ (z : Noticed). Contains xs z) (ap back r.2) (contains_from_in xs r.0 r.1)
-
-  from_noticed : (xs : List Noticed) (s : Source) → Contains xs (back s) → In (map source_of xs) s
-  from_noticed xs s i = in_map source_of xs (back s) (in_from_contains xs (back s) i)
-
   -- an object of a source lies in the parent's chunks exactly where the parent owns its chunk
   in_own : (s : Source) → has_chunk ks s.object.chunk ≡ true → v.owner s.object.chunk ≡ Some q
   in_own s has = let k = has_in ks s.object.chunk has in ap v.owner (sym k.2) ∙ own_owned k.0 k.1
@@ -194,21 +185,21 @@ module _ (v v' : Value) (l : Ledger) (V : Stands v l) (pool pool' : Chunks) (q c
       let number : k.0.number ≡ s.object.chunk = sym ((V.homes (own l K.name) K.rests).inside k.0 y.0 k.1 k.2) ∙ ap (λ (b : Addr). b.chunk) y.2.at in
       ap (has_chunk ks) (sym (z.2 ∙ number)) ∙ in_has ks z.0 z.1
 
-  to_lifted : (u : ℕ) (xs : List Noticed) (s : Source) → sources v u ≡ map source_of xs → Contains xs (back s) → has_chunk ks s.object.chunk ≡ false → IsLifted v q u s
+  to_lifted : (u : ℕ) (xs : List Source) (s : Source) → sources v u ≡ xs → Contains xs s → has_chunk ks s.object.chunk ≡ false → IsLifted v q u s
   to_lifted u xs s e i off =
-      let j : In (sources v u) s = subst (λ ss. In ss s) (sym e) (from_noticed xs s i) in
+      let j : In (sources v u) s = subst (λ ss. In ss s) (sym e) (in_from_contains xs s i) in
       (j, λ g. false≢true (sym off ∙ own_in u s j g))
 
-  from_lifted : (u : ℕ) (xs : List Noticed) (s : Source) → sources v u ≡ map source_of xs → IsLifted v q u s → Contains xs (back s) × (has_chunk ks s.object.chunk ≡ false)
-  from_lifted u xs s e L = (to_noticed xs s (subst (λ ss. In ss s) e L.0), elim (cases_Bool (has_chunk ks s.object.chunk)) [ inl has ↦ absurd (L.1 (in_own s has)) | inr off ↦ off ])
+  from_lifted : (u : ℕ) (xs : List Source) (s : Source) → sources v u ≡ xs → IsLifted v q u s → Contains xs s × (has_chunk ks s.object.chunk ≡ false)
+  from_lifted u xs s e L = (contains_from_in xs s (subst (λ ss. In ss s) e L.0), elim (cases_Bool (has_chunk ks s.object.chunk)) [ inl has ↦ absurd (L.1 (in_own s has)) | inr off ↦ off ])
 
-  abbrev one : List Noticed
+  abbrev one : List Source
   one = lifted J.own_sources J.left_sources ks
 
   lifts_to : (s : Source) → In (sources v' q) s → In (sources v q) s ⊎ (IsLifted v q c s ⊎ IsLifted v q d s)
-  lifts_to s i = elim ((lifted_are_there one J.right_sources ks (back s)).0 (to_noticed (lifted one J.right_sources ks) s (subst (λ ss. In ss s) J.own_noted_then i))) [
-    | inl a ↦ elim ((lifted_are_there J.own_sources J.left_sources ks (back s)).0 a) [
-      | inl b ↦ inl (subst (λ ss. In ss s) (sym J.own_noted) (from_noticed J.own_sources s b))
+  lifts_to s i = elim ((lifted_are_there one J.right_sources ks s).0 (contains_from_in (lifted one J.right_sources ks) s (subst (λ ss. In ss s) J.own_noted_then i))) [
+    | inl a ↦ elim ((lifted_are_there J.own_sources J.left_sources ks s).0 a) [
+      | inl b ↦ inl (subst (λ ss. In ss s) (sym J.own_noted) (in_from_contains J.own_sources s b))
       | inr b ↦ inr (inl (to_lifted c J.left_sources s J.left_noted b.0 b.1))
     ]
     | inr a ↦ inr (inr (to_lifted d J.right_sources s J.right_noted a.0 a.1))
@@ -216,15 +207,15 @@ module _ (v v' : Value) (l : Ledger) (V : Stands v l) (pool pool' : Chunks) (q c
 
   lifts_from : (s : Source) → In (sources v q) s ⊎ (IsLifted v q c s ⊎ IsLifted v q d s) → In (sources v' q) s
   lifts_from s h =
-      let found : Contains (lifted one J.right_sources ks) (back s) =
-      (lifted_are_there one J.right_sources ks (back s)).1 (elim h [
-        | inl a ↦ inl ((lifted_are_there J.own_sources J.left_sources ks (back s)).1 (inl (to_noticed J.own_sources s (subst (λ ss. In ss s) J.own_noted a))))
+      let found : Contains (lifted one J.right_sources ks) s =
+      (lifted_are_there one J.right_sources ks s).1 (elim h [
+        | inl a ↦ inl ((lifted_are_there J.own_sources J.left_sources ks s).1 (inl (contains_from_in J.own_sources s (subst (λ ss. In ss s) J.own_noted a))))
         | inr a ↦ elim a [
-          | inl b ↦ inl ((lifted_are_there J.own_sources J.left_sources ks (back s)).1 (inr (from_lifted c J.left_sources s J.left_noted b)))
+          | inl b ↦ inl ((lifted_are_there J.own_sources J.left_sources ks s).1 (inr (from_lifted c J.left_sources s J.left_noted b)))
           | inr b ↦ inr (from_lifted d J.right_sources s J.right_noted b)
         ]
       ]) in
-      subst (λ ss. In ss s) (sym J.own_noted_then) (from_noticed (lifted one J.right_sources ks) s found)
+      subst (λ ss. In ss s) (sym J.own_noted_then) (in_from_contains (lifted one J.right_sources ks) s found)
 
   -- ---- THE HOMES
 

@@ -4,8 +4,9 @@ use Rattle.std.proofs.lemmas.Bool.{cases_eq}
 use Rattle.std.proofs.lemmas.Option.{same_Some}
 use Rattle.run_ledger.specs.declared.data.Ledger.{Ledger}
 use Rattle.object_layout.specs.declared.word.Addr.{Addr}
+use Rattle.remembered_set.specs.declared.remembered.Source.{Source}
 use Rattle.ledger_steps.specs.Accounts.{Rests, own}
-use Rattle.core_relation.specs.Value.{In, Seen, Source, Value, objects, sources}
+use Rattle.core_relation.specs.Value.{In, Seen, Value, objects, sources}
 use Rattle.core_relation.specs.Begins.{AreRoots}
 use Rattle.core_relation.specs.Stands.{IsSource, Stands}
 use Rattle.core_relation.proofs.objects.Members.{in_chunk}

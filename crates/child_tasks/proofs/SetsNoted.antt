@@ -1,9 +1,9 @@
 -- What is noted of a heap by what its set holds, and the form of an empty heap.
-use Rattle.std.proofs.Common.{◌≡◌, ℕ, arith, false, Option, Some, None, List, [], map, slice_get, option_map, refl}
+use Rattle.std.proofs.Common.{◌≡◌, ℕ, arith, false, Option, Some, None, List, [], slice_get, option_map, refl}
 use Rattle.write_barrier.specs.declared.sets.SetOf.{SetOf}
 use Rattle.write_barrier.specs.Stored.{Content, content_at, content_of}
 use Rattle.core_relation.specs.Value.{Noted}
-use Rattle.shared_value.specs.World.{noted_in, source_of}
+use Rattle.shared_value.specs.World.{noted_in}
 use Rattle.shared_value.specs.Stands.{HeapForm}
 use Rattle.child_tasks.specs.Forks.{keeping}
 
@@ -11,7 +11,7 @@ use Rattle.child_tasks.specs.Forks.{keeping}
 
 abbrev pub noted_of : Option Content → Noted
 noted_of None = record { sources = []; kept = []; keeps = false; marked = None }
-noted_of (Some c) = record { sources = map source_of c.sources; kept = c.kept; keeps = c.keeps; marked = None }
+noted_of (Some c) = record { sources = c.sources; kept = c.kept; keeps = c.keeps; marked = None }
 
 pub noted_by : (sets : List SetOf) (u : ℕ) → noted_in (slice_get sets u) ≡ noted_of (content_at sets u)
 noted_by sets u = by (slice_get sets u)

@@ -1,5 +1,5 @@
 -- Where the marking of a waiting heap begins, as its words tell it, is where it begins by the accounts.
-use Rattle.std.proofs.Common.{◌≡◌, ◌↔◌, ℕ, true, All, Option, Some, None, List, [], ◌∷◌, map, slice_get, inl, inr, refl, ap, sym, subst, ◌∙◌}
+use Rattle.std.proofs.Common.{◌≡◌, ◌↔◌, ℕ, true, All, Option, Some, None, List, [], ◌∷◌, slice_get, inl, inr, refl, ap, sym, subst, ◌∙◌}
 use Rattle.std.specs.List.{flat_map}
 use Rattle.listed.proofs.Members.{in_append_cases, in_append_left, in_append_right, in_flat}
 use Rattle.hh_model.specs.declared.data.Status.{Status}
@@ -32,7 +32,7 @@ use Rattle.shared_value.specs.declared.task_at_rest.Work.TheVariants.{Calls, Res
 use Rattle.shared_value.specs.Objects.{chunks_of}
 use Rattle.shared_value.specs.RestingHeaps.{refs_in}
 use Rattle.shared_value.specs.Roots.{heaps_of, sources_of}
-use Rattle.shared_value.specs.World.{World, accounts, frame_of, frames_of, home_by, home_in, home_of, rest_at, source_of, value_of}
+use Rattle.shared_value.specs.World.{World, accounts, frame_of, frames_of, home_by, home_in, home_of, rest_at, value_of}
 use Rattle.shared_value.specs.Stands.{IsWorld}
 use Rattle.shared_value.proofs.BeforeTheEnd.{stands_now}
 use Rattle.shared_value.proofs.RootsHeld as held
@@ -102,7 +102,7 @@ module _ (w : World) (I : IsWorld w) (on : (accounts w).end ≡ None) (t : ℕ) 
   frames_are : (v.homes t).frames ≡ seen_frames r.work
   frames_are = ap (λ o. (home_in o).frames) there ∙ home_frames r
 
-  sources_are : sources v t ≡ map source_of ss
+  sources_are : sources v t ≡ ss
   sources_are = noted_sources (slice_get w.sets t)
 
   read : (u : ℕ) → (u ≡ t → ⊥) → Rests l u → (o : Seen) → In (objects v u) o → refs_in (heaps_of w) o.at ≡ o.refs

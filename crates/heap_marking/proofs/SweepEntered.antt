@@ -1,5 +1,5 @@
 -- A sweep is entered: the shared value that it leaves, and the parts.
-use Rattle.std.proofs.Common.{◌≡◌, ℕ, ◌-◌, ◌<◌, ◌==◌, ◌++◌, arith, Bool, true, false, Option, Some, None, is_none, List, [], ◌∷◌, length, length-set, map, option_map, slice_get, slice_set, inl, inr, refl, ap, ap₂, sym, subst, ◌∙◌}
+use Rattle.std.proofs.Common.{◌≡◌, ℕ, ◌-◌, ◌<◌, ◌==◌, ◌++◌, arith, Bool, true, false, Option, Some, None, is_none, List, [], ◌∷◌, length, length-set, option_map, slice_get, slice_set, inl, inr, refl, ap, ap₂, sym, subst, ◌∙◌}
 use Rattle.std.specs.Prelude.{◌≢◌, IsSome}
 use Rattle.std.proofs.lemmas.Bool.{cases_eq, eqb-true}
 use Rattle.std.proofs.lemmas.Option.{same_Some}
@@ -35,7 +35,7 @@ use Rattle.shared_value.specs.Entered.{refused}
 use Rattle.shared_value.specs.Fits.{AllFit, Fits, part_of}
 use Rattle.shared_value.specs.Measured.{AreMeasured, KeepsUnits, RestsAreMeasured}
 use Rattle.shared_value.specs.Stands.{HeapForm, IsWorld}
-use Rattle.shared_value.specs.World.{World, accounts, flat, home_in, marks_at, noted_in, rest_at, source_of, totals_of, value_of}
+use Rattle.shared_value.specs.World.{World, accounts, flat, home_in, marks_at, noted_in, rest_at, totals_of, value_of}
 use Rattle.shared_value.proofs.EntryMade.{entry_on}
 use Rattle.shared_value.proofs.MarkingEntryMade.{entered_marks, marked_fits, marked_world}
 use Rattle.shared_value.proofs.UnitsMeasured.{given_keeps, measured_kept, part_kept}
@@ -73,7 +73,7 @@ noted_by None (Some s) e = absurd cc
 noted_by (Some s) None e = absurd cc
 noted_by (Some s) (Some s') e =
     let same : content_of s' ≡ forgotten (content_of s) = same_Some (content_of s') (forgotten (content_of s)) e in (
-      ap (λ (c : SetContent). map source_of c.sources) same,
+      ap (λ (c : SetContent). c.sources) same,
       ap (λ (c : SetContent). c.keeps) same,
     )
 

@@ -16,11 +16,11 @@ use Rattle.remembered_set.specs.declared.remembered.Source.{Source}
 use Rattle.remembered_set.specs.Sources.{StandOnce, has_source, same_source}
 use Rattle.write_barrier.specs.declared.sets.SetOf.{SetOf}
 use Rattle.ledger_steps.specs.Accounts.{own}
-use Rattle.core_relation.specs.Value.{In as HasItem, Seen, Source as SeenSource, objects_in, sources}
+use Rattle.core_relation.specs.Value.{In as HasItem, Seen, objects_in, sources}
 use Rattle.core_relation.specs.Whole.{handed}
 use Rattle.shared_value.specs.declared.task_at_rest.Rest.{Rest}
 use Rattle.shared_value.specs.Stands.{IsWorld}
-use Rattle.shared_value.specs.World.{World, accounts, home_in, noted_in, rest_at, source_of, value_of}
+use Rattle.shared_value.specs.World.{World, accounts, home_in, noted_in, rest_at, value_of}
 use Rattle.shared_value.proofs.FieldsLed.{home_chunks}
 use Rattle.heap_reading.specs.declared.noted.Field.{Field}
 use Rattle.heap_reading.specs.Image.{AreAll, FieldBefore, IsNoted, Rises, field_of}
@@ -50,9 +50,6 @@ by_all P (y ∷ ys) x all (inr i) = by_all P ys x all.1 i
 by_all P [] x all i = absurd i
 
 -- FIELDS THAT DIFFER
-abbrev one : Source → Field
-one s = field_of (source_of s)
-
 in_map : {A B : Type 0} (f : A → B) (xs : List A) (x : A) → In xs x → In (map f xs) (f x)
 in_map f (y ∷ ys) x (inl e) = inl (ap f e)
 in_map f (y ∷ ys) x (inr i) = inr (in_map f ys x i)
@@ -66,22 +63,22 @@ map_in f [] y i = absurd i
 same_itself : (s : Source) → same_source s s ≡ true
 same_itself s = grind arith
 
-module _ (ss : List Source) (apart : (s t : Source) → In ss s → In ss t → one s ≡ one t → s ≡ t) where
-  unlike : (s : Source) (ts : List Source) → In ss s → ((t : Source) → In ts t → In ss t) → has_source ts s ≡ false → AllByRecursion (λ y. is_field (one s) y ≡ false) (map one ts)
+module _ (ss : List Source) (apart : (s t : Source) → In ss s → In ss t → field_of s ≡ field_of t → s ≡ t) where
+  unlike : (s : Source) (ts : List Source) → In ss s → ((t : Source) → In ts t → In ss t) → has_source ts s ≡ false → AllByRecursion (λ y. is_field (field_of s) y ≡ false) (map field_of ts)
   unlike s [] here all off = tt
-  unlike s (t ∷ ts) here all off = (by (is_field (one s) (one t)) refl, unlike s ts here (λ u i. all u (inr i)) (rest (same_source s t) (list_any (same_source s) ts) off))
+  unlike s (t ∷ ts) here all off = (by (is_field (field_of s) (field_of t)) refl, unlike s ts here (λ u i. all u (inr i)) (rest (same_source s t) (list_any (same_source s) ts) off))
     where
       rest : (b c : Bool) → (b || c) ≡ false → c ≡ false
       rest true c e = absurd (false≢true (sym e))
       rest false c e = e
 
-      by : (b : Bool) → is_field (one s) (one t) ≡ b → b ≡ false
+      by : (b : Bool) → is_field (field_of s) (field_of t) ≡ b → b ≡ false
       by false e = refl
       by true e =
-          let same : s ≡ t = apart s t here (all t (inl refl)) (same_from (one s) (one t) e) in
+          let same : s ≡ t = apart s t here (all t (inl refl)) (same_from (field_of s) (field_of t) e) in
           absurd (false≢true (sym off ∙ any_from_in (same_source s) (t ∷ ts) t (inl refl) (subst (λ z. same_source s z ≡ true) same (same_itself s))))
 
-  distinct : (ts : List Source) → ((t : Source) → In ts t → In ss t) → StandOnce ts → IsDistinct is_field (map one ts)
+  distinct : (ts : List Source) → ((t : Source) → In ts t → In ss t) → StandOnce ts → IsDistinct is_field (map field_of ts)
   unfolding IsDistinct
   distinct [] all once = tt
   distinct (t ∷ ts) all once = (unlike t ts (all t (inl refl)) (λ u i. all u (inr i)) once.0, distinct ts (λ u i. all u (inr i)) once.1)
@@ -152,7 +149,7 @@ module _ (w : World) (I : IsWorld w) where
   near_in (Some r) u e a q i at = subst (λ (z : Addr). z.offset < 1024) at ((I.heaps u r e).near q (subst (λ ks. HasItem (objects_in ks) q) (home_chunks r) i))
 
   -- words can hold where the objects of remembered fields lie
-  pub source_near : (t : ℕ) (s : SeenSource) → HasItem (sources (value_of w) t) s → s.object.offset < 1024
+  pub source_near : (t : ℕ) (s : Source) → HasItem (sources (value_of w) t) s → s.object.offset < 1024
   source_near t s i =
       let k = I.stands.homes.sources t s i in
       let o = k.place.here k.rests in
@@ -174,13 +171,13 @@ module _ (w : World) (I : IsWorld w) where
     abbrev ss : List Source
     ss = set.remembered.sources
 
-    noted_is : sources (value_of w) t ≡ map source_of ss
+    noted_is : sources (value_of w) t ≡ ss
     noted_is = ap (λ o. (noted_in o).sources) is
 
     near : (s : Source) → In ss s → s.object.offset < 1024
-    near s i = source_near t (source_of s) (subst (λ xs. HasItem xs (source_of s)) (sym noted_is) (same_item (map source_of ss) (source_of s) (in_map source_of ss s i)))
+    near s i = source_near t s (subst (λ xs. HasItem xs s) (sym noted_is) (same_item ss s i))
 
-    apart : (s u : Source) → In ss s → In ss u → one s ≡ one u → s ≡ u
+    apart : (s u : Source) → In ss s → In ss u → field_of s ≡ field_of u → s ≡ u
     apart s u i j e =
         let a = word_once s.object u.object (near s i) (near u j) (ap (λ (f : Field). f.object) e) in
         let c : s.object.chunk ≡ u.object.chunk = a.0 in
@@ -188,7 +185,7 @@ module _ (w : World) (I : IsWorld w) where
         let f : s.field ≡ u.field = ap (λ (x : Field). x.field) e in
         λ k. record { object = record { chunk = c k; offset = o k }; field = f k }
 
-    pub noted_in_order : (fs gs : List Field) → StandOnce ss → fs ≡ map one ss → IsPermutation fs gs → IsSortedWithin cmp_lt gs 0 (length gs) → AreAll FieldBefore (IsNoted w t) gs
+    pub noted_in_order : (fs gs : List Field) → StandOnce ss → fs ≡ map field_of ss → IsPermutation fs gs → IsSortedWithin cmp_lt gs 0 (length gs) → AreAll FieldBefore (IsNoted w t) gs
     noted_in_order fs gs once all moved sorted = record {
       rising = rises_from gs (up_from gs sorted) (IsDistinct-IsPermutation is_field flips fs gs moved (subst (IsDistinct is_field) (sym all) (distinct ss apart ss (λ s i. i) once)));
       each = λ f. ((λ i. there f i), (λ h. back f h));
@@ -197,12 +194,11 @@ module _ (w : World) (I : IsWorld w) where
         there : (f : Field) → In gs f → IsNoted w t f
         there f i =
             let j : In fs f = in_from_contains fs f (Contains-permutation gs fs f (IsPermutation-sym fs gs moved) (contains_from_in gs f i)) in
-            let r = map_in one ss f (subst (λ xs. In xs f) all j) in
-            (source_of r.0, subst (λ xs. HasItem xs (source_of r.0)) (sym noted_is) (same_item (map source_of ss) (source_of r.0) (in_map source_of ss r.0 r.1)), r.2)
+            let r = map_in field_of ss f (subst (λ xs. In xs f) all j) in
+            (r.0, subst (λ xs. HasItem xs r.0) (sym noted_is) (same_item ss r.0 r.1), r.2)
 
         back : (f : Field) → IsNoted w t f → In gs f
         back f h =
-            let r = map_in source_of ss h.0 (item_same (map source_of ss) h.0 (subst (λ xs. HasItem xs h.0) noted_is h.1)) in
-            let j : In fs (one r.0) = subst (λ xs. In xs (one r.0)) (sym all) (in_map one ss r.0 r.1) in
-            let same : one r.0 ≡ f = ap field_of (sym r.2) ∙ sym h.2 in
-            subst (In gs) same (in_from_contains gs (one r.0) (Contains-permutation fs gs (one r.0) moved (contains_from_in fs (one r.0) j)))
+            let i : In ss h.0 = item_same ss h.0 (subst (λ xs. HasItem xs h.0) noted_is h.1) in
+            let j : In fs (field_of h.0) = subst (λ xs. In xs (field_of h.0)) (sym all) (in_map field_of ss h.0 i) in
+            subst (In gs) (sym h.2) (in_from_contains gs (field_of h.0) (Contains-permutation fs gs (field_of h.0) moved (contains_from_in fs (field_of h.0) j)))

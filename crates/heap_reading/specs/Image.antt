@@ -9,7 +9,8 @@ use Rattle.chunk_pool.specs.declared.pool.Held.{Held}
 use Rattle.chunk_pool.specs.Chunks.{held_at, owner_of as holder_of}
 use Rattle.heap_tree.specs.declared.state.State.TheVariants.{Joined}
 use Rattle.heap_tree.specs.Node.{Node, state_of}
-use Rattle.core_relation.specs.Value.{Chunk, Seen as SeenAt, Source, In as HasItem, sources}
+use Rattle.remembered_set.specs.declared.remembered.Source.{Source}
+use Rattle.core_relation.specs.Value.{Chunk, Seen as SeenAt, In as HasItem, sources}
 use Rattle.task_machine.specs.Place.{birth_of}
 use Rattle.shared_value.specs.World.{World, accounts, value_of}
 use Rattle.heap_reading.specs.declared.live.Live.{Live}

@@ -1,7 +1,6 @@
 // Remembered fields as they are told.
 
 ghost use Rattle.std.specs.Prelude.{◌≡◌, ◌<◌, IfOk, map};
-ghost use Rattle.shared_value.specs.World.{source_of};
 ghost use Rattle.heap_reading.specs.Image.{field_of};
 
 use crate::seen::number_of;
@@ -18,7 +17,7 @@ pub struct Field {
 
 /// The fields as they were noted.
 pub fn fields_of(alloc: Global, sources: &[Source]) -> Result<Vec<Field>, AllocError>
-    ensures { IfOk result (λ fields. fields.items ≡ map (λ s. field_of (source_of s)) sources.now) }
+    ensures { IfOk result (λ fields. fields.items ≡ map field_of sources.now) }
 {
     let mut fields = Vec::new(alloc);
     for source in sources {

@@ -1,5 +1,5 @@
 -- The end of a part's leaf collection: what is entered stands, and parts fit.
-use Rattle.std.proofs.Common.{◌≡◌, ℕ, ◌+◌, ◌-◌, ◌<◌, ◌&&◌, arith, All, true, false, not, Option, Some, None, is_some, List, [], ◌∷◌, ◌++◌, fold, length, map, slice_get, option_map, inl, inr, refl, ap, ap₂, sym, subst, ◌∙◌}
+use Rattle.std.proofs.Common.{◌≡◌, ℕ, ◌+◌, ◌-◌, ◌<◌, ◌&&◌, arith, All, true, false, not, Option, Some, None, is_some, List, [], ◌∷◌, ◌++◌, fold, length, slice_get, option_map, inl, inr, refl, ap, ap₂, sym, subst, ◌∙◌}
 use Rattle.std.proofs.lemmas.Bool.{cases_eq, false≢true}
 use Rattle.std.proofs.lemmas.Option.{same_Some}
 use Rattle.std.proofs.lemmas.List.Elements.{All-head, All-tail}
@@ -55,7 +55,7 @@ use Rattle.task_machine.specs.declared.part.Private.{Private}
 use Rattle.shared_value.specs.declared.heaps.Heaps.{Heaps}
 use Rattle.shared_value.specs.declared.task_at_rest.Rest.{Rest}
 use Rattle.shared_value.specs.Objects.{chunk_of, chunks_of}
-use Rattle.shared_value.specs.World.{World, accounts, home_in, rest_at, source_of, totals_of, value_of}
+use Rattle.shared_value.specs.World.{World, accounts, home_in, rest_at, totals_of, value_of}
 use Rattle.shared_value.specs.Measured.{KeepsUnits, RestsAreMeasured}
 use Rattle.shared_value.specs.Stands.{IsWorld}
 use Rattle.shared_value.specs.Fits.{Fits, OthersFit, home_of_part, part_of}
@@ -101,7 +101,7 @@ module _ (w : World) (k : ℕ) (p : Private) (moved : Moved) (I : IsWorld w) (F 
   S : StandsFor v (totals_of w) l
   S = stands_now w I on
 
-  sources_are : sources v t ≡ map source_of ss
+  sources_are : sources v t ≡ ss
   sources_are = noted_sources (slice_get w.sets t)
 
   abbrev Good : ℕ → Type 0
@@ -114,14 +114,14 @@ module _ (w : World) (k : ℕ) (p : Private) (moved : Moved) (I : IsWorld w) (F 
 
   at : (s : Source) → In ss s → At s
   at s i =
-      let Q : IsSource v l t (source_of s) = S.homes.sources t (source_of s) (subst (λ xs. In xs (source_of s)) (sym sources_are) (in_map source_of ss s i)) in
+      let Q : IsSource v l t s = S.homes.sources t s (subst (λ xs. In xs s) (sym sources_are) i) in
       let lies : Lies (v.homes (own l Q.name)).chunks Q.name s.object = Q.place.here Q.rests in
       let c = S.homes.contents (own l Q.name) lies.0 Q.rests lies.1 in
       let same : Q.object ≡ c.0 = same_Some Q.object c.0 (sym Q.is ∙ (ap (object_at l.machine.store) (sym lies.2.name) ∙ c.1)) in
       let long : length lies.0.refs ≡ length Q.object.refs = refs_long (Place v l) lies.0.refs c.0.refs c.2.refs ∙ ap (λ (z : Object). length z.refs) (sym same) in
       by Q lies.0 lies.2.at long (rest_at w.homes (own l Q.name)) refl lies.1
     where
-      by : (Q : IsSource v l t (source_of s)) (o : Seen) → o.at ≡ s.object → length o.refs ≡ length Q.object.refs → (r : Option Rest) → rest_at w.homes (own l Q.name) ≡ r → In (objects_in (home_in r).chunks) o → At s
+      by : (Q : IsSource v l t s) (o : Seen) → o.at ≡ s.object → length o.refs ≡ length Q.object.refs → (r : Option Rest) → rest_at w.homes (own l Q.name) ≡ r → In (objects_in (home_in r).chunks) o → At s
       by Q o e long None q j = absurd j
       by Q o e long (Some r) q j =
           let y = seen_object r.heap.chunks o (I.heaps (own l Q.name) r q).shaped.apart (subst (λ cs. In (objects_in cs) o) (home_chunks r) j) in

@@ -14,9 +14,10 @@ use Rattle.object_layout.specs.Chunks.{cell_of}
 use Rattle.alloc_path.specs.Heap.{Heap, room_of}
 use Rattle.alloc_path.specs.View.{Level}
 use Rattle.task_frames.specs.declared.frames.Frame.{Frame}
+use Rattle.remembered_set.specs.declared.remembered.Source.{Source}
 use Rattle.write_barrier.specs.declared.sets.SetOf.{SetOf}
 use Rattle.ledger_steps.specs.Accounts.{Rests, own, rested}
-use Rattle.core_relation.specs.Value.{Chunk, Home, In, Seen, Source, Value, mapped_chunk, objects, objects_in, put_at, sources}
+use Rattle.core_relation.specs.Value.{Chunk, Home, In, Seen, Value, mapped_chunk, objects, objects_in, put_at, sources}
 use Rattle.core_relation.specs.Changes.{WritesAt}
 use Rattle.core_relation.specs.Fits.{with_home}
 use Rattle.core_relation.specs.Layout.{words}

@@ -14,10 +14,11 @@ use Rattle.object_layout.specs.Cell.{Cell, size_of, with_int as cell_int, with_r
 use Rattle.chunk_pool.specs.Chunks.{owner_of as pool_owner}
 use Rattle.task_frames.specs.declared.frames.Frame.{Frame}
 use Rattle.heap_tree.specs.Node.{is_on_path as tree_path}
+use Rattle.remembered_set.specs.declared.remembered.Source.{Source}
 use Rattle.write_barrier.specs.declared.sets.SetOf.{SetOf}
 use Rattle.write_barrier.specs.Stored.{content_after, content_at}
 use Rattle.ledger_steps.specs.Accounts.{own}
-use Rattle.core_relation.specs.Value.{Frame as SeenFrame, Home, In, Seen, Source as SeenSource, Value, objects, sources}
+use Rattle.core_relation.specs.Value.{Frame as SeenFrame, Home, In, Seen, Value, objects, sources}
 use Rattle.core_relation.specs.Changes.{StoresAt, StoresNumberAt, gone_on, register, with_field, with_number}
 use Rattle.core_relation.specs.Fits.{with_home}
 use Rattle.core_relation.specs.Reads.{Reads}
@@ -135,7 +136,7 @@ module _ (w : World) (k : ℕ) (p : Private) (I : IsWorld w) (F : Fits w k p) (o
           let apart = store.apart L (link.sound w k p I F on) t X is n r.0 (holds w k p I F on o n held) (holds w k p I F on b r.0 r.1) off' in
           noting.notes_down w.tree w.pool w.sets sets a i overwritten value u O.place.chunk C e z er ee (path_is u z ∙ (ap (is_on_path L.machine.tasks u) zr ∙ above)) (λ q. apart (q ∙ zr)) (made e.chunk z ee)
 
-      only : (z : ℕ) (s : SeenSource) → In (sources new z) s
+      only : (z : ℕ) (s : Source) → In (sources new z) s
           → In (sources old z) s ⊎ ((e : Addr) × (y : ℕ) × (register (frame_of p.frames.top) b ≡ Some e) × (v0.owner e.chunk ≡ Some z) × (v0.owner a.chunk ≡ Some y) × (is_on_path L.machine.tasks z y ≡ false) × (s ≡ record { object = a; field = i }))
       only z s j = elim (noting.notes_only w.tree w.pool w.sets sets a i overwritten value u O.place.chunk C z s j) [
         | inl before ↦ inl before

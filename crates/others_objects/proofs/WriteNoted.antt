@@ -1,5 +1,5 @@
 -- What the write of a reference notes, in the sets of the heaps.
-use Rattle.std.proofs.Common.{◌≡◌, ◌⊎◌, ℕ, zero, suc, arith, ◌<◌, ◌==◌, ◌&&◌, ◌||◌, ◌++◌, not, Bool, true, false, cond, Option, Some, None, List, [], ◌∷◌, length, map, slice_get, option_map, inl, inr, refl, ap, ap₂, sym, subst, ◌∙◌, eq-eqb, ne_eqb}
+use Rattle.std.proofs.Common.{◌≡◌, ◌⊎◌, ℕ, zero, suc, arith, ◌<◌, ◌==◌, ◌&&◌, ◌||◌, ◌++◌, not, Bool, true, false, cond, Option, Some, None, List, [], ◌∷◌, length, slice_get, option_map, inl, inr, refl, ap, ap₂, sym, subst, ◌∙◌, eq-eqb, ne_eqb}
 use Rattle.std.specs.Prelude.{option_to_list}
 use Rattle.std.proofs.lemmas.Bool.{and_parts, cond-true, eqb-true, false≢true, both_ways}
 use Rattle.std.proofs.lemmas.Option.{same_Some}
@@ -11,16 +11,15 @@ use Rattle.remembered_set.specs.declared.remembered.Source.{Source}
 use Rattle.remembered_set.specs.Sources.{has_source, noted, same_source}
 use Rattle.write_barrier.specs.declared.sets.SetOf.{SetOf}
 use Rattle.write_barrier.specs.Stored.{Content, content_after, content_at, content_of, heap_of, is_down, is_of, noted_in as noted_heap, with_source}
-use Rattle.core_relation.specs.Value.{In, Noted, Source as SeenSource}
-use Rattle.core_relation.proofs.objects.Members.{in_map, map_in}
-use Rattle.shared_value.specs.World.{noted_in, source_of}
+use Rattle.core_relation.specs.Value.{In, Noted}
+use Rattle.shared_value.specs.World.{noted_in}
 
 -- ---- ONE SET
 
 -- what is noted, by what a set holds
 abbrev pub noted_of : Option Content → Noted
 noted_of None = record { sources = []; kept = []; keeps = false; marked = None }
-noted_of (Some c) = record { sources = map source_of c.sources; kept = c.kept; keeps = c.keeps; marked = None }
+noted_of (Some c) = record { sources = c.sources; kept = c.kept; keeps = c.keeps; marked = None }
 
 pub noted_is : (o : Option SetOf) → noted_in o ≡ noted_of (option_map content_of o)
 noted_is None = refl
@@ -82,9 +81,6 @@ module _ (tree : List Node) (pool : Chunks) (sets sets' : List SetOf) (a : Addr)
     (C : (t : ℕ) → content_at sets' t ≡ option_map (content_after tree pool (record { object = a; field = i }) overwritten value t) (content_at sets t)) where
   abbrev source : Source
   source = record { object = a; field = i }
-
-  abbrev pub seen_source : SeenSource
-  seen_source = record { object = a; field = i }
 
   abbrev into : Option ℕ
   into = noted_heap tree pool a value
@@ -162,22 +158,20 @@ module _ (tree : List Node) (pool : Chunks) (sets sets' : List SetOf) (a : Addr)
       by (Some c) = refl
 
   -- SOURCES
-  pub sources_grow : (t : ℕ) (s : SeenSource) → In (was t).sources s → In (now t).sources s
+  pub sources_grow : (t : ℕ) (s : Source) → In (was t).sources s → In (now t).sources s
   sources_grow t s j = subst (λ (x : Noted). In x.sources s) (sym (now_is t)) (by (content_at sets t) (subst (λ (x : Noted). In x.sources s) (was_is t) j))
     where
-      one : (b : Bool) (c : Content) → In (map source_of c.sources) s → In (map source_of (cond b (noted c.sources source) c.sources)) s
-      one true c i' =
-          let x = map_in source_of c.sources s i' in
-          subst (In (map source_of (noted c.sources source))) x.2 (in_map source_of (noted c.sources source) x.0 (noted_grows c.sources source x.0 x.1))
+      one : (b : Bool) (c : Content) → In c.sources s → In (cond b (noted c.sources source) c.sources) s
+      one true c i' = noted_grows c.sources source s i'
       one false c i' = i'
 
       by : (o : Option Content) → In (noted_of o).sources s → In (noted_of (option_map (after t) o)).sources s
       by None i' = i'
-      by (Some c) i' = subst (λ xs. In (map source_of xs) s) (sym (sources_after t c)) (one (is_of into t) c i')
+      by (Some c) i' = subst (λ xs. In xs s) (sym (sources_after t c)) (one (is_of into t) c i')
 
   -- where it points down it is noted
-  pub notes_down : (b : Addr) (t : ℕ) → value ≡ Some b → owner_of pool b.chunk ≡ Some t → is_on_path tree u t ≡ true → (u ≡ t → ⊥) → t < length sets → In (now t).sources seen_source
-  notes_down b t ev eb path ne lt = subst (λ (x : Noted). In x.sources seen_source) (sym (now_is t)) (by (slice_get sets t) refl)
+  pub notes_down : (b : Addr) (t : ℕ) → value ≡ Some b → owner_of pool b.chunk ≡ Some t → is_on_path tree u t ≡ true → (u ≡ t → ⊥) → t < length sets → In (now t).sources source
+  notes_down b t ev eb path ne lt = subst (λ (x : Noted). In x.sources source) (sym (now_is t)) (by (slice_get sets t) refl)
     where
       into_is : into ≡ Some t
       into_is =
@@ -185,36 +179,36 @@ module _ (tree : List Node) (pool : Chunks) (sets sets' : List SetOf) (a : Addr)
           ∙ (ap₂ (λ x y. cond (is_down tree x y) y None) owner eb
           ∙ cond-true (is_on_path tree u t && not (u == t)) (Some t) None (ap₂ (λ x y. x && not y) path (ne_eqb u t ne)))
 
-      one : (c : Content) → In (map source_of (after t c).sources) seen_source
+      one : (c : Content) → In (after t c).sources source
       one c =
-          subst (λ xs. In (map source_of xs) seen_source)
+          subst (λ xs. In xs source)
           (sym (sources_after t c ∙ cond-true (is_of into t) (noted c.sources source) c.sources (ap (λ o. is_of o t) into_is ∙ is_of_it t)))
-          (in_map source_of (noted c.sources source) source (noted_there c.sources source))
+          (noted_there c.sources source)
 
-      by : (o : Option SetOf) → slice_get sets t ≡ o → In (noted_of (option_map (after t) (option_map content_of o))).sources seen_source
+      by : (o : Option SetOf) → slice_get sets t ≡ o → In (noted_of (option_map (after t) (option_map content_of o))).sources source
       by (Some s) e = one (content_of s)
       by None e = absurd (none_there sets t lt e)
 
   -- and nothing else is
-  abbrev pub IsNew : ℕ → SeenSource → Type 0
-  IsNew t s = (b : Addr) × (value ≡ Some b) × (owner_of pool b.chunk ≡ Some t) × (is_on_path tree u t ≡ true) × (u ≡ t → ⊥) × (s ≡ seen_source)
+  abbrev pub IsNew : ℕ → Source → Type 0
+  IsNew t s = (b : Addr) × (value ≡ Some b) × (owner_of pool b.chunk ≡ Some t) × (is_on_path tree u t ≡ true) × (u ≡ t → ⊥) × (s ≡ source)
 
   not_true : (x : Bool) → not x ≡ true → x ≡ false
   not_true true h = absurd (false≢true h)
   not_true false h = refl
 
-  new_test : (t : ℕ) (s : SeenSource) (b : Addr) (d : ℕ) → value ≡ Some b → s ≡ seen_source → owner_of pool b.chunk ≡ Some d → (x : Bool) → (is_on_path tree u d && not (u == d)) ≡ x → cond x (Some d) None ≡ Some t → IsNew t s
+  new_test : (t : ℕ) (s : Source) (b : Addr) (d : ℕ) → value ≡ Some b → s ≡ source → owner_of pool b.chunk ≡ Some d → (x : Bool) → (is_on_path tree u d && not (u == d)) ≡ x → cond x (Some d) None ≡ Some t → IsNew t s
   new_test t s b d ev es q false y z = absurd cc
   new_test t s b d ev es q true y z =
       let same : d ≡ t = same_Some d t z in
       let parts = and_parts (is_on_path tree u d) (not (u == d)) y in
       (b, ev, q ∙ z, ap (is_on_path tree u) (sym same) ∙ parts.0, (λ k. both_ways (u == d) (not_true (u == d) parts.1) (eq-eqb u d (k ∙ sym same))), es)
 
-  new_at : (t : ℕ) (s : SeenSource) (b : Addr) → value ≡ Some b → s ≡ seen_source → (o : Option ℕ) → owner_of pool b.chunk ≡ o → cond (is_down tree (Some u) o) o None ≡ Some t → IsNew t s
+  new_at : (t : ℕ) (s : Source) (b : Addr) → value ≡ Some b → s ≡ source → (o : Option ℕ) → owner_of pool b.chunk ≡ o → cond (is_down tree (Some u) o) o None ≡ Some t → IsNew t s
   new_at t s b ev es None q z = absurd cc
   new_at t s b ev es (Some d) q z = new_test t s b d ev es q (is_on_path tree u d && not (u == d)) refl z
 
-  new_by : (t : ℕ) (s : SeenSource) (v : Option Addr) → value ≡ v → s ≡ seen_source → noted_heap tree pool a v ≡ Some t → IsNew t s
+  new_by : (t : ℕ) (s : Source) (v : Option Addr) → value ≡ v → s ≡ source → noted_heap tree pool a v ≡ Some t → IsNew t s
   new_by t s None ev es e = none_down (owner_of pool a.chunk) e
     where
       none_down : {A : Type 0} (o : Option ℕ) → cond (is_down tree o None) None None ≡ Some t → A
@@ -222,21 +216,20 @@ module _ (tree : List Node) (pool : Chunks) (sets sets' : List SetOf) (a : Addr)
       none_down (Some x) q = absurd cc
   new_by t s (Some b) ev es e = new_at t s b ev es (owner_of pool b.chunk) refl (ap (λ x. cond (is_down tree x (owner_of pool b.chunk)) (owner_of pool b.chunk) None) (sym owner) ∙ e)
 
-  new_one : (t : ℕ) (s : SeenSource) (x : Bool) → is_of into t ≡ x → (c : Content) → In (map source_of (cond x (noted c.sources source) c.sources)) s → In (map source_of c.sources) s ⊎ IsNew t s
+  new_one : (t : ℕ) (s : Source) (x : Bool) → is_of into t ≡ x → (c : Content) → In (cond x (noted c.sources source) c.sources) s → In c.sources s ⊎ IsNew t s
   new_one t s false e c k = inl k
   new_one t s true e c k =
-      let y = map_in source_of (noted c.sources source) s k in
-      elim (noted_only c.sources source y.0 y.1) [
-        | inl old ↦ inl (subst (In (map source_of c.sources)) y.2 (in_map source_of c.sources y.0 old))
-        | inr same ↦ inr (new_by t s value refl (sym y.2 ∙ ap source_of (sym same)) (of_is into t e))
+      elim (noted_only c.sources source s k) [
+        | inl old ↦ inl old
+        | inr same ↦ inr (new_by t s value refl (sym same) (of_is into t e))
       ]
 
-  pub notes_only : (t : ℕ) (s : SeenSource) → In (now t).sources s → In (was t).sources s ⊎ IsNew t s
+  pub notes_only : (t : ℕ) (s : Source) → In (now t).sources s → In (was t).sources s ⊎ IsNew t s
   notes_only t s j = by (content_at sets t) refl (subst (λ (x : Noted). In x.sources s) (now_is t) j)
     where
       by : (o : Option Content) → content_at sets t ≡ o → In (noted_of (option_map (after t) o)).sources s → In (was t).sources s ⊎ IsNew t s
       by None e k = absurd k
-      by (Some c) e k = elim (new_one t s (is_of into t) refl c (subst (λ xs. In (map source_of xs) s) (sources_after t c) k)) [
+      by (Some c) e k = elim (new_one t s (is_of into t) refl c (subst (λ xs. In xs s) (sources_after t c) k)) [
         | inl old ↦ inl (subst (λ (x : Noted). In x.sources s) (sym (was_is t ∙ ap noted_of e)) old)
         | inr n ↦ inr n
       ]

@@ -14,11 +14,12 @@ use Rattle.object_layout.specs.Layout.{word_of_ref}
 use Rattle.chunk_pool.specs.declared.pool.Held.{Held}
 use Rattle.chunk_pool.specs.Chunks.{held_at}
 use Rattle.heap_tree.specs.Node.{state_of}
+use Rattle.remembered_set.specs.declared.remembered.Source.{Source}
 use Rattle.ledger_steps.specs.Accounts.{Rests, own}
 use Rattle.core_relation.specs.Layout.{words}
 use Rattle.core_relation.specs.Reads.{IsRead}
 use Rattle.core_relation.specs.Stands.{HomeStands, IsSource, Place}
-use Rattle.core_relation.specs.Value.{Chunk as ChunkOf, In, Seen, Source, Value, objects, sources}
+use Rattle.core_relation.specs.Value.{Chunk as ChunkOf, In, Seen, Value, objects, sources}
 use Rattle.core_relation.proofs.objects.Members.{map_in}
 use Rattle.core_relation.proofs.notes.Roots.{name_at}
 use Rattle.shared_value.specs.Stands.{IsWorld}

@@ -20,7 +20,7 @@ use Rattle.alloc_path.proofs.Counting.{writes_keep_counts}
 use Rattle.remembered_set.specs.declared.remembered.Source.{Source}
 use Rattle.remembered_set.specs.Moved.{held_by, new_reference, redirected, written}
 use Rattle.leaf_copy_gc.specs.Redirected.{new_address}
-use Rattle.core_relation.specs.Value.{Chunk, In, Seen, Source as SeenSource, led, mapped_chunk, mapped_home, objects_in, put_at, rewritten_home}
+use Rattle.core_relation.specs.Value.{Chunk, In, Seen, led, mapped_chunk, mapped_home, objects_in, put_at, rewritten_home}
 use Rattle.core_relation.proofs.objects.Members.{in_chunk, map_in}
 use Rattle.core_relation.specs.Value.{is_at}
 use Rattle.core_relation.proofs.changes.Write.{at_is}
@@ -32,7 +32,7 @@ use Rattle.shared_value.specs.Objects.{chunk_of, chunks_of}
 use Rattle.shared_value.specs.RestingHeaps.{refs_for, refs_in, refs_of_rest, with_ref_at, with_ref_for, with_ref_in}
 use Rattle.shared_value.specs.Measured.{AreMeasured}
 use Rattle.shared_value.specs.Stands.{HeapForm}
-use Rattle.shared_value.specs.World.{flat, home_by, home_in, home_of, rest_at, source_of}
+use Rattle.shared_value.specs.World.{flat, home_by, home_in, home_of, rest_at}
 use Rattle.shared_value.proofs.CellsChanged.{with_fields}
 use Rattle.shared_value.proofs.CellsRead.{seen_cell, seen_object}
 use Rattle.shared_value.proofs.FieldsLedTogether.{AreOnce, home_each, home_stays, home_together, lead_at, lead_off, lead_one, none_home, set_itself}
@@ -140,9 +140,6 @@ module _ (ms : List (Addr × Addr)) where
     abbrev c : Cell
     c = cell_of T.rest.heap.chunks s.object
 
-    abbrev S : SeenSource
-    S = source_of s
-
     held_is : held_by refs_in H s ≡ slice_index_or c.refs s.field None
     held_is =
         ap (λ o. slice_index_or (refs_for H.homes o s.object) s.field None) T.owner
@@ -166,21 +163,21 @@ module _ (ms : List (Addr × Addr)) where
             (same, ap (λ (z : Seen). z.refs) y.is ∙ ap (λ (z : Cell). z.refs) cell, ap (λ (z : Seen). z.mutable) y.is ∙ ap (λ (z : Cell). z.mutable) cell, ap (λ (z : Seen). z.ints) y.is ∙ ap (λ (z : Cell). z.ints) cell)
 
     -- an object elsewhere stays
-    elsewhere : (o : Seen) → (o.at ≡ s.object → ⊥) → lead_one f S o ≡ o
-    elsewhere o ne = ap (λ rs. record o { refs = rs }) (lead_off f S o.at 0 o.refs (λ k e q. ne (sym e)))
+    elsewhere : (o : Seen) → (o.at ≡ s.object → ⊥) → lead_one f s o ≡ o
+    elsewhere o ne = ap (λ rs. record o { refs = rs }) (lead_off f s o.at 0 o.refs (λ k e q. ne (sym e)))
 
     -- the source's object is led
-    led_there : (o : Seen) (x : Option Addr) → o.at ≡ s.object → o.refs ≡ c.refs → led f (held_by refs_in H s) ≡ x → lead_one f S o ≡ record o { refs = slice_set c.refs s.field x }
+    led_there : (o : Seen) (x : Option Addr) → o.at ≡ s.object → o.refs ≡ c.refs → led f (held_by refs_in H s) ≡ x → lead_one f s o ≡ record o { refs = slice_set c.refs s.field x }
     led_there o x e same is =
         ap (λ rs. record o { refs = rs })
-        (lead_at f S o.at 0 s.field o.refs (sym e) (let z : s.field ≡ 0 + s.field = omega arith in z)
+        (lead_at f s o.at 0 s.field o.refs (sym e) (let z : s.field ≡ 0 + s.field = omega arith in z)
         ∙ (ap (λ rs. slice_set rs s.field (led f (slice_index_or rs s.field None))) same ∙ ap (slice_set c.refs s.field) (ap (led f) (sym held_is) ∙ is)))
 
     pub record Stepped (H' : Heaps) : Type 0 where
       pub pool : H'.pool ≡ H.pool
       pub count : length H'.homes ≡ length H.homes
       pub formed : AreFormed H' Good
-      pub homes : (u : ℕ) → Good u → home_in (rest_at H'.homes u) ≡ mapped_home (lead_one f S) (home_in (rest_at H.homes u))
+      pub homes : (u : ℕ) → Good u → home_in (rest_at H'.homes u) ≡ mapped_home (lead_one f s) (home_in (rest_at H.homes u))
       pub there : (x : Source) → SourceThere H x Good → SourceThere H' x Good
 
     -- nothing is written, since what it holds was not moved
@@ -189,14 +186,14 @@ module _ (ms : List (Addr × Addr)) where
       pool = refl;
       count = refl;
       formed = F;
-      homes = λ u good. sym (home_stays (lead_one f S) (home_in (rest_at H.homes u)) (λ o i. by u good o i (is_at s.object o) refl));
+      homes = λ u good. sym (home_stays (lead_one f s) (home_in (rest_at H.homes u)) (λ o i. by u good o i (is_at s.object o) refl));
       there = λ x y. y;
     }
       where
         same_refs : (o : Seen) → o.refs ≡ c.refs → record o { refs = slice_set c.refs s.field (held_by refs_in H s) } ≡ o
         same_refs o e = ap (λ rs. record o { refs = rs }) (set_itself c.refs s.field (held_by refs_in H s) (sym held_is) ∙ sym e)
 
-        by : (u : ℕ) → Good u → (o : Seen) → In (objects_in (home_in (rest_at H.homes u)).chunks) o → (v : Bool) → is_at s.object o ≡ v → lead_one f S o ≡ o
+        by : (u : ℕ) → Good u → (o : Seen) → In (objects_in (home_in (rest_at H.homes u)).chunks) o → (v : Bool) → is_at s.object o ≡ v → lead_one f s o ≡ o
         by u good o i true e =
             let at : o.at ≡ s.object = at_is s.object o e in
             let q = at_source u good o i at in
@@ -250,27 +247,27 @@ module _ (ms : List (Addr × Addr)) where
         | inr ne ↦ F.owned u q good (sym (rest_off H.homes T.home u (Some r') ne) ∙ e) k i
       ]
 
-      one_is : (o : Seen) → In (objects_in (home_in (rest_at H.homes T.home)).chunks) o → put_at s.object (with_fields d) o ≡ lead_one f S o
+      one_is : (o : Seen) → In (objects_in (home_in (rest_at H.homes T.home)).chunks) o → put_at s.object (with_fields d) o ≡ lead_one f s o
       one_is o i = by (is_at s.object o) refl
         where
-          by : (v : Bool) → is_at s.object o ≡ v → cond v (with_fields d o) o ≡ lead_one f S o
+          by : (v : Bool) → is_at s.object o ≡ v → cond v (with_fields d o) o ≡ lead_one f s o
           by true e =
               let at : o.at ≡ s.object = at_is s.object o e in
               let q = at_source T.home T.good o i at in
               (λ k. record o { mutable = sym q.2 k; refs = slice_set c.refs s.field x; ints = sym q.3 k }) ∙ sym (led_there o x at q.1 is)
           by false e = sym (elsewhere o (λ at. false≢true (sym e ∙ at_itself s.object o at)))
 
-      homes_now : (u : ℕ) → Good u → home_in (rest_at homes' u) ≡ mapped_home (lead_one f S) (home_in (rest_at H.homes u))
+      homes_now : (u : ℕ) → Good u → home_in (rest_at homes' u) ≡ mapped_home (lead_one f s) (home_in (rest_at H.homes u))
       homes_now u good = elim (cases_eq u T.home) [
         | inl at ↦
             ap (λ z. home_in (rest_at homes' z)) at
             ∙ (ap home_in (rest_set H.homes T.home T.rest r' T.is)
             ∙ (home_written T.rest s.object s.field x T.birth (F.form T.home T.rest T.is) T.born
             ∙ (ap (λ q. mapped_home (put_at s.object (with_fields d)) (home_in q)) (sym T.is)
-            ∙ (home_each (put_at s.object (with_fields d)) (lead_one f S) (home_in (rest_at H.homes T.home)) one_is ∙ ap (λ z. mapped_home (lead_one f S) (home_in (rest_at H.homes z))) (sym at)))))
+            ∙ (home_each (put_at s.object (with_fields d)) (lead_one f s) (home_in (rest_at H.homes T.home)) one_is ∙ ap (λ z. mapped_home (lead_one f s) (home_in (rest_at H.homes z))) (sym at)))))
         | inr ne ↦
             ap home_in (rest_off H.homes T.home u (Some r') ne)
-            ∙ sym (home_stays (lead_one f S) (home_in (rest_at H.homes u)) (λ o i. elsewhere o (λ at. ne (at_source u good o i at).0)))
+            ∙ sym (home_stays (lead_one f s) (home_in (rest_at H.homes u)) (λ o i. elsewhere o (λ at. ne (at_source u good o i at).0)))
       ]
 
       there_now : (z : Source) → SourceThere H z Good → SourceThere (record H { homes = homes' }) z Good
@@ -328,9 +325,9 @@ module _ (ms : List (Addr × Addr)) where
     pub count : length H'.homes ≡ length H.homes
     pub form : (u : ℕ) (r : Rest) → rest_at H'.homes u ≡ Some r → HeapForm r.heap
     pub measured : (u : ℕ) (r : Rest) → Good u → rest_at H'.homes u ≡ Some r → AreMeasured H.pool u r.heap.chunks
-    pub homes : (u : ℕ) → Good u → home_in (rest_at H'.homes u) ≡ rewritten_home f (map source_of ss) (home_in (rest_at H.homes u))
+    pub homes : (u : ℕ) → Good u → home_in (rest_at H'.homes u) ≡ rewritten_home f ss (home_in (rest_at H.homes u))
 
-  pub lead_all : (ss : List Source) (H : Heaps) (Good : ℕ → Type 0) → AreOnce (map source_of ss) → ((s : Source) → In ss s → SourceThere H s Good) → AreFormed H Good → Led H Good ss (fold (redirected refs_in with_ref_in ms) H ss)
+  pub lead_all : (ss : List Source) (H : Heaps) (Good : ℕ → Type 0) → AreOnce ss → ((s : Source) → In ss s → SourceThere H s Good) → AreFormed H Good → Led H Good ss (fold (redirected refs_in with_ref_in ms) H ss)
   lead_all [] H Good once there F = record { pool = refl; count = refl; form = F.form; measured = F.measured; homes = λ u good. sym (none_home f (home_in (rest_at H.homes u))) }
   lead_all (s ∷ ss) H Good once there F =
       let T = step H Good F s (there s (inl refl)) in
@@ -340,5 +337,5 @@ module _ (ms : List (Addr × Addr)) where
         count = R.count ∙ T.count;
         form = R.form;
         measured = λ u r good e. subst (λ (z : Chunks). AreMeasured z u r.heap.chunks) T.pool (R.measured u r good e);
-        homes = λ u good. R.homes u good ∙ (ap (rewritten_home f (map source_of ss)) (T.homes u good) ∙ home_together f (source_of s) (map source_of ss) (home_in (rest_at H.homes u)) once.0);
+        homes = λ u good. R.homes u good ∙ (ap (rewritten_home f ss) (T.homes u good) ∙ home_together f s ss (home_in (rest_at H.homes u)) once.0);
       }

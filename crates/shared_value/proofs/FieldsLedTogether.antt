@@ -4,25 +4,26 @@ use Rattle.std.specs.Prelude.{slice_index_or, slice_set}
 use Rattle.std.specs.List.{list_any}
 use Rattle.std.proofs.lemmas.Bool.{eqb-true, false≢true}
 use Rattle.object_layout.specs.declared.word.Addr.{Addr}
-use Rattle.core_relation.specs.Value.{Chunk, Home, In, Seen, Source as SeenSource, is_source, led, mapped_chunk, mapped_home, objects_in, rewritten, rewritten_home, rewritten_refs}
+use Rattle.remembered_set.specs.declared.remembered.Source.{Source}
+use Rattle.core_relation.specs.Value.{Chunk, Home, In, Seen, is_source, led, mapped_chunk, mapped_home, objects_in, rewritten, rewritten_home, rewritten_refs}
 use Rattle.core_relation.proofs.objects.Members.{in_chunk, in_objects}
 
 -- ---- ONE SOURCE AFTER ANOTHER
 
 -- a field that the source is, led; any other stays
-abbrev pub lead_refs : (Addr → Addr) → SeenSource → Addr → ℕ → List (Option Addr) → List (Option Addr)
+abbrev pub lead_refs : (Addr → Addr) → Source → Addr → ℕ → List (Option Addr) → List (Option Addr)
 lead_refs f s a i [] = []
 lead_refs f s a i (r ∷ rs) = cond (is_source a i s) (led f r) r ∷ lead_refs f s a (suc i) rs
 
-abbrev pub lead_one : (Addr → Addr) → SeenSource → Seen → Seen
+abbrev pub lead_one : (Addr → Addr) → Source → Seen → Seen
 lead_one f s o = record o { refs = lead_refs f s o.at 0 o.refs }
 
 -- led one after another is led together, where no source stands twice
-abbrev pub AreOnce : List SeenSource → Type 0
+abbrev pub AreOnce : List Source → Type 0
 AreOnce [] = Unit {0}
 AreOnce (s ∷ ss) = (list_any (is_source s.object s.field) ss ≡ false) × AreOnce ss
 
-is_source_same : (a : Addr) (i : ℕ) (s : SeenSource) → is_source a i s ≡ true → (s.object ≡ a) × (s.field ≡ i)
+is_source_same : (a : Addr) (i : ℕ) (s : Source) → is_source a i s ≡ true → (s.object ≡ a) × (s.field ≡ i)
 is_source_same a i s e = by (s.object.chunk == a.chunk) (s.object.offset == a.offset) (s.field == i) refl refl refl e
   where
     by : (x y z : Bool) → (s.object.chunk == a.chunk) ≡ x → (s.object.offset == a.offset) ≡ y → (s.field == i) ≡ z → (x && (y && z)) ≡ true → (s.object ≡ a) × (s.field ≡ i)
@@ -31,7 +32,7 @@ is_source_same a i s e = by (s.object.chunk == a.chunk) (s.object.offset == a.of
     by true false z c o k h = absurd (false≢true h)
     by false y z c o k h = absurd (false≢true h)
 
-refs_together : (f : Addr → Addr) (s : SeenSource) (ss : List SeenSource) (a : Addr) (i : ℕ) (rs : List (Option Addr)) → list_any (is_source s.object s.field) ss ≡ false → rewritten_refs f ss a i (lead_refs f s a i rs) ≡ rewritten_refs f (s ∷ ss) a i rs
+refs_together : (f : Addr → Addr) (s : Source) (ss : List Source) (a : Addr) (i : ℕ) (rs : List (Option Addr)) → list_any (is_source s.object s.field) ss ≡ false → rewritten_refs f ss a i (lead_refs f s a i rs) ≡ rewritten_refs f (s ∷ ss) a i rs
 refs_together f s ss a i [] once = refl
 refs_together f s ss a i (r ∷ rs) once = ap₂ (λ x xs. x ∷ xs) (by (is_source a i s) (list_any (is_source a i) ss) refl refl) (refs_together f s ss a (suc i) rs once)
   where
@@ -43,7 +44,7 @@ refs_together f s ss a i (r ∷ rs) once = ap₂ (λ x xs. x ∷ xs) (by (is_sou
     by false true e q = refl
     by false false e q = refl
 
-pub one_together : (f : Addr → Addr) (s : SeenSource) (ss : List SeenSource) (o : Seen) → list_any (is_source s.object s.field) ss ≡ false → rewritten f ss (lead_one f s o) ≡ rewritten f (s ∷ ss) o
+pub one_together : (f : Addr → Addr) (s : Source) (ss : List Source) (o : Seen) → list_any (is_source s.object s.field) ss ≡ false → rewritten f ss (lead_one f s o) ≡ rewritten f (s ∷ ss) o
 one_together f s ss o once = ap (λ rs. record o { refs = rs }) (refs_together f s ss o.at 0 o.refs once)
 
 none_rewritten : (f : Addr → Addr) (a : Addr) (i : ℕ) (rs : List (Option Addr)) → rewritten_refs f [] a i rs ≡ rs
@@ -84,7 +85,7 @@ chunks_twice : (one two : Seen → Seen) (ks : List Chunk) → map (mapped_chunk
 chunks_twice one two [] = refl
 chunks_twice one two (k ∷ ks) = ap₂ (λ x xs. record k { objects = x } ∷ xs) (objects_twice one two k.objects) (chunks_twice one two ks)
 
-pub home_together : (f : Addr → Addr) (s : SeenSource) (ss : List SeenSource) (h : Home) → list_any (is_source s.object s.field) ss ≡ false → rewritten_home f ss (mapped_home (lead_one f s) h) ≡ rewritten_home f (s ∷ ss) h
+pub home_together : (f : Addr → Addr) (s : Source) (ss : List Source) (h : Home) → list_any (is_source s.object s.field) ss ≡ false → rewritten_home f ss (mapped_home (lead_one f s) h) ≡ rewritten_home f (s ∷ ss) h
 home_together f s ss h once =
     ap (λ ks. record h { chunks = ks }) (chunks_twice (rewritten f ss) (lead_one f s) h.chunks)
     ∙ home_each (λ o. rewritten f ss (lead_one f s o)) (rewritten f (s ∷ ss)) h (λ o i. one_together f s ss o once)
@@ -94,24 +95,24 @@ none_home f h = home_stays (rewritten f []) h (λ o i. ap (λ rs. record o { ref
 
 -- ---- THE REFERENCES OF ONE OBJECT
 
-source_off : (a : Addr) (i : ℕ) (s : SeenSource) → (s.object ≡ a → s.field ≡ i → ⊥) → is_source a i s ≡ false
+source_off : (a : Addr) (i : ℕ) (s : Source) → (s.object ≡ a → s.field ≡ i → ⊥) → is_source a i s ≡ false
 source_off a i s ne = by (is_source a i s) refl
   where
     by : (b : Bool) → is_source a i s ≡ b → b ≡ false
     by true e = let at = is_source_same a i s e in absurd (ne at.0 at.1)
     by false e = refl
 
-source_on : (a : Addr) (i : ℕ) (s : SeenSource) → s.object ≡ a → s.field ≡ i → is_source a i s ≡ true
+source_on : (a : Addr) (i : ℕ) (s : Source) → s.object ≡ a → s.field ≡ i → is_source a i s ≡ true
 source_on a i s e q = ap₂ (λ x y. x && y) (eq-eqb s.object.chunk a.chunk (ap (λ (z : Addr). z.chunk) e)) (ap₂ (λ x y. x && y) (eq-eqb s.object.offset a.offset (ap (λ (z : Addr). z.offset) e)) (eq-eqb s.field i q))
 
 -- behind the field, and of another object, nothing is led
-pub lead_off : (f : Addr → Addr) (s : SeenSource) (a : Addr) (i : ℕ) (rs : List (Option Addr)) → ((k : ℕ) → s.object ≡ a → s.field ≡ i + k → ⊥) → lead_refs f s a i rs ≡ rs
+pub lead_off : (f : Addr → Addr) (s : Source) (a : Addr) (i : ℕ) (rs : List (Option Addr)) → ((k : ℕ) → s.object ≡ a → s.field ≡ i + k → ⊥) → lead_refs f s a i rs ≡ rs
 lead_off f s a i [] ne = refl
 lead_off f s a i (r ∷ rs) ne =
     ap₂ (λ b xs. cond b (led f r) r ∷ xs) (source_off a i s (λ e q. ne 0 e (let z : s.field ≡ i + 0 = omega (arith, q) in z)))
     (lead_off f s a (suc i) rs (λ k e q. ne (suc k) e (let z : s.field ≡ i + suc k = omega (arith, q) in z)))
 
-pub lead_at : (f : Addr → Addr) (s : SeenSource) (a : Addr) (i j : ℕ) (rs : List (Option Addr)) → s.object ≡ a → s.field ≡ i + j → lead_refs f s a i rs ≡ slice_set rs j (led f (slice_index_or rs j None))
+pub lead_at : (f : Addr → Addr) (s : Source) (a : Addr) (i j : ℕ) (rs : List (Option Addr)) → s.object ≡ a → s.field ≡ i + j → lead_refs f s a i rs ≡ slice_set rs j (led f (slice_index_or rs j None))
 lead_at f s a i j [] e q = refl
 lead_at f s a i zero (r ∷ rs) e q =
     ap₂ (λ b xs. cond b (led f r) r ∷ xs) (source_on a i s e (let z : s.field ≡ i = omega (arith, q) in z))

@@ -1,5 +1,5 @@
 -- Remembered fields as the relation has them, and numbers of chunks.
-use Rattle.std.proofs.Common.{◌≡◌, ℕ, ◌==◌, ◌&&◌, All, Bool, true, false, Option, Some, None, List, [], ◌∷◌, map, option_map, inl, inr, refl, ap, ap₂, sym, subst, ◌∙◌, eq-eqb}
+use Rattle.std.proofs.Common.{◌≡◌, ℕ, ◌==◌, ◌&&◌, All, Bool, true, false, Option, Some, None, List, [], ◌∷◌, option_map, inl, inr, refl, ap, ap₂, sym, subst, ◌∙◌, eq-eqb}
 use Rattle.std.specs.List.{AllByRecursion, list_any}
 use Rattle.std.proofs.lemmas.Bool.{eqb-true, false≢true}
 use Rattle.std.proofs.lemmas.List.Elements.{All-head, All-tail}
@@ -13,18 +13,17 @@ use Rattle.remembered_set.specs.declared.remembered.Source.{Source}
 use Rattle.remembered_set.specs.Sources.{StandOnce, same_source}
 use Rattle.write_barrier.specs.declared.sets.SetOf.{SetOf}
 use Rattle.core_relation.specs.Value.{In, is_source}
-use Rattle.core_relation.proofs.objects.Members.{map_in}
-use Rattle.shared_value.specs.World.{noted_in, source_of}
+use Rattle.shared_value.specs.World.{noted_in}
 use Rattle.shared_value.specs.Roots.{sources_of}
 use Rattle.shared_value.proofs.FieldsLedTogether.{AreOnce}
 
 -- ---- SOURCES
 
-pub noted_sources : (o : Option SetOf) → (noted_in o).sources ≡ map source_of (sources_of o)
+pub noted_sources : (o : Option SetOf) → (noted_in o).sources ≡ sources_of o
 noted_sources None = refl
 noted_sources (Some s) = refl
 
-same_at : (s x : Source) → is_source s.object s.field (source_of x) ≡ true → same_source s x ≡ true
+same_at : (s x : Source) → is_source s.object s.field x ≡ true → same_source s x ≡ true
 same_at s x e = by (x.object.chunk == s.object.chunk) (x.object.offset == s.object.offset) (x.field == s.field) refl refl refl e
   where
     by : (a b c : Bool) → (x.object.chunk == s.object.chunk) ≡ a → (x.object.offset == s.object.offset) ≡ b → (x.field == s.field) ≡ c → (a && (b && c)) ≡ true → same_source s x ≡ true
@@ -37,16 +36,15 @@ same_at s x e = by (x.object.chunk == s.object.chunk) (x.object.offset == s.obje
     by true false c p q r h = absurd (false≢true h)
     by false b c p q r h = absurd (false≢true h)
 
-pub are_once : (ss : List Source) → StandOnce ss → AreOnce (map source_of ss)
+pub are_once : (ss : List Source) → StandOnce ss → AreOnce ss
 are_once [] o = tt
-are_once (s ∷ ss) o = (off (list_any (is_source s.object s.field) (map source_of ss)) refl, are_once ss o.1)
+are_once (s ∷ ss) o = (off (list_any (is_source s.object s.field) ss) refl, are_once ss o.1)
   where
-    off : (b : Bool) → list_any (is_source s.object s.field) (map source_of ss) ≡ b → b ≡ false
+    off : (b : Bool) → list_any (is_source s.object s.field) ss ≡ b → b ≡ false
     off false e = refl
     off true e =
-        let y = in_from_any (is_source s.object s.field) (map source_of ss) e in
-        let x = map_in source_of ss y.0 y.1 in
-        absurd (false≢true (sym o.0 ∙ any_from_in (same_source s) ss x.0 x.1 (same_at s x.0 (ap (is_source s.object s.field) x.2 ∙ y.2))))
+        let y = in_from_any (is_source s.object s.field) ss e in
+        absurd (false≢true (sym o.0 ∙ any_from_in (same_source s) ss y.0 y.1 (same_at s y.0 y.2)))
 
 -- ---- NUMBERS
 

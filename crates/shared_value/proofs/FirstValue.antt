@@ -1,5 +1,5 @@
 -- The shared value before the first entry.
-use Rattle.std.proofs.Common.{◌≡◌, ℕ, ℤ, zero, suc, false, not, ◌&&◌, Option, Some, None, List, [], ◌∷◌, length, slice_get, replicate, map, option_map, arith, ◌↔◌, refl, ap, sym, subst, ◌∙◌}
+use Rattle.std.proofs.Common.{◌≡◌, ℕ, ℤ, zero, suc, false, not, ◌&&◌, Option, Some, None, List, [], ◌∷◌, length, slice_get, replicate, option_map, arith, ◌↔◌, refl, ap, sym, subst, ◌∙◌}
 use Rattle.std.proofs.lemmas.Bool.{false≢true}
 use Rattle.std.proofs.lemmas.Option.{same_Some}
 use Rattle.std.proofs.Math.Path.{fun_ext}
@@ -22,7 +22,7 @@ use Rattle.core_relation.specs.Stands.{Stands}
 use Rattle.core_relation.specs.Whole.{BegunBy, StandsFor}
 use Rattle.core_relation.proofs.whole.Journals.{first, first_stands}
 use Rattle.shared_value.specs.declared.task_at_rest.Rest.{Rest}
-use Rattle.shared_value.specs.World.{World, flat, rest_at, source_of, value_of, totals_of, first_rest}
+use Rattle.shared_value.specs.World.{World, flat, rest_at, value_of, totals_of, first_rest}
 use Rattle.shared_value.specs.Measured.{AreMeasured, RestsAreMeasured}
 use Rattle.shared_value.specs.Stands.{HeapForm, IsWorld}
 use Rattle.shared_value.proofs.TaskTaken.{told}
@@ -60,7 +60,7 @@ module _ (p : ProgramText) (s : Limits) (lims : AreLimits s) (form : IsProgram p
   homes_are (suc t) = refl
 
   noted_are : (t : ℕ) → (value_of w).noted t ≡ (first p).noted t
-  noted_are zero = ap (λ (c : Content). record { sources = map source_of c.sources; kept = c.kept; keeps = c.keeps; marked = None }) empty
+  noted_are zero = ap (λ (c : Content). record { sources = c.sources; kept = c.kept; keeps = c.keeps; marked = None }) empty
   noted_are (suc t) = refl
 
   value_is : first p ≡ value_of w

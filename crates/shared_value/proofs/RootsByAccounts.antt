@@ -1,5 +1,5 @@
 -- The roots of a part's heap are those by the accounts: what remembered fields hold, as far as it points into the heap.
-use Rattle.std.proofs.Common.{◌≡◌, ℕ, Option, Some, None, List, map, slice_get, refl, ap, sym, subst, ◌∙◌}
+use Rattle.std.proofs.Common.{◌≡◌, ℕ, Option, Some, None, List, slice_get, refl, ap, sym, subst, ◌∙◌}
 use Rattle.run_ledger.specs.declared.data.Ledger.{Ledger}
 use Rattle.object_layout.specs.declared.word.Addr.{Addr}
 use Rattle.object_layout.specs.Cell.{Born, Cell, marked_object}
@@ -20,7 +20,7 @@ use Rattle.shared_value.specs.declared.task_at_rest.Rest.{Rest}
 use Rattle.shared_value.specs.declared.task_at_rest.Work.{Work}
 use Rattle.shared_value.specs.declared.task_at_rest.Work.TheVariants.{Calls, Result}
 use Rattle.shared_value.specs.Objects.{chunks_of}
-use Rattle.shared_value.specs.World.{World, accounts, home_by, home_in, home_of, noted_in, rest_at, source_of, value_of}
+use Rattle.shared_value.specs.World.{World, accounts, home_by, home_in, home_of, noted_in, rest_at, value_of}
 use Rattle.shared_value.specs.Stands.{IsWorld}
 use Rattle.shared_value.specs.Fits.{Fits, home_of_part}
 use Rattle.shared_value.specs.RestingHeaps.{refs_for, refs_in, refs_of_rest}
@@ -36,7 +36,7 @@ home_chunks r = by r.work
     by (Calls s) = refl
     by (Result n b) = refl
 
-pub noted_sources : (o : Option SetOf) → (noted_in o).sources ≡ map source_of (sources_of o)
+pub noted_sources : (o : Option SetOf) → (noted_in o).sources ≡ sources_of o
 noted_sources None = refl
 noted_sources (Some s) = refl
 
@@ -92,7 +92,7 @@ module _ (w : World) (k : ℕ) (p : Private) (I : IsWorld w) (F : Fits w k (reco
   here : (v'.homes t).chunks ≡ chunks_of p.heap.chunks
   here = ap (λ (z : Home). z.chunks) (at_home v t (home_of_part P))
 
-  sources_are : sources v' t ≡ map source_of ss
+  sources_are : sources v' t ≡ ss
   sources_are = noted_sources (slice_get w.sets t)
 
   -- the objects of other homes are read in the value

@@ -1,5 +1,5 @@
 -- What remembered fields hold of a heap at rest, as far as it points into the heap, are its roots.
-use Rattle.std.proofs.Common.{◌≡◌, ℕ, zero, suc, ◌<◌, arith, Bool, true, false, cond, Option, Some, None, List, [], ◌∷◌, inl, inr, length, map, slice_get, is_some, refl, ap, sym, subst, ◌∙◌}
+use Rattle.std.proofs.Common.{◌≡◌, ℕ, zero, suc, ◌<◌, arith, Bool, true, false, cond, Option, Some, None, List, [], ◌∷◌, inl, inr, length, slice_get, is_some, refl, ap, sym, subst, ◌∙◌}
 use Rattle.std.specs.Prelude.{slice_index_or}
 use Rattle.std.specs.List.{AllByRecursion}
 use Rattle.std.proofs.lemmas.Bool.{false≢true}
@@ -22,7 +22,6 @@ use Rattle.core_relation.proofs.objects.Members.{in_chunk, in_map, map_in}
 use Rattle.core_relation.proofs.notes.Roots.{name_at}
 use Rattle.shared_value.specs.declared.heaps.Heaps.{Heaps}
 use Rattle.shared_value.specs.Objects.{chunk_of, chunks_of}
-use Rattle.shared_value.specs.World.{source_of}
 use Rattle.shared_value.specs.RestingHeaps.{refs_in}
 use Rattle.shared_value.proofs.CellsRead.{fresh_off}
 use Rattle.shared_value.proofs.FreeChunks.{refs_long}
@@ -88,7 +87,7 @@ has_it ks k number i q = by (place_in ks number) refl
 
 -- ---- A VALUE THAT STANDS, and a heap at rest with these chunks and remembered fields; heaps by whose words the objects of all other
 -- heaps are read
-module _ (v : Value) (l : Ledger) (t : ℕ) (W : Stands v l) (at_rest : Rests l t) (ks : List Content) (here : (v.homes t).chunks ≡ chunks_of ks) (ss : List Source) (sources_are : sources v t ≡ map source_of ss) (hs : Heaps)
+module _ (v : Value) (l : Ledger) (t : ℕ) (W : Stands v l) (at_rest : Rests l t) (ks : List Content) (here : (v.homes t).chunks ≡ chunks_of ks) (ss : List Source) (sources_are : sources v t ≡ ss) (hs : Heaps)
     (read : (u : ℕ) → (u ≡ t → ⊥) → Rests l u → (o : Seen) → In (objects v u) o → refs_in hs o.at ≡ o.refs) where
   -- the owner of a resting home's object
   owner_at : (u : ℕ) → Rests l u → (o : Seen) → In (objects v u) o → v.owner o.at.chunk ≡ Some u
@@ -111,7 +110,7 @@ module _ (v : Value) (l : Ledger) (t : ℕ) (W : Stands v l) (at_rest : Rests l 
 
   source_at : (s : Source) → In ss s → SourceAt s
   source_at s i =
-      let S : IsSource v l t (source_of s) = W.sources t (source_of s) (subst (λ xs. In xs (source_of s)) (sym sources_are) (in_map source_of ss s i)) in
+      let S : IsSource v l t s = W.sources t s (subst (λ xs. In xs s) (sym sources_are) i) in
       let lies : Lies (v.homes (own l S.name)).chunks S.name s.object = S.place.here S.rests in
       let o : Seen = lies.0 in
       let c = W.contents (own l S.name) o S.rests lies.1 in
@@ -172,11 +171,11 @@ module _ (v : Value) (l : Ledger) (t : ℕ) (W : Stands v l) (at_rest : Rests l 
           let holds : slice_get A.object.refs T.0.field ≡ Some (slice_index_or A.object.refs T.0.field None) = got_index A.object.refs T.0.field None A.field in
           let is : slice_index_or A.object.refs T.0.field None ≡ Some a = ap (λ rs. slice_index_or rs T.0.field None) (sym A.refs) ∙ T.2 in
           record {
-            source = source_of T.0;
+            source = T.0;
             home = A.home;
             object = A.object;
             rests = A.rests;
-            noted = subst (λ xs. In xs (source_of T.0)) (sym sources_are) (in_map source_of ss T.0 T.1);
+            noted = subst (λ xs. In xs T.0) (sym sources_are) T.1;
             there = A.there;
             at = A.at;
             holds = holds ∙ ap Some is;
@@ -185,15 +184,15 @@ module _ (v : Value) (l : Ledger) (t : ℕ) (W : Stands v l) (at_rest : Rests l 
 
       from : IsRoot v l t a → In held a
       from R =
-          let s = map_in source_of ss R.source (subst (λ xs. In xs R.source) sources_are R.noted) in
+          let s = R.source in
           let S : IsSource v l t R.source = W.sources t R.source R.noted in
           let owner : own l S.name ≡ R.home = same_Some (own l S.name) R.home (sym S.place.chunk ∙ (ap (λ (z : Addr). v.owner z.chunk) (sym R.at) ∙ owner_at R.home R.rests R.object R.there)) in
-          let at : R.object.at ≡ s.0.object = R.at ∙ ap (λ z. z.object) (sym s.2) in
-          let holds : slice_get R.object.refs s.0.field ≡ Some (Some a) = ap (λ z. slice_get R.object.refs z.field) s.2 ∙ R.holds in
-          let refs : refs_in hs s.0.object ≡ R.object.refs = refs_at_home R.home (λ e. S.below (owner ∙ e)) R.rests R.object R.there s.0.object at in
-          let is : held_by refs_in hs s.0 ≡ Some a = ap (λ rs. slice_index_or rs s.0.field None) refs ∙ get_or_from_slice_get R.object.refs s.0.field (Some a) None holds in
+          let at : R.object.at ≡ s.object = R.at in
+          let holds : slice_get R.object.refs s.field ≡ Some (Some a) = R.holds in
+          let refs : refs_in hs s.object ≡ R.object.refs = refs_at_home R.home (λ e. S.below (owner ∙ e)) R.rests R.object R.there s.object at in
+          let is : held_by refs_in hs s ≡ Some a = ap (λ rs. slice_index_or rs s.field None) refs ∙ get_or_from_slice_get R.object.refs s.field (Some a) None holds in
           let q = leads_here R.home R.rests R.object R.there R.source.field a R.holds R.into in
-          targets_there refs_in hs ks ss s.0 a s.1 is (ap (λ (z : Addr). has_chunk ks z.chunk) (sym q.2) ∙ object_chunk q.0 q.1)
+          targets_there refs_in hs ks ss s a (subst (λ xs. In xs s) sources_are R.noted) is (ap (λ (z : Addr). has_chunk ks z.chunk) (sym q.2) ∙ object_chunk q.0 q.1)
 
   -- and each is an object of the heap
   pub root_here : (a : Addr) → In (targets_of refs_in hs ks ss) a → (q : Seen) × In (objects_in (chunks_of ks)) q × (q.at ≡ a)

@@ -16,11 +16,10 @@ use Rattle.task_frames.specs.Stack.{Stack}
 use Rattle.heap_tree.specs.declared.state.State.{State}
 use Rattle.heap_tree.specs.declared.state.State.TheVariants.{Ready, Out, Waiting, Ended, Joined}
 use Rattle.heap_tree.specs.Node.{Node}
-use Rattle.remembered_set.specs.declared.remembered.Source.{Source}
 use Rattle.write_barrier.specs.declared.sets.SetOf.{SetOf}
 use Rattle.inner_mark_gc.specs.Marks.{Marks}
 pub use Rattle.core_relation.specs.Value.{no_home}
-use Rattle.core_relation.specs.Value.{Begun, Frame as SeenFrame, Home, Noted, Source as SeenSource, Value}
+use Rattle.core_relation.specs.Value.{Begun, Frame as SeenFrame, Home, Noted, Value}
 use Rattle.core_relation.specs.Whole.{Node as SeenNode, State as SeenState, Totals}
 use Rattle.core_relation.specs.Whole.{Ready as IsReady, Out as IsOut, Waits, HasEnded, HasJoined}
 use Rattle.task_machine.specs.declared.part.Begun.{Begun as BegunPart}
@@ -113,12 +112,9 @@ rest_at homes t = flat (slice_get homes t)
 
 -- ---- WHAT IS NOTED
 
-abbrev pub source_of : Source → SeenSource
-source_of s = record { object = s.object; field = s.field }
-
 abbrev pub noted_in : Option SetOf → Noted
 noted_in None = record { sources = []; kept = []; keeps = false; marked = None }
-noted_in (Some s) = record { sources = map source_of s.remembered.sources; kept = s.kept.items; keeps = s.keeps; marked = None }
+noted_in (Some s) = record { sources = s.remembered.sources; kept = s.kept.items; keeps = s.keeps; marked = None }
 
 -- ---- THE WHOLE
 

@@ -5,10 +5,11 @@ use Rattle.hh_model.specs.declared.data.Name.{Name}
 use Rattle.run_trace.specs.Settings.{Limits}
 use Rattle.run_ledger.specs.declared.data.Ledger.{Ledger}
 use Rattle.object_layout.specs.declared.word.Addr.{Addr}
+use Rattle.remembered_set.specs.declared.remembered.Source.{Source}
 use Rattle.ledger_steps.specs.Accounts.{Knows, aside}
 use Rattle.core_relation.specs.Fits.{Part}
 use Rattle.core_relation.specs.Stands.{HomeStands, IsSource, Place, Stands}
-use Rattle.core_relation.specs.Value.{Source, Value}
+use Rattle.core_relation.specs.Value.{Value}
 use Rattle.core_relation.specs.Worker.{Fits}
 use Rattle.core_relation.proofs.objects.Carry.{object_kept, task_kept}
 

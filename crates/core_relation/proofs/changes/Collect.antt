@@ -16,7 +16,8 @@ use Rattle.run_ledger.specs.declared.data.Heap.{Heap}
 use Rattle.run_ledger.specs.declared.data.Ledger.{Ledger}
 use Rattle.run_ledger.specs.Heaps.{heap_of, or_fresh}
 use Rattle.run_ledger.specs.Sound.{SoundLedger, Spares, survivors_at, collecting}
-use Rattle.core_relation.specs.Value.{Seen, Source, Home, Value, In, objects, objects_in, sources, Lies, led_object, rewritten, rewritten_home}
+use Rattle.remembered_set.specs.declared.remembered.Source.{Source}
+use Rattle.core_relation.specs.Value.{Seen, Home, Value, In, objects, objects_in, sources, Lies, led_object, rewritten, rewritten_home}
 use Rattle.core_relation.specs.Reads.{IsRead, FramesAreRead, HoldsRead, TaskIsRead}
 use Rattle.ledger_steps.specs.Accounts.{own, Rests, ChangesHeap}
 use Rattle.core_relation.specs.Stands.{Place, HomeStands, IsSource, Stands}

@@ -14,7 +14,8 @@ use Rattle.run_ledger.specs.declared.data.Heap.{Heap}
 use Rattle.run_ledger.specs.declared.data.Ledger.{Ledger}
 use Rattle.run_ledger.specs.Heaps.{heap_of}
 use Rattle.run_ledger.specs.Sound.{SoundLedger}
-use Rattle.core_relation.specs.Value.{Seen, Chunk, Source, Home, Value, In, objects, objects_in, sources, led, is_source, rewritten_refs, rewritten, is_at, put_at, frozen_chunk, frozen_chunks, chunk_of, seen_at, seen_in, shown_at, as_shown}
+use Rattle.remembered_set.specs.declared.remembered.Source.{Source}
+use Rattle.core_relation.specs.Value.{Seen, Chunk, Home, Value, In, objects, objects_in, sources, led, is_source, rewritten_refs, rewritten, is_at, put_at, frozen_chunk, frozen_chunks, chunk_of, seen_at, seen_in, shown_at, as_shown}
 use Rattle.ledger_steps.specs.Accounts.{own, Rests}
 use Rattle.core_relation.specs.Stands.{HomeStands, IsShown, Stands}
 use Rattle.ledger_steps.specs.Kinds.{ForksTask, JoinsTasks, CanJoin}

@@ -15,7 +15,8 @@ use Rattle.run_ledger.specs.declared.data.Heap.{Heap}
 use Rattle.run_ledger.specs.declared.data.Ledger.{Ledger}
 use Rattle.run_ledger.specs.Heaps.{heap_of, or_fresh}
 use Rattle.run_ledger.specs.Sound.{SoundLedger, Keeps, InHeaps, Spares, snapshot_at}
-use Rattle.core_relation.specs.Value.{Seen, Source, Home, Value, In, objects, objects_in, sources, Lies}
+use Rattle.remembered_set.specs.declared.remembered.Source.{Source}
+use Rattle.core_relation.specs.Value.{Seen, Home, Value, In, objects, objects_in, sources, Lies}
 use Rattle.core_relation.specs.Reads.{TaskIsRead}
 use Rattle.ledger_steps.specs.Accounts.{own, Rests, ChangesHeap}
 use Rattle.core_relation.specs.Stands.{Place, HomeStands, IsSource, Stands}

@@ -6,7 +6,8 @@ use Rattle.hh_model.specs.declared.data.Name.{Name}
 use Rattle.run_ledger.specs.declared.data.Heap.{Heap}
 use Rattle.run_ledger.specs.declared.data.Ledger.{Ledger}
 use Rattle.run_ledger.specs.Heaps.{heap_of}
-use Rattle.core_relation.specs.Value.{Seen, Source, Home, Value, In, objects_in, sources, led_frame, led_object, rewritten_home}
+use Rattle.remembered_set.specs.declared.remembered.Source.{Source}
+use Rattle.core_relation.specs.Value.{Seen, Home, Value, In, objects_in, sources, led_frame, led_object, rewritten_home}
 use Rattle.core_relation.specs.Fits.{with_home}
 use Rattle.ledger_steps.specs.Accounts.{StepsAlone, ChangesHeap}
 use Rattle.core_relation.specs.Changes.{KeepsJust, Moves}

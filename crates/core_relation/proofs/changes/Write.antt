@@ -13,7 +13,8 @@ use Rattle.run_ledger.specs.declared.data.Heap.{Heap}
 use Rattle.run_ledger.specs.declared.data.Ledger.{Ledger}
 use Rattle.run_ledger.specs.Heaps.{heap_of}
 use Rattle.run_ledger.specs.Sound.{SoundLedger}
-use Rattle.core_relation.specs.Value.{Seen, Source, Value, In, objects, objects_in, sources, Lies, is_at, put_at}
+use Rattle.remembered_set.specs.declared.remembered.Source.{Source}
+use Rattle.core_relation.specs.Value.{Seen, Value, In, objects, objects_in, sources, Lies, is_at, put_at}
 use Rattle.core_relation.specs.Reads.{IsRead, TaskIsRead}
 use Rattle.ledger_steps.specs.Accounts.{own, Rests, WritesOne}
 use Rattle.core_relation.specs.Layout.{words}

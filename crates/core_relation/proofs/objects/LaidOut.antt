@@ -4,7 +4,8 @@ use Rattle.std.specs.List.{AllByRecursion, IsDistinct}
 use Rattle.listed.proofs.Members.{in_append_cases}
 use Rattle.object_layout.specs.declared.word.Addr.{Addr}
 use Rattle.run_ledger.specs.Heaps.{units}
-use Rattle.core_relation.specs.Value.{Seen, Chunk, Source, In, objects_in, mapped_chunk, rewritten, rewritten_refs}
+use Rattle.remembered_set.specs.declared.remembered.Source.{Source}
+use Rattle.core_relation.specs.Value.{Seen, Chunk, In, objects_in, mapped_chunk, rewritten, rewritten_refs}
 use Rattle.core_relation.specs.Layout.{words, AreApart, HoldsLarge, has_none, reserved_chunks, AreLaidOut}
 use Rattle.core_relation.proofs.objects.Members.{in_chunk, in_objects, map_in}
 

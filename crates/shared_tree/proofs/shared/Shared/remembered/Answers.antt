@@ -1,7 +1,7 @@
 use Rattle.std.proofs.Common.{◌≡◌, ◌<◌, arith, ap, sym, ◌∙◌, subst, Some, slice_get, length, map}
 use Rattle.std.proofs.lemmas.Option.{slice_get_read}
 use Rattle.write_barrier.specs.declared.sets.SetOf.{SetOf}
-use Rattle.shared_value.specs.World.{World, source_of}
+use Rattle.shared_value.specs.World.{World}
 use Rattle.heap_reading.specs.Image.{AreAll, FieldBefore, IsNoted, field_of}
 use Rattle.heap_reading.proofs.FieldsRead.{noted_in_order}
 use Rattle.shared_tree.proofs.shared.Shared.remembered.Goals as goal
@@ -17,6 +17,6 @@ returns c =
     let is : slice_get w.sets t ≡ Some set = ap (λ xs. slice_get xs t) (sym same) ∙ slice_get_read sets (length w.sets) t set (sym (ap length same)) few c.index.ensures in
     let fs = c.in_ok-fields.fields.items in
     let gs = c.sort_unstable.new.self.items in
-    let all = c.in_ok-fields.ensures ∙ ap (λ ss. map (λ s. field_of (source_of s)) ss) c.sources.ensures.sources in
+    let all = c.in_ok-fields.ensures ∙ ap (map field_of) c.sources.ensures.sources in
     subst (AreAll FieldBefore (IsNoted w t)) (sym c.from_vec.ensures)
     (noted_in_order w c.stands.ensures t set is fs gs c.sources.ensures.once all c.sort_unstable.ensures.permutation c.sort_unstable.ensures.sorted)
