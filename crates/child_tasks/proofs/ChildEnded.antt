@@ -1,5 +1,5 @@
 -- A child's last frame returns, and its sibling goes on.
-use Rattle.std.proofs.Common.{◌≡◌, ℕ, suc, ◌+◌, ◌<◌, ◌++◌, ◌&&◌, arith, not, false, Option, Some, None, List, [], ◌∷◌, length, length-set, map, slice_get, slice_set, inl, inr, refl, ap, sym, subst, ◌∙◌, if◌then◌else◌}
+use Rattle.std.proofs.Common.{◌≡◌, ℕ, suc, ◌+◌, ◌<◌, ◌++◌, ◌&&◌, arith, not, false, Option, Some, None, List, [], ◌∷◌, length, length-set, slice_get, slice_set, inl, inr, refl, ap, sym, subst, ◌∙◌, if◌then◌else◌}
 use Rattle.std.proofs.lemmas.Bool.{cases_eq}
 use Rattle.std.proofs.lemmas.Option.{same_Some}
 use Rattle.listed.proofs.Members.{got_other, got_same}
@@ -26,7 +26,7 @@ use Rattle.core_relation.proofs.changes.With.{at_home, off_home}
 use Rattle.core_relation.proofs.parts.Workers.{ran_leaves}
 use Rattle.task_machine.specs.declared.part.Private.{Private}
 use Rattle.shared_value.specs.declared.task_at_rest.Rest.{Rest}
-use Rattle.shared_value.specs.World.{World, accounts, begun_of, flat, frame_of, home_in, home_of, rest_at, totals_of, value_of}
+use Rattle.shared_value.specs.World.{World, accounts, begun_of, flat, home_in, home_of, rest_at, totals_of, value_of}
 use Rattle.shared_value.specs.Measured.{AreMeasured, RestsAreMeasured}
 use Rattle.shared_value.specs.Stands.{HeapForm, IsWorld}
 use Rattle.shared_value.specs.Fits.{Fits, OthersFit, home_of_part, part_of}
@@ -155,7 +155,7 @@ module _ (w : World) (k : ℕ) (p : Private) (I : IsWorld w) (F : Fits w k p) (a
     home_now : v'.homes t ≡ home_of rest
     home_now = ap home_in rest_now
 
-    ends_home : EndsHome vt v' t (frame_of p.frames.top) (map frame_of p.frames.below)
+    ends_home : EndsHome vt v' t p.frames.top p.frames.below
     ends_home = record {
       frames = ap (λ (i : Home). i.frames) here;
       result = ap (λ (i : Home). i.result) home_now;
@@ -198,7 +198,7 @@ module _ (w : World) (k : ℕ) (p : Private) (I : IsWorld w) (F : Fits w k p) (a
     ended_world : IsWorld w'
     ended_world =
         entered_world w (last_event k p) I free_last tree w.pool homes w.sets hands w.outputs all_steps w.end j.room (length-set w.homes t (Some rest) ∙ (I.made ∙ sym (made_by w.tree t Ended (slice_get w.tree t)))) (I.noted ∙ sym (made_by w.tree t Ended (slice_get w.tree t))) (length-set w.hands k None) refl
-        (ran_stands_for w.program w.settings w.journal.items I.form I.legal v v' (totals_of w) (totals_of w') k t p.fresh h free_last E I.stands own (frame_of p.frames.top, map frame_of p.frames.below, ends_home) notes counts)
+        (ran_stands_for w.program w.settings w.journal.items I.form I.legal v v' (totals_of w) (totals_of w') k t p.fresh h free_last E I.stands own (p.frames.top, p.frames.below, ends_home) notes counts)
         heaps_then measured_then
 
     ended_goes : (accounts w').end ≡ None
@@ -212,7 +212,7 @@ module _ (w : World) (k : ℕ) (p : Private) (I : IsWorld w) (F : Fits w k p) (a
     ended_others : OthersFit w w' k
     ended_others u r ne G =
         part_fits w (last_event k p) I free_last tree w.pool homes w.sets hands w.outputs all_steps w.end j.room ended_world u r r (ap flat (got_other w.hands k u None ne)) G refl refl refl G.form G.measured
-        (ran_leaves w.program w.settings v v' l L t k p.fresh h E own (frame_of p.frames.top, map frame_of p.frames.below, ends_home) (part_of w.settings r) (held_apart w k u p r F G ne) G.fits)
+        (ran_leaves w.program w.settings v v' l L t k p.fresh h E own (p.frames.top, p.frames.below, ends_home) (part_of w.settings r) (held_apart w k u p r F G ne) G.fits)
 
     -- ---- AS THE CALL HAS IT
     more : suc p.fresh ≡ p.fresh + 1

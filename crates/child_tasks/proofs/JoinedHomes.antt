@@ -1,5 +1,5 @@
 -- A join: the homes that it merges.
-use Rattle.std.proofs.Common.{◌≡◌, ◌⊎◌, ℕ, ℤ, ◌+◌, ◌<◌, ◌^◌, ◌++◌, ◌||◌, arith, Bool, true, false, Option, Some, None, List, map, slice_get, inl, inr, refl, ap, sym, subst, ◌∙◌}
+use Rattle.std.proofs.Common.{◌≡◌, ◌⊎◌, ℕ, ℤ, ◌+◌, ◌<◌, ◌^◌, ◌++◌, ◌||◌, arith, Bool, true, false, Option, Some, None, List, slice_get, inl, inr, refl, ap, sym, subst, ◌∙◌}
 use Rattle.std.specs.Prelude.{IsSome}
 use Rattle.std.proofs.lemmas.Bool.{cases_Bool}
 use Rattle.std.proofs.lemmas.Option.{same_Some}
@@ -32,7 +32,7 @@ use Rattle.shared_value.specs.declared.task_at_rest.Rest.{Rest}
 use Rattle.shared_value.specs.declared.task_at_rest.Work.{Work}
 use Rattle.shared_value.specs.declared.task_at_rest.Work.TheVariants.{Calls, Result}
 use Rattle.shared_value.specs.Objects.{chunk_of}
-use Rattle.shared_value.specs.World.{World, accounts, frame_of, home_by, home_in, home_of, rest_at, value_of}
+use Rattle.shared_value.specs.World.{World, accounts, home_by, home_in, home_of, rest_at, value_of}
 use Rattle.shared_value.specs.Stands.{HeapForm, IsWorld}
 use Rattle.shared_value.specs.Fits.{Fits, home_of_part}
 use Rattle.shared_value.specs.Entered.{refused}
@@ -149,8 +149,8 @@ module _ (w : World) (k : ℕ) (p : Private) (I : IsWorld w) (F : Fits w k p) (a
       is = ap (λ (m : MachineState). slice_get m.tasks t) (before.machine_rests w k p I F at_end free ended) ∙ S.at.task;
       runs = S.at.runs;
       hands = e;
-      frame = frame_of p.frames.top;
-      below = map frame_of p.frames.below;
+      frame = p.frames.top;
+      below = p.frames.below;
       frames = ap (λ (i : Home). i.frames) here;
       result = refl;
     })

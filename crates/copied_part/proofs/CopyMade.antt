@@ -42,7 +42,7 @@ use Rattle.core_relation.proofs.objects.Members.{in_map, map_in}
 use Rattle.core_relation.proofs.changes.With.{at_home}
 use Rattle.shared_value.specs.Objects.{chunk_of, chunks_of}
 use Rattle.shared_value.specs.Stands.{HeapForm}
-use Rattle.shared_value.specs.World.{frame_of, frames_of}
+use Rattle.shared_value.specs.World.{frames_of}
 use Rattle.copied_part.specs.Copied.{CopiesFit, IsBegun, part_home}
 use Rattle.copied_part.proofs.CopiedForm as forming
 use Rattle.copied_part.proofs.BeforeTheCopy.{Old}
@@ -70,15 +70,11 @@ map_last : (f : Frame → Frame) (xs : List Frame) (x : Frame) → map f (xs ++ 
 map_last f [] x = refl
 map_last f (z ∷ xs) x = ap (λ qs. f z ∷ qs) (map_last f xs x)
 
-all_led : (f : Addr → Addr) (xs : List Frame) → map frame_of (map (led_frame_by (led f)) xs) ≡ map (led_frame f) (map frame_of xs)
-all_led f [] = refl
-all_led f (x ∷ xs) = ap (λ qs. led_frame f (frame_of x) ∷ qs) (all_led f xs)
-
 -- frames with their references led
 frames_led : (f : Addr → Addr) (s s' : Stack) → all_frames s' ≡ map (led_frame_by (led f)) (all_frames s) → frames_of s' ≡ map (led_frame f) (frames_of s)
 frames_led f s s' e =
     let r = last_same s'.below (map (led_frame_by (led f)) s.below) s'.top (led_frame_by (led f) s.top) (e ∙ map_last (led_frame_by (led f)) s.below s.top) in
-    ap₂ (λ x xs. frame_of x ∷ map frame_of xs) r.1 r.0 ∙ ap (λ xs. led_frame f (frame_of s.top) ∷ xs) (all_led f s.below)
+    ap₂ (λ x xs. x ∷ xs) r.1 r.0
 
 -- ---- WORDS
 

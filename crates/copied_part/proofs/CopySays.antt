@@ -24,12 +24,11 @@ use Rattle.leaf_copy_gc.specs.Survivors.{as_reference, held_by as refs_held, out
 use Rattle.leaf_copy_gc.proofs.ListLemmas.{all_from, read_in}
 use Rattle.ledger_steps.specs.Accounts.{Rests}
 use Rattle.ledger_steps.proofs.Rested.{rested_view, rested_worker}
-use Rattle.core_relation.specs.Value.{Begun, Frame as SeenFrame, Home, In, Seen, Value, objects_in}
+use Rattle.core_relation.specs.Value.{Begun, Home, In, Seen, Value, objects_in}
 use Rattle.core_relation.specs.Reads.{AllRead, FramesAreRead, HoldsRead, TaskIsRead}
 use Rattle.core_relation.specs.Stands.{Place}
-use Rattle.core_relation.proofs.objects.Members.{in_map}
 use Rattle.shared_value.specs.Objects.{chunks_of}
-use Rattle.shared_value.specs.World.{frame_of, frames_of}
+use Rattle.shared_value.specs.World.{frames_of}
 use Rattle.heap_marking.proofs.HeapClosed as reads
 use Rattle.copied_part.specs.Copied.{BegunCanCopy, CanCopy, IsBegun, NumbersAreSaid}
 use Rattle.copied_part.proofs.CopyMade as copying
@@ -56,10 +55,10 @@ read_one at (Some x ∷ rs) (None ∷ xs) r h (inl e) = absurd h.0
 read_one at (Some x ∷ rs) (Some n ∷ xs) r h (inl e) = (n, subst (at n) (same_Some x r e) h.0)
 read_one at (x ∷ rs) (y ∷ xs) r h (inr i) = read_one at rs xs r h.1 i
 
-frame_one : (at : Name → Addr → Type 0) (fs : List SeenFrame) (xs : List ModelFrame) (f : SeenFrame) (r : Addr) → FramesAreRead at fs xs → In fs f → In f.refs (Some r) → (n : Name) × at n r
+frame_one : (at : Name → Addr → Type 0) (fs : List Frame) (xs : List ModelFrame) (f : Frame) (r : Addr) → FramesAreRead at fs xs → In fs f → In f.refs (Some r) → (n : Name) × at n r
 frame_one at [] xs f r h i j = absurd i
 frame_one at (x ∷ fs) [] f r h i j = absurd h
-frame_one at (x ∷ fs) (y ∷ xs) f r h (inl e) j = read_one at x.refs y.refs r h.0.refs (subst (λ (z : SeenFrame). In z.refs (Some r)) (sym e) j)
+frame_one at (x ∷ fs) (y ∷ xs) f r h (inl e) j = read_one at x.refs y.refs r h.0.refs (subst (λ (z : Frame). In z.refs (Some r)) (sym e) j)
 frame_one at (x ∷ fs) (y ∷ xs) f r h (inr i) j = frame_one at fs xs f r h.1 i j
 
 module _ (p : ProgramText) (st : Limits) (t : ℕ) (h : Heap) (view : List Level) (count : ℕ) (s : Stack) (b : Begun) (news : List Content) (v : Value) (l : Ledger) (B : IsBegun p st t h view count s b news v l) where
@@ -88,10 +87,10 @@ module _ (p : ProgramText) (st : Limits) (t : ℕ) (h : Heap) (view : List Level
         let T : TaskIsRead At (V.homes t) x = (copying.stands p st t h view count s b news v l B).tasks t x (rested_worker l t) (ap (λ (m : State). slice_get m.tasks t) (copying.machine p st t h view count s b news v l B) ∙ is) in
         subst (λ (z : Home). FramesAreRead At z.frames (x.top ∷ x.below)) (copying.here p st t h view count s b news v l B) (subst (HoldsRead At (V.homes t) x) runs T)
 
-    from_stack : (f : Frame) → In (all_frames s) f → In (frames_of s) (frame_of f)
+    from_stack : (f : Frame) → In (all_frames s) f → In (frames_of s) f
     from_stack f i = elim (in_append_cases s.below (s.top ∷ []) f i) [
-      | inl j ↦ inr (in_map frame_of s.below f j)
-      | inr (inl e) ↦ inl (ap frame_of e)
+      | inl j ↦ inr j
+      | inr (inl e) ↦ inl e
       | inr (inr z) ↦ absurd z
     ]
 
@@ -99,7 +98,7 @@ module _ (p : ProgramText) (st : Limits) (t : ℕ) (h : Heap) (view : List Level
     held None i = tt
     held (Some r) i =
         let f = flat_in references_in (all_frames s) (Some r) i in
-        let n = frame_one At (frames_of s) (x.top ∷ x.below) (frame_of f.1) r read (from_stack f.1 (got_in (all_frames s) f.0 f.1 f.2)) f.3 in
+        let n = frame_one At (frames_of s) (x.top ∷ x.below) f.1 r read (from_stack f.1 (got_in (all_frames s) f.0 f.1 f.2)) f.3 in
         sound_at n.0 r n.1
 
     root : (r : Option Addr) → In (map as_reference b.roots) r → IsSound h.chunks r

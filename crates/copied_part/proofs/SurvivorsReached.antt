@@ -1,5 +1,5 @@
 -- The survivors of a leaf collection are what the registers and the roots reach, as the relation has it.
-use Rattle.std.proofs.Common.{◌≡◌, ℕ, zero, suc, Option, Some, List, [], ◌∷◌, map, inl, inr, refl, ap, sym, subst, ◌∙◌}
+use Rattle.std.proofs.Common.{◌≡◌, ℕ, zero, suc, Option, Some, List, [], ◌∷◌, map, inl, inr, ap, sym, subst, ◌∙◌}
 use Rattle.listed.proofs.Members.{contains_from_in, flat_in, got_in, in_append_cases, in_append_left, in_append_right, in_flat, in_from_contains}
 use Rattle.walks.specs.Reached.{IsWalk}
 use Rattle.object_layout.specs.declared.word.Addr.{Addr}
@@ -10,11 +10,11 @@ use Rattle.alloc_path.specs.Heap.{AreApart}
 use Rattle.task_frames.specs.declared.frames.Frame.{Frame}
 use Rattle.task_frames.specs.Stack.{Stack, frames_of as all_frames}
 use Rattle.leaf_copy_gc.specs.Survivors.{IsSurvivor, Starts, as_reference, held_by, outside, references_in}
-use Rattle.core_relation.specs.Value.{Frame as SeenFrame, Home, In, Seen, objects_in}
+use Rattle.core_relation.specs.Value.{Home, In, Seen, objects_in}
 use Rattle.core_relation.specs.Begins.{IsAt, IsReachedAt, LeadsAt, StartsAt}
 use Rattle.core_relation.proofs.objects.Members.{in_map, map_in}
 use Rattle.shared_value.specs.Objects.{chunks_of}
-use Rattle.shared_value.specs.World.{frame_of, frames_of}
+use Rattle.shared_value.specs.World.{frames_of}
 use Rattle.heap_marking.proofs.HeapClosed.{held_seen, seen_held}
 
 module _ (ks : List Content) (A : AreApart ks) (home : Home) (s : Stack) (roots : List Addr) (chunks : home.chunks ≡ chunks_of ks) (frames : home.frames ≡ frames_of s) where
@@ -34,26 +34,24 @@ module _ (ks : List Content) (A : AreApart ks) (home : Home) (s : Stack) (roots 
 
   -- ---- REGISTERS
 
-  in_stack : (f : SeenFrame) → In (frames_of s) f → (g : Frame) × In (all_frames s) g × (frame_of g ≡ f)
-  in_stack f (inl e) = (s.top, in_append_right s.below (s.top ∷ []) s.top (inl refl), e)
-  in_stack f (inr i) = let r = map_in frame_of s.below f i in (r.0, in_append_left s.below (s.top ∷ []) r.0 r.1, r.2)
+  in_stack : (f : Frame) → In (frames_of s) f → In (all_frames s) f
+  in_stack f (inl e) = in_append_right s.below (s.top ∷ []) f (inl e)
+  in_stack f (inr i) = in_append_left s.below (s.top ∷ []) f i
 
-  from_stack : (g : Frame) → In (all_frames s) g → In (frames_of s) (frame_of g)
+  from_stack : (g : Frame) → In (all_frames s) g → In (frames_of s) g
   from_stack g i = elim (in_append_cases s.below (s.top ∷ []) g i) [
-    | inl j ↦ inr (in_map frame_of s.below g j)
-    | inr (inl e) ↦ inl (ap frame_of e)
+    | inl j ↦ inr j
+    | inr (inl e) ↦ inl e
     | inr (inr z) ↦ absurd z
   ]
 
-  held_to : (a : Addr) (f : SeenFrame) → In home.frames f → In f.refs (Some a) → In (held_by (all_frames s)) (Some a)
-  held_to a f i j =
-      let g = in_stack f (subst (λ fs. In fs f) frames i) in
-      in_flat references_in (all_frames s) g.0 (Some a) g.1 (subst (λ (z : SeenFrame). In z.refs (Some a)) (sym g.2) j)
+  held_to : (a : Addr) (f : Frame) → In home.frames f → In f.refs (Some a) → In (held_by (all_frames s)) (Some a)
+  held_to a f i j = in_flat references_in (all_frames s) f (Some a) (in_stack f (subst (λ fs. In fs f) frames i)) j
 
-  held_back : (a : Addr) → In (held_by (all_frames s)) (Some a) → (f : SeenFrame) × In home.frames f × In f.refs (Some a)
+  held_back : (a : Addr) → In (held_by (all_frames s)) (Some a) → (f : Frame) × In home.frames f × In f.refs (Some a)
   held_back a i =
       let g = flat_in references_in (all_frames s) (Some a) i in
-      (frame_of g.1, subst (λ fs. In fs (frame_of g.1)) (sym frames) (from_stack g.1 (got_in (all_frames s) g.0 g.1 g.2)), g.3)
+      (g.1, subst (λ fs. In fs g.1) (sym frames) (from_stack g.1 (got_in (all_frames s) g.0 g.1 g.2)), g.3)
 
   root_back : (rs : List Addr) (a : Addr) → In (map as_reference rs) (Some a) → In rs a
   root_back rs a i = let r = map_in as_reference rs (Some a) i in subst (In rs) (some_same r.0 r.2) r.1

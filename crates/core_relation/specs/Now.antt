@@ -7,8 +7,9 @@ use Rattle.hh_model.specs.Step.{is_waiting}
 use Rattle.run_ledger.specs.declared.data.Ledger.{Ledger}
 use Rattle.run_ledger.specs.Heaps.{heap_of}
 use Rattle.run_ledger.specs.Sound.{SoundLedger}
+use Rattle.task_frames.specs.declared.frames.Frame.{Frame}
 use Rattle.ledger_steps.specs.Accounts.{Rests}
-use Rattle.core_relation.specs.Value.{Frame, In, Seen, Value, objects}
+use Rattle.core_relation.specs.Value.{In, Seen, Value, objects}
 use Rattle.core_relation.specs.Stands.{Stands}
 use Rattle.core_relation.specs.Begins.{IsAt, IsRoot, LeadsAt}
 use Rattle.core_relation.specs.Since.{Since, kept}

@@ -11,10 +11,11 @@ use Rattle.run_ledger.specs.Heaps.{heap_of}
 use Rattle.run_ledger.specs.Journals.{ledger_of, is_legal}
 use Rattle.run_ledger.specs.Steps.{task_steps}
 use Rattle.hh_model.specs.declared.data.Frame.{Frame as ModelFrame}
+use Rattle.task_frames.specs.declared.frames.Frame.{Frame}
 use Rattle.ledger_steps.specs.Accounts.{AlikeFor, Knows, StepsAlone, rested}
 use Rattle.ledger_steps.specs.Kinds.{onward_with}
 use Rattle.ledger_steps.specs.Last.{GoesOn, Runs, stepped_by}
-use Rattle.core_relation.specs.Value.{Frame, Home, Value}
+use Rattle.core_relation.specs.Value.{Home, Value}
 use Rattle.core_relation.specs.Changes.{KeepsJust, SameBut, SameObjects, gone_on}
 use Rattle.core_relation.specs.Reads.{FrameIsRead}
 use Rattle.core_relation.specs.Stands.{Place, Stands}

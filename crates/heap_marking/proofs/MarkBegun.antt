@@ -13,11 +13,12 @@ use Rattle.object_layout.specs.declared.word.Addr.{Addr}
 use Rattle.object_layout.specs.Chunks.{cell_of, object_count}
 use Rattle.object_layout.specs.Content.{Content}
 use Rattle.object_layout.specs.Graph.{IsHeld, Leads}
+use Rattle.task_frames.specs.declared.frames.Frame.{Frame}
 use Rattle.inner_mark_gc.specs.Marks.{IsMarking, IsOf, Marks}
 use Rattle.inner_mark_gc.specs.Snapshot.{Fork, IsInSnapshot, Starts}
 use Rattle.ledger_steps.specs.Accounts.{Rests}
 use Rattle.ledger_steps.proofs.Split.{legal_idle}
-use Rattle.core_relation.specs.Value.{Frame, In, Seen, Value, objects, objects_in}
+use Rattle.core_relation.specs.Value.{In, Seen, Value, objects, objects_in}
 use Rattle.core_relation.specs.Begins.{IsAt, IsRoot, LeadsAt}
 use Rattle.core_relation.specs.Marking.{GoesOn}
 use Rattle.core_relation.specs.Now.{IsReachedNow, StartsNow}

@@ -12,6 +12,7 @@ use Rattle.object_layout.specs.declared.word.Addr.{Addr}
 use Rattle.object_layout.specs.Chunks.{has_chunk}
 use Rattle.object_layout.specs.Content.{Content}
 use Rattle.object_layout.specs.Graph.{IsHeld}
+use Rattle.task_frames.specs.declared.frames.Frame.{Frame}
 use Rattle.task_frames.specs.Stack.{frames_of as stacked}
 use Rattle.remembered_set.specs.declared.remembered.Source.{Source}
 use Rattle.remembered_set.specs.Moved.{AreFields, into, targets_of}
@@ -22,8 +23,8 @@ use Rattle.ledger_steps.proofs.Split.{legal_idle}
 use Rattle.core_relation.specs.Begins.{AreRoots, IsAt}
 use Rattle.core_relation.specs.Reads.{FramesAreRead, HoldsRead}
 use Rattle.core_relation.specs.Stands.{Place, Stands}
-use Rattle.core_relation.specs.Value.{Frame, Home, In, Seen, Value, objects, objects_in, sources}
-use Rattle.core_relation.proofs.objects.Members.{from_flat, in_chunk, in_map, map_in}
+use Rattle.core_relation.specs.Value.{Home, In, Seen, Value, objects, objects_in, sources}
+use Rattle.core_relation.proofs.objects.Members.{from_flat, in_chunk}
 use Rattle.core_relation.proofs.whole.Past.{waiting_stops}
 use Rattle.core_relation.proofs.notes.Roots.{frame_name}
 use Rattle.shared_value.specs.declared.task_at_rest.Rest.{Rest}
@@ -32,7 +33,7 @@ use Rattle.shared_value.specs.declared.task_at_rest.Work.TheVariants.{Calls, Res
 use Rattle.shared_value.specs.Objects.{chunks_of}
 use Rattle.shared_value.specs.RestingHeaps.{refs_in}
 use Rattle.shared_value.specs.Roots.{heaps_of, sources_of}
-use Rattle.shared_value.specs.World.{World, accounts, frame_of, frames_of, home_by, home_in, home_of, rest_at, value_of}
+use Rattle.shared_value.specs.World.{World, accounts, frames_of, home_by, home_in, home_of, rest_at, value_of}
 use Rattle.shared_value.specs.Stands.{IsWorld}
 use Rattle.shared_value.proofs.BeforeTheEnd.{stands_now}
 use Rattle.shared_value.proofs.RootsHeld as held
@@ -42,7 +43,7 @@ use Rattle.heap_marking.specs.Marking.{IsStart}
 use Rattle.heap_marking.specs.Starts.{registers_of, starts_by, starts_in, starts_of}
 use Rattle.heap_marking.proofs.MarkBegun as begun
 
--- REGISTERS: the references of frames, as they are called and as they are seen
+-- REGISTERS: the references of frames, in the order of a stack and in that of a home
 abbrev seen_frames : Work → List Frame
 seen_frames (Calls s) = frames_of s
 seen_frames (Result k r) = []
@@ -58,16 +59,14 @@ registers_tell : (x : Work) (o : Option Addr) → In (registers_of x) o → (f :
 registers_tell (Calls s) o i =
     let f = from_flat references_in (stacked s) o i in
     elim (in_append_cases s.below (s.top ∷ []) f.0 f.1) [
-      | inl j ↦ (frame_of f.0, inr (in_map frame_of s.below f.0 j), f.2)
-      | inr j ↦ elim j [ inl e ↦ (frame_of f.0, inl (ap frame_of e), f.2) | inr k ↦ absurd k ]
+      | inl j ↦ (f.0, inr j, f.2)
+      | inr j ↦ elim j [ inl e ↦ (f.0, inl e, f.2) | inr k ↦ absurd k ]
     ]
 registers_tell (Result k r) o i = absurd i
 
 registers_there : (x : Work) (f : Frame) (o : Option Addr) → In (seen_frames x) f → In f.refs o → In (registers_of x) o
-registers_there (Calls s) f o (inl e) j = in_flat references_in (stacked s) s.top o (in_append_right s.below (s.top ∷ []) s.top (inl refl)) (subst (λ (z : Frame). In z.refs o) (sym e) j)
-registers_there (Calls s) f o (inr i) j =
-    let g = map_in frame_of s.below f i in
-    in_flat references_in (stacked s) g.0 o (in_append_left s.below (s.top ∷ []) g.0 g.1) (subst (λ (z : Frame). In z.refs o) (sym g.2) j)
+registers_there (Calls s) f o (inl e) j = in_flat references_in (stacked s) f o (in_append_right s.below (s.top ∷ []) f (inl e)) j
+registers_there (Calls s) f o (inr i) j = in_flat references_in (stacked s) f o (in_append_left s.below (s.top ∷ []) f i) j
 registers_there (Result k r) f o i j = absurd i
 
 frames_read : (at : Name → Addr → Type 0) (h : Home) (x : Task) (s : Status) → waits s ≡ true → HoldsRead at h x s → FramesAreRead at h.frames (x.top ∷ x.below)

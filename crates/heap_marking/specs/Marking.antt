@@ -9,9 +9,10 @@ use Rattle.run_ledger.specs.Heaps.{heap_of, left_in}
 use Rattle.run_ledger.specs.Entries.{after}
 use Rattle.object_layout.specs.declared.word.Addr.{Addr}
 use Rattle.object_layout.specs.Graph.{IsClosed, IsHeld}
+use Rattle.task_frames.specs.declared.frames.Frame.{Frame}
 use Rattle.inner_mark_gc.specs.Marks.{IsAllMarked, IsMarking, IsOf, Marks, marked_of}
 use Rattle.inner_mark_gc.specs.Snapshot.{Fork, IsSince}
-use Rattle.core_relation.specs.Value.{Frame, In, Seen, Value}
+use Rattle.core_relation.specs.Value.{In, Seen, Value}
 use Rattle.core_relation.specs.Begins.{IsAt, IsRoot}
 use Rattle.core_relation.specs.Marking.{GoesOn, MarksStand}
 use Rattle.core_relation.specs.Since.{kept as kept_of}

@@ -28,7 +28,7 @@ use Rattle.task_machine.specs.Plan.{int_of, ref_of}
 use Rattle.shared_value.specs.declared.task_at_rest.Rest.{Rest}
 use Rattle.shared_value.specs.declared.task_at_rest.Work.{Work}
 use Rattle.shared_value.specs.declared.task_at_rest.Work.TheVariants.{Calls, Result}
-use Rattle.shared_value.specs.World.{World, accounts, frame_of, frames_of, home_by, home_in, rest_at, value_of}
+use Rattle.shared_value.specs.World.{World, accounts, frames_of, home_by, home_in, rest_at, value_of}
 use Rattle.shared_value.specs.Objects.{chunks_of}
 use Rattle.shared_value.specs.Stands.{IsWorld}
 use Rattle.shared_value.specs.Fits.{Fits, home_of_part}
@@ -101,7 +101,7 @@ module _ (w : World) (k : ℕ) (p : Private) (I : IsWorld w) (F : Fits w k p) (o
       subst (λ (z : Home). FramesAreRead (Place v' L) z.frames (x.top ∷ x.below)) here
       (subst (HoldsRead (Place v' L) (v'.homes t) x) (link.run_status w k p I F on) ((link.W w k p I F on).tasks t x (link.at_rest w k p I F on) (link.is w k p I F on)))
 
-  pub frame : FrameIsRead (Place v' L) (frame_of p.frames.top) x.top
+  pub frame : FrameIsRead (Place v' L) p.frames.top x.top
   frame = frames.0
 
   pub register_at : (o : ℕ) → Reads (Place v' L) (ref_of p.frames.top o) (ref_in x.top o)

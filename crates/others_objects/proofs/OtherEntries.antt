@@ -20,7 +20,7 @@ use Rattle.core_relation.specs.Reads.{FrameIsRead}
 use Rattle.core_relation.proofs.objects.Carry.{all_set}
 use Rattle.core_relation.proofs.changes.Store.{goes_on}
 use Rattle.task_machine.specs.declared.part.Private.{Private}
-use Rattle.shared_value.specs.World.{World, accounts, frame_of}
+use Rattle.shared_value.specs.World.{World, accounts}
 use Rattle.shared_value.specs.Stands.{IsWorld}
 use Rattle.shared_value.specs.Fits.{Fits, OthersFit}
 use Rattle.shared_value.specs.Entered.{refused}
@@ -62,7 +62,7 @@ module _ (w : World) (k : ℕ) (p : Private) (I : IsWorld w) (F : Fits w k p) (s
       fetched_of x = fetched w.program x.top
 
   -- A READ
-  module _ (top : ModelFrame) (T : ReadsTo M.machine t S.task S.line top) (g : Frame) (read : FrameIsRead (then_places w p) (frame_of p.frames.top) S.task.top → FrameIsRead (then_places w p) (frame_of g) top) (j : Space Event) where
+  module _ (top : ModelFrame) (T : ReadsTo M.machine t S.task S.line top) (g : Frame) (read : FrameIsRead (then_places w p) p.frames.top S.task.top → FrameIsRead (then_places w p) g top) (j : Space Event) where
     abbrev read_entered : World
     read_entered = record w { steps = w.steps + (p.fresh + 1); journal = record { items = w.journal.items ++ alone_event k p ∷ []; room = j.room } }
 
@@ -86,8 +86,8 @@ module _ (w : World) (k : ℕ) (p : Private) (I : IsWorld w) (F : Fits w k p) (s
 
   -- of a number
   module _ (d : ℕ) (z : ℤ) (line : ℕ) (T : TellsOther w p (SetsNumber d z) line) (j : Space Event) where
-    number_read : FrameIsRead (then_places w p) (frame_of p.frames.top) S.task.top → FrameIsRead (then_places w p) (frame_of (with_next (with_number p.frames d z) (p.frames.top.next + 1)).top) (onward (with_int S.task.top d z))
-    number_read h = goes_on (then_places w p) (Some (d, z)) (frame_of p.frames.top) S.task.top h
+    number_read : FrameIsRead (then_places w p) p.frames.top S.task.top → FrameIsRead (then_places w p) (with_next (with_number p.frames d z) (p.frames.top.next + 1)).top (onward (with_int S.task.top d z))
+    number_read h = goes_on (then_places w p) (Some (d, z)) p.frames.top S.task.top h
 
     abbrev number_part : Private
     number_part = record p { frames = with_next (with_number p.frames d z) (p.frames.top.next + 1); fresh = 0 }
@@ -106,7 +106,7 @@ module _ (w : World) (k : ℕ) (p : Private) (I : IsWorld w) (F : Fits w k p) (s
     abbrev name : Option Name
     name = (said (SetsReference d r) line T).1.0
 
-    reference_read : FrameIsRead (then_places w p) (frame_of p.frames.top) S.task.top → FrameIsRead (then_places w p) (frame_of (with_next (with_reference p.frames d r) (p.frames.top.next + 1)).top) (onward (with_ref S.task.top d name))
+    reference_read : FrameIsRead (then_places w p) p.frames.top S.task.top → FrameIsRead (then_places w p) (with_next (with_reference p.frames d r) (p.frames.top.next + 1)).top (onward (with_ref S.task.top d name))
     reference_read h = record {
       function = h.function;
       next = ap (λ n. n + 1) h.next;

@@ -1,5 +1,5 @@
 -- A read of an object of another task is entered.
-use Rattle.std.proofs.Common.{◌≡◌, ℕ, suc, ◌+◌, Some, None, List, map, slice_get, slice_set, refl, ap, sym, ◌∙◌}
+use Rattle.std.proofs.Common.{◌≡◌, ℕ, suc, ◌+◌, Some, None, List, slice_get, slice_set, refl, ap, sym, ◌∙◌}
 use Rattle.listed.proofs.Members.{got_same}
 use Rattle.listed.specs.Space.{Space}
 use Rattle.hh_model.specs.declared.data.Frame.{Frame as ModelFrame}
@@ -24,7 +24,7 @@ use Rattle.core_relation.proofs.whole.RanWhole.{ran_stands_for}
 use Rattle.core_relation.proofs.parts.Sets.{frames_go}
 use Rattle.core_relation.proofs.parts.Workers.{ran_leaves}
 use Rattle.task_machine.specs.declared.part.Private.{Private}
-use Rattle.shared_value.specs.World.{World, accounts, frame_of, totals_of, value_of}
+use Rattle.shared_value.specs.World.{World, accounts, totals_of, value_of}
 use Rattle.shared_value.specs.Stands.{IsWorld}
 use Rattle.shared_value.specs.Fits.{Fits, OthersFit, home_of_part, part_of}
 use Rattle.shared_value.specs.Entered.{refused}
@@ -66,7 +66,7 @@ module _ (w : World) (k : ℕ) (p : Private) (I : IsWorld w) (F : Fits w k p) (s
   S = last.S w k p I F shared free
 
   -- its frame is top afterwards, and g in the part
-  module _ (top : ModelFrame) (T : ReadsTo M.machine t S.task S.line top) (g : Frame) (read : FrameIsRead (then_places w p) (frame_of p.frames.top) S.task.top → FrameIsRead (then_places w p) (frame_of g) top) where
+  module _ (top : ModelFrame) (T : ReadsTo M.machine t S.task S.line top) (g : Frame) (read : FrameIsRead (then_places w p) p.frames.top S.task.top → FrameIsRead (then_places w p) g top) where
     abbrev z : Task
     z = record S.task { top = top }
 
@@ -127,7 +127,7 @@ module _ (w : World) (k : ℕ) (p : Private) (I : IsWorld w) (F : Fits w k p) (s
 
       goes_home : StepsTo v L t h (home_of_part q)
       goes_home =
-          frames_go w.program w.settings v l L t k p.fresh h E own (frame_of p.frames.top) (frame_of g) (map frame_of p.frames.below) top M.machine.outputs R.alone goes_to refl read
+          frames_go w.program w.settings v l L t k p.fresh h E own p.frames.top g p.frames.below top M.machine.outputs R.alone goes_to refl read
 
       pub read_part : Fits w' k q
       read_part =

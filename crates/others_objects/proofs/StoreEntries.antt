@@ -31,7 +31,7 @@ use Rattle.task_machine.specs.declared.part.Private.{Private}
 use Rattle.task_machine.specs.Plan.{ref_of}
 use Rattle.task_machine.proofs.Owned.{born_is, born_object}
 use Rattle.shared_value.specs.declared.task_at_rest.Rest.{Rest}
-use Rattle.shared_value.specs.World.{World, accounts, flat, frame_of, rest_at, value_of}
+use Rattle.shared_value.specs.World.{World, accounts, flat, rest_at, value_of}
 use Rattle.shared_value.specs.Stands.{IsWorld}
 use Rattle.shared_value.specs.Fits.{Fits, home_of_part}
 use Rattle.shared_value.specs.Entered.{refused}
@@ -53,7 +53,7 @@ use Rattle.others_objects.proofs.StoreKinds.{Made, by_cas, by_putr, reads_cas, r
 abbrev pub flag_of : Option ℕ → Option (ℕ × ℤ)
 flag_of swap = option_map (λ d. let z : ℕ × ℤ = (d, pos 1) in z) swap
 
-store_top : (swap : Option ℕ) (s : Stack) → frame_of (store_frames swap s).top ≡ gone_on (flag_of swap) (frame_of s.top)
+store_top : (swap : Option ℕ) (s : Stack) → (store_frames swap s).top ≡ gone_on (flag_of swap) s.top
 store_top None s = refl
 store_top (Some d) s = refl
 

@@ -1,5 +1,5 @@
 -- A store into an object of another task: what it makes of the value, and what it notes.
-use Rattle.std.proofs.Common.{◌≡◌, ◌⊎◌, ℕ, ℤ, ◌+◌, ◌<◌, ◌≤◌, ◌&&◌, not, arith, true, false, Bool, Option, Some, None, List, ◌∷◌, length, length-set, map, slice_get, option_map, inl, inr, refl, ap, ap₂, sym, subst, ◌∙◌}
+use Rattle.std.proofs.Common.{◌≡◌, ◌⊎◌, ℕ, ℤ, ◌+◌, ◌<◌, ◌≤◌, ◌&&◌, not, arith, true, false, Bool, Option, Some, None, List, ◌∷◌, length, length-set, slice_get, option_map, inl, inr, refl, ap, ap₂, sym, subst, ◌∙◌}
 use Rattle.std.proofs.lemmas.Option.{same_Some}
 use Rattle.hh_model.specs.declared.data.Name.{Name}
 use Rattle.hh_model.specs.declared.data.Task.{Task}
@@ -18,7 +18,7 @@ use Rattle.remembered_set.specs.declared.remembered.Source.{Source}
 use Rattle.write_barrier.specs.declared.sets.SetOf.{SetOf}
 use Rattle.write_barrier.specs.Stored.{content_after, content_at}
 use Rattle.ledger_steps.specs.Accounts.{own}
-use Rattle.core_relation.specs.Value.{Frame as SeenFrame, Home, In, Seen, Value, objects, sources}
+use Rattle.core_relation.specs.Value.{Home, In, Seen, Value, objects, sources}
 use Rattle.core_relation.specs.Changes.{StoresAt, StoresNumberAt, gone_on, register, with_field, with_number}
 use Rattle.core_relation.specs.Fits.{with_home}
 use Rattle.core_relation.specs.Reads.{Reads}
@@ -27,7 +27,7 @@ use Rattle.core_relation.specs.Stands.{Place}
 use Rattle.core_relation.proofs.changes.Store as store
 use Rattle.task_machine.specs.declared.part.Private.{Private}
 use Rattle.task_machine.specs.Plan.{int_of, ref_of}
-use Rattle.shared_value.specs.World.{World, accounts, frame_of, value_of}
+use Rattle.shared_value.specs.World.{World, accounts, value_of}
 use Rattle.shared_value.specs.Objects.{seen}
 use Rattle.shared_value.specs.Stands.{IsWorld}
 use Rattle.shared_value.specs.Fits.{Fits, home_of_part}
@@ -97,7 +97,7 @@ module _ (w : World) (k : ℕ) (p : Private) (I : IsWorld w) (F : Fits w k p) (o
     -- ---- A REFERENCE, from the register b, into the field i; what stood there is overwritten; the step sets the number register
     -- swap, or none
     module _ (b i : ℕ) (swap : Option (ℕ × ℤ)) (overwritten : Option Addr) (was : slice_get c.refs i ≡ Some overwritten) (sets : List SetOf)
-        (C : (z : ℕ) → content_at sets z ≡ option_map (content_after w.tree w.pool (record { object = a; field = i }) overwritten (ref_of p.frames.top b) z) (content_at w.sets z)) (top : Frame) (goes : frame_of top ≡ gone_on swap (frame_of p.frames.top)) where
+        (C : (z : ℕ) → content_at sets z ≡ option_map (content_after w.tree w.pool (record { object = a; field = i }) overwritten (ref_of p.frames.top b) z) (content_at w.sets z)) (top : Frame) (goes : top ≡ gone_on swap p.frames.top) where
       abbrev value : Option Addr
       value = ref_of p.frames.top b
 
@@ -125,7 +125,7 @@ module _ (w : World) (k : ℕ) (p : Private) (I : IsWorld w) (F : Fits w k p) (o
       fields_of : (s : Seen) → length (f s).refs ≡ length s.refs
       fields_of s = length-set s.refs i value
 
-      down : (e : Addr) (y z : ℕ) → register (frame_of p.frames.top) b ≡ Some e → v0.owner a.chunk ≡ Some y → v0.owner e.chunk ≡ Some z → is_on_path L.machine.tasks z y ≡ false → In (sources new z) (record { object = a; field = i })
+      down : (e : Addr) (y z : ℕ) → register p.frames.top b ≡ Some e → v0.owner a.chunk ≡ Some y → v0.owner e.chunk ≡ Some z → is_on_path L.machine.tasks z y ≡ false → In (sources new z) (record { object = a; field = i })
       down e y z er ea ee off =
           let r = reads_address (Place (with_home (value_of w) t h) L) (ref_of p.frames.top b) (ref_in X.top b) e (register_at w k p I F on b) er in
           let yn : y ≡ u = same_Some y u (sym ea ∙ O.place.chunk) in
@@ -137,16 +137,16 @@ module _ (w : World) (k : ℕ) (p : Private) (I : IsWorld w) (F : Fits w k p) (o
           noting.notes_down w.tree w.pool w.sets sets a i overwritten value u O.place.chunk C e z er ee (path_is u z ∙ (ap (is_on_path L.machine.tasks u) zr ∙ above)) (λ q. apart (q ∙ zr)) (made e.chunk z ee)
 
       only : (z : ℕ) (s : Source) → In (sources new z) s
-          → In (sources old z) s ⊎ ((e : Addr) × (y : ℕ) × (register (frame_of p.frames.top) b ≡ Some e) × (v0.owner e.chunk ≡ Some z) × (v0.owner a.chunk ≡ Some y) × (is_on_path L.machine.tasks z y ≡ false) × (s ≡ record { object = a; field = i }))
+          → In (sources old z) s ⊎ ((e : Addr) × (y : ℕ) × (register p.frames.top b ≡ Some e) × (v0.owner e.chunk ≡ Some z) × (v0.owner a.chunk ≡ Some y) × (is_on_path L.machine.tasks z y ≡ false) × (s ≡ record { object = a; field = i }))
       only z s j = elim (noting.notes_only w.tree w.pool w.sets sets a i overwritten value u O.place.chunk C z s j) [
         | inl before ↦ inl before
         | inr added ↦ inr (added.0, u, added.1, added.2, O.place.chunk, one_way u z added.3 added.4, added.5)
       ]
 
-      pub stores_at : StoresAt old new L t (frame_of p.frames.top) (map frame_of p.frames.below) a b i swap
+      pub stores_at : StoresAt old new L t p.frames.top p.frames.below a b i swap
       stores_at = record {
         frames = ap (λ (y : Home). y.frames) (other.home_old w k p I F on n a O d refl size f (λ number at birth. refl) sets top);
-        goes = ap (λ (y : Home). y.frames) (other.home_new w k p I F on n a O d refl size f (λ number at birth. refl) sets top) ∙ ap (λ (y : SeenFrame). y ∷ map frame_of p.frames.below) goes;
+        goes = ap (λ (y : Home). y.frames) (other.home_new w k p I F on n a O d refl size f (λ number at birth. refl) sets top) ∙ ap (λ (y : Frame). y ∷ p.frames.below) goes;
         writes = other.writes w k p I F on n a O d refl size f (λ number at birth. refl) sets top (λ s. refl) (λ s. refl) (λ s. ap (λ m. 2 + m + length s.ints) (fields_of s)) (λ s. refl)
             (λ z s j. noting.sources_grow w.tree w.pool w.sets sets a i overwritten value u O.place.chunk C z s j);
         down = down;
@@ -182,7 +182,7 @@ module _ (w : World) (k : ℕ) (p : Private) (I : IsWorld w) (F : Fits w k p) (o
       }
 
     -- ---- A NUMBER, from the register b, into the field i
-    module _ (b i : ℕ) (top : Frame) (goes : frame_of top ≡ gone_on None (frame_of p.frames.top)) where
+    module _ (b i : ℕ) (top : Frame) (goes : top ≡ gone_on None p.frames.top) where
       abbrev pub number : ℤ
       number = int_of p.frames.top b
 
@@ -198,10 +198,10 @@ module _ (w : World) (k : ℕ) (p : Private) (I : IsWorld w) (F : Fits w k p) (o
       abbrev new_number : Value
       new_number = with_home (other.v1 w k p I F on n a O d_number refl size_number f_number (λ number at birth. refl) w.sets top) t (other.g w k p I F on n a O d_number refl size_number f_number (λ number at birth. refl) w.sets top)
 
-      pub stores_number : StoresNumberAt (with_home v0 t h) new_number t (frame_of p.frames.top) (map frame_of p.frames.below) a b i
+      pub stores_number : StoresNumberAt (with_home v0 t h) new_number t p.frames.top p.frames.below a b i
       stores_number = record {
         frames = ap (λ (y : Home). y.frames) (other.home_old w k p I F on n a O d_number refl size_number f_number (λ number at birth. refl) w.sets top);
-        goes = ap (λ (y : Home). y.frames) (other.home_new w k p I F on n a O d_number refl size_number f_number (λ number at birth. refl) w.sets top) ∙ ap (λ (y : SeenFrame). y ∷ map frame_of p.frames.below) goes;
+        goes = ap (λ (y : Home). y.frames) (other.home_new w k p I F on n a O d_number refl size_number f_number (λ number at birth. refl) w.sets top) ∙ ap (λ (y : Frame). y ∷ p.frames.below) goes;
         writes = other.writes w k p I F on n a O d_number refl size_number f_number (λ number at birth. refl) w.sets top (λ s. refl) (λ s. refl) (λ s. ap (λ m. 2 + length s.refs + m) (length-set s.ints i number)) (λ s. refl) (λ z s j. j);
         only = λ z s j. j;
       }

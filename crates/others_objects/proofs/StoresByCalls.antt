@@ -1,5 +1,5 @@
 -- Stores into objects of other tasks, as the calls have them.
-use Rattle.std.proofs.Common.{◌≡◌, ℕ, ℤ, suc, ◌+◌, ◌<◌, ◌++◌, arith, Option, Some, None, List, [], ◌∷◌, length, map, slice_get, slice_set, option_map, refl, ap, sym, subst, ◌∙◌}
+use Rattle.std.proofs.Common.{◌≡◌, ℕ, ℤ, suc, ◌+◌, ◌<◌, ◌++◌, arith, Option, Some, None, List, [], ◌∷◌, length, slice_get, slice_set, option_map, refl, ap, sym, subst, ◌∙◌}
 use Rattle.std.specs.Prelude.{slice_index_or}
 use Rattle.std.proofs.lemmas.Option.{same_Some}
 use Rattle.listed.proofs.Members.{got_same}
@@ -34,7 +34,7 @@ use Rattle.task_machine.specs.declared.part.Private.{Private}
 use Rattle.task_machine.specs.Plan.{int_of, ref_of}
 use Rattle.task_machine.proofs.Owned.{born_object}
 use Rattle.shared_value.specs.declared.task_at_rest.Rest.{Rest}
-use Rattle.shared_value.specs.World.{World, accounts, frame_of, value_of}
+use Rattle.shared_value.specs.World.{World, accounts, value_of}
 use Rattle.shared_value.specs.Stands.{IsWorld}
 use Rattle.shared_value.specs.Fits.{Fits, OthersFit, home_of_part}
 use Rattle.shared_value.specs.Entered.{refused}
@@ -138,7 +138,7 @@ module _ (w : World) (k : ℕ) (p : Private) (I : IsWorld w) (F : Fits w k p) (s
       -- ---- A REFERENCE, from the register b, into the field i, whose number is in the register j
       module _ (b j i : ℕ) (swap : Option (ℕ × ℤ)) (place : place_in (length y.refs) (int_in S.task.top j) ≡ Some i)
           (pack : (y' : Object) (v v' : Value) (C : StoresInto v v' M t h S.task y' o j b swap) → StoresNotes (with_home v t h) (with_home v' t C.0) t C.4 C.1 → Made v v' M t h S.task y' S.line.instr C.0)
-          (top : Frame) (goes : frame_of top ≡ gone_on swap (frame_of p.frames.top)) where
+          (top : Frame) (goes : top ≡ gone_on swap p.frames.top) where
         abbrev pub rest : Rest
         rest = foreign.rest
 
@@ -181,13 +181,13 @@ module _ (w : World) (k : ℕ) (p : Private) (I : IsWorld w) (F : Fits w k p) (s
           abbrev g : Home
           g = home_of_part q
 
-          at : StoresAt (with_home v0 t h) (with_home v1 t g) (rested M t) t (frame_of p.frames.top) (map frame_of p.frames.below) a b i swap
+          at : StoresAt (with_home v0 t h) (with_home v1 t g) (rested M t) t p.frames.top p.frames.below a b i swap
           at = stores.stores_at w k p I F on n a foreign o held at_a b i swap overwritten was sets C top goes
 
           made : Made v0 v1 M t h S.task K.object S.line.instr g
           made =
               pack K.object v0 v1
-              (g, i, frame_of p.frames.top, map frame_of p.frames.below, a, subst (λ (q : Object). place_in (length q.refs) (int_in S.task.top j) ≡ Some i) object_is place, at, at_a)
+              (g, i, p.frames.top, p.frames.below, a, subst (λ (q : Object). place_in (length q.refs) (int_in S.task.top j) ≡ Some i) object_is place, at, at_a)
               (stores.stores_notes w k p I F on n a foreign o held at_a b i swap overwritten was sets C top goes)
 
           module _ (space : Space Event) where
@@ -215,7 +215,7 @@ module _ (w : World) (k : ℕ) (p : Private) (I : IsWorld w) (F : Fits w k p) (s
             }
 
       -- ---- A NUMBER, from the register b, into the field i, whose number is in the register j
-      module _ (b j i : ℕ) (place : place_in (length y.ints) (int_in S.task.top j) ≡ Some i) (by : S.line.instr ≡ Puti o j b) (top : Frame) (goes : frame_of top ≡ gone_on None (frame_of p.frames.top)) where
+      module _ (b j i : ℕ) (place : place_in (length y.ints) (int_in S.task.top j) ≡ Some i) (by : S.line.instr ≡ Puti o j b) (top : Frame) (goes : top ≡ gone_on None p.frames.top) where
         abbrev rest_n : Rest
         rest_n = foreign.rest
 
@@ -254,7 +254,7 @@ module _ (w : World) (k : ℕ) (p : Private) (I : IsWorld w) (F : Fits w k p) (s
         made_n : Made v0_n v1_n M t h S.task K.object S.line.instr g_n
         made_n =
             subst (λ (e : Instr). Made v0_n v1_n M t h S.task K.object e g_n) (sym by) (
-              (g_n, i, frame_of p.frames.top, map frame_of p.frames.below, a, subst (λ (q : Object). place_in (length q.ints) (int_in S.task.top j) ≡ Some i) object_is place, stores.stores_number w k p I F on n a foreign o held at_a b i top goes, at_a),
+              (g_n, i, p.frames.top, p.frames.below, a, subst (λ (q : Object). place_in (length q.ints) (int_in S.task.top j) ≡ Some i) object_is place, stores.stores_number w k p I F on n a foreign o held at_a b i top goes, at_a),
               stores.number_notes w k p I F on n a foreign o held at_a b i top goes,
               refl,
             )

@@ -1,5 +1,5 @@
 -- An output is entered.
-use Rattle.std.proofs.Common.{◌≡◌, ℕ, ℤ, suc, ◌+◌, ◌++◌, true, Some, None, List, [], ◌∷◌, map, slice_get, slice_set, refl, ap, sym, ◌∙◌}
+use Rattle.std.proofs.Common.{◌≡◌, ℕ, ℤ, suc, ◌+◌, ◌++◌, true, Some, None, List, [], ◌∷◌, slice_get, slice_set, refl, ap, sym, ◌∙◌}
 use Rattle.listed.proofs.Members.{got_same}
 use Rattle.listed.specs.Space.{Space}
 use Rattle.hh_lang.specs.declared.instr.Instr.{Instr}
@@ -24,7 +24,7 @@ use Rattle.core_relation.proofs.parts.Sets.{numbers_go}
 use Rattle.core_relation.proofs.parts.Workers.{ran_leaves}
 use Rattle.task_machine.specs.declared.part.Private.{Private}
 use Rattle.shared_value.specs.declared.next_step.Ending.TheVariants.{Prints as PrintsOf}
-use Rattle.shared_value.specs.World.{World, accounts, frame_of, totals_of, value_of}
+use Rattle.shared_value.specs.World.{World, accounts, totals_of, value_of}
 use Rattle.shared_value.specs.Stands.{IsWorld}
 use Rattle.shared_value.specs.Fits.{Fits, OthersFit, home_of_part, part_of}
 use Rattle.shared_value.specs.Entered.{refused}
@@ -130,7 +130,7 @@ module _ (w : World) (k : ℕ) (p : Private) (I : IsWorld w) (F : Fits w k p) (s
 
     goes_home : StepsTo v L t h (home_of_part q)
     goes_home =
-        numbers_go w.program w.settings v l L t k p.fresh h E own (frame_of p.frames.top) (map frame_of p.frames.below) None (M.machine.outputs ++ int_in S.task.top Q.register ∷ []) Q.alone Q.goes refl
+        numbers_go w.program w.settings v l L t k p.fresh h E own p.frames.top p.frames.below None (M.machine.outputs ++ int_in S.task.top Q.register ∷ []) Q.alone Q.goes refl
 
     pub output_part : Fits w' k q
     output_part =

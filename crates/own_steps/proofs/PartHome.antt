@@ -1,5 +1,5 @@
 -- The home of a part that fits the machine, and whose heap is as its account says, is read by the addresses that it has in a value.
-use Rattle.std.proofs.Common.{◌≡◌, ℕ, ◌-◌, ◌<◌, ◌^◌, arith, Option, Some, None, List, [], ◌∷◌, map, min, slice_get, inl, inr, refl, ap, ap₂, sym, subst, ◌∙◌}
+use Rattle.std.proofs.Common.{◌≡◌, ℕ, ◌-◌, ◌<◌, ◌^◌, arith, Option, Some, None, List, [], ◌∷◌, min, slice_get, inl, inr, refl, ap, ap₂, sym, subst, ◌∙◌}
 use Rattle.std.proofs.lemmas.Bool.{cases_eq}
 use Rattle.std.proofs.lemmas.Option.{same_Some}
 use Rattle.hh_lang.specs.Form.{ProgramText}
@@ -29,7 +29,6 @@ use Rattle.task_machine.specs.Accounts.{IsCounted}
 use Rattle.task_machine.specs.Fits.{FitsNow as FitsMachine}
 use Rattle.task_machine.specs.Place.{AreAt, FrameStands, FramesStand, Places, birth_of}
 use Rattle.shared_value.specs.Objects.{chunks_of, seen}
-use Rattle.shared_value.specs.World.{frame_of}
 use Rattle.shared_value.specs.Fits.{home_of_part}
 use Rattle.shared_value.proofs.CellsRead.{LiesThere, object_seen, seen_object}
 use Rattle.shared_value.proofs.HeapCounts.{large_are, small_names}
@@ -48,10 +47,10 @@ module _ (place : Places) (at : Name → Addr → Type 0) (lies : (n : Name) (a 
   refs_read (Some n ∷ ns) (None ∷ as') h = absurd h.0
   refs_read (Some n ∷ ns) (Some a ∷ as') h = (lies n a h.0, refs_read ns as' h.1)
 
-  pub frame_read : (f : FrameOfModel) (g : FrameOfCode) → FrameStands place f g → FrameIsRead at (frame_of g) f
+  pub frame_read : (f : FrameOfModel) (g : FrameOfCode) → FrameStands place f g → FrameIsRead at g f
   frame_read f g h = record { function = h.function; next = h.next; ints = h.ints; refs = refs_read f.refs g.refs h.refs }
 
-  pub frames_read : (fs : List FrameOfModel) (gs : List FrameOfCode) → FramesStand place fs gs → FramesAreRead at (map frame_of gs) fs
+  pub frames_read : (fs : List FrameOfModel) (gs : List FrameOfCode) → FramesStand place fs gs → FramesAreRead at gs fs
   frames_read [] [] h = tt
   frames_read [] (g ∷ gs) h = absurd h
   frames_read (f ∷ fs) [] h = absurd h

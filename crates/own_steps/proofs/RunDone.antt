@@ -1,5 +1,5 @@
 -- The root's last frame returns, and the run is done: the root is handed back.
-use Rattle.std.proofs.Common.{◌≡◌, ℕ, suc, ◌+◌, ◌<◌, ◌&&◌, not, arith, Option, Some, None, List, [], length, length-set, map, slice_get, slice_set, option_map, inl, inr, refl, ap, sym, subst, ◌∙◌}
+use Rattle.std.proofs.Common.{◌≡◌, ℕ, suc, ◌+◌, ◌<◌, ◌&&◌, not, arith, Option, Some, None, List, [], length, length-set, slice_get, slice_set, option_map, inl, inr, refl, ap, sym, subst, ◌∙◌}
 use Rattle.std.proofs.lemmas.Bool.{cases_eq}
 use Rattle.std.proofs.lemmas.Option.{same_Some}
 use Rattle.listed.proofs.Members.{got_other, got_same, got_within}
@@ -35,7 +35,7 @@ use Rattle.core_relation.proofs.parts.Workers.{ran_leaves}
 use Rattle.task_machine.specs.declared.part.Private.{Private}
 use Rattle.shared_value.specs.declared.next_step.Ending.TheVariants.{Returns}
 use Rattle.shared_value.specs.declared.task_at_rest.Rest.{Rest}
-use Rattle.shared_value.specs.World.{World, accounts, begun_of, flat, frame_of, home_in, home_of, node_of, rest_at, totals_of, value_of}
+use Rattle.shared_value.specs.World.{World, accounts, begun_of, flat, home_in, home_of, node_of, rest_at, totals_of, value_of}
 use Rattle.shared_value.specs.Measured.{AreMeasured, RestsAreMeasured}
 use Rattle.shared_value.specs.Stands.{HeapForm, IsWorld}
 use Rattle.shared_value.specs.Fits.{Fits, OthersFit, home_of_part, part_of}
@@ -161,7 +161,7 @@ module _ (w : World) (k : ℕ) (p : Private) (I : IsWorld w) (F : Fits w k p) (s
     home_now : v'.homes t ≡ home_of rest
     home_now = ap home_in rest_now
 
-    ends_home : EndsHome vt v' t (frame_of p.frames.top) (map frame_of p.frames.below)
+    ends_home : EndsHome vt v' t p.frames.top p.frames.below
     ends_home = record {
       frames = ap (λ (z : Home). z.frames) here;
       result = ap (λ (z : Home). z.result) home_now;
@@ -204,7 +204,7 @@ module _ (w : World) (k : ℕ) (p : Private) (I : IsWorld w) (F : Fits w k p) (s
     pub done_world : IsWorld w'
     done_world =
         entered_world w (last_event k p) I free tree w.pool homes w.sets hands w.outputs steps (Some (Machine Done)) j.room (length-set w.homes t (Some rest) ∙ (I.made ∙ sym (made_by w.tree t Ended (slice_get w.tree t)))) (I.noted ∙ sym (made_by w.tree t Ended (slice_get w.tree t))) (length-set w.hands k None) refl
-        (ran_stands_for w.program w.settings w.journal.items I.form I.legal v v' (totals_of w) (totals_of w') k t p.fresh h free E I.stands own (frame_of p.frames.top, map frame_of p.frames.below, ends_home) notes counts)
+        (ran_stands_for w.program w.settings w.journal.items I.form I.legal v v' (totals_of w) (totals_of w') k t p.fresh h free E I.stands own (p.frames.top, p.frames.below, ends_home) notes counts)
         heaps_then measured_then
 
     pub done_ends : (accounts w').end ≡ Some (Machine Done)
@@ -220,4 +220,4 @@ module _ (w : World) (k : ℕ) (p : Private) (I : IsWorld w) (F : Fits w k p) (s
     pub done_others : OthersFit w w' k
     done_others u r ne G =
         part_fits w (last_event k p) I free tree w.pool homes w.sets hands w.outputs steps (Some (Machine Done)) j.room done_world u r r (ap flat (got_other w.hands k u None ne)) G refl refl refl G.form G.measured
-        (ran_leaves w.program w.settings v v' l L t k p.fresh h E own (frame_of p.frames.top, map frame_of p.frames.below, ends_home) (part_of w.settings r) (held_apart w k u p r F G ne) G.fits)
+        (ran_leaves w.program w.settings v v' l L t k p.fresh h E own (p.frames.top, p.frames.below, ends_home) (part_of w.settings r) (held_apart w k u p r F G ne) G.fits)

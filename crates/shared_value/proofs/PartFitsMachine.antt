@@ -1,5 +1,5 @@
 -- A part that fits the shared value fits the machine, with the addresses of the value's homes.
-use Rattle.std.proofs.Common.{◌≡◌, ℕ, ◌+◌, ◌<◌, ◌≤◌, ◌==◌, arith, Bool, true, false, cond, Option, Some, None, List, [], ◌∷◌, ◌++◌, length, map, nat_lt, replicate, slice_get, is_none, ◌⊎◌, inl, inr, refl, ap, sym, subst, ◌∙◌, eq-eqb, ne_eqb}
+use Rattle.std.proofs.Common.{◌≡◌, ℕ, ◌+◌, ◌<◌, ◌≤◌, ◌==◌, arith, Bool, true, false, cond, Option, Some, None, List, [], ◌∷◌, ◌++◌, length, nat_lt, replicate, slice_get, is_none, ◌⊎◌, inl, inr, refl, ap, sym, subst, ◌∙◌, eq-eqb, ne_eqb}
 use Rattle.std.specs.Prelude.{option_map}
 use Rattle.std.proofs.lemmas.Bool.{cases_eq, cond-true, cond-false, eqb-true, ltb-true, false≢true, both_ways}
 use Rattle.std.proofs.lemmas.Option.{same_Some}
@@ -59,7 +59,7 @@ use Rattle.task_machine.specs.declared.part.Private.{Private}
 use Rattle.task_machine.specs.Place.{AreAt, FrameStands, FramesStand, IsAt, birth_of, name_of}
 use Rattle.task_machine.specs.Fits.{FitsNow as FitsMachine, HeapStands, IsOwn, IsRun, IsShownBy, StackStands}
 use Rattle.shared_value.specs.Objects.{chunk_of, seen}
-use Rattle.shared_value.specs.World.{World, accounts, frame_of, frames_of, rest_at, value_of, home_in, home_by}
+use Rattle.shared_value.specs.World.{World, accounts, frames_of, rest_at, value_of, home_in, home_by}
 use Rattle.shared_value.specs.declared.task_at_rest.Rest.{Rest}
 use Rattle.shared_value.specs.declared.task_at_rest.Work.{Work}
 use Rattle.shared_value.specs.declared.task_at_rest.Work.TheVariants.{Calls, Result}
@@ -137,10 +137,10 @@ module _ (place : Name → Option Addr) where
   are_at (r ∷ rs) [] h = h
   are_at (r ∷ rs) (x ∷ xs) h = (is_at r x h.0, are_at rs xs h.1)
 
-  frame_stands : (f : Frame) (x : Framed) → FrameIsRead At (frame_of f) x → FrameStands place x f
+  frame_stands : (f : Frame) (x : Framed) → FrameIsRead At f x → FrameStands place x f
   frame_stands f x h = record { function = h.function; next = h.next; ints = h.ints; refs = are_at f.refs x.refs h.refs }
 
-  frames_stand : (fs : List Frame) (xs : List Framed) → FramesAreRead At (map frame_of fs) xs → FramesStand place xs fs
+  frames_stand : (fs : List Frame) (xs : List Framed) → FramesAreRead At fs xs → FramesStand place xs fs
   frames_stand [] [] h = tt
   frames_stand [] (x ∷ xs) h = h
   frames_stand (f ∷ fs) [] h = h

@@ -1,5 +1,5 @@
 -- The shared value as contracts see it, and what it holds as the relation to the accounts speaks of it.
-use Rattle.std.specs.Prelude.{ℕ, ℤ, pos, Bool, false, Option, Some, None, List, [], ◌∷◌, map, replicate, slice_get, option_map}
+use Rattle.std.specs.Prelude.{ℕ, ℤ, pos, Bool, false, Option, Some, None, List, [], ◌∷◌, replicate, slice_get, option_map}
 use Rattle.listed.specs.Space.{Space}
 use Rattle.hh_lang.specs.Form.{ProgramText}
 use Rattle.run_trace.specs.Entry.{Event}
@@ -19,7 +19,7 @@ use Rattle.heap_tree.specs.Node.{Node}
 use Rattle.write_barrier.specs.declared.sets.SetOf.{SetOf}
 use Rattle.inner_mark_gc.specs.Marks.{Marks}
 pub use Rattle.core_relation.specs.Value.{no_home}
-use Rattle.core_relation.specs.Value.{Begun, Frame as SeenFrame, Home, Noted, Value}
+use Rattle.core_relation.specs.Value.{Begun, Home, Noted, Value}
 use Rattle.core_relation.specs.Whole.{Node as SeenNode, State as SeenState, Totals}
 use Rattle.core_relation.specs.Whole.{Ready as IsReady, Out as IsOut, Waits, HasEnded, HasJoined}
 use Rattle.task_machine.specs.declared.part.Begun.{Begun as BegunPart}
@@ -67,12 +67,9 @@ first_rest p slots spare = record {
 
 -- ---- HOMES
 
-abbrev pub frame_of : Frame → SeenFrame
-frame_of f = record { function = f.function; next = f.next; ints = f.ints; refs = f.refs }
-
 -- the top frame, and then those that wait, the oldest first
-abbrev pub frames_of : Stack → List SeenFrame
-frames_of s = frame_of s.top ∷ map frame_of s.below
+abbrev pub frames_of : Stack → List Frame
+frames_of s = s.top ∷ s.below
 
 -- a leaf collection that a part has begun, if it has
 abbrev pub begun_of : Option BegunPart → Option Begun
@@ -80,7 +77,7 @@ begun_of None = None
 begun_of (Some b) = Some (record { roots = b.roots; news = b.news })
 
 -- a heap, a view and a count of allocations, and the frames of a task at work
-abbrev pub home_with : Heap → List Level → ℕ → List SeenFrame → ℤ × Option Addr → Home
+abbrev pub home_with : Heap → List Level → ℕ → List Frame → ℤ × Option Addr → Home
 home_with h view count frames result = record {
   chunks = chunks_of h.chunks;
   room = room_of h;

@@ -14,8 +14,9 @@ use Rattle.run_ledger.specs.declared.data.Heap.{Heap}
 use Rattle.run_ledger.specs.declared.data.Ledger.{Ledger}
 use Rattle.run_ledger.specs.Heaps.{heap_of, fresh}
 use Rattle.run_ledger.specs.Sound.{SoundLedger}
+use Rattle.task_frames.specs.declared.frames.Frame.{Frame}
 use Rattle.remembered_set.specs.declared.remembered.Source.{Source}
-use Rattle.core_relation.specs.Value.{Seen, Frame, Home, Value, In, objects, objects_in, sources, Lies}
+use Rattle.core_relation.specs.Value.{Seen, Home, Value, In, objects, objects_in, sources, Lies}
 use Rattle.core_relation.specs.Reads.{FramesAreRead, HoldsRead, TaskIsRead}
 use Rattle.ledger_steps.specs.Accounts.{own, Rests}
 use Rattle.core_relation.specs.Layout.{AreLaidOut}

@@ -19,8 +19,9 @@ use Rattle.run_ledger.specs.declared.data.Heap.{Heap}
 use Rattle.run_ledger.specs.declared.data.Ledger.{Ledger}
 use Rattle.run_ledger.specs.Heaps.{heap_of, emptied}
 use Rattle.run_ledger.specs.Sound.{SoundLedger}
+use Rattle.task_frames.specs.declared.frames.Frame.{Frame}
 use Rattle.remembered_set.specs.declared.remembered.Source.{Source}
-use Rattle.core_relation.specs.Value.{Seen, Chunk, Frame, Home, no_home, Value, In, objects, objects_in, sources, Lies}
+use Rattle.core_relation.specs.Value.{Seen, Chunk, Home, no_home, Value, In, objects, objects_in, sources, Lies}
 use Rattle.core_relation.specs.Reads.{Reads, IsRead, FrameIsRead, FramesAreRead, HoldsRead, TaskIsRead}
 use Rattle.ledger_steps.specs.Accounts.{own, Rests}
 use Rattle.core_relation.specs.Layout.{AreLaidOut}

@@ -11,7 +11,8 @@ use Rattle.hh_model.specs.Step.{is_joined, is_waiting, is_on_path, owner_of, par
 use Rattle.run_ledger.specs.declared.data.Ledger.{Ledger}
 use Rattle.run_ledger.specs.Heaps.{heap_of, or_fresh, merged, emptied, forked_heap}
 use Rattle.run_ledger.specs.declared.data.Heap.{Heap}
-use Rattle.core_relation.specs.Value.{Seen, Frame, Home, Value, In, objects_in, mapped_chunk, put_at}
+use Rattle.task_frames.specs.declared.frames.Frame.{Frame}
+use Rattle.core_relation.specs.Value.{Seen, Home, Value, In, objects_in, mapped_chunk, put_at}
 use Rattle.ledger_steps.specs.Accounts.{own, StepsAlone, WritesOne, AlikeFor}
 use Rattle.core_relation.specs.Fits.{with_home}
 use Rattle.ledger_steps.specs.Kinds.{ForksTask, JoinsTasks, CanJoin, StoresOne, StoresNumber, EndsTask}

@@ -17,8 +17,9 @@ use Rattle.hh_model.proofs.Steps.{names_run, in_registers}
 use Rattle.run_ledger.specs.declared.data.Ledger.{Ledger}
 use Rattle.run_ledger.specs.Heaps.{heap_of}
 use Rattle.run_ledger.specs.Sound.{SoundLedger, InHeaps}
+use Rattle.task_frames.specs.declared.frames.Frame.{Frame}
 use Rattle.remembered_set.specs.declared.remembered.Source.{Source}
-use Rattle.core_relation.specs.Value.{Frame, Value, In, sources, Lies}
+use Rattle.core_relation.specs.Value.{Value, In, sources, Lies}
 use Rattle.core_relation.specs.Reads.{Reads, FrameIsRead, FramesAreRead, HoldsRead, TaskIsRead}
 use Rattle.ledger_steps.specs.Accounts.{own, Rests}
 use Rattle.core_relation.specs.Stands.{Place, IsSource, Stands}

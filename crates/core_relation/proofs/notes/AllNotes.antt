@@ -14,8 +14,9 @@ use Rattle.run_ledger.specs.declared.data.Heap.{Heap}
 use Rattle.run_ledger.specs.declared.data.Ledger.{Ledger}
 use Rattle.run_ledger.specs.Heaps.{heap_of, within}
 use Rattle.run_ledger.specs.Sound.{SoundLedger}
-use Rattle.core_relation.specs.Value.{Frame, Home, In, Seen, Value, is_at, objects, objects_in, put_at, rewritten, sources}
+use Rattle.core_relation.specs.Value.{Home, In, Seen, Value, is_at, objects, objects_in, put_at, rewritten, sources}
 use Rattle.listed.proofs.Members.{in_append_right}
+use Rattle.task_frames.specs.declared.frames.Frame.{Frame}
 use Rattle.ledger_steps.specs.Accounts.{Rests, StepsAlone, ChangesHeap}
 use Rattle.core_relation.specs.Stands.{Stands}
 use Rattle.core_relation.specs.Begins.{AreRoots, IsRoot}

@@ -19,8 +19,9 @@ use Rattle.run_ledger.specs.Heaps.{heap_of, heap_at, within}
 use Rattle.run_ledger.specs.Sound.{SoundLedger, InHeaps, names_of, snapshot_at}
 use Rattle.inner_mark_gc.specs.Marks.{Marks}
 use Rattle.listed.proofs.Members.{in_append_right}
+use Rattle.task_frames.specs.declared.frames.Frame.{Frame}
 use Rattle.remembered_set.specs.declared.remembered.Source.{Source}
-use Rattle.core_relation.specs.Value.{Chunk, Seen, Frame, Home, Value, In, objects, objects_in, sources, led, is_source, rewritten, rewritten_refs, rewritten_home, is_at, mapped_chunk, put_at}
+use Rattle.core_relation.specs.Value.{Chunk, Seen, Home, Value, In, objects, objects_in, sources, led, is_source, rewritten, rewritten_refs, rewritten_home, is_at, mapped_chunk, put_at}
 use Rattle.ledger_steps.specs.Accounts.{own, Rests}
 use Rattle.core_relation.specs.Stands.{Place, Stands}
 use Rattle.core_relation.specs.Begins.{IsReachedAt, AreRoots}

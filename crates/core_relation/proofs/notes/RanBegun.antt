@@ -9,6 +9,7 @@ use Rattle.run_ledger.specs.declared.data.Heap.{Heap}
 use Rattle.run_ledger.specs.declared.data.Ledger.{Ledger}
 use Rattle.run_ledger.specs.Heaps.{heap_of, or_fresh, let_go}
 use Rattle.run_ledger.specs.Steps.{task_steps}
+use Rattle.task_frames.specs.declared.frames.Frame.{Frame}
 use Rattle.ledger_steps.specs.Accounts.{Rests, StepsAlone, rested}
 use Rattle.ledger_steps.specs.Kinds.{EndsTask}
 use Rattle.ledger_steps.specs.Last.{WritesOther, LastKind, Private, Reading, Writing, Printing, Forking, Ending, Joining, Finishing, Halting, IsOfKind, GoesOn, Splits, Runs}
@@ -16,7 +17,7 @@ use Rattle.ledger_steps.proofs.Ahead.{private_alone, steps_alone_all, with_off}
 use Rattle.ledger_steps.proofs.Along.{steps_know}
 use Rattle.ledger_steps.proofs.Rested.{rested_view}
 use Rattle.ledger_steps.proofs.Split.{worker_step}
-use Rattle.core_relation.specs.Value.{Home, Value, Frame}
+use Rattle.core_relation.specs.Value.{Home, Value}
 use Rattle.core_relation.specs.Fits.{with_home}
 use Rattle.core_relation.specs.Changes.{EndsHome}
 use Rattle.core_relation.specs.Makes.{Stores, Makes}

@@ -7,8 +7,9 @@ use Rattle.object_layout.specs.declared.word.Addr.{Addr}
 use Rattle.hh_model.specs.Step.{is_waiting}
 use Rattle.run_ledger.specs.declared.data.Ledger.{Ledger}
 use Rattle.run_ledger.specs.Heaps.{heap_of}
+use Rattle.task_frames.specs.declared.frames.Frame.{Frame}
 use Rattle.remembered_set.specs.declared.remembered.Source.{Source}
-use Rattle.core_relation.specs.Value.{Frame, Seen, Value, In, objects, sources, led, is_source, rewritten_refs}
+use Rattle.core_relation.specs.Value.{Seen, Value, In, objects, sources, led, is_source, rewritten_refs}
 use Rattle.ledger_steps.specs.Accounts.{own, Rests}
 use Rattle.core_relation.specs.Stands.{Stands}
 use Rattle.core_relation.specs.Begins.{IsRoot}

@@ -19,7 +19,8 @@ use Rattle.run_ledger.specs.Heaps.{heap_of, held, held_in, frames_of, roots_of, 
 use Rattle.run_ledger.proofs.Reached.{reached_root, reached_more, reached_is_walks}
 use Rattle.run_ledger.specs.Sound.{SoundLedger}
 use Rattle.run_ledger.proofs.Sound.{in_held, held_keeps}
-use Rattle.core_relation.specs.Value.{Seen, Frame, Home, Value, In, objects, sources}
+use Rattle.task_frames.specs.declared.frames.Frame.{Frame}
+use Rattle.core_relation.specs.Value.{Seen, Home, Value, In, objects, sources}
 use Rattle.core_relation.specs.Reads.{AllRead, FramesAreRead, HoldsRead}
 use Rattle.ledger_steps.specs.Accounts.{own, Rests}
 use Rattle.core_relation.specs.Stands.{Place, Stands}

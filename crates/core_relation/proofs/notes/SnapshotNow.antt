@@ -13,8 +13,9 @@ use Rattle.hh_model.specs.Step.{is_waiting, waits}
 use Rattle.run_ledger.specs.declared.data.Ledger.{Ledger}
 use Rattle.run_ledger.specs.Heaps.{heap_at, heap_of}
 use Rattle.run_ledger.specs.Sound.{InHeaps, Keeps, SoundLedger, Spares, names_of, snapshot_at}
+use Rattle.task_frames.specs.declared.frames.Frame.{Frame}
 use Rattle.ledger_steps.specs.Accounts.{Rests, own}
-use Rattle.core_relation.specs.Value.{Frame, In, Seen, Value, objects}
+use Rattle.core_relation.specs.Value.{In, Seen, Value, objects}
 use Rattle.core_relation.specs.Reads.{FramesAreRead, HoldsRead}
 use Rattle.core_relation.specs.Stands.{Place, Stands}
 use Rattle.core_relation.specs.Begins.{IsReachedAt, IsRoot, LeadsAt, StartsAt}

@@ -17,7 +17,8 @@ use Rattle.run_ledger.specs.declared.data.Ledger.{Ledger}
 use Rattle.run_ledger.specs.Heaps.{heap_of, or_fresh, let_go}
 use Rattle.run_ledger.specs.Steps.{task_steps}
 use Rattle.run_ledger.specs.Sound.{collecting}
-use Rattle.core_relation.specs.Value.{Seen, Frame, Home, Value, In, objects, objects_in}
+use Rattle.task_frames.specs.declared.frames.Frame.{Frame}
+use Rattle.core_relation.specs.Value.{Seen, Home, Value, In, objects, objects_in}
 use Rattle.ledger_steps.specs.Accounts.{own, Rests, ArePrivate, rested, StepsAlone, AlikeFor, Knows}
 use Rattle.core_relation.specs.Stands.{Stands}
 use Rattle.core_relation.specs.Fits.{Part, FitsAt, ahead, with_home}

@@ -12,7 +12,8 @@ use Rattle.run_ledger.specs.declared.data.Ledger.{Ledger}
 use Rattle.run_ledger.specs.Heaps.{heap_of, or_fresh}
 use Rattle.run_ledger.specs.Steps.{task_steps}
 use Rattle.run_ledger.specs.Sound.{collecting}
-use Rattle.core_relation.specs.Value.{Frame, Home, Value}
+use Rattle.task_frames.specs.declared.frames.Frame.{Frame}
+use Rattle.core_relation.specs.Value.{Home, Value}
 use Rattle.core_relation.specs.Reads.{Reads, FramesAreRead, HoldsRead}
 use Rattle.ledger_steps.specs.Accounts.{Rests, ArePrivate, StepsAlone, AlikeFor, Knows}
 use Rattle.core_relation.specs.Stands.{Place, Stands}

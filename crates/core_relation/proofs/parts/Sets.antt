@@ -22,7 +22,7 @@ use Rattle.ledger_steps.specs.Last.{stepped_by}
 use Rattle.ledger_steps.proofs.Ahead.{with_machine, with_off}
 use Rattle.ledger_steps.proofs.Last.{rest_heaps}
 use Rattle.ledger_steps.proofs.Rested.{rested_worker, rested_sound}
-use Rattle.core_relation.specs.Value.{Seen, Frame, Home, Value, In, objects, objects_in, Lies}
+use Rattle.core_relation.specs.Value.{Seen, Home, Value, In, objects, objects_in, Lies}
 use Rattle.core_relation.specs.Reads.{IsRead, FrameIsRead, FramesAreRead, HoldsRead, TaskIsRead}
 use Rattle.core_relation.specs.Stands.{Place}
 use Rattle.core_relation.specs.Fits.{FitsAt, with_home, part_for}
@@ -34,6 +34,7 @@ use Rattle.core_relation.proofs.parts.Workers.{part_now}
 use Rattle.core_relation.specs.Makes.{StepsTo}
 use Rattle.core_relation.specs.WorkerLaws.{FramesGo, NumbersGo}
 use Rattle.hh_model.specs.declared.data.Frame.{Frame as ModelFrame}
+use Rattle.task_frames.specs.declared.frames.Frame.{Frame}
 use Rattle.ledger_steps.proofs.Along.{steps_know}
 use Rattle.core_relation.proofs.changes.Own.{place_own}
 use Rattle.core_relation.proofs.changes.Store.{goes_on}

@@ -14,8 +14,9 @@ use Rattle.hh_model.specs.Step.{is_waiting}
 use Rattle.run_ledger.specs.declared.data.Ledger.{Ledger}
 use Rattle.run_ledger.specs.Heaps.{heap_of, with_heap, collected}
 use Rattle.run_ledger.specs.Sound.{SoundLedger}
+use Rattle.task_frames.specs.declared.frames.Frame.{Frame}
 use Rattle.core_relation.specs.Stands.{Stands}
-use Rattle.core_relation.specs.Value.{Frame, Home, Value}
+use Rattle.core_relation.specs.Value.{Home, Value}
 use Rattle.ledger_steps.specs.Accounts.{Rests, rested, StepsAlone, Takes, SameTasks, Knows, Leaves}
 use Rattle.core_relation.specs.Fits.{Part, FitsAt, with_home, ahead, part_for}
 use Rattle.core_relation.specs.Changes.{SameBut, SameObjects, JoinsHomes, ForksHome, StoresAt, register, StepsAtHome, HomeIsRead, HasResult, EndsHome, StoresNumberAt}
