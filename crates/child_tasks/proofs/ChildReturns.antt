@@ -21,16 +21,15 @@ use Rattle.run_ledger.specs.Steps.{has_no_caller, is_open, is_private_by, is_pri
 use Rattle.run_ledger.proofs.Bounds.{ran_tells}
 use Rattle.run_ledger.proofs.Counted.{journals_are_counted}
 use Rattle.heap_tree.specs.declared.state.State.{State}
-use Rattle.heap_tree.specs.declared.state.State.TheVariants.{Ready, Out, Waiting, Ended, Joined}
+use Rattle.heap_tree.specs.declared.state.State.TheVariants.{Ended}
 use Rattle.heap_tree.specs.Node.{Node, parent_of as parent_in_tree, state_of as state_in_tree}
 use Rattle.ledger_steps.specs.Last.{Splits}
-use Rattle.core_relation.specs.Whole.{Node as SeenNode, state_by}
-use Rattle.core_relation.specs.Whole.{HasEnded}
+use Rattle.core_relation.specs.Whole.{state_by}
 use Rattle.task_machine.specs.declared.part.Private.{Private}
 use Rattle.shared_value.specs.Entered.{refused}
 use Rattle.shared_value.specs.Fits.{Fits}
 use Rattle.shared_value.specs.Stands.{IsWorld}
-use Rattle.shared_value.specs.World.{World, accounts, node_of, state_of}
+use Rattle.shared_value.specs.World.{World, accounts}
 use Rattle.shared_value.proofs.PartFitsMachine as link
 use Rattle.shared_value.proofs.BeforeTheEnd.{stands_now}
 use Rattle.shared_value.proofs.StepAccounts.{After}
@@ -80,25 +79,18 @@ module _ (w : World) (p : Private) where
 
 -- ---- WHETHER A TASK HAS ENDED, by the tree
 
-ended_state : (s : State) → state_of s ≡ HasEnded → s ≡ Ended
-ended_state Ended e = refl
-ended_state Ready e = absurd cc
-ended_state Out e = absurd cc
-ended_state Waiting e = absurd cc
-ended_state Joined e = absurd cc
-
-not_running : (o : Option ℕ) → HasEnded ≡ state_by Running o → ⊥
+not_running : (o : Option ℕ) → Ended ≡ state_by Running o → ⊥
 not_running None e = cc
 not_running (Some k) e = cc
 
 abbrev Tells : Status → State → Type 0
 Tells s st = (st ≡ Ended → (r : ℤ × Option Name) × (result_in s ≡ Some r)) × ((st ≡ Ended → ⊥) → result_in s ≡ None)
 
-status_tells : (k : Option ℕ) (s : Status) (st : State) → state_of st ≡ state_by s k → Tells s st
-status_tells k Running st e = ((λ q. absurd (not_running k (ap state_of (sym q) ∙ e))), (λ n. refl))
-status_tells k WaitingOf st e = ((λ q. let z = ap state_of (sym q) ∙ e in absurd cc), (λ n. refl))
-status_tells k (EndedWith n r) st e = ((λ q. ((n, r), refl)), (λ never. absurd (never (ended_state st e))))
-status_tells k JoinedOf st e = ((λ q. let z = ap state_of (sym q) ∙ e in absurd cc), (λ n. refl))
+status_tells : (k : Option ℕ) (s : Status) (st : State) → st ≡ state_by s k → Tells s st
+status_tells k Running st e = ((λ q. absurd (not_running k (sym q ∙ e))), (λ n. refl))
+status_tells k WaitingOf st e = ((λ q. let z = sym q ∙ e in absurd cc), (λ n. refl))
+status_tells k (EndedWith n r) st e = ((λ q. ((n, r), refl)), (λ never. absurd (never e)))
+status_tells k JoinedOf st e = ((λ q. let z = sym q ∙ e in absurd cc), (λ n. refl))
 
 abbrev state_in : Option Node → Option State
 state_in o = option_map (λ (n : Node). n.state) o
@@ -106,13 +98,13 @@ state_in o = option_map (λ (n : Node). n.state) o
 none_some : {A B : Type 0} {x : A} → ◌≡◌ {A = Option A} None (Some x) → B
 none_some e = absurd cc
 
-node_tells : (k : Option ℕ) (n : Option Node) (o : Option Task) → option_map node_of n ≡ option_map (told k) o
+node_tells : (k : Option ℕ) (n : Option Node) (o : Option Task) → n ≡ option_map (told k) o
     → (state_in n ≡ Some Ended → (r : ℤ × Option Name) × (kept_by o ≡ Some r)) × ((state_in n ≡ Some Ended → ⊥) → kept_by o ≡ None)
 node_tells k None None e = ((λ q. none_some q), (λ n. refl))
 node_tells k None (Some x) e = none_some e
 node_tells k (Some n) None e = none_some (sym e)
 node_tells k (Some n) (Some x) e =
-    let s = status_tells k x.status n.state (ap (λ (z : SeenNode). z.state) (same_Some (node_of n) (told k x) e)) in
+    let s = status_tells k x.status n.state (ap (λ (z : Node). z.state) (same_Some n (told k x) e)) in
     ((λ q. s.0 (same_Some n.state Ended q)), (λ never. s.1 (λ q. never (ap Some q))))
 
 pub waits_stop : (o : Option Task) → is_waiting o ≡ true → is_running o ≡ false

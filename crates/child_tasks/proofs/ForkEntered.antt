@@ -37,7 +37,7 @@ use Rattle.core_relation.proofs.parts.Workers.{ran_leaves}
 use Rattle.task_machine.specs.declared.part.Private.{Private}
 use Rattle.shared_value.specs.declared.task_at_rest.Rest.{Rest}
 use Rattle.shared_value.specs.Objects.{levels_of}
-use Rattle.shared_value.specs.World.{World, marks_at, accounts, begun_of, flat, home_in, home_of, node_of, noted_in, rest_at, totals_of, value_of}
+use Rattle.shared_value.specs.World.{World, marks_at, accounts, begun_of, flat, home_in, home_of, noted_in, rest_at, totals_of, value_of}
 use Rattle.shared_value.specs.Measured.{AreMeasured, RestsAreMeasured}
 use Rattle.shared_value.specs.Stands.{HeapForm, IsWorld}
 use Rattle.shared_value.specs.Fits.{Fits, OthersFit, home_of_part, part_of}
@@ -251,20 +251,20 @@ module _ (w : World) (k : ℕ) (p : Private) (I : IsWorld w) (F : Fits w k p) (a
     node_front : (u : ℕ) → u < length w.tree → slice_get tree u ≡ slice_get old u
     node_front u lt = got_front old (child_of t ∷ child_of t ∷ []) u (subst (λ n. u < n) (sym old_long) lt)
 
-    node_other : (u : ℕ) → (u ≡ t → ⊥) → (u ≡ a → ⊥) → (u ≡ a + 1 → ⊥) → option_map node_of (slice_get tree u) ≡ option_map node_of (slice_get w.tree u)
+    node_other : (u : ℕ) → (u ≡ t → ⊥) → (u ≡ a → ⊥) → (u ≡ a + 1 → ⊥) → slice_get tree u ≡ slice_get w.tree u
     node_other u nt na nb = elim (cases_lt u (length w.tree)) [
-      | inl lt ↦ ap (option_map node_of) (node_front u lt) ∙ node_off w.tree t Waiting (slice_get w.tree t) u nt
+      | inl lt ↦ node_front u lt ∙ node_off w.tree t Waiting (slice_get w.tree t) u nt
       | inr le ↦
           let e = made_is in
           let n = all w.tree t in
-          ap (option_map node_of) (got_past tree u (omega (arith, le, na, nb, e, n)) ∙ sym (got_past w.tree u le))
+          got_past tree u (omega (arith, le, na, nb, e, n)) ∙ sym (got_past w.tree u le)
     ]
 
     nodes_fork : NodesFork (totals_of w) (totals_of w') t a (a + 1)
     nodes_fork = record {
-      parent = ap (option_map node_of) (node_front t has_node) ∙ node_by w.tree t Waiting (slice_get w.tree t) refl;
-      left = ap (option_map node_of) (ap (slice_get tree) (let e : a ≡ length w.tree + 0 = omega (arith, made_is) in e) ∙ child_node 0);
-      right = ap (option_map node_of) (ap (slice_get tree) (let e : a + 1 ≡ length w.tree + 1 = omega (arith, made_is) in e) ∙ child_node 1);
+      parent = node_front t has_node ∙ node_by w.tree t Waiting (slice_get w.tree t) refl;
+      left = ap (slice_get tree) (let e : a ≡ length w.tree + 0 = omega (arith, made_is) in e) ∙ child_node 0;
+      right = ap (slice_get tree) (let e : a + 1 ≡ length w.tree + 1 = omega (arith, made_is) in e) ∙ child_node 1;
       others = node_other;
     }
 

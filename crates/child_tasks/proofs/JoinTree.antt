@@ -15,22 +15,22 @@ use Rattle.alloc_path.specs.Heap.{Heap, room_of}
 use Rattle.alloc_path.specs.View.{Level}
 use Rattle.task_frames.specs.Stack.{Stack}
 use Rattle.heap_tree.specs.declared.state.State.TheVariants.{Ended, Joined, Ready}
+use Rattle.heap_tree.specs.declared.state.State.{State}
 use Rattle.heap_tree.specs.Node.{Node, with_state}
 use Rattle.fork_join.specs.Joined.{joined_nodes}
 use Rattle.core_relation.specs.Value.{In}
 use Rattle.core_relation.specs.Reads.{HoldsRead, TaskIsRead}
 use Rattle.core_relation.specs.RanCounts.{node_then}
-use Rattle.core_relation.specs.Whole.{Node as SeenNode, State as SeenState, HasEnded, HasJoined, Ready as IsReady}
 use Rattle.shared_value.specs.declared.task_at_rest.Work.{Work}
 use Rattle.shared_value.specs.declared.task_at_rest.Work.TheVariants.{Calls, Result}
 use Rattle.shared_value.specs.declared.task_at_rest.Rest.{Rest}
-use Rattle.shared_value.specs.World.{home_by, home_in, home_of, node_of}
+use Rattle.shared_value.specs.World.{home_by, home_in, home_of}
 use Rattle.shared_value.proofs.TaskTaken.{made_by, node_by, node_off}
 
 -- ---- THE TREE
 
-abbrev pub view : ℕ → List Node → Option SeenNode
-view u xs = option_map node_of (slice_get xs u)
+abbrev pub view : ℕ → List Node → Option Node
+view u xs = slice_get xs u
 
 module _ (xs : List Node) (t q c d : ℕ) (child : (t ≡ c) ⊎ (t ≡ d)) (qc : q ≡ c → ⊥) (qd : q ≡ d → ⊥) (cd : c ≡ d → ⊥) where
   abbrev x1 : List Node
@@ -57,27 +57,27 @@ module _ (xs : List Node) (t q c d : ℕ) (child : (t ≡ c) ⊎ (t ≡ d)) (qc 
   off4 : (u : ℕ) → (u ≡ q → ⊥) → view u joined_tree ≡ view u x3
   off4 u ne = node_off x3 q Ready (slice_get x3 q) u ne
 
-  twice : (s s' : SeenState) (o : Option SeenNode) → option_map (node_then s) (option_map (node_then s') o) ≡ option_map (node_then s) o
+  twice : (s s' : State) (o : Option Node) → option_map (node_then s) (option_map (node_then s') o) ≡ option_map (node_then s) o
   twice s s' None = refl
   twice s s' (Some n) = refl
 
-  over : (u : ℕ) → option_map (node_then HasJoined) (view u x1) ≡ option_map (node_then HasJoined) (view u xs)
+  over : (u : ℕ) → option_map (node_then Joined) (view u x1) ≡ option_map (node_then Joined) (view u xs)
   over u = elim (cases_eq u t) [
-    | inl e ↦ ap (λ z. option_map (node_then HasJoined) (view z x1)) e ∙ (ap (option_map (node_then HasJoined)) (node_by xs t Ended (slice_get xs t) refl) ∙ (twice HasJoined HasEnded (view t xs) ∙ ap (λ z. option_map (node_then HasJoined) (view z xs)) (sym e)))
-    | inr ne ↦ ap (option_map (node_then HasJoined)) (off1 u ne)
+    | inl e ↦ ap (λ z. option_map (node_then Joined) (view z x1)) e ∙ (ap (option_map (node_then Joined)) (node_by xs t Ended (slice_get xs t) refl) ∙ (twice Joined Ended (view t xs) ∙ ap (λ z. option_map (node_then Joined) (view z xs)) (sym e)))
+    | inr ne ↦ ap (option_map (node_then Joined)) (off1 u ne)
   ]
 
   t_not : (u : ℕ) → (u ≡ c → ⊥) → (u ≡ d → ⊥) → u ≡ t → ⊥
   t_not u nc nd e = elim child [ inl f ↦ nc (e ∙ f) | inr f ↦ nd (e ∙ f) ]
 
-  pub parent_node : view q joined_tree ≡ option_map (node_then IsReady) (view q xs)
-  parent_node = node_by x3 q Ready (slice_get x3 q) refl ∙ ap (option_map (node_then IsReady)) (off3 q qd ∙ (off2 q qc ∙ off1 q (t_not q qc qd)))
+  pub parent_node : view q joined_tree ≡ option_map (node_then Ready) (view q xs)
+  parent_node = node_by x3 q Ready (slice_get x3 q) refl ∙ ap (option_map (node_then Ready)) (off3 q qd ∙ (off2 q qc ∙ off1 q (t_not q qc qd)))
 
-  pub left_node : view c joined_tree ≡ option_map (node_then HasJoined) (view c xs)
+  pub left_node : view c joined_tree ≡ option_map (node_then Joined) (view c xs)
   left_node = off4 c (λ e. qc (sym e)) ∙ (off3 c cd ∙ (node_by x1 c Joined (slice_get x1 c) refl ∙ over c))
 
-  pub right_node : view d joined_tree ≡ option_map (node_then HasJoined) (view d xs)
-  right_node = off4 d (λ e. qd (sym e)) ∙ (node_by x2 d Joined (slice_get x2 d) refl ∙ (ap (option_map (node_then HasJoined)) (off2 d (λ e. cd (sym e))) ∙ over d))
+  pub right_node : view d joined_tree ≡ option_map (node_then Joined) (view d xs)
+  right_node = off4 d (λ e. qd (sym e)) ∙ (node_by x2 d Joined (slice_get x2 d) refl ∙ (ap (option_map (node_then Joined)) (off2 d (λ e. cd (sym e))) ∙ over d))
 
   pub other_node : (u : ℕ) → (u ≡ q → ⊥) → (u ≡ c → ⊥) → (u ≡ d → ⊥) → view u joined_tree ≡ view u xs
   other_node u nq nc nd = off4 u nq ∙ (off3 u nd ∙ (off2 u nc ∙ off1 u (t_not u nc nd)))

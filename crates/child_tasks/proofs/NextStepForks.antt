@@ -17,12 +17,10 @@ use Rattle.run_ledger.specs.Heaps.{heap_of}
 use Rattle.run_ledger.specs.Steps.{is_open, is_private_by, is_private_line, task_steps}
 use Rattle.run_ledger.proofs.Bounds.{ran_tells}
 use Rattle.run_ledger.proofs.Counted.{journals_are_counted}
-use Rattle.heap_tree.specs.declared.state.State.{State}
-use Rattle.heap_tree.specs.declared.state.State.TheVariants.{Ready, Out, Waiting, Ended, Joined}
+use Rattle.heap_tree.specs.declared.state.State.TheVariants.{Out}
 use Rattle.heap_tree.specs.Node.{Node, depth_of, parent_in, parent_of as parent_in_tree, state_of as state_in_tree}
 use Rattle.ledger_steps.specs.Last.{Splits}
-use Rattle.core_relation.specs.Whole.{Node as SeenNode, StandsFor, state_by}
-use Rattle.core_relation.specs.Whole.{Out as IsOut}
+use Rattle.core_relation.specs.Whole.{StandsFor, state_by}
 use Rattle.task_machine.specs.declared.part.Private.{Private}
 use Rattle.task_machine.specs.Fits.{FitsNow as FitsMachine}
 use Rattle.task_machine.specs.Place.{Places}
@@ -33,7 +31,7 @@ use Rattle.shared_value.specs.Fits.{Fits}
 use Rattle.shared_value.specs.Links.{above_of}
 use Rattle.shared_value.specs.Next.{next_line}
 use Rattle.shared_value.specs.Stands.{IsWorld}
-use Rattle.shared_value.specs.World.{World, accounts, node_of, state_of, totals_of, value_of}
+use Rattle.shared_value.specs.World.{World, accounts, totals_of, value_of}
 use Rattle.shared_value.proofs.PartFitsMachine as link
 use Rattle.shared_value.proofs.BeforeTheEnd.{stands_now}
 use Rattle.shared_value.proofs.StepsEntered.{status}
@@ -43,7 +41,6 @@ use Rattle.shared_value.proofs.SameLength.{same_length}
 use Rattle.own_steps.specs.Alone.{IsShared, Tells, alone_event, machine_after}
 use Rattle.own_steps.proofs.AloneEntries.{last_free, runs_on}
 use Rattle.own_steps.proofs.TaskDepths.{AreDeep, deep_in, run_deep}
-use Rattle.own_steps.proofs.RunDone.{some_of}
 use Rattle.own_steps.proofs.LastStepEntry as last
 use Rattle.own_steps.proofs.LastSteps.{fits_machine, machine_same}
 use Rattle.child_tasks.specs.Forks.{ForksTo, IsAtFork, is_fork, is_fork_by, is_par}
@@ -75,15 +72,7 @@ module _ (w : World) (p : Private) where
 
 -- ---- THE TREE AND THE TASKS
 
-abbrev seen_parent : Option SeenNode → Option ℕ
-seen_parent None = None
-seen_parent (Some n) = n.parent
-
-node_parent : (o : Option Node) → parent_in o ≡ seen_parent (option_map node_of o)
-node_parent None = refl
-node_parent (Some n) = refl
-
-task_parent : (w : Option ℕ) (o : Option Task) → seen_parent (option_map (told w) o) ≡ parent_of o
+task_parent : (w : Option ℕ) (o : Option Task) → parent_in (option_map (told w) o) ≡ parent_of o
 task_parent w None = refl
 task_parent w (Some x) = refl
 
@@ -91,35 +80,25 @@ some_map : {A B : Type 0} (f : A → B) (o : Option A) → is_some (option_map f
 some_map f None = refl
 some_map f (Some x) = refl
 
-out_is : (s : State) → state_of s ≡ IsOut → s ≡ Out
-out_is Out e = refl
-out_is Ready e = absurd cc
-out_is Waiting e = absurd cc
-out_is Ended e = absurd cc
-out_is Joined e = absurd cc
-
 module _ (w : World) (I : IsWorld w) (on : (accounts w).end ≡ None) where
   abbrev S0 : StandsFor (value_of w) (totals_of w) (accounts w)
   S0 = stands_now w I on
 
   pub tree_parents : (u : ℕ) → parent_in_tree w.tree u ≡ parents (accounts w).machine.tasks u
-  tree_parents u = node_parent (slice_get w.tree u) ∙ (ap seen_parent (S0.totals.node u) ∙ task_parent (heap_of (accounts w) u).worker (slice_get (accounts w).machine.tasks u))
+  tree_parents u = ap parent_in (S0.totals.node u) ∙ task_parent (heap_of (accounts w) u).worker (slice_get (accounts w).machine.tasks u)
 
   -- as many tasks as nodes
   pub tree_long : length w.tree ≡ length (accounts w).machine.tasks
   tree_long =
       same_length w.tree (accounts w).machine.tasks
-      (λ u. sym (some_map node_of (slice_get w.tree u)) ∙ (ap is_some (S0.totals.node u) ∙ some_map (told (heap_of (accounts w) u).worker) (slice_get (accounts w).machine.tasks u)))
+      (λ u. ap is_some (S0.totals.node u) ∙ some_map (told (heap_of (accounts w) u).worker) (slice_get (accounts w).machine.tasks u))
 
   -- the task of a part is out
   module _ (k : ℕ) (p : Private) (F : Fits w k p) where
     pub node_out : (n : Node) × (slice_get w.tree p.task ≡ Some n) × (n.state ≡ Out)
     node_out =
-        let is : option_map node_of (slice_get w.tree p.task) ≡ Some (told (heap_of (accounts w) p.task).worker F.fits.task) = S0.totals.node p.task ∙ ap (option_map (told (heap_of (accounts w) p.task).worker)) F.fits.is in
-        let n = some_of node_of (slice_get w.tree p.task) _ is in
-        let state : state_of n.0.state ≡ IsOut =
-        ap (λ (z : SeenNode). z.state) n.2 ∙ ap₂ state_by (status w k p I F on) F.held in
-        (n.0, n.1, out_is n.0.state state)
+        let is : slice_get w.tree p.task ≡ Some (told (heap_of (accounts w) p.task).worker F.fits.task) = S0.totals.node p.task ∙ ap (option_map (told (heap_of (accounts w) p.task).worker)) F.fits.is in
+        (told (heap_of (accounts w) p.task).worker F.fits.task, is, ap₂ state_by (status w k p I F on) F.held)
 
     pub tree_out : state_in_tree w.tree p.task ≡ Some Out
     tree_out = ap (option_map (λ (n : Node). n.state)) node_out.1 ∙ ap Some node_out.2

@@ -5,37 +5,27 @@ use Rattle.std.proofs.lemmas.Bool.{cond-false, cond-true, eqb-false}
 use Rattle.std.proofs.lemmas.Option.{same_Some}
 use Rattle.hh_model.specs.declared.data.Status.TheVariants.{Waiting as WaitingOf}
 use Rattle.hh_model.specs.declared.data.Task.{Task}
-use Rattle.heap_tree.specs.declared.state.State.{State}
-use Rattle.heap_tree.specs.declared.state.State.TheVariants.{Ended, Waiting, Ready, Out, Joined}
+use Rattle.heap_tree.specs.declared.state.State.TheVariants.{Waiting}
 use Rattle.heap_tree.specs.Node.{Node}
 use Rattle.heap_tree.specs.Pairs.{is_left, sibling}
 use Rattle.remembered_set.specs.Sources.{Notes}
 use Rattle.write_barrier.specs.declared.sets.SetOf.{SetOf}
 use Rattle.write_barrier.specs.Stored.{content_of}
 use Rattle.fork_join.specs.declared.sides.EndedChild.{EndedChild}
-use Rattle.core_relation.specs.Whole.{Node as SeenNode, Waits}
 use Rattle.task_machine.specs.declared.part.Private.{Private}
 use Rattle.shared_value.specs.declared.task_at_rest.Rest.{Rest}
-use Rattle.shared_value.specs.World.{node_of, state_of}
 use Rattle.shared_value.proofs.TaskTaken.{told}
 use Rattle.child_tasks.specs.Joins.{AreSides, IsRestOf, chunk_count, left_of, other_child, own_child, right_of, sources_by}
 
 -- ---- A TASK THAT WAITS, in the tree
 
-waits_state : (s : State) → state_of s ≡ Waits → s ≡ Waiting
-waits_state Waiting e = refl
-waits_state Ready e = absurd cc
-waits_state Out e = absurd cc
-waits_state Ended e = absurd cc
-waits_state Joined e = absurd cc
-
 none_some : {A B : Type 0} {x : A} → ◌≡◌ {A = Option A} None (Some x) → B
 none_some e = absurd cc
 
-pub waits_in : (wk : Option ℕ) (n : Option Node) (x : Task) → x.status ≡ WaitingOf → option_map node_of n ≡ Some (told wk x) → option_map (λ (i : Node). i.state) n ≡ Some Waiting
+pub waits_in : (wk : Option ℕ) (n : Option Node) (x : Task) → x.status ≡ WaitingOf → n ≡ Some (told wk x) → option_map (λ (i : Node). i.state) n ≡ Some Waiting
 waits_in wk None x e h = none_some h
 waits_in wk (Some n) x e h =
-    ap Some (waits_state n.state (ap (λ (z : SeenNode). z.state) (same_Some (node_of n) (told wk x) h) ∙ ap (λ s. (told wk (record x { status = s })).state) e))
+    ap Some (ap (λ (z : Node). z.state) (same_Some n (told wk x) h) ∙ ap (λ s. (told wk (record x { status = s })).state) e)
 
 -- ---- SIDES
 

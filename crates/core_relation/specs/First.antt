@@ -1,8 +1,10 @@
 -- The value before any entry: the root is ready, with one frame, and nothing else is there.
 use Rattle.std.specs.Prelude.{ℕ, zero, suc, pos, false, Option, Some, None, [], ◌∷◌, replicate}
 use Rattle.hh_lang.specs.Form.{ProgramText}
+use Rattle.heap_tree.specs.declared.state.State.TheVariants.{Ready}
+use Rattle.heap_tree.specs.Node.{Node}
 use Rattle.core_relation.specs.Value.{Home, no_home, Value}
-use Rattle.core_relation.specs.Whole.{Node, Totals, Ready}
+use Rattle.core_relation.specs.Whole.{Totals}
 
 abbrev pub first_home : ProgramText → ℕ → Home
 first_home p zero = record no_home { frames = record { function = p.main; next = 0; ints = replicate 16 (pos 0); refs = replicate 16 None } ∷ [] }

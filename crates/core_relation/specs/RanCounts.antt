@@ -8,8 +8,11 @@ use Rattle.hh_model.specs.declared.data.Task.{Task}
 use Rattle.hh_model.specs.Effect.{int_in}
 use Rattle.run_ledger.specs.declared.data.Ledger.{Ledger}
 use Rattle.run_ledger.specs.declared.data.RunEnd.TheVariants.{Machine}
+use Rattle.heap_tree.specs.declared.state.State.{State}
+use Rattle.heap_tree.specs.declared.state.State.TheVariants.{Ready, Waiting, Ended, Joined}
+use Rattle.heap_tree.specs.Node.{Node}
 use Rattle.ledger_steps.specs.Last.{LastKind, Private, Reading, Writing, Printing, Forking, Ending, Joining, Finishing, Halting, IsOfKind}
-use Rattle.core_relation.specs.Whole.{Totals, Node, State, Ready, Waits, HasEnded, HasJoined}
+use Rattle.core_relation.specs.Whole.{Totals}
 
 -- THE TREE
 
@@ -26,7 +29,7 @@ pub record NodeGoes (c c' : Totals) (t : ℕ) (s : State) : Type 0 where
 
 -- t waits for its children a and b, which are ready
 pub record NodesFork (c c' : Totals) (t a b : ℕ) : Type 0 where
-  pub parent : c'.node t ≡ option_map (node_then Waits) (c.node t)
+  pub parent : c'.node t ≡ option_map (node_then Waiting) (c.node t)
   pub left : c'.node a ≡ Some (record { parent = Some t; state = Ready })
   pub right : c'.node b ≡ Some (record { parent = Some t; state = Ready })
   pub others : (u : ℕ) → (u ≡ t → ⊥) → (u ≡ a → ⊥) → (u ≡ b → ⊥) → c'.node u ≡ c.node u
@@ -34,8 +37,8 @@ pub record NodesFork (c c' : Totals) (t a b : ℕ) : Type 0 where
 -- p is ready again, and its children a and b have joined it
 pub record NodesJoin (c c' : Totals) (p a b : ℕ) : Type 0 where
   pub parent : c'.node p ≡ option_map (node_then Ready) (c.node p)
-  pub left : c'.node a ≡ option_map (node_then HasJoined) (c.node a)
-  pub right : c'.node b ≡ option_map (node_then HasJoined) (c.node b)
+  pub left : c'.node a ≡ option_map (node_then Joined) (c.node a)
+  pub right : c'.node b ≡ option_map (node_then Joined) (c.node b)
   pub others : (u : ℕ) → (u ≡ p → ⊥) → (u ≡ a → ⊥) → (u ≡ b → ⊥) → c'.node u ≡ c.node u
 
 abbrev pub TreeGoes : (p : ProgramText) → Totals → Totals → (m l' : Ledger) → (t : ℕ) → (x : Task) → (line : Line) → (kind : LastKind) → IsOfKind p m l' t x line kind → Type 0
@@ -44,9 +47,9 @@ TreeGoes p c c' m l' t x line Reading K = NodesStay c c'
 TreeGoes p c c' m l' t x line Writing K = NodesStay c c'
 TreeGoes p c c' m l' t x line Printing K = NodesStay c c'
 TreeGoes p c c' m l' t x line Forking K = NodesFork c c' t (length m.machine.tasks) (length m.machine.tasks + 1)
-TreeGoes p c c' m l' t x line Ending K = NodeGoes c c' t HasEnded
+TreeGoes p c c' m l' t x line Ending K = NodeGoes c c' t Ended
 TreeGoes p c c' m l' t x line Joining K = NodesJoin c c' K.parent K.left (K.left + 1)
-TreeGoes p c c' m l' t x line Finishing K = NodeGoes c c' t HasEnded
+TreeGoes p c c' m l' t x line Finishing K = NodeGoes c c' t Ended
 TreeGoes p c c' m l' t x line Halting K = NodesStay c c'
 
 -- WHAT WORKERS HOLD: the worker w goes on with its task, or lets go of it

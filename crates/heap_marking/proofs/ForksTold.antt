@@ -20,15 +20,12 @@ use Rattle.run_ledger.specs.Sound.{SoundLedger}
 use Rattle.run_ledger.proofs.Machine.{machine_is_run}
 use Rattle.run_ledger.proofs.Journals.{legal_sound}
 use Rattle.alloc_path.specs.Heap.{counted}
-use Rattle.heap_tree.specs.declared.state.State.{State}
-use Rattle.heap_tree.specs.declared.state.State.TheVariants.{Ready, Out, Waiting as Waits', Ended as Ended', Joined as Joined'}
 use Rattle.heap_tree.specs.Node.{Node, parent_in, parent_of, state_of as state_in}
-use Rattle.core_relation.specs.Whole.{Node as SeenNode, StandsFor, State as SeenState, state_by}
-use Rattle.core_relation.specs.Whole.{Ready as IsReady, Out as IsOut, Waits, HasEnded, HasJoined}
+use Rattle.core_relation.specs.Whole.{StandsFor, state_by}
 use Rattle.shared_value.specs.Causes.{or_else}
 use Rattle.shared_value.specs.Entered.{Enters}
 use Rattle.shared_value.specs.Stands.{IsWorld}
-use Rattle.shared_value.specs.World.{World, accounts, marks_at, node_of, noted_in, state_of, totals_of, value_of}
+use Rattle.shared_value.specs.World.{World, accounts, marks_at, noted_in, totals_of, value_of}
 use Rattle.shared_value.proofs.JournalGoesOn.{accounts_then}
 use Rattle.shared_value.proofs.BeforeTheEnd.{stands_now}
 use Rattle.heap_marking.specs.declared.pace.Fork.{Fork}
@@ -40,43 +37,27 @@ use Rattle.heap_marking.proofs.PaceKeeps.{child_from, child_tells, fork_from, ke
 use Rattle.heap_marking.proofs.StepsKeepForks.{runs_have_live}
 
 -- WHO HAS JOINED
-seen_joined : SeenState → Bool
-seen_joined IsReady = false
-seen_joined IsOut = false
-seen_joined Waits = false
-seen_joined HasEnded = false
-seen_joined HasJoined = true
-
-by_state : (a : State) → is_state_joined (Some a) ≡ seen_joined (state_of a)
-unfolding seen_joined
-by_state Ready = refl
-by_state Out = refl
-by_state Waits' = refl
-by_state Ended' = refl
-by_state Joined' = refl
-
-by_status : (s : Status) (o : Option ℕ) → seen_joined (state_by s o) ≡ is_over s
-unfolding seen_joined
+by_status : (s : Status) (o : Option ℕ) → is_state_joined (Some (state_by s o)) ≡ is_over s
 by_status Running None = refl
 by_status Running (Some w) = refl
 by_status Waiting o = refl
 by_status (Ended n r) o = refl
 by_status Joined o = refl
 
-abbrev told : Option ℕ → Task → SeenNode
+abbrev told : Option ℕ → Task → Node
 told o x = record { parent = x.parent; state = state_by x.status o }
 
-joined_by : (n : Option Node) (x : Option Task) (o : Option ℕ) → option_map node_of n ≡ option_map (told o) x → is_state_joined (option_map (λ m. m.state) n) ≡ is_joined x
+joined_by : (n : Option Node) (x : Option Task) (o : Option ℕ) → n ≡ option_map (told o) x → is_state_joined (option_map (λ m. m.state) n) ≡ is_joined x
 joined_by None None o e = refl
 joined_by None (Some x) o e = absurd cc
 joined_by (Some m) None o e = absurd cc
-joined_by (Some m) (Some x) o e = by_state m.state ∙ (ap (λ y. seen_joined y.state) (same_Some (node_of m) (told o x) e) ∙ by_status x.status o)
+joined_by (Some m) (Some x) o e = ap (λ (y : Node). is_state_joined (Some y.state)) (same_Some m (told o x) e) ∙ by_status x.status o
 
-parent_by : (n : Option Node) (x : Option Task) (o : Option ℕ) → option_map node_of n ≡ option_map (told o) x → parent_in n ≡ parent_in_machine x
+parent_by : (n : Option Node) (x : Option Task) (o : Option ℕ) → n ≡ option_map (told o) x → parent_in n ≡ parent_in_machine x
 parent_by None None o e = refl
 parent_by None (Some x) o e = absurd cc
 parent_by (Some m) None o e = absurd cc
-parent_by (Some m) (Some x) o e = ap (λ y. y.parent) (same_Some (node_of m) (told o x) e)
+parent_by (Some m) (Some x) o e = ap (λ y. y.parent) (same_Some m (told o x) e)
 
 free_by : (a k s : Bool) → k ≡ (a && not s) → is_none (refused_unless a NotWaiting (refused_unless k Swept None)) ≡ (a && not s)
 free_by false k s e = refl

@@ -10,52 +10,33 @@ use Rattle.run_ledger.specs.declared.data.Refused.{Refused}
 use Rattle.run_ledger.specs.declared.data.Refused.TheVariants.{Left, Marked, Marking, NotDue, NotMarking, NotWaiting, Swept}
 use Rattle.run_ledger.specs.Entries.{counted, refused_if, refused_unless}
 use Rattle.run_ledger.specs.Heaps.{heap_of, left_in, marked_in, sweep_number, words_in}
-use Rattle.heap_tree.specs.declared.state.State.{State}
-use Rattle.heap_tree.specs.declared.state.State.TheVariants.{Ready, Out, Waiting as Waits', Ended as Ended', Joined as Joined'}
 use Rattle.heap_tree.specs.Node.{Node}
 use Rattle.inner_mark_gc.specs.Marks.{Marks}
 use Rattle.core_relation.specs.Marking.{MarkedBy}
 use Rattle.core_relation.specs.Value.{Value}
-use Rattle.core_relation.specs.Whole.{Node as SeenNode, StandsFor, State as SeenState, state_by}
-use Rattle.core_relation.specs.Whole.{Ready as IsReady, Out as IsOut, Waits, HasEnded, HasJoined}
+use Rattle.core_relation.specs.Whole.{StandsFor, state_by}
 use Rattle.shared_value.specs.Causes.{or_else}
-use Rattle.shared_value.specs.World.{accounts, marks_at, node_of, noted_in, state_of, totals_of, value_of}
+use Rattle.shared_value.specs.World.{accounts, marks_at, noted_in, totals_of, value_of}
 use Rattle.shared_value.proofs.BeforeTheEnd.{stands_now}
 use Rattle.heap_marking.specs.MarkCauses.{MarksRefuse, is_state_waiting}
 
 -- WHO WAITS
 
-seen_waits : SeenState → Bool
-seen_waits IsReady = false
-seen_waits IsOut = false
-seen_waits Waits = true
-seen_waits HasEnded = false
-seen_waits HasJoined = false
-
-by_state : (a : State) → is_state_waiting (Some a) ≡ seen_waits (state_of a)
-unfolding seen_waits
-by_state Ready = refl
-by_state Out = refl
-by_state Waits' = refl
-by_state Ended' = refl
-by_state Joined' = refl
-
-by_status : (s : Status) (o : Option ℕ) → seen_waits (state_by s o) ≡ waits s
-unfolding seen_waits
+by_status : (s : Status) (o : Option ℕ) → is_state_waiting (Some (state_by s o)) ≡ waits s
 by_status Running None = refl
 by_status Running (Some w) = refl
 by_status Waiting o = refl
 by_status (Ended n r) o = refl
 by_status Joined o = refl
 
-abbrev told : Option ℕ → Task → SeenNode
+abbrev told : Option ℕ → Task → Node
 told o x = record { parent = x.parent; state = state_by x.status o }
 
-pub waits_by : (n : Option Node) (x : Option Task) (o : Option ℕ) → option_map node_of n ≡ option_map (told o) x → is_state_waiting (option_map (λ m. m.state) n) ≡ is_waiting x
+pub waits_by : (n : Option Node) (x : Option Task) (o : Option ℕ) → n ≡ option_map (told o) x → is_state_waiting (option_map (λ m. m.state) n) ≡ is_waiting x
 waits_by None None o e = refl
 waits_by None (Some x) o e = absurd cc
 waits_by (Some m) None o e = absurd cc
-waits_by (Some m) (Some x) o e = by_state m.state ∙ (ap (λ y. seen_waits y.state) (same_Some (node_of m) (told o x) e) ∙ by_status x.status o)
+waits_by (Some m) (Some x) o e = ap (λ (y : Node). is_state_waiting (Some y.state)) (same_Some m (told o x) e) ∙ by_status x.status o
 
 -- WHAT IS MARKED
 pub marked_by : (v : Value) (l : Ledger) (t : ℕ) (o : Option Marks) → MarkedBy v l t o → is_some (heap_of l t).marked ≡ is_some o

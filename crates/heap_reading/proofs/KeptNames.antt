@@ -28,19 +28,16 @@ use Rattle.run_ledger.proofs.Stocks.{names_are_held_once}
 use Rattle.object_layout.specs.Chunks.{held_words, object_count}
 use Rattle.object_layout.specs.Content.{Content}
 use Rattle.alloc_path.specs.Heap.{counted}
-use Rattle.heap_tree.specs.declared.state.State.{State}
-use Rattle.heap_tree.specs.declared.state.State.TheVariants.{Ready, Out, Waiting as Waits', Ended as Ended', Joined as Joined'}
 use Rattle.heap_tree.specs.Node.{Node}
 use Rattle.ledger_steps.specs.Accounts.{Rests, rested}
 use Rattle.ledger_steps.proofs.Ahead.{with_off}
 use Rattle.ledger_steps.proofs.Rested.{rested_view}
 use Rattle.core_relation.specs.Stands.{HasNames, Stands, large_chunks, names_of, small_chunks}
 use Rattle.core_relation.specs.Value.{In, Seen, objects_in}
-use Rattle.core_relation.specs.Whole.{Node as SeenNode, State as SeenState, by_end, handed, state_by}
-use Rattle.core_relation.specs.Whole.{Ready as IsReady, Out as IsOut, Waits, HasEnded, HasJoined}
+use Rattle.core_relation.specs.Whole.{by_end, handed, state_by}
 use Rattle.shared_value.specs.declared.task_at_rest.Rest.{Rest}
 use Rattle.shared_value.specs.Objects.{chunk_of, chunks_of}
-use Rattle.shared_value.specs.World.{World, accounts, home_in, node_of, rest_at, state_of, value_of}
+use Rattle.shared_value.specs.World.{World, accounts, home_in, rest_at, value_of}
 use Rattle.shared_value.specs.Stands.{IsWorld}
 use Rattle.shared_value.proofs.HeapWords.{words_are}
 use Rattle.shared_value.proofs.SameLength.{same_length}
@@ -52,37 +49,21 @@ use Rattle.heap_reading.specs.HeldNames.{is_state_running, kept_of}
 use Rattle.heap_reading.proofs.IdleTasks.{journal_idle}
 
 -- WHO RUNS, by the tree
-seen_runs : SeenState → Bool
-seen_runs IsReady = true
-seen_runs IsOut = true
-seen_runs Waits = false
-seen_runs HasEnded = false
-seen_runs HasJoined = false
-
-by_state : (a : State) → is_state_running (Some a) ≡ seen_runs (state_of a)
-unfolding seen_runs
-by_state Ready = refl
-by_state Out = refl
-by_state Waits' = refl
-by_state Ended' = refl
-by_state Joined' = refl
-
-by_status : (s : Status) (o : Option ℕ) → seen_runs (state_by s o) ≡ runs s
-unfolding seen_runs
+by_status : (s : Status) (o : Option ℕ) → is_state_running (Some (state_by s o)) ≡ runs s
 by_status Running None = refl
 by_status Running (Some w) = refl
 by_status Waiting o = refl
 by_status (Ended n r) o = refl
 by_status Joined o = refl
 
-abbrev told : Option ℕ → Task → SeenNode
+abbrev told : Option ℕ → Task → Node
 told o x = record { parent = x.parent; state = state_by x.status o }
 
-runs_by : (n : Option Node) (x : Option Task) (o : Option ℕ) → option_map node_of n ≡ option_map (told o) x → is_state_running (option_map (λ m. m.state) n) ≡ is_running x
+runs_by : (n : Option Node) (x : Option Task) (o : Option ℕ) → n ≡ option_map (told o) x → is_state_running (option_map (λ m. m.state) n) ≡ is_running x
 runs_by None None o e = refl
 runs_by None (Some x) o e = absurd cc
 runs_by (Some m) None o e = absurd cc
-runs_by (Some m) (Some x) o e = by_state m.state ∙ (ap (λ y. seen_runs y.state) (same_Some (node_of m) (told o x) e) ∙ by_status x.status o)
+runs_by (Some m) (Some x) o e = ap (λ (y : Node). is_state_running (Some y.state)) (same_Some m (told o x) e) ∙ by_status x.status o
 
 -- HOW MANY names small chunks and large ones have
 small_many : List Content → ℕ
@@ -271,7 +252,7 @@ module _ (w : World) (I : IsWorld w) where
   homes_long =
       I.made
       ∙ (same_length w.tree (handed k).machine.tasks
-      (λ u. sym (some_map node_of (slice_get w.tree u)) ∙ (ap is_some (I.stands.totals.node u) ∙ some_map (told (heap_of (handed k) u).worker) (slice_get (handed k).machine.tasks u)))
+      (λ u. ap is_some (I.stands.totals.node u) ∙ some_map (told (heap_of (handed k) u).worker) (slice_get (handed k).machine.tasks u))
       ∙ ap (λ (m : Machine). length m.tasks) (goes_by k k.end).machine)
     where
       some_map : {A B : Type 0} (f : A → B) (o : Option A) → is_some (option_map f o) ≡ is_some o

@@ -15,18 +15,17 @@ use Rattle.run_ledger.specs.Heaps.{heap_of}
 use Rattle.run_ledger.specs.Sound.{SoundLedger}
 use Rattle.run_ledger.proofs.Journals.{legal_sound}
 use Rattle.heap_tree.specs.declared.state.State.{State}
-use Rattle.heap_tree.specs.declared.state.State.TheVariants.{Ready, Out, Waiting as Waits', Ended as Ended', Joined as Joined'}
+use Rattle.heap_tree.specs.declared.state.State.TheVariants.{Ready, Out, Waiting as Waits, Ended as HasEnded, Joined as HasJoined}
 use Rattle.heap_tree.specs.Node.{Node, parent_in, parent_of}
-use Rattle.core_relation.specs.Whole.{Node as SeenNode, State as SeenState, handed, state_by}
-use Rattle.core_relation.specs.Whole.{Ready as IsReady, Out as IsOut, Waits, HasEnded, HasJoined}
-use Rattle.shared_value.specs.World.{World, accounts, node_of, state_of}
+use Rattle.core_relation.specs.Whole.{handed, state_by}
+use Rattle.shared_value.specs.World.{World, accounts}
 use Rattle.shared_value.specs.Stands.{IsWorld}
 use Rattle.shared_value.proofs.BeforeTheEnd.{goes_by}
 
 -- WHO HAS JOINED
-has_joined : SeenState → Bool
-has_joined IsReady = false
-has_joined IsOut = false
+has_joined : State → Bool
+has_joined Ready = false
+has_joined Out = false
 has_joined Waits = false
 has_joined HasEnded = false
 has_joined HasJoined = true
@@ -39,37 +38,37 @@ by_status Waiting o = refl
 by_status (Ended n r) o = refl
 by_status Joined o = refl
 
-joined_state : (s : State) → s ≡ Joined' → has_joined (state_of s) ≡ true
+joined_state : (s : State) → s ≡ HasJoined → has_joined s ≡ true
 unfolding has_joined
-joined_state s e = ap (λ z. has_joined (state_of z)) e
+joined_state s e = ap has_joined e
 
-live_state : (s : State) → (s ≡ Joined' → ⊥) → has_joined (state_of s) ≡ false
+live_state : (s : State) → (s ≡ HasJoined → ⊥) → has_joined s ≡ false
 unfolding has_joined
 live_state Ready off = refl
 live_state Out off = refl
-live_state Waits' off = refl
-live_state Ended' off = refl
-live_state Joined' off = absurd (off refl)
+live_state Waits off = refl
+live_state HasEnded off = refl
+live_state HasJoined off = absurd (off refl)
 
-abbrev told : Option ℕ → Task → SeenNode
+abbrev told : Option ℕ → Task → Node
 told o x = record { parent = x.parent; state = state_by x.status o }
 
 -- a node and the task that it stands for
 pub record IsNodeOf (worker : Option ℕ) (n : Node) (x : Task) : Type 0 where
   pub parent : n.parent ≡ x.parent
-  pub state : state_of n.state ≡ state_by x.status worker
+  pub state : n.state ≡ state_by x.status worker
 
-task_by : (worker : Option ℕ) (n : Node) (x : Option Task) → Some (node_of n) ≡ option_map (told worker) x → (y : Task) × (x ≡ Some y) × IsNodeOf worker n y
+task_by : (worker : Option ℕ) (n : Node) (x : Option Task) → Some n ≡ option_map (told worker) x → (y : Task) × (x ≡ Some y) × IsNodeOf worker n y
 task_by worker n None e = absurd cc
 task_by worker n (Some y) e =
-    let same = same_Some (node_of n) (told worker y) e in
-    (y, refl, record { parent = ap (λ (z : SeenNode). z.parent) same; state = ap (λ (z : SeenNode). z.state) same })
+    let same = same_Some n (told worker y) e in
+    (y, refl, record { parent = ap (λ (z : Node). z.parent) same; state = ap (λ (z : Node). z.state) same })
 
-node_by : (worker : Option ℕ) (n : Option Node) (x : Task) → option_map node_of n ≡ Some (told worker x) → (m : Node) × (n ≡ Some m) × IsNodeOf worker m x
+node_by : (worker : Option ℕ) (n : Option Node) (x : Task) → n ≡ Some (told worker x) → (m : Node) × (n ≡ Some m) × IsNodeOf worker m x
 node_by worker None x e = absurd cc
 node_by worker (Some m) x e =
-    let same = same_Some (node_of m) (told worker x) e in
-    (m, refl, record { parent = ap (λ (z : SeenNode). z.parent) same; state = ap (λ (z : SeenNode). z.state) same })
+    let same = same_Some m (told worker x) e in
+    (m, refl, record { parent = ap (λ (z : Node). z.parent) same; state = ap (λ (z : Node). z.state) same })
 
 -- OWNERS
 walk_end : (par : ℕ → Option ℕ) (jd : ℕ → Bool) (t a b : ℕ) (ps qs : List ℕ) → IsWalkOfJoined par jd t ps a → IsWalkOfJoined par jd t qs b → jd a ≡ false → jd b ≡ false → a ≡ b
@@ -99,22 +98,22 @@ module _ (w : World) (I : IsWorld w) where
   abbrev worker : ℕ → Option ℕ
   worker t = (heap_of (handed l) t).worker
 
-  nodes : (t : ℕ) → option_map node_of (slice_get w.tree t) ≡ option_map (told (worker t)) (slice_get l.machine.tasks t)
+  nodes : (t : ℕ) → slice_get w.tree t ≡ option_map (told (worker t)) (slice_get l.machine.tasks t)
   nodes t = I.stands.totals.node t ∙ ap (λ (m : Machine). option_map (told (worker t)) (slice_get m.tasks t)) same_machine
 
   pub task_of : (t : ℕ) (n : Node) → slice_get w.tree t ≡ Some n → (x : Task) × (slice_get l.machine.tasks t ≡ Some x) × IsNodeOf (worker t) n x
-  task_of t n e = task_by (worker t) n (slice_get l.machine.tasks t) (sym (ap (option_map node_of) e) ∙ nodes t)
+  task_of t n e = task_by (worker t) n (slice_get l.machine.tasks t) (sym e ∙ nodes t)
 
   pub node_at : (t : ℕ) (x : Task) → slice_get l.machine.tasks t ≡ Some x → (n : Node) × (slice_get w.tree t ≡ Some n) × IsNodeOf (worker t) n x
   node_at t x e = node_by (worker t) (slice_get w.tree t) x (nodes t ∙ ap (option_map (told (worker t))) e)
 
-  pub joined_now : (t : ℕ) (n : Node) → slice_get w.tree t ≡ Some n → n.state ≡ Joined' → joined l.machine.tasks t ≡ true
+  pub joined_now : (t : ℕ) (n : Node) → slice_get w.tree t ≡ Some n → n.state ≡ HasJoined → joined l.machine.tasks t ≡ true
   unfolding has_joined
   joined_now t n e j =
       let k = task_of t n e in
       ap is_joined k.1 ∙ (sym (by_status k.0.status (worker t)) ∙ (ap has_joined (sym k.2.state) ∙ joined_state n.state j))
 
-  pub live_now : (t : ℕ) (n : Node) → slice_get w.tree t ≡ Some n → (n.state ≡ Joined' → ⊥) → joined l.machine.tasks t ≡ false
+  pub live_now : (t : ℕ) (n : Node) → slice_get w.tree t ≡ Some n → (n.state ≡ HasJoined → ⊥) → joined l.machine.tasks t ≡ false
   unfolding has_joined
   live_now t n e j =
       let k = task_of t n e in
@@ -126,7 +125,7 @@ module _ (w : World) (I : IsWorld w) where
       ap parents_in k.1 ∙ sym k.2.parent
 
   pub unmade_now : (t : ℕ) → slice_get w.tree t ≡ None → slice_get l.machine.tasks t ≡ None
-  unmade_now t e = by (slice_get l.machine.tasks t) (sym (nodes t) ∙ ap (option_map node_of) e)
+  unmade_now t e = by (slice_get l.machine.tasks t) (sym (nodes t) ∙ e)
     where
       by : (o : Option Task) → option_map (told (worker t)) o ≡ None → o ≡ None
       by None z = refl
@@ -147,10 +146,10 @@ module _ (w : World) (I : IsWorld w) where
   state_in None s e = absurd cc
   state_in (Some m) s e = (m, refl, same_Some m.state s e)
 
-  pub told_joined : (t : ℕ) → option_map (λ (m : Node). m.state) (slice_get w.tree t) ≡ Some Joined' → joined l.machine.tasks t ≡ true
-  told_joined t e = let k = state_in (slice_get w.tree t) Joined' e in joined_now t k.0 k.1 k.2
+  pub told_joined : (t : ℕ) → option_map (λ (m : Node). m.state) (slice_get w.tree t) ≡ Some HasJoined → joined l.machine.tasks t ≡ true
+  told_joined t e = let k = state_in (slice_get w.tree t) HasJoined e in joined_now t k.0 k.1 k.2
 
-  pub told_live : (t : ℕ) (o : Option State) → option_map (λ (m : Node). m.state) (slice_get w.tree t) ≡ o → (o ≡ Some Joined' → ⊥) → joined l.machine.tasks t ≡ false
+  pub told_live : (t : ℕ) (o : Option State) → option_map (λ (m : Node). m.state) (slice_get w.tree t) ≡ o → (o ≡ Some HasJoined → ⊥) → joined l.machine.tasks t ≡ false
   told_live t None e off = ap is_joined (unmade_now t (none_in (slice_get w.tree t) e))
     where
       none_in : (n : Option Node) → option_map (λ (m : Node). m.state) n ≡ None → n ≡ None

@@ -35,7 +35,7 @@ use Rattle.core_relation.proofs.parts.Workers.{ran_leaves}
 use Rattle.task_machine.specs.declared.part.Private.{Private}
 use Rattle.shared_value.specs.declared.next_step.Ending.TheVariants.{Returns}
 use Rattle.shared_value.specs.declared.task_at_rest.Rest.{Rest}
-use Rattle.shared_value.specs.World.{World, accounts, begun_of, flat, home_in, home_of, node_of, rest_at, totals_of, value_of}
+use Rattle.shared_value.specs.World.{World, accounts, begun_of, flat, home_in, home_of, rest_at, totals_of, value_of}
 use Rattle.shared_value.specs.Measured.{AreMeasured, RestsAreMeasured}
 use Rattle.shared_value.specs.Stands.{HeapForm, IsWorld}
 use Rattle.shared_value.specs.Fits.{Fits, OthersFit, home_of_part, part_of}
@@ -51,10 +51,6 @@ use Rattle.own_steps.proofs.LastStepEntry.{last_event}
 no_parent : (par : ℕ → Option ℕ) → ((t p : ℕ) → par t ≡ Some p → p < t) → (t : ℕ) → t ≡ 0 → (o : Option ℕ) → par t ≡ o → o ≡ None
 no_parent par low t z None e = refl
 no_parent par low t z (Some q) e = let lt : q < t = low t q e in absurd (omega (arith, z, lt))
-
-pub some_of : {A B : Type 0} (f : A → B) (o : Option A) (y : B) → option_map f o ≡ Some y → (x : A) × (o ≡ Some x) × (f x ≡ y)
-some_of f None y e = absurd cc
-some_of f (Some x) y e = (x, refl, same_Some (f x) y e)
 
 module _ (w : World) (k : ℕ) (p : Private) (I : IsWorld w) (F : Fits w k p) (shared : IsShared w p) (free : refused w (last_event k p) ≡ None) (number : ℕ) (T : Tells w p Returns number) (root : p.task ≡ 0) where
   abbrev t : ℕ
@@ -118,11 +114,11 @@ module _ (w : World) (k : ℕ) (p : Private) (I : IsWorld w) (F : Fits w k p) (s
   abbrev rest : Rest
   rest = ended_rest p
 
-  node_there : (n : Node) × (slice_get w.tree t ≡ Some n) × (node_of n ≡ told (heap_of l t).worker F.fits.task)
-  node_there = some_of node_of (slice_get w.tree t) (told (heap_of l t).worker F.fits.task) (S0.totals.node t ∙ ap (option_map (told (heap_of l t).worker)) F.fits.is)
+  node_there : slice_get w.tree t ≡ Some (told (heap_of l t).worker F.fits.task)
+  node_there = S0.totals.node t ∙ ap (option_map (told (heap_of l t).worker)) F.fits.is
 
   pub has_node : t < length w.tree
-  has_node = got_within w.tree t node_there.0 node_there.1
+  has_node = got_within w.tree t (told (heap_of l t).worker F.fits.task) node_there
 
   pub has_home : t < length w.homes
   has_home = subst (λ n. t < n) (sym I.made) has_node

@@ -13,12 +13,9 @@ use Rattle.run_ledger.specs.declared.data.Refused.{Refused}
 use Rattle.run_ledger.specs.declared.data.Refused.TheVariants.{Over, Spent, NoWorker, NotReady, NotSpent}
 use Rattle.run_ledger.specs.Heaps.{heap_of}
 use Rattle.run_ledger.specs.Entries.{kind_refusal, is_fuel, refused_if, refused_unless, refused_holding}
-use Rattle.heap_tree.specs.declared.state.State.{State}
-use Rattle.heap_tree.specs.declared.state.State.TheVariants.{Ready, Out, Waiting as Waits', Ended as Ended', Joined as Joined'}
 use Rattle.heap_tree.specs.Node.{Node}
-use Rattle.core_relation.specs.Whole.{State as SeenState, state_by}
-use Rattle.core_relation.specs.Whole.{Ready as IsReady, Out as IsOut, Waits, HasEnded, HasJoined}
-use Rattle.shared_value.specs.World.{World, accounts, node_of, state_of}
+use Rattle.core_relation.specs.Whole.{state_by}
+use Rattle.shared_value.specs.World.{World, accounts}
 use Rattle.shared_value.specs.Stands.{IsWorld}
 use Rattle.shared_value.specs.Causes.{first_cause, or_else, is_state_ready, took_cause, fuel_cause}
 use Rattle.shared_value.specs.Entered.{refused}
@@ -44,34 +41,18 @@ fuel_is w I k = ap (λ n. refused_unless (nat_le w.settings.fuel n) (NotSpent n)
 
 -- TOOK
 
-seen_ready : SeenState → Bool
-seen_ready IsReady = true
-seen_ready IsOut = false
-seen_ready Waits = false
-seen_ready HasEnded = false
-seen_ready HasJoined = false
-
-by_state : (a : State) → is_state_ready (Some a) ≡ seen_ready (state_of a)
-unfolding seen_ready
-by_state Ready = refl
-by_state Out = refl
-by_state Waits' = refl
-by_state Ended' = refl
-by_state Joined' = refl
-
-by_status : (s : Status) (o : Option ℕ) → seen_ready (state_by s o) ≡ (runs s && is_none o)
-unfolding seen_ready
+by_status : (s : Status) (o : Option ℕ) → is_state_ready (Some (state_by s o)) ≡ (runs s && is_none o)
 by_status Running None = refl
 by_status Running (Some w) = refl
 by_status Waiting o = refl
 by_status (Ended n r) o = refl
 by_status Joined o = refl
 
-ready_by : (n : Option Node) (x : Option Task) (o : Option ℕ) → option_map node_of n ≡ option_map (told o) x → is_state_ready (option_map (λ m. m.state) n) ≡ (is_running x && is_none o)
+ready_by : (n : Option Node) (x : Option Task) (o : Option ℕ) → n ≡ option_map (told o) x → is_state_ready (option_map (λ m. m.state) n) ≡ (is_running x && is_none o)
 ready_by None None o e = refl
 ready_by None (Some x) o e = absurd cc
 ready_by (Some m) None o e = absurd cc
-ready_by (Some m) (Some x) o e = by_state m.state ∙ (ap (λ y. seen_ready y.state) (same_Some (node_of m) (told o x) e) ∙ by_status x.status o)
+ready_by (Some m) (Some x) o e = ap (λ (y : Node). is_state_ready (Some y.state)) (same_Some m (told o x) e) ∙ by_status x.status o
 
 took_is : (w : World) → IsWorld w → (accounts w).end ≡ None → (k t : ℕ) → k < w.settings.workers → kind_refusal w.program w.settings (accounts w) k (Took t) ≡ took_cause w k t
 took_is w I on k t lt =

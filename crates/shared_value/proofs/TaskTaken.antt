@@ -30,7 +30,7 @@ use Rattle.core_relation.specs.Reads.{TaskIsRead, HoldsRead}
 use Rattle.core_relation.specs.Stands.{Place}
 use Rattle.core_relation.specs.Fits.{part_for}
 use Rattle.core_relation.specs.Worker.{Fits as FitsValue}
-use Rattle.core_relation.specs.Whole.{StandsFor, state_by, Node as SeenNode}
+use Rattle.core_relation.specs.Whole.{StandsFor, state_by}
 use Rattle.core_relation.proofs.whole.EntriesWhole.{took_stands_for}
 use Rattle.core_relation.proofs.parts.TookFits.{took_fits_then}
 use Rattle.core_relation.proofs.parts.WorkersPast.{took_leaves}
@@ -38,7 +38,7 @@ use Rattle.task_machine.specs.declared.part.Private.{Private}
 use Rattle.shared_value.specs.declared.task_at_rest.Rest.{Rest}
 use Rattle.shared_value.specs.declared.task_at_rest.Work.{Work}
 use Rattle.shared_value.specs.declared.task_at_rest.Work.TheVariants.{Calls, Result}
-use Rattle.shared_value.specs.World.{World, accounts, flat, home_in, home_by, home_of, node_of, rest_at, state_of, totals_of, value_of}
+use Rattle.shared_value.specs.World.{World, accounts, flat, home_in, home_by, home_of, rest_at, totals_of, value_of}
 use Rattle.shared_value.specs.Measured.{RestsAreMeasured}
 use Rattle.shared_value.specs.Stands.{HeapForm, IsWorld}
 use Rattle.shared_value.specs.Fits.{Fits, IsAtWork, OthersFit, home_of_part, part_of, taken_part}
@@ -47,7 +47,7 @@ use Rattle.shared_value.proofs.EntryMade.{accounts_are, entered, entered_world, 
 use Rattle.shared_value.proofs.BeforeTheEnd.{hand_now, stands_now}
 
 -- a task as its account says
-abbrev pub told : Option ℕ → Task → SeenNode
+abbrev pub told : Option ℕ → Task → Node
 told w x = record { parent = x.parent; state = state_by x.status w }
 
 none_of : {A : Type 0} (o : Option A) → is_none o ≡ true → o ≡ None
@@ -99,13 +99,13 @@ made_by xs t s None = refl
 made_by xs t s (Some m) = length-set xs t (record m { state = s })
 
 -- the node of a task that is in another state
-pub node_by : (xs : List Node) (t : ℕ) (s : State) (n : Option Node) → slice_get xs t ≡ n → option_map node_of (slice_get (set_at xs t s n) t) ≡ option_map (λ (x : SeenNode). record x { state = state_of s }) (option_map node_of n)
-node_by xs t s None is = ap (option_map node_of) is
-node_by xs t s (Some m) is = ap (option_map node_of) (got_same xs t m (record m { state = s }) is)
+pub node_by : (xs : List Node) (t : ℕ) (s : State) (n : Option Node) → slice_get xs t ≡ n → slice_get (set_at xs t s n) t ≡ option_map (λ (x : Node). record x { state = s }) n
+node_by xs t s None is = is
+node_by xs t s (Some m) is = got_same xs t m (record m { state = s }) is
 
-pub node_off : (xs : List Node) (t : ℕ) (s : State) (n : Option Node) (u : ℕ) → (u ≡ t → ⊥) → option_map node_of (slice_get (set_at xs t s n) u) ≡ option_map node_of (slice_get xs u)
+pub node_off : (xs : List Node) (t : ℕ) (s : State) (n : Option Node) (u : ℕ) → (u ≡ t → ⊥) → slice_get (set_at xs t s n) u ≡ slice_get xs u
 node_off xs t s None u ne = refl
-node_off xs t s (Some m) u ne = ap (option_map node_of) (got_other xs t u (record m { state = s }) ne)
+node_off xs t s (Some m) u ne = got_other xs t u (record m { state = s }) ne
 
 none_holds : (o : Option ℕ) {u : ℕ} → o ≡ Some u → is_none (refused_holding o None) ≡ true → ⊥
 none_holds None e h = absurd cc

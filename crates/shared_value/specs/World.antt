@@ -1,5 +1,5 @@
 -- The shared value as contracts see it, and what it holds as the relation to the accounts speaks of it.
-use Rattle.std.specs.Prelude.{ℕ, ℤ, pos, Bool, false, Option, Some, None, List, [], ◌∷◌, replicate, slice_get, option_map}
+use Rattle.std.specs.Prelude.{ℕ, ℤ, pos, Bool, false, Option, Some, None, List, [], ◌∷◌, replicate, slice_get}
 use Rattle.listed.specs.Space.{Space}
 use Rattle.hh_lang.specs.Form.{ProgramText}
 use Rattle.run_trace.specs.Entry.{Event}
@@ -13,15 +13,12 @@ use Rattle.alloc_path.specs.Heap.{Heap, room_of}
 use Rattle.alloc_path.specs.View.{Level}
 use Rattle.task_frames.specs.declared.frames.Frame.{Frame}
 use Rattle.task_frames.specs.Stack.{Stack}
-use Rattle.heap_tree.specs.declared.state.State.{State}
-use Rattle.heap_tree.specs.declared.state.State.TheVariants.{Ready, Out, Waiting, Ended, Joined}
 use Rattle.heap_tree.specs.Node.{Node}
 use Rattle.write_barrier.specs.declared.sets.SetOf.{SetOf}
 use Rattle.inner_mark_gc.specs.Marks.{Marks}
 pub use Rattle.core_relation.specs.Value.{no_home}
 use Rattle.core_relation.specs.Value.{Begun, Home, Noted, Value}
-use Rattle.core_relation.specs.Whole.{Node as SeenNode, State as SeenState, Totals}
-use Rattle.core_relation.specs.Whole.{Ready as IsReady, Out as IsOut, Waits, HasEnded, HasJoined}
+use Rattle.core_relation.specs.Whole.{Totals}
 use Rattle.task_machine.specs.declared.part.Begun.{Begun as BegunPart}
 use Rattle.shared_value.specs.declared.task_at_rest.Rest.{Rest}
 use Rattle.shared_value.specs.declared.task_at_rest.Work.{Work}
@@ -131,19 +128,9 @@ with_marks marks v = record v { noted = λ t. record (v.noted t) { marked = mark
 abbrev pub value_of : World → Value
 value_of w = with_marks w.marks (value_by w.homes w.sets w.pool)
 
-abbrev pub state_of : State → SeenState
-state_of Ready = IsReady
-state_of Out = IsOut
-state_of Waiting = Waits
-state_of Ended = HasEnded
-state_of Joined = HasJoined
-
-abbrev pub node_of : Node → SeenNode
-node_of n = record { parent = n.parent; state = state_of n.state }
-
 abbrev pub totals_of : World → Totals
 totals_of w = record {
-  node = λ t. option_map node_of (slice_get w.tree t);
+  node = slice_get w.tree;
   hand = λ k. flat (slice_get w.hands k);
   used = units_in_use w.pool;
   steps = w.steps;

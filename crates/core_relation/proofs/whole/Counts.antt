@@ -28,7 +28,9 @@ use Rattle.run_ledger.proofs.Use.{entries_use}
 use Rattle.core_relation.proofs.whole.Hands.{none_held}
 use Rattle.std.proofs.lemmas.Option.{same_Some}
 use Rattle.std.specs.Prelude.{◌↔◌}
-use Rattle.core_relation.specs.Whole.{Out, Node, Totals, TotalsStand, state_by}
+use Rattle.heap_tree.specs.declared.state.State.TheVariants.{Out}
+use Rattle.heap_tree.specs.Node.{Node}
+use Rattle.core_relation.specs.Whole.{Totals, TotalsStand, state_by}
 use Rattle.core_relation.specs.Counts.{SameCounts, TakesNode, AsksUnits, CountsGo}
 
 -- as the accounts have the node of a task that is held so
