@@ -26,7 +26,7 @@ use Rattle.core_relation.proofs.changes.With.{at_home, off_home}
 use Rattle.core_relation.proofs.parts.Workers.{ran_leaves}
 use Rattle.task_machine.specs.declared.part.Private.{Private}
 use Rattle.shared_value.specs.declared.task_at_rest.Rest.{Rest}
-use Rattle.shared_value.specs.World.{World, accounts, begun_of, flat, home_in, home_of, rest_at, totals_of, value_of}
+use Rattle.shared_value.specs.World.{World, accounts, flat, home_in, home_of, rest_at, totals_of, value_of}
 use Rattle.shared_value.specs.Measured.{AreMeasured, RestsAreMeasured}
 use Rattle.shared_value.specs.Stands.{HeapForm, IsWorld}
 use Rattle.shared_value.specs.Fits.{Fits, OthersFit, home_of_part, part_of}
@@ -159,7 +159,7 @@ module _ (w : World) (k : ℕ) (p : Private) (I : IsWorld w) (F : Fits w k p) (a
     ends_home = record {
       frames = ap (λ (i : Home). i.frames) here;
       result = ap (λ (i : Home). i.result) home_now;
-      begun = ap (λ (i : Home). i.begun) home_now ∙ (sym (ap begun_of (last.none w k p I F shared free_last)) ∙ ap (λ (i : Home). i.begun) (sym here));
+      begun = ap (λ (i : Home). i.begun) home_now ∙ (sym (last.none w k p I F shared free_last) ∙ ap (λ (i : Home). i.begun) (sym here));
       view = ap (λ (i : Home). i.view) home_now ∙ ap (λ (i : Home). i.view) (sym here);
       chunks = ap (λ (i : Home). i.chunks) home_now ∙ ap (λ (i : Home). i.chunks) (sym here);
       room = ap (λ (i : Home). i.room) home_now ∙ ap (λ (i : Home). i.room) (sym here);

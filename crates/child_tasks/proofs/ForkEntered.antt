@@ -37,7 +37,7 @@ use Rattle.core_relation.proofs.parts.Workers.{ran_leaves}
 use Rattle.task_machine.specs.declared.part.Private.{Private}
 use Rattle.shared_value.specs.declared.task_at_rest.Rest.{Rest}
 use Rattle.shared_value.specs.Objects.{levels_of}
-use Rattle.shared_value.specs.World.{World, marks_at, accounts, begun_of, flat, home_in, home_of, noted_in, rest_at, totals_of, value_of}
+use Rattle.shared_value.specs.World.{World, marks_at, accounts, flat, home_in, home_of, noted_in, rest_at, totals_of, value_of}
 use Rattle.shared_value.specs.Measured.{AreMeasured, RestsAreMeasured}
 use Rattle.shared_value.specs.Stands.{HeapForm, IsWorld}
 use Rattle.shared_value.specs.Fits.{Fits, OthersFit, home_of_part, part_of}
@@ -208,7 +208,7 @@ module _ (w : World) (k : ℕ) (p : Private) (I : IsWorld w) (F : Fits w k p) (a
 
     forks_home : ForksHome vt v' t a (a + 1) Q.left Q.right
     forks_home = record {
-      home = ap home_in H.parent ∙ (ap (λ o. let z : Home = record (home_of (waiting_rest p)) { begun = o } in z) (sym (ap begun_of (last.none w k p I F shared free_last))) ∙ ap (λ (z : Home). record z { frames = advanced z.frames }) (sym here));
+      home = ap home_in H.parent ∙ (ap (λ o. let z : Home = record (home_of (waiting_rest p)) { begun = o } in z) (sym (last.none w k p I F shared free_last)) ∙ ap (λ (z : Home). record z { frames = advanced z.frames }) (sym here));
       left = ap v'.homes home_is ∙ (ap home_in H.left_home.2 ∙ (begun_home left ∙ ap₂ (λ g (z : Home). child_home g z) (sym left_is) (sym here)));
       right = ap (λ n. v'.homes (n + 1)) home_is ∙ (ap home_in H.right_home.2 ∙ (begun_home right ∙ ap₂ (λ g (z : Home). child_home g z) (sym right_is) (sym here)));
       others = λ u nt na nb. ap home_in (H.others u nt (λ e. na (e ∙ sym home_is)) (λ e. nb (e ∙ ap (λ n. n + 1) (sym home_is)))) ∙ sym (off_home v t h u nt);

@@ -32,7 +32,7 @@ use Rattle.task_machine.specs.declared.part.Private.{Private}
 use Rattle.task_machine.specs.Accounts.{IsCounted}
 use Rattle.shared_value.specs.declared.task_at_rest.Work.{Work}
 use Rattle.shared_value.specs.declared.task_at_rest.Work.TheVariants.{Calls}
-use Rattle.shared_value.specs.World.{World, accounts, begun_of, home_by, rest_at, value_of}
+use Rattle.shared_value.specs.World.{World, accounts, home_by, rest_at, value_of}
 use Rattle.shared_value.specs.Stands.{HeapForm, IsWorld}
 use Rattle.shared_value.specs.Fits.{Fits, home_of_part}
 use Rattle.shared_value.specs.Entered.{refused}
@@ -237,7 +237,7 @@ module _ (w : World) (k : ℕ) (p : Private) (I : IsWorld w) (F : Fits w k p) (a
 
   -- it is amid no collection
   pub own_here : vt.homes t ≡ home_by p.heap p.view p.allocations (Calls p.frames)
-  own_here = here ∙ ap (λ o. let z : Home = record (home_by p.heap p.view p.allocations (Calls p.frames)) { begun = o } in z) (ap begun_of (last.none w k p I F shared free_last))
+  own_here = here ∙ ap (λ o. let z : Home = record (home_by p.heap p.view p.allocations (Calls p.frames)) { begun = o } in z) (last.none w k p I F shared free_last)
 
   pub off : (u : ℕ) → (u ≡ t → ⊥) → vt.homes u ≡ v.homes u
   off u ne = off_home v t h u ne

@@ -23,14 +23,14 @@ use Rattle.ledger_steps.specs.Accounts.{aside}
 use Rattle.ledger_steps.proofs.Rested.{rested_view}
 use Rattle.core_relation.specs.Copies.{PartFits, before}
 use Rattle.core_relation.specs.Fits.{part_for}
-use Rattle.core_relation.specs.Value.{Begun as SeenBegun, Home, In}
+use Rattle.core_relation.specs.Value.{Home, In}
 use Rattle.core_relation.proofs.objects.Members.{in_map}
 use Rattle.task_machine.specs.declared.part.Begun.{Begun}
 use Rattle.task_machine.specs.declared.part.Private.{Private}
 use Rattle.shared_value.specs.Fits.{home_of_part}
 use Rattle.shared_value.specs.Measured.{AreMeasured, AreUnits, news_of}
 use Rattle.shared_value.proofs.UnitsMeasured.{measured_both}
-use Rattle.shared_value.specs.World.{World, accounts, begun_of, frames_of, home_with, value_of}
+use Rattle.shared_value.specs.World.{World, accounts, frames_of, home_with, value_of}
 use Rattle.leaf_collections.specs.LeafEnd.{AreBack, FitsCopied}
 use Rattle.copied_part.specs.Copied.{IsBegun, part_home}
 use Rattle.copied_part.specs.Handed.{CopiedFits, IsCopying}
@@ -64,21 +64,18 @@ module _ (w : World) (k : ℕ) (p : Private) (b : Begun) (news : List Content) (
   abbrev pub l : Ledger
   l = aside (accounts w)
 
-  abbrev pub seen_begun : SeenBegun
-  seen_begun = record { roots = b.roots; news = b.news }
-
   abbrev pub H : Home
-  H = part_home p.heap p.view p.allocations p.frames (Some (record { roots = b.roots; news = b.news }))
+  H = part_home p.heap p.view p.allocations p.frames (Some b)
 
   home_is : home_of_part p ≡ H
-  home_is = ap (λ o. record (home_with p.heap p.view p.allocations (frames_of p.frames) (pos 0, None)) { begun = begun_of o }) C.begun
+  home_is = ap (λ o. record (home_with p.heap p.view p.allocations (frames_of p.frames) (pos 0, None)) { begun = o }) C.begun
 
   fits : PartFits w.program w.settings (before w.settings p.task H) (value_of w) (aside (accounts w))
   fits =
       subst (λ n. PartFits w.program w.settings (part_for w.settings p.task H n) (value_of w) (aside (accounts w))) C.fresh
       (subst (λ (h : Home). PartFits w.program w.settings (part_for w.settings p.task h p.fresh) (value_of w) (aside (accounts w))) home_is C.fits.fits.part)
 
-  pub begun : IsBegun w.program w.settings p.task p.heap p.view p.allocations p.frames seen_begun news (value_of w) (aside (accounts w))
+  pub begun : IsBegun w.program w.settings p.task p.heap p.view p.allocations p.frames b news (value_of w) (aside (accounts w))
   begun = record {
     form = C.fits.form;
     fits = fits;
@@ -107,13 +104,13 @@ module _ (w : World) (k : ℕ) (p : Private) (b : Begun) (news : List Content) (
   module _ (h' : Heap) (s' : Stack) (out : Moved) (D : IsCollected p.heap p.frames b.roots news h' s' out) where
     -- what is known of the heap before
     O : Old p.heap D.survivors (aside (accounts w)).machine (heap_of (aside (accounts w)) p.task)
-    O = copying.O w.program w.settings p.task p.heap p.view p.allocations p.frames seen_begun news (value_of w) (aside (accounts w)) begun h' s' out D
+    O = copying.O w.program w.settings p.task p.heap p.view p.allocations p.frames b news (value_of w) (aside (accounts w)) begun h' s' out D
 
     abbrev Back : List Content
     Back = back_of p.heap D.survivors (reverse news)
 
     began : (heap_of (aside (accounts w)) p.task).begun ≡ Some (length news)
-    began = sym (rested_view (λ x. x.begun) (λ x. refl) (aside (accounts w)) p.task) ∙ ((copying.began w.program w.settings p.task p.heap p.view p.allocations p.frames seen_begun news (value_of w) (aside (accounts w)) begun).few ∙ ap Some begun.all)
+    began = sym (rested_view (λ x. x.begun) (λ x. refl) (aside (accounts w)) p.task) ∙ ((copying.began w.program w.settings p.task p.heap p.view p.allocations p.frames b news (value_of w) (aside (accounts w)) begun).few ∙ ap Some begun.all)
 
     given_is : unit_count Back ≡ out.given
     given_is =
@@ -137,7 +134,7 @@ module _ (w : World) (k : ℕ) (p : Private) (b : Begun) (news : List Content) (
 
     pub copied : FitsCopied w k (record p { heap = h'; frames = s' }) out
     copied =
-        let made = copies_fit w.program w.settings p.task p.heap p.view p.allocations p.frames seen_begun news (value_of w) (aside (accounts w)) begun h' s' out D in
+        let made = copies_fit w.program w.settings p.task p.heap p.view p.allocations p.frames b news (value_of w) (aside (accounts w)) begun h' s' out D in
         record {
           home = H;
           held = C.fits.held;
@@ -147,7 +144,7 @@ module _ (w : World) (k : ℕ) (p : Private) (b : Begun) (news : List Content) (
           fresh = C.fresh;
           leaf_limit = C.fits.leaf_limit;
           field_limit = C.fits.field_limit;
-          numbers = said_same (accounts w) p.task _ (numbers_are_said w.program w.settings p.task p.heap p.view p.allocations p.frames seen_begun news (value_of w) (aside (accounts w)) begun few h' s' out D);
+          numbers = said_same (accounts w) p.task _ (numbers_are_said w.program w.settings p.task p.heap p.view p.allocations p.frames b news (value_of w) (aside (accounts w)) begun few h' s' out D);
           order = D.order;
           places = (moves_are_told p.heap (outside p.frames b.roots) D.survivors news out.moved.items D.are C.new D.moved).places;
           back = are_back;

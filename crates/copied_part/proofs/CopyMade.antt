@@ -30,7 +30,8 @@ use Rattle.leaf_copy_gc.proofs.Telling.{moves_are_told}
 use Rattle.ledger_steps.specs.Accounts.{rested}
 use Rattle.ledger_steps.proofs.Ahead.{with_machine}
 use Rattle.ledger_steps.proofs.Rested.{rested_view, rested_worker}
-use Rattle.core_relation.specs.Value.{Begun, Chunk, Home, In, Seen, Value, led, led_frame, led_object, objects_in}
+use Rattle.task_machine.specs.declared.part.Begun.{Begun}
+use Rattle.core_relation.specs.Value.{Chunk, Home, In, Seen, Value, led, led_frame, led_object, objects_in}
 use Rattle.core_relation.specs.Layout.{AreLaidOut, words}
 use Rattle.core_relation.specs.Reads.{AllRead}
 use Rattle.core_relation.specs.Begins.{IsReachedAt}

@@ -17,7 +17,8 @@ use Rattle.leaf_copy_gc.specs.Laws.{CanTake}
 use Rattle.leaf_copy_gc.specs.Lists.{IsCollected}
 use Rattle.leaf_copy_gc.specs.Redirected.{new_address}
 use Rattle.leaf_copy_gc.specs.Survivors.{as_reference, outside}
-use Rattle.core_relation.specs.Value.{Begun, Home, In, Value}
+use Rattle.task_machine.specs.declared.part.Begun.{Begun}
+use Rattle.core_relation.specs.Value.{Home, In, Value}
 use Rattle.core_relation.specs.Copies.{CopyFits, PartFits, before}
 use Rattle.shared_value.specs.Stands.{HeapForm}
 use Rattle.shared_value.specs.World.{frames_of, home_with}

@@ -17,8 +17,9 @@ use Rattle.run_ledger.specs.Reachable.{is_name}
 use Rattle.hh_model.specs.declared.data.Name.{Name}
 use Rattle.core_relation.specs.Marking.{MarksStand}
 use Rattle.run_ledger.specs.Sound.{SoundLedger}
-use Rattle.core_relation.specs.Value.{Begun, Home, Value, Seen, In, objects}
+use Rattle.core_relation.specs.Value.{Home, Value, Seen, In, objects}
 use Rattle.ledger_steps.specs.Accounts.{Rests, rested, AlikeFor}
+use Rattle.task_machine.specs.declared.part.Begun.{Begun}
 use Rattle.core_relation.specs.Stands.{Stands}
 use Rattle.core_relation.specs.Fits.{with_home}
 use Rattle.core_relation.specs.Changes.{Moves}

@@ -17,8 +17,8 @@ use Rattle.leaf_copy_gc.specs.Lists.{AreReserved}
 use Rattle.leaf_copy_gc.specs.Survivors.{as_reference}
 use Rattle.core_relation.specs.Value.{In}
 use Rattle.core_relation.proofs.objects.Members.{map_in}
-use Rattle.task_machine.specs.declared.part.Begun.{Begun as BegunPart}
 use Rattle.task_machine.specs.declared.part.Private.{Private}
+use Rattle.task_machine.specs.declared.part.Begun.{Begun}
 use Rattle.shared_value.specs.World.{World, accounts}
 use Rattle.shared_value.specs.Stands.{IsWorld}
 use Rattle.shared_value.specs.Fits.{Fits, OthersFit}
@@ -82,7 +82,7 @@ module _ (w : World) (k : ℕ) (p : Private) (I : IsWorld w) (F : Fits w k p) (n
     abbrev begun_world : World
     begun_world = record w { pool = pool; journal = record { items = w.journal.items ++ record { worker = k; kind = Begin p.task } ∷ []; room = j.room } }
 
-    abbrev begun_so : BegunPart
+    abbrev begun_so : Begun
     begun_so = record { roots = roots; news = numbers }
 
     pub begins_world : IsWorld begun_world

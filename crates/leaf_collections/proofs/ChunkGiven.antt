@@ -43,7 +43,7 @@ use Rattle.task_machine.specs.Accounts.{AreReserved, IsCounted}
 use Rattle.task_machine.specs.Fits.{IsShaped}
 use Rattle.task_machine.proofs.Added.{chunks_added, shape_added}
 use Rattle.shared_value.specs.Objects.{chunk_of, chunks_of}
-use Rattle.shared_value.specs.World.{World, accounts, begun_of, totals_of, value_of}
+use Rattle.shared_value.specs.World.{World, accounts, totals_of, value_of}
 use Rattle.shared_value.specs.Measured.{AreMeasured, IsMeasured, KeepsUnits}
 use Rattle.shared_value.specs.Stands.{HeapForm, IsWorld}
 use Rattle.shared_value.specs.Fits.{Fits, OthersFit, home_of_part}
@@ -456,7 +456,7 @@ module _ (w : World) (k : ℕ) (p : Private) (I : IsWorld w) (F : Fits w k (reco
     chunk_part =
         quiet_own w e I free tt (λ u m. m) pool w.end j.room same notes counts T.rest.limit units_stay k p g p.begun F form_then measured_then
         (subst (λ (z : Ledger). SameObjects before after_ (rested l t) (rested z t)) (sym then) part_same)
-        (subst (λ (z : Ledger). BegunBy after_ (rested z t) t (begun_of p.begun)) (sym then) (subst (λ o. BegunBy after_ (rested L t) t (begun_of o)) (sym idle_part) none_then))
+        (subst (λ (z : Ledger). BegunBy after_ (rested z t) t p.begun) (sym then) (subst (λ o. BegunBy after_ (rested L t) t o) (sym idle_part) none_then))
 
     -- ---- THE PARTS OF OTHERS
     pub chunk_others : OthersFit w w' k
@@ -527,7 +527,7 @@ module _ (w : World) (k : ℕ) (p : Private) (I : IsWorld w) (F : Fits w k (reco
       quiet_own w full_event I free tt (λ u m. m) w.pool full_end j.room full_same full_notes full_counts refl (all_kept w.pool) k p (with_places p.heap a b) p.begun F (places_form p.heap a b F.form) F.measured
       (subst (λ (z : Ledger). SameObjects full_home full_home (rested (accounts w) p.task) (rested z p.task)) (sym ends_so)
       (same_value full_home (rested (accounts w) p.task) (rested full_ledger p.task) (with_machine full_ledger p.task let_go ∙ sym (with_machine (accounts w) p.task let_go)) heaps_rested (fits_now w k (record p { fresh = 0 }) I F on).stands.homes))
-      (subst (λ (z : Ledger). BegunBy full_home (rested z p.task) p.task (begun_of p.begun)) (sym ends_so) (subst (λ o. BegunBy full_home (rested full_ledger p.task) p.task (begun_of o)) (sym full_idle) none_full))
+      (subst (λ (z : Ledger). BegunBy full_home (rested z p.task) p.task p.begun) (sym ends_so) (subst (λ o. BegunBy full_home (rested full_ledger p.task) p.task o) (sym full_idle) none_full))
 
 -- ---- AS THE CALL HAS IT
 

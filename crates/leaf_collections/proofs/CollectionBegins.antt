@@ -21,10 +21,10 @@ use Rattle.ledger_steps.proofs.Ahead.{heap_then, with_at, with_machine, with_off
 use Rattle.core_relation.specs.Changes.{SameObjects}
 use Rattle.core_relation.specs.Counts.{CountsGo}
 use Rattle.core_relation.specs.Since.{NotesStay}
-use Rattle.core_relation.specs.Value.{Begun, In, Value}
+use Rattle.core_relation.specs.Value.{In, Value}
 use Rattle.core_relation.specs.Whole.{StandsFor}
 use Rattle.core_relation.proofs.changes.Alone.{home_kept}
-use Rattle.task_machine.specs.declared.part.Begun.{Begun as BegunPart}
+use Rattle.task_machine.specs.declared.part.Begun.{Begun}
 use Rattle.task_machine.specs.declared.part.Private.{Private}
 use Rattle.shared_value.specs.World.{World, accounts, totals_of, value_of}
 use Rattle.shared_value.specs.Measured.{KeepsUnits}
@@ -98,11 +98,8 @@ module _ (w : World) (k : ℕ) (p : Private) (I : IsWorld w) (F : Fits w k (reco
     ks = T.numbers.chunks
 
     -- the collection
-    abbrev b : BegunPart
+    abbrev b : Begun
     b = record { roots = roots_of w p; news = map number_of ks }
-
-    abbrev b' : Begun
-    b' = record { roots = roots_of w p; news = map number_of ks }
 
     abbrev g : Heap
     g = with_places p.heap slots spare

@@ -30,7 +30,7 @@ use Rattle.core_relation.specs.Whole.{BegunBy, StandsFor}
 use Rattle.core_relation.proofs.changes.Alone.{home_kept}
 use Rattle.core_relation.proofs.changes.With.{at_home, off_home}
 use Rattle.task_machine.specs.declared.part.Private.{Private}
-use Rattle.shared_value.specs.World.{World, accounts, begun_of, totals_of, value_of}
+use Rattle.shared_value.specs.World.{World, accounts, totals_of, value_of}
 use Rattle.shared_value.specs.Stands.{HeapForm, IsWorld}
 use Rattle.shared_value.specs.Fits.{Fits, OthersFit, home_of_part}
 use Rattle.shared_value.specs.Causes.{first_cause, or_else}
@@ -248,7 +248,7 @@ module _ (w : World) (k : ℕ) (p : Private) (I : IsWorld w) (F : Fits w k (reco
 
   pub put_off_part : Fits w' k Q
   put_off_part = quiet_own w e I free tt (λ u m. m) w.pool w.end j.room same notes counts refl (all_kept w.pool) k p (reset p.heap) p.begun F (reset_form p.heap F.form) F.measured part_same
-      (subst (λ o. BegunBy after_ (rested L t) t (begun_of o)) (sym idle_part) none_then)
+      (subst (λ o. BegunBy after_ (rested L t) t o) (sym idle_part) none_then)
 
   -- THE PARTS OF OTHERS
   pub put_off_others : OthersFit w w' k

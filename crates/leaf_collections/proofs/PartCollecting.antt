@@ -24,13 +24,13 @@ use Rattle.core_relation.specs.Changes.{SameObjects}
 use Rattle.core_relation.specs.Fits.{with_home}
 use Rattle.core_relation.specs.Layout.{AreLaidOut}
 use Rattle.core_relation.specs.Stands.{HasNames, HomeStands}
-use Rattle.core_relation.specs.Value.{Begun, Chunk, Home, In, Seen, Value, objects, objects_in}
+use Rattle.core_relation.specs.Value.{Chunk, Home, In, Seen, Value, objects, objects_in}
 use Rattle.core_relation.specs.Whole.{BegunStands, Begins}
 use Rattle.core_relation.proofs.changes.Alone.{home_kept}
 use Rattle.core_relation.proofs.notes.Begun.{begins}
 use Rattle.core_relation.proofs.objects.Members.{in_map, map_in}
 use Rattle.core_relation.proofs.changes.With.{at_home, off_home}
-use Rattle.task_machine.specs.declared.part.Begun.{Begun as BegunPart}
+use Rattle.task_machine.specs.declared.part.Begun.{Begun}
 use Rattle.task_machine.specs.declared.part.Private.{Private}
 use Rattle.shared_value.specs.Objects.{chunk_of}
 use Rattle.shared_value.specs.World.{World, accounts, value_of}
@@ -97,11 +97,8 @@ module _ (w : World) (k : ℕ) (p : Private) (I : IsWorld w) (F : Fits w k (reco
     ks = T.numbers.chunks
 
     -- the collection
-    abbrev b : BegunPart
+    abbrev b : Begun
     b = record { roots = roots_of w p; news = map number_of ks }
-
-    abbrev b' : Begun
-    b' = record { roots = roots_of w p; news = map number_of ks }
 
     abbrev g : Heap
     g = with_places p.heap slots spare
@@ -240,18 +237,18 @@ module _ (w : World) (k : ℕ) (p : Private) (I : IsWorld w) (F : Fits w k (reco
         let b : v.owner n ≡ None = ap v.owner (sym x.2) ∙ were_free x.0 x.1 in
         absurd cc
 
-    begins_so : Begins before after_ (rested l t) (rested L t) t b'
+    begins_so : Begins before after_ (rested l t) (rested L t) t b
     begins_so = record {
-      home = here' ∙ ap (λ (z : Home). record z { begun = Some b' }) (sym here);
+      home = here' ∙ ap (λ (z : Home). record z { begun = Some b }) (sym here);
       heap = account_same ∙ ap₂ (λ n ns. record (heap_of (rested l t) t) { begun = Some n; survivors = ns }) take_rested (sym (within_rested l t t));
       once = distinct_numbers ks T.numbers.numbered.apart;
       owned = λ n i. let x = new_is n i in ap v'.owner (sym x.2) ∙ first.owner_new w k p I F free pool news slots spare T j x.0.number (has_it ks x.0 x.0.number x.1 refl);
       apart = new_apart;
     }
 
-    begun_stands : BegunStands after_ (rested L t) t b'
+    begun_stands : BegunStands after_ (rested L t) t b
     begun_stands =
-        begins before after_ (rested l t) (rested L t) t F.fits.task b' (rested_sound l t (legal_knows w.program w.settings w.journal.items I.legal).sound) (fits_now w k P I F on).stands
+        begins before after_ (rested l t) (rested L t) t F.fits.task b (rested_sound l t (legal_knows w.program w.settings w.journal.items I.legal).sound) (fits_now w k P I F on).stands
         (ap (λ (m : State). slice_get m.tasks t) (with_machine l t let_go) ∙ F.fits.is) (status w k P I F on) (rested_worker l t) (waits_rest l t (idle_rest w I on)) (are_roots w k p I F on) begins_so
 
     measured_then : IsMeasured pool Q

@@ -33,7 +33,7 @@ use Rattle.task_machine.specs.Place.{Places}
 use Rattle.task_machine.specs.Run.{KeepsRest, Ran, Runs}
 use Rattle.shared_value.specs.Again.{KeepsPlaces}
 use Rattle.shared_value.specs.Objects.{chunk_of}
-use Rattle.shared_value.specs.World.{World, accounts, begun_of, value_of}
+use Rattle.shared_value.specs.World.{World, accounts, value_of}
 use Rattle.shared_value.specs.Measured.{IsMeasured}
 use Rattle.shared_value.specs.Stands.{HeapForm, IsWorld}
 use Rattle.shared_value.specs.Fits.{Fits, home_of_part, part_of}
@@ -200,7 +200,7 @@ module _ (w : World) (k : ℕ) (p q : Private) (n : ℕ) (I : IsWorld w) (F : Fi
       runs = F.fits.runs;
       steady = inr (steady w k p F on idle);
       part = subst (PartFits w.program w.settings (part_of w.settings Q) v) (sym (aside_is l (link.goes w k p I F on)))
-          (record { fits = record { worker = k; out = F.held; few = few; private = run.private_then w k p q n I F on idle R C; stands = stands_then }; begun = subst (λ o. BegunBy after L' t (begun_of o)) (sym idle) (run.begun_then w k p q n I F on idle R C) });
+          (record { fits = record { worker = k; out = F.held; few = few; private = run.private_then w k p q n I F on idle R C; stands = stands_then }; begun = subst (λ o. BegunBy after L' t o) (sym idle) (run.begun_then w k p q n I F on idle R C) });
       leaf = refl;
       fields = refl;
     };

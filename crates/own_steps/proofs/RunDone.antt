@@ -35,7 +35,7 @@ use Rattle.core_relation.proofs.parts.Workers.{ran_leaves}
 use Rattle.task_machine.specs.declared.part.Private.{Private}
 use Rattle.shared_value.specs.declared.next_step.Ending.TheVariants.{Returns}
 use Rattle.shared_value.specs.declared.task_at_rest.Rest.{Rest}
-use Rattle.shared_value.specs.World.{World, accounts, begun_of, flat, home_in, home_of, rest_at, totals_of, value_of}
+use Rattle.shared_value.specs.World.{World, accounts, flat, home_in, home_of, rest_at, totals_of, value_of}
 use Rattle.shared_value.specs.Measured.{AreMeasured, RestsAreMeasured}
 use Rattle.shared_value.specs.Stands.{HeapForm, IsWorld}
 use Rattle.shared_value.specs.Fits.{Fits, OthersFit, home_of_part, part_of}
@@ -161,7 +161,7 @@ module _ (w : World) (k : ℕ) (p : Private) (I : IsWorld w) (F : Fits w k p) (s
     ends_home = record {
       frames = ap (λ (z : Home). z.frames) here;
       result = ap (λ (z : Home). z.result) home_now;
-      begun = ap (λ (z : Home). z.begun) home_now ∙ (sym (ap begun_of (last.none w k p I F shared free)) ∙ ap (λ (z : Home). z.begun) (sym here));
+      begun = ap (λ (z : Home). z.begun) home_now ∙ (sym (last.none w k p I F shared free) ∙ ap (λ (z : Home). z.begun) (sym here));
       view = ap (λ (z : Home). z.view) home_now ∙ ap (λ (z : Home). z.view) (sym here);
       chunks = ap (λ (z : Home). z.chunks) home_now ∙ ap (λ (z : Home). z.chunks) (sym here);
       room = ap (λ (z : Home). z.room) home_now ∙ ap (λ (z : Home). z.room) (sym here);

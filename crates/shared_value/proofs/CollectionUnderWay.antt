@@ -19,7 +19,7 @@ use Rattle.core_relation.specs.Value.{Value}
 use Rattle.core_relation.specs.Whole.{BegunBy}
 use Rattle.task_machine.specs.declared.part.Begun.{Begun}
 use Rattle.task_machine.specs.declared.part.Private.{Private}
-use Rattle.shared_value.specs.World.{World, accounts, begun_of, value_of}
+use Rattle.shared_value.specs.World.{World, accounts, value_of}
 use Rattle.shared_value.specs.Fits.{Fits, home_of_part, part_of}
 use Rattle.shared_value.proofs.BeforeTheEnd.{alive, part_now, status}
 use Rattle.shared_value.proofs.StepAccounts.{After, after_all, hold_same}
@@ -64,7 +64,7 @@ module _ (w : World) (k : ℕ) (p : Private) (F : Fits w k p) (on : (accounts w)
       rested_view (λ (z : Heap). z.begun) (λ z. refl) M t
       ∙ ap (λ (x : Option ℕ × Option ℕ × List Name × Bool). x.1) (hold_same (slice_get l.heaps t) (slice_get M.heaps t) A.heap)
 
-  by_part : (o : Option Begun) → BegunBy v' L t (begun_of o) → is_some (heap_of L t).begun ≡ is_some o
+  by_part : (o : Option Begun) → BegunBy v' L t o → is_some (heap_of L t).begun ≡ is_some o
   by_part None B = ap is_some B
   by_part (Some b) B = ap is_some B.few
 

@@ -14,7 +14,8 @@ use Rattle.object_layout.specs.declared.word.Addr.{Addr}
 use Rattle.ledger_steps.specs.Accounts.{Rests, own}
 use Rattle.ledger_steps.proofs.Rested.{rested_worker}
 use Rattle.ledger_steps.specs.Accounts.{StepsAlone}
-use Rattle.core_relation.specs.Value.{Begun, Home, In, Lies, Seen, Value, objects, objects_in, shown_at}
+use Rattle.task_machine.specs.declared.part.Begun.{Begun}
+use Rattle.core_relation.specs.Value.{Home, In, Lies, Seen, Value, objects, objects_in, shown_at}
 use Rattle.core_relation.specs.Reads.{TaskIsRead}
 use Rattle.core_relation.specs.Stands.{Place, Stands}
 use Rattle.core_relation.specs.Begins.{IsReachedAt}

@@ -29,7 +29,7 @@ use Rattle.core_relation.proofs.whole.EntriesWhole.{quiet_stands_for}
 use Rattle.core_relation.proofs.parts.WorkersPast.{quiet_leaves}
 use Rattle.task_machine.specs.declared.part.Begun.{Begun}
 use Rattle.task_machine.specs.declared.part.Private.{Private}
-use Rattle.shared_value.specs.World.{World, accounts, begun_of, totals_of, value_of}
+use Rattle.shared_value.specs.World.{World, accounts, totals_of, value_of}
 use Rattle.shared_value.specs.Measured.{IsMeasured, KeepsUnits}
 use Rattle.shared_value.specs.Stands.{HeapForm, IsWorld}
 use Rattle.shared_value.specs.Fits.{AllFit, Fits, home_of_part, part_of}
@@ -75,7 +75,7 @@ module _ (w : World) (e : Event) (I : IsWorld w) (free : refused w e ≡ None) (
       abbrev pub Q : Private
       Q = record p { fresh = 0; heap = g; begun = b }
 
-      pub quiet_own : HeapForm g → IsMeasured pool Q → SameObjects (with_home v p.task (home_of_part P)) (with_home v' p.task (home_of_part Q)) (rested l p.task) (rested L p.task) → BegunBy (with_home v' p.task (home_of_part Q)) (rested L p.task) p.task (begun_of b)
+      pub quiet_own : HeapForm g → IsMeasured pool Q → SameObjects (with_home v p.task (home_of_part P)) (with_home v' p.task (home_of_part Q)) (rested l p.task) (rested L p.task) → BegunBy (with_home v' p.task (home_of_part Q)) (rested L p.task) p.task b
           → Fits w' k Q
       quiet_own form measured part begun =
           part_fits w e I free w.tree pool w.homes w.sets w.hands w.outputs w.steps end room quiet_world k P Q refl F refl refl refl form measured

@@ -17,9 +17,8 @@ use Rattle.heap_tree.specs.Node.{Node}
 use Rattle.write_barrier.specs.declared.sets.SetOf.{SetOf}
 use Rattle.inner_mark_gc.specs.Marks.{Marks}
 pub use Rattle.core_relation.specs.Value.{no_home}
-use Rattle.core_relation.specs.Value.{Begun, Home, Noted, Value}
+use Rattle.core_relation.specs.Value.{Home, Noted, Value}
 use Rattle.core_relation.specs.Whole.{Totals}
-use Rattle.task_machine.specs.declared.part.Begun.{Begun as BegunPart}
 use Rattle.shared_value.specs.declared.task_at_rest.Rest.{Rest}
 use Rattle.shared_value.specs.declared.task_at_rest.Work.{Work}
 use Rattle.shared_value.specs.declared.task_at_rest.Work.TheVariants.{Calls, Result}
@@ -67,11 +66,6 @@ first_rest p slots spare = record {
 -- the top frame, and then those that wait, the oldest first
 abbrev pub frames_of : Stack → List Frame
 frames_of s = s.top ∷ s.below
-
--- a leaf collection that a part has begun, if it has
-abbrev pub begun_of : Option BegunPart → Option Begun
-begun_of None = None
-begun_of (Some b) = Some (record { roots = b.roots; news = b.news })
 
 -- a heap, a view and a count of allocations, and the frames of a task at work
 abbrev pub home_with : Heap → List Level → ℕ → List Frame → ℤ × Option Addr → Home

@@ -7,8 +7,9 @@ use Rattle.run_ledger.specs.declared.data.Heap.{Heap}
 use Rattle.run_ledger.specs.declared.data.Ledger.{Ledger}
 use Rattle.run_ledger.specs.Heaps.{heap_of}
 use Rattle.run_ledger.specs.Sound.{SoundLedger}
-use Rattle.core_relation.specs.Value.{Begun, Home, Value, In, objects_in}
+use Rattle.core_relation.specs.Value.{Home, Value, In, objects_in}
 use Rattle.ledger_steps.specs.Accounts.{Rests}
+use Rattle.task_machine.specs.declared.part.Begun.{Begun}
 use Rattle.core_relation.specs.Stands.{Stands}
 use Rattle.core_relation.specs.Begins.{IsReachedAt, AreRoots}
 use Rattle.core_relation.specs.Whole.{BegunStands, Begins}

@@ -13,7 +13,7 @@ use Rattle.run_ledger.specs.declared.data.Heap.{Heap}
 use Rattle.run_ledger.specs.declared.data.Ledger.{Ledger}
 use Rattle.run_ledger.specs.Heaps.{heap_of, or_fresh, let_go, collected, with_heap}
 use Rattle.run_ledger.specs.Sound.{SoundLedger}
-use Rattle.core_relation.specs.Value.{Seen, Begun, Home, Value, In, objects_in, sources, led_object, led_frame, rewritten_home}
+use Rattle.core_relation.specs.Value.{Seen, Home, Value, In, objects_in, sources, led_object, led_frame, rewritten_home}
 use Rattle.core_relation.specs.Layout.{AreLaidOut}
 use Rattle.core_relation.specs.Stands.{names_of, small_chunks, large_chunks, HasNames, HomeStands, Stands}
 use Rattle.core_relation.specs.Fits.{Part, FitsAt, with_home, ahead}
@@ -26,6 +26,7 @@ use Rattle.core_relation.proofs.notes.Begun.{begun_stays}
 use Rattle.core_relation.proofs.changes.Collect.{collected as collection}
 use Rattle.ledger_steps.proofs.Rested.{rested_worker, rested_view, rested_sound}
 use Rattle.ledger_steps.proofs.Entries.{end_changes}
+use Rattle.task_machine.specs.declared.part.Begun.{Begun}
 use Rattle.core_relation.proofs.changes.With.{at_home, off_home}
 
 -- a begun collection stands past what leaves its part

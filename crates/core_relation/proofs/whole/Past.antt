@@ -28,7 +28,8 @@ use Rattle.ledger_steps.proofs.Ahead.{with_at, with_machine, heap_then}
 use Rattle.ledger_steps.proofs.Entries.{took_takes, sweep_changes, end_changes}
 use Rattle.ledger_steps.proofs.Known.{legal_knows}
 use Rattle.ledger_steps.proofs.Split.{legal_alive, legal_idle}
-use Rattle.core_relation.specs.Value.{Home, Value, Begun}
+use Rattle.task_machine.specs.declared.part.Begun.{Begun}
+use Rattle.core_relation.specs.Value.{Home, Value}
 use Rattle.core_relation.specs.Stands.{Stands}
 use Rattle.core_relation.specs.Since.{AllNoted, MarksOn, NotesStay, OthersNotes}
 use Rattle.core_relation.specs.Changes.{SameBut, SameObjects, KeepsJust}

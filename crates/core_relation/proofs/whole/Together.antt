@@ -2,7 +2,7 @@
 use Rattle.std.proofs.Common.{refl, subst, ◌≡◌, ℕ, Option, Some, None, ap, sym, ◌∙◌, Bool, true, slice_get, inl}
 use Rattle.run_ledger.specs.declared.data.Ledger.{Ledger}
 use Rattle.run_ledger.specs.Heaps.{heap_of}
-use Rattle.core_relation.specs.Value.{Begun, Value}
+use Rattle.core_relation.specs.Value.{Value}
 use Rattle.ledger_steps.specs.Accounts.{rested}
 use Rattle.core_relation.specs.Whole.{BegunBy, by_end, handed}
 use Rattle.ledger_steps.specs.Last.{EndsDone}
@@ -22,6 +22,7 @@ use Rattle.ledger_steps.proofs.Entries.{end_changes}
 use Rattle.core_relation.proofs.parts.Ends.{fits_end}
 use Rattle.core_relation.proofs.parts.Copies.{copy_stays, copy_fits, moves}
 use Rattle.ledger_steps.proofs.SameWords.{collected_alike}
+use Rattle.task_machine.specs.declared.part.Begun.{Begun}
 
 pub copies_stay : CopiesStay
 copies_stay p s t h h' f v v' l l' S A owner on F C =
