@@ -5,4 +5,3 @@ pub mod LaidOut
 pub mod Mapped
 pub mod Merged
 pub mod Untouched
-pub mod SweptNames
