@@ -116,12 +116,12 @@ fn drive<R: Wait>(
     }
 }
 
-// Whether a world tells just these entries, and what they come to: what is written, the steps and the chunks in use.
-fn is_told(world: &World, entries: &[Entry]) -> bool {
-    world.journal() == entries
-        && world.outputs() == [1].as_slice()
-        && world.steps() == 21
-        && world.in_use() == 2
+// Whether a shared value tells just these entries, and what they come to: what is written, the steps and the chunks in use.
+fn is_told(shared: &Shared, entries: &[Entry]) -> bool {
+    shared.journal() == entries
+        && shared.outputs() == [1].as_slice()
+        && shared.steps() == 21
+        && shared.in_use() == 2
 }
 
 // Whether the run's entries are legal, and how replaying them ends.
@@ -133,8 +133,9 @@ fn replayed(
 ) -> Option<RunEnd> {
     match replay(alloc, program, settings, entries) {
         Ok(world) => {
-            if is_told(&world, entries) {
-                world.ended()
+            let shared = world.shared();
+            if is_told(shared, entries) {
+                shared.ended()
             } else {
                 None
             }

@@ -1,9 +1,7 @@
 // The whole as one value: the shared value and what every worker holds, to which entries are applied one by one.
 
 ghost use Rattle.std.specs.Prelude.{◌≡◌, [], IfOk, false, replicate};
-ghost use Rattle.run_ledger.specs.Heaps.{in_use};
 ghost use Rattle.shared_value.specs.Stands.{IsWorld};
-ghost use Rattle.shared_value.specs.World.{accounts};
 ghost use Rattle.world_core.specs.Applied.{AppliesTo};
 ghost use Rattle.world_core.specs.Together.{StandsTogether};
 ghost use Rattle.world_core.specs.Whole.{IsWhole};
@@ -12,7 +10,7 @@ use crate::apply::make_entry;
 use crate::held::Held;
 use hh_lang::Program;
 use listed::Listed;
-use run_ledger::{Refused, RunEnd};
+use run_ledger::Refused;
 use run_trace::{Entry, Settings};
 use shared_tree::{NotEntered, Shared};
 use std::alloc::{AllocError, Global};
@@ -123,38 +121,10 @@ impl World {
         self.stopped
     }
 
-    /// The entries made so far.
-    pub fn journal(&self) -> &[Entry]
-        ensures { result.now ≡ self.now.shared.journal.items }
+    /// The shared value, to be read: its journal, its end, and what was written out.
+    pub fn shared(&self) -> &Shared
+        ensures { result.now ≡ self.now.shared }
     {
-        self.shared.journal()
-    }
-
-    /// How the run has ended, if it has.
-    pub fn ended(&self) -> Option<RunEnd>
-        ensures { result ≡ (accounts self.now.shared).end }
-    {
-        self.shared.ended()
-    }
-
-    /// What was written out.
-    pub fn outputs(&self) -> &[i64]
-        ensures { result.now ≡ (accounts self.now.shared).machine.outputs }
-    {
-        self.shared.outputs()
-    }
-
-    /// The steps taken.
-    pub fn steps(&self) -> u64
-        ensures { result ≡ (accounts self.now.shared).steps }
-    {
-        self.shared.steps()
-    }
-
-    /// The chunks in use.
-    pub fn in_use(&self) -> u32
-        ensures { result ≡ in_use (accounts self.now.shared) }
-    {
-        self.shared.in_use()
+        &self.shared
     }
 }
