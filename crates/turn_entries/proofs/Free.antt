@@ -1,8 +1,7 @@
 -- Entries that aren't refused, where the worker may make one.
-use Rattle.std.proofs.Common.{◌≡◌, ℕ, ◌+◌, ◌<◌, ◌&&◌, not, true, false, Bool, Option, Some, None, is_none, is_some, nat_le, nat_lt, option_map, refl, ap, sym, subst, ◌∙◌, arith}
+use Rattle.std.proofs.Common.{◌≡◌, ℕ, ◌<◌, ◌&&◌, true, false, Bool, Option, Some, None, is_none, is_some, nat_le, nat_lt, option_map, refl, ap, sym, subst, ◌∙◌, arith}
 use Rattle.std.proofs.lemmas.Bool.{false≢true}
 use Rattle.hh_model.specs.Step.{asked}
-use Rattle.run_trace.specs.declared.entry.Kind.{Kind}
 use Rattle.run_trace.specs.declared.entry.Kind.TheVariants.{Ran, Chunk, Begin, PutOff, Fuel, Mark, More, Sweep}
 use Rattle.run_trace.specs.Settings.{Limits}
 use Rattle.run_ledger.specs.declared.data.Owed.TheVariants.{Mark as OwesMark, More as OwesMore, Sweep as OwesSweep}
@@ -26,7 +25,6 @@ use Rattle.shared_value.specs.Causes.{first_cause, need_cause, or_else}
 use Rattle.shared_value.specs.Due.{due_cause, is_part_due}
 use Rattle.shared_value.specs.Entered.{IsCaused, refused}
 use Rattle.shared_value.specs.Fits.{Fits}
-use Rattle.shared_value.specs.Links.{FitsFirst}
 use Rattle.shared_value.specs.Next.{part_asks}
 use Rattle.shared_value.specs.Stands.{IsWorld}
 use Rattle.shared_value.specs.World.{World, accounts}

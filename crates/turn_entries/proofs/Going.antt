@@ -1,12 +1,12 @@
 -- Parts that may take steps.
-use Rattle.std.proofs.Common.{◌≡◌, ℕ, ◌<◌, ◌≤◌, None, refl, ap, sym, subst, ◌∙◌, arith}
+use Rattle.std.proofs.Common.{◌≡◌, ℕ, ◌<◌, None, refl, ap, ◌∙◌, arith}
 use Rattle.alloc_path.specs.Heap.{Heap}
 use Rattle.leaf_copy_gc.specs.declared.lists.Moved.{Moved}
 use Rattle.task_machine.specs.declared.part.Private.{Private}
 use Rattle.task_machine.specs.declared.part.Paused.TheVariants.{Shared, Spent}
 use Rattle.shared_value.specs.Fits.{Fits}
-use Rattle.shared_value.specs.World.{World, accounts}
-use Rattle.own_steps.specs.Alone.{GoesAlone, IsShared}
+use Rattle.shared_value.specs.World.{World}
+use Rattle.own_steps.specs.Alone.{IsShared}
 use Rattle.leaf_collections.specs.LeafEnd.{FitsCopied, ended}
 use Rattle.turn_entries.specs.Parts.{IsPaused, MayRun}
 

@@ -1,15 +1,12 @@
 -- Entries that give what is owed.
-use Rattle.std.proofs.Common.{◌≡◌, ◌⊎◌, ℕ, zero, suc, ◌==◌, ◌&&◌, Bool, true, false, Option, Some, None, refl, ap, sym, subst, ◌∙◌, is_some, eq-eqb, arith}
-use Rattle.std.proofs.lemmas.Bool.{false≢true}
+use Rattle.std.proofs.Common.{◌≡◌, ℕ, ◌==◌, ◌&&◌, Bool, true, false, Option, Some, None, refl, ap, sym, subst, ◌∙◌, eq-eqb, arith}
 use Rattle.run_trace.specs.declared.entry.Kind.{Kind}
 use Rattle.run_trace.specs.declared.entry.Kind.TheVariants.{Mark, More, Sweep}
-use Rattle.run_trace.specs.Entry.{Event}
-use Rattle.run_ledger.specs.declared.data.Owed.{Owed}
 use Rattle.run_ledger.specs.declared.data.Owed.TheVariants.{Mark as OwesMark, More as OwesMore, Sweep as OwesSweep, Nothing}
 use Rattle.run_ledger.specs.declared.data.Refused.{Refused}
 use Rattle.run_ledger.specs.declared.data.Refused.TheVariants.{Left}
 use Rattle.run_ledger.specs.Cuts.{CanBeGiven}
-use Rattle.run_ledger.specs.Entries.{counted, kind_refusal, refused_unless}
+use Rattle.run_ledger.specs.Entries.{kind_refusal, refused_unless}
 use Rattle.run_ledger.specs.Heaps.{heap_of, left_in, marked_in, sweep_number}
 use Rattle.run_ledger.specs.Pace.{gives}
 use Rattle.run_ledger.proofs.OwedEntries.{owed_can_be_given}

@@ -1,5 +1,5 @@
 -- A part after private steps, whatever value it fits.
-use Rattle.std.proofs.Common.{◌≡◌, ℕ, zero, suc, ◌+◌, ◌-◌, ◌<◌, ◌≤◌, ◌^◌, None, Result, Ok, Err, length, slice_get, refl, ap, sym, subst, ◌∙◌, arith}
+use Rattle.std.proofs.Common.{◌≡◌, ℕ, zero, suc, ◌+◌, ◌<◌, ◌≤◌, ◌^◌, None, length, slice_get, refl, ap, sym, subst, ◌∙◌, arith}
 use Rattle.hh_lang.specs.Form.{ProgramText}
 use Rattle.hh_model.specs.declared.data.State.{State}
 use Rattle.hh_model.specs.Counts.{Counted}
@@ -28,14 +28,14 @@ use Rattle.task_machine.specs.Ready.{FitsSome}
 use Rattle.task_machine.specs.Run.{KeepsRest, Pauses, PausesBy, Runs}
 use Rattle.task_machine.proofs.Behind.{steps_more}
 use Rattle.shared_value.specs.Fits.{Fits, beyond}
-use Rattle.shared_value.specs.Links.{FitsFirst, above_of}
+use Rattle.shared_value.specs.Links.{FitsFirst}
 use Rattle.shared_value.specs.Stands.{IsWorld}
-use Rattle.shared_value.specs.World.{World, accounts, value_of}
+use Rattle.shared_value.specs.World.{World, accounts}
 use Rattle.shared_value.proofs.PartFitsMachine.{second_gives_first}
 use Rattle.own_steps.specs.Alone.{machine_after}
 use Rattle.own_steps.proofs.WordsFew.{limit_small}
 use Rattle.own_steps.proofs.FitsAfterSteps.{parts_fit_again}
-use Rattle.turn_entries.specs.Parts.{AtSome, GoesOn, HasGrown, IsPaused, MayRun}
+use Rattle.turn_entries.specs.Parts.{AtSome, HasGrown, IsPaused, MayRun}
 
 -- ---- THE MACHINE BEHIND THE FRESH STEPS
 

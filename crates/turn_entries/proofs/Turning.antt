@@ -1,5 +1,5 @@
 -- Values before and after a turn.
-use Rattle.std.proofs.Common.{◌≡◌, ℕ, ◌++◌, ◌∷◌, [], ◌||◌, ◌==◌, Bool, true, false, not, List, Option, Some, None, is_some, length, refl, ap, sym, subst, ◌∙◌, inl, inr, if◌then◌else◌, eq-eqb, ne_eqb, arith}
+use Rattle.std.proofs.Common.{◌≡◌, ℕ, ◌++◌, ◌∷◌, [], ◌||◌, Bool, true, false, not, List, Option, Some, None, is_some, length, refl, ap, sym, subst, ◌∙◌, inl, inr}
 use Rattle.std.proofs.lemmas.Bool.{false≢true}
 use Rattle.run_trace.specs.Entry.{Event}
 use Rattle.run_trace.specs.declared.entry.Kind.{Kind}
@@ -25,7 +25,7 @@ use Rattle.turn_entries.specs.declared.run.Run.{Run}
 use Rattle.turn_entries.specs.declared.held.Ready.TheVariants.{Paused as HasPaused, Copied as IsCopied, Found, Wanting}
 use Rattle.turn_entries.specs.Acts.{ActsFor, after_end, EndsHalted, Follows, Goes, WhyNone}
 use Rattle.turn_entries.specs.Next.{going_kind, is_wanting}
-use Rattle.turn_entries.specs.Parts.{BringsTo, TakesFrom, next_after}
+use Rattle.turn_entries.specs.Parts.{BringsTo, next_after}
 use Rattle.turn_entries.specs.Values.{EntersOne, IsSame, is_over}
 
 -- ---- NO ENTRY

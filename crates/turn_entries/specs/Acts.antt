@@ -15,10 +15,10 @@ use Rattle.turn_entries.specs.declared.act.Acted.TheVariants.{Entered, Same}
 use Rattle.turn_entries.specs.declared.held.Next.{Next}
 use Rattle.turn_entries.specs.declared.held.Next.TheVariants.{Running, Collecting as Collects, Copied as HasCopied, Found as GoesFor, Forked, Resumed, Idle, Waits, Stop}
 use Rattle.turn_entries.specs.declared.held.Ready.{Ready}
-use Rattle.turn_entries.specs.declared.held.Ready.TheVariants.{Paused as HasPaused, Copied as IsCopied, Found, Wanting}
+use Rattle.turn_entries.specs.declared.held.Ready.TheVariants.{Paused as HasPaused, Copied as IsCopied, Found}
 use Rattle.turn_entries.specs.declared.run.Run.{Run}
 use Rattle.turn_entries.specs.Next.{is_wanting, next_kind}
-use Rattle.turn_entries.specs.Parts.{BringsTo, MayCopy, MayRun, WasCopied, next_after}
+use Rattle.turn_entries.specs.Parts.{BringsTo, MayCopy, MayRun, WasCopied}
 use Rattle.turn_entries.specs.Values.{EntersOne, IsSame, is_over}
 
 -- ---- HOW IT GOES ON AFTER ITS ENTRY

@@ -1,3 +1,5 @@
+pub mod Blocks
+pub mod PartLends
 pub mod Values
 pub mod Parts
 pub mod Next

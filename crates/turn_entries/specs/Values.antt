@@ -1,9 +1,7 @@
 -- The shared value in turns, as the turn is told of it.
 use Rattle.std.specs.Prelude.{◌≡◌, ℕ, ◌||◌, Bool, List, is_some}
 use Rattle.std.specs.declared.snapshot.Snapshot.{Snapshot}
-use Rattle.hh_lang.specs.Form.{ProgramText}
 use Rattle.run_trace.specs.Entry.{Event}
-use Rattle.run_trace.specs.Settings.{Limits}
 use Rattle.run_trace.specs.declared.entry.Kind.{Kind}
 use Rattle.task_machine.specs.declared.part.Private.{Private}
 use Rattle.shared_value.specs.Entered.{Enters}

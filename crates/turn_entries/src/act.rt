@@ -11,6 +11,7 @@ use crate::held::{Next, Ready};
 use crate::run::Run;
 use paced_tree::NotEntered;
 use run_ledger::Owed;
+use std::alloc::Global;
 
 /// What has come of a turn.
 #[derive(Drop)]
@@ -53,7 +54,7 @@ impl Run {
     }
 
     // Makes the entry that comes next.
-    fn act_on(self, worker: u32, ready: Ready) -> Acted
+    fn act_on(self, alloc: Global, worker: u32, ready: Ready) -> Acted
         requires room { 0 < self.paced.journal.room }
         requires worker { worker < self.paced.settings.workers }
         requires goes { (accounts self.paced).end ≡ None }
@@ -65,12 +66,12 @@ impl Run {
         self.paced.stands();
         match self.paced.refused_first(worker) {
             Some(_) => self.end_for_fuel(worker),
-            None => self.act_free(worker, ready),
+            None => self.act_free(alloc, worker, ready),
         }
     }
 
     // Makes the entry that comes next, where fuel is left.
-    fn act_free(self, worker: u32, ready: Ready) -> Acted
+    fn act_free(self, alloc: Global, worker: u32, ready: Ready) -> Acted
         requires room { 0 < self.paced.journal.room }
         requires worker { worker < self.paced.settings.workers }
         requires goes { (accounts self.paced).end ≡ None }
@@ -81,7 +82,7 @@ impl Run {
         ensures { ActsFor self worker ready (owing_kind self.paced (owed_by self.paced worker) ready) result }
     {
         match self.paced.owed(worker) {
-            Owed::Nothing => self.enter(worker, ready),
+            Owed::Nothing => self.enter(alloc, worker, ready),
             Owed::Mark(task) => self.pay_mark(worker, ready, task),
             Owed::More(task) => self.pay_more(worker, ready, task),
             Owed::Sweep(task) => self.pay_sweep(worker, ready, task),
@@ -89,7 +90,7 @@ impl Run {
     }
 
     // Makes place for the entry, and makes it.
-    fn act_next(self, worker: u32, ready: Ready) -> Acted
+    fn act_next(self, alloc: Global, worker: u32, ready: Ready) -> Acted
         requires worker { worker < self.paced.settings.workers }
         requires goes { (accounts self.paced).end ≡ None }
         requires on { self.paced.halted ≡ false }
@@ -99,7 +100,7 @@ impl Run {
     {
         let mut run = self;
         match run.paced.reserve() {
-            Ok(()) => run.act_on(worker, ready),
+            Ok(()) => run.act_on(alloc, worker, ready),
             Err(_) => {
                 drop(ready);
                 run.halted()
@@ -108,8 +109,8 @@ impl Run {
     }
 
     /// What the worker does in its turn: where the run isn't over it ends it for spent fuel, or makes the entry that it owes, or
-    /// else the one that it comes with.
-    pub fn act(self, worker: u32, ready: Ready) -> Acted
+    /// else the one that it comes with. For a task that it takes it makes a block.
+    pub fn act(self, alloc: Global, worker: u32, ready: Ready) -> Acted
         requires worker { worker < self.paced.settings.workers }
         requires brings { BringsTo self.paced worker ready }
         ensures { Acts self worker ready result }
@@ -122,6 +123,6 @@ impl Run {
             drop(ready);
             return self.halted();
         }
-        self.act_next(worker, ready)
+        self.act_next(alloc, worker, ready)
     }
 }

@@ -2,23 +2,25 @@
 ghost use Rattle.std.specs.Prelude.{◌≡◌};
 ghost use Rattle.turn_entries.specs.Next.{is_wanting};
 
+use crate::held_part::HeldPart;
 use leaf_copy_gc::{Moved, ToChunks};
 use object_layout::Addr;
+use out_of_line::Apart;
 use std::snapshot::Snapshot;
 use task_machine::{Paused, Private};
 
 /// A part whose leaf collection has begun, with its roots, and the new chunks with all that copying needs.
 #[derive(Drop)]
 pub struct Collecting {
-    pub part: Private,
+    pub part: HeldPart,
     pub roots: Vec<Addr>,
-    pub to_chunks: ToChunks,
+    pub to_chunks: Apart<ToChunks>,
 }
 
 /// A part whose heap was copied, with what the copying came to.
 #[derive(Drop)]
 pub struct Copied {
-    pub part: Private,
+    pub part: HeldPart,
     pub moved: Moved,
     /// The part as it was when its collection had begun.
     pub begun: Snapshot<Private>,
@@ -28,7 +30,7 @@ pub struct Copied {
 #[derive(Drop)]
 pub enum Ready {
     /// A part, and why its steps paused.
-    Paused(Private, Paused),
+    Paused(HeldPart, Paused),
     /// A part whose collection may end.
     Copied(Copied),
     /// A task that it has found, or none.
@@ -53,7 +55,7 @@ impl Ready {
 #[derive(Drop)]
 pub enum Next {
     /// It takes steps of this part.
-    Running(Private),
+    Running(HeldPart),
     /// It copies the heap of this part.
     Collecting(Collecting),
     /// It ends the collection of this part.

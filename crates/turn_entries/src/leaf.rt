@@ -13,12 +13,43 @@ ghost use Rattle.turn_entries.specs.Parts.{IsPaused};
 
 use crate::act::Acted;
 use crate::held::{Collecting, Copied, Next};
+use crate::held_part::HeldPart;
 use crate::run::Run;
-use task_machine::{Paused, Private};
+use leaf_copy_gc::{Moved, ToChunks};
+use out_of_line::Apart;
+use std::alloc::{AllocError, Global};
+use task_machine::Paused;
+
+// A block for new chunks and lists, without any.
+fn chunks_block(alloc: Global) -> Result<Apart<ToChunks>, AllocError> {
+    let lists = Moved {
+        moved: Vec::new(alloc),
+        taken: 0,
+        given: 0,
+        left: 0,
+        back: Vec::new(alloc),
+    };
+    let none = ToChunks {
+        chunks: Vec::new(alloc),
+        lists,
+        found: Vec::new(alloc),
+        laid: Vec::new(alloc),
+    };
+    Ok(Apart::new(alloc, none)?)
+}
+
+// Puts new chunks and lists into a block. It takes no memory.
+fn put_chunks(block: Apart<ToChunks>, to_chunks: ToChunks) -> Apart<ToChunks>
+    ensures { result ≡ to_chunks }
+{
+    let mut block = block;
+    *block.get_mut() = to_chunks;
+    block
+}
 
 impl Run {
-    // The collection of the part begins.
-    fn begin_leaf(self, worker: u32, part: Private) -> Acted
+    // The collection of the part begins. There is a block for the new chunks.
+    fn begin_in(self, worker: u32, part: HeldPart, block: Apart<ToChunks>) -> Acted
         requires room { 0 < self.paced.journal.room }
         requires free { first_cause self.paced.end self.paced.steps self.paced.settings worker false ≡ None }
         requires owes { owed_by self.paced worker ≡ OwedOf.Nothing }
@@ -32,18 +63,36 @@ impl Run {
         self.paced.stands();
         let mut run = self;
         let mut part = part;
-        match run.paced.leaf_begin(worker, &mut part) {
+        match run.paced.leaf_begin(worker, part.get_mut()) {
             Ok((roots, to_chunks)) => run.entered(Next::Collecting(Collecting {
                 part,
                 roots,
-                to_chunks,
+                to_chunks: put_chunks(block, to_chunks),
             })),
             Err(cause) => run.wanting(cause),
         }
     }
 
+    // The collection of the part begins, where there is memory for what it takes along.
+    fn begin_leaf(self, alloc: Global, worker: u32, part: HeldPart) -> Acted
+        requires room { 0 < self.paced.journal.room }
+        requires free { first_cause self.paced.end self.paced.steps self.paced.settings worker false ≡ None }
+        requires owes { owed_by self.paced worker ≡ OwedOf.Nothing }
+        requires goes { (accounts self.paced).end ≡ None }
+        requires paused { IsPaused self.paced worker part Paused.Due }
+        requires on { self.paced.halted ≡ false }
+        requires enough { is_pool_enough self.paced.settings (accounts self.paced) part.task ≡ true }
+        requires fresh { part.fresh ≡ 0 }
+        ensures { ActsAnyhow self worker (KindOf.Begin part.task) result }
+    {
+        match chunks_block(alloc) {
+            Ok(block) => self.begin_in(worker, part, block),
+            Err(_) => self.halted(),
+        }
+    }
+
     // The collection of the part is put off.
-    fn put_off_leaf(self, worker: u32, part: Private) -> Acted
+    fn put_off_leaf(self, worker: u32, part: HeldPart) -> Acted
         requires room { 0 < self.paced.journal.room }
         requires free { first_cause self.paced.end self.paced.steps self.paced.settings worker false ≡ None }
         requires owes { owed_by self.paced worker ≡ OwedOf.Nothing }
@@ -57,14 +106,14 @@ impl Run {
         self.paced.stands();
         let mut run = self;
         let mut part = part;
-        match run.paced.put_off(worker, &mut part) {
+        match run.paced.put_off(worker, part.get_mut()) {
             Ok(()) => run.entered(Next::Running(part)),
             Err(_) => unreachable!(),
         }
     }
 
     /// The due collection of the part begins, or is put off where too few chunks are free.
-    pub(crate) fn collect(self, worker: u32, part: Private) -> Acted
+    pub(crate) fn collect(self, alloc: Global, worker: u32, part: HeldPart) -> Acted
         requires room { 0 < self.paced.journal.room }
         requires free { first_cause self.paced.end self.paced.steps self.paced.settings worker false ≡ None }
         requires owes { owed_by self.paced worker ≡ OwedOf.Nothing }
@@ -74,8 +123,8 @@ impl Run {
         requires fresh { part.fresh ≡ 0 }
         ensures { ActsAnyhow self worker (due_kind self.paced part.task) result }
     {
-        if self.paced.pool_enough(&part) {
-            self.begin_leaf(worker, part)
+        if self.paced.pool_enough(part.get()) {
+            self.begin_leaf(alloc, worker, part)
         } else {
             self.put_off_leaf(worker, part)
         }
@@ -97,7 +146,7 @@ impl Run {
             moved,
             ..
         } = copied;
-        match run.paced.leaf_end(worker, &mut part, moved) {
+        match run.paced.leaf_end(worker, part.get_mut(), moved) {
             Ok(()) => run.entered(Next::Running(part)),
             Err(_) => unreachable!(),
         }

@@ -4,6 +4,7 @@
 
 mod act;
 mod held;
+mod held_part;
 mod leaf;
 mod pay;
 mod run;
@@ -11,5 +12,6 @@ mod steps;
 
 pub use act::Acted;
 pub use held::{Collecting, Copied, Next, Ready};
+pub use held_part::{HeldPart, PartBlock};
 pub use paced_tree::{Paced, Shared};
 pub use run::{Run, Setup};

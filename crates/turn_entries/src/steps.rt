@@ -11,8 +11,10 @@ ghost use Rattle.turn_entries.specs.Parts.{BringsTo, IsPaused, MayRun};
 
 use crate::act::Acted;
 use crate::held::{Next, Ready};
+use crate::held_part::{HeldPart, PartBlock};
 use crate::run::Run;
 use paced_tree::Ran;
+use std::alloc::Global;
 use task_machine::{Paused, Private};
 
 // How a worker goes on whose task has ended.
@@ -26,8 +28,8 @@ fn after_end(resumed: Option<u32>) -> Next
 }
 
 impl Run {
-    // The worker takes a task that it has found.
-    fn take_task(self, worker: u32, task: u32) -> Acted
+    // The worker takes a task that it has found. There is a block for its part.
+    fn take_in(self, worker: u32, task: u32, block: PartBlock) -> Acted
         requires room { 0 < self.paced.journal.room }
         requires owes { owed_by self.paced worker ≡ OwedOf.Nothing }
         requires goes { (accounts self.paced).end ≡ None }
@@ -36,13 +38,27 @@ impl Run {
     {
         let mut run = self;
         match run.paced.took(worker, task) {
-            Ok(part) => run.entered(Next::Running(part)),
+            Ok(part) => run.entered(Next::Running(block.fill(part))),
             Err(_) => Acted::Same(run, Next::Idle),
         }
     }
 
+    // The worker takes a task that it has found, where there is memory for a block.
+    fn take_task(self, alloc: Global, worker: u32, task: u32) -> Acted
+        requires room { 0 < self.paced.journal.room }
+        requires owes { owed_by self.paced worker ≡ OwedOf.Nothing }
+        requires goes { (accounts self.paced).end ≡ None }
+        requires on { self.paced.halted ≡ false }
+        ensures { ActsAnyhow self worker (KindOf.Took task) result }
+    {
+        match PartBlock::new(alloc) {
+            Ok(block) => self.take_in(worker, task, block),
+            Err(_) => self.halted(),
+        }
+    }
+
     // The worker takes the task that it has found, if it has.
-    fn enter_found(self, worker: u32, found: Option<u32>) -> Acted
+    fn enter_found(self, alloc: Global, worker: u32, found: Option<u32>) -> Acted
         requires room { 0 < self.paced.journal.room }
         requires owes { owed_by self.paced worker ≡ OwedOf.Nothing }
         requires goes { (accounts self.paced).end ≡ None }
@@ -50,13 +66,13 @@ impl Run {
         ensures { ActsFor self worker (Ready.Found found) (brought_kind self.paced (Ready.Found found)) result }
     {
         match found {
-            Some(task) => self.take_task(worker, task),
+            Some(task) => self.take_task(alloc, worker, task),
             None => Acted::Same(self, Next::Waits),
         }
     }
 
     // The fresh steps of the part are entered.
-    fn enter_private(self, worker: u32, part: Private) -> Acted
+    fn enter_private(self, worker: u32, part: HeldPart) -> Acted
         requires room { 0 < self.paced.journal.room }
         requires free { first_cause self.paced.end self.paced.steps self.paced.settings worker false ≡ None }
         requires owes { owed_by self.paced worker ≡ OwedOf.Nothing }
@@ -67,14 +83,15 @@ impl Run {
     {
         self.paced.stands();
         let mut run = self;
+        let (part, block) = part.take_out();
         match run.paced.ran_private(worker, part) {
-            Ok(part) => run.entered(Next::Running(part)),
+            Ok(part) => run.entered(Next::Running(block.fill(part))),
             Err(_) => unreachable!(),
         }
     }
 
-    // The fresh steps of the part are entered with its next one, which isn't private.
-    fn enter_shared(self, worker: u32, part: Private) -> Acted
+    // The fresh steps of the part are entered with its next one, which isn't private. There is a block for the part after them.
+    fn ran_in(self, worker: u32, part: Private, block: PartBlock) -> Acted
         requires room { 0 < self.paced.journal.room }
         requires free { first_cause self.paced.end self.paced.steps self.paced.settings worker false ≡ None }
         requires owes { owed_by self.paced worker ≡ OwedOf.Nothing }
@@ -86,7 +103,7 @@ impl Run {
         self.paced.stands();
         let mut run = self;
         match run.paced.ran(worker, part) {
-            Ok(Ran::Goes(part)) => run.entered(Next::Running(part)),
+            Ok(Ran::Goes(part)) => run.entered(Next::Running(block.fill(part))),
             Ok(Ran::Forked { left, right }) => run.entered(Next::Forked { left, right }),
             Ok(Ran::Ended { resumed }) => run.entered(after_end(resumed)),
             Ok(Ran::Over(_)) => run.entered(Next::Stop),
@@ -95,8 +112,22 @@ impl Run {
         }
     }
 
+    // The fresh steps of the part are entered with its next one, which isn't private.
+    fn enter_shared(self, worker: u32, part: HeldPart) -> Acted
+        requires room { 0 < self.paced.journal.room }
+        requires free { first_cause self.paced.end self.paced.steps self.paced.settings worker false ≡ None }
+        requires owes { owed_by self.paced worker ≡ OwedOf.Nothing }
+        requires goes { (accounts self.paced).end ≡ None }
+        requires on { self.paced.halted ≡ false }
+        requires paused { IsPaused self.paced worker part Paused.Shared }
+        ensures { ActsFor self worker (Ready.Paused part Paused.Shared) (Some (KindOf.Ran part.task (part.fresh + 1))) result }
+    {
+        let (part, block) = part.take_out();
+        self.ran_in(worker, part, block)
+    }
+
     // The part gets a chunk.
-    fn enter_chunk(self, worker: u32, part: Private) -> Acted
+    fn enter_chunk(self, worker: u32, part: HeldPart) -> Acted
         requires room { 0 < self.paced.journal.room }
         requires free { first_cause self.paced.end self.paced.steps self.paced.settings worker false ≡ None }
         requires owes { owed_by self.paced worker ≡ OwedOf.Nothing }
@@ -109,14 +140,14 @@ impl Run {
         self.paced.stands();
         let mut run = self;
         let mut part = part;
-        match run.paced.chunk(worker, &mut part) {
+        match run.paced.chunk(worker, part.get_mut()) {
             Ok(()) => run.entered(Next::Running(part)),
             Err(cause) => run.wanting(cause),
         }
     }
 
     // The entry that the part's steps have paused for; its fresh steps come before a chunk or a collection.
-    fn enter_part(self, worker: u32, part: Private, why: Paused) -> Acted
+    fn enter_part(self, alloc: Global, worker: u32, part: HeldPart, why: Paused) -> Acted
         requires room { 0 < self.paced.journal.room }
         requires free { first_cause self.paced.end self.paced.steps self.paced.settings worker false ≡ None }
         requires owes { owed_by self.paced worker ≡ OwedOf.Nothing }
@@ -129,13 +160,13 @@ impl Run {
             Paused::Shared => self.enter_shared(worker, part),
             Paused::Spent => self.enter_private(worker, part),
             Paused::Due => {
-                if part.fresh > 0 {
+                if part.fresh() > 0 {
                     return self.enter_private(worker, part);
                 }
-                self.collect(worker, part)
+                self.collect(alloc, worker, part)
             }
             Paused::NeedChunk => {
-                if part.fresh > 0 {
+                if part.fresh() > 0 {
                     return self.enter_private(worker, part);
                 }
                 self.enter_chunk(worker, part)
@@ -144,7 +175,7 @@ impl Run {
     }
 
     /// The entry that the worker comes with, where it owes none.
-    pub(crate) fn enter(self, worker: u32, ready: Ready) -> Acted
+    pub(crate) fn enter(self, alloc: Global, worker: u32, ready: Ready) -> Acted
         requires room { 0 < self.paced.journal.room }
         requires goes { (accounts self.paced).end ≡ None }
         requires free { first_cause self.paced.end self.paced.steps self.paced.settings worker false ≡ None }
@@ -156,9 +187,9 @@ impl Run {
     {
         self.paced.stands();
         match ready {
-            Ready::Paused(part, why) => self.enter_part(worker, part, why),
+            Ready::Paused(part, why) => self.enter_part(alloc, worker, part, why),
             Ready::Copied(copied) => self.end_leaf(worker, copied),
-            Ready::Found(found) => self.enter_found(worker, found),
+            Ready::Found(found) => self.enter_found(alloc, worker, found),
             Ready::Wanting => unreachable!(),
         }
     }

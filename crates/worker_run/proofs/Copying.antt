@@ -1,10 +1,11 @@
 -- The copy of a part whose collection has begun.
-use Rattle.std.proofs.Common.{◌≡◌, ℕ, All, List, map, ap, sym, subst}
+use Rattle.std.proofs.Common.{◌≡◌, ℕ, All, List, map, ap, sym, subst, ◌∙◌}
 use Rattle.hh_lang.specs.Form.{ProgramText}
 use Rattle.object_layout.specs.Content.{Content}
 use Rattle.alloc_path.specs.Heap.{Heap}
 use Rattle.task_frames.specs.Stack.{Stack}
 use Rattle.leaf_copy_gc.specs.declared.lists.Moved.{Moved}
+use Rattle.leaf_copy_gc.specs.declared.lists.ToChunks.{ToChunks}
 use Rattle.leaf_copy_gc.specs.Laws.{CanTake}
 use Rattle.leaf_copy_gc.specs.Lists.{IsCollected}
 use Rattle.leaf_copy_gc.specs.Survivors.{IsSound, as_reference}
@@ -12,7 +13,7 @@ use Rattle.ledger_steps.specs.Accounts.{aside}
 use Rattle.task_machine.specs.declared.part.Begun.{Begun}
 use Rattle.task_machine.specs.declared.part.Private.{Private}
 use Rattle.shared_value.specs.Fits.{Fits}
-use Rattle.shared_value.specs.LeafBegin.{number_of}
+use Rattle.shared_value.specs.LeafBegin.{HasBegun, number_of}
 use Rattle.shared_value.specs.World.{World, accounts, value_of}
 use Rattle.shared_value.proofs.StepsEntered.{status}
 use Rattle.leaf_collections.specs.LeafEnd.{FitsCopied}
@@ -49,3 +50,12 @@ module _ (p : ProgramText) (w : World) (k : ℕ) (c : Collecting) (G : GoesOn p 
 -- the same at another value
 pub may_copy_at : (w z : World) (k : ℕ) (c : Collecting) (part : Private) → MayCopy w k c → part ≡ c.part → Fits z k part → MayCopy z k c
 may_copy_at w z k c part M e f = record { fits = subst (Fits z k) e f; fresh = M.fresh; before = M.before; begun = M.begun }
+
+-- the same out of the blocks
+pub may_copy_out : (w : World) (k : ℕ) (c : Collecting) (part : Private) (to : ToChunks) → part ≡ c.part → to ≡ c.to_chunks → MayCopy w k c → MayCopy w k (record { part = part; roots = c.roots; to_chunks = to })
+may_copy_out w k c part to e f M = record {
+  fits = subst (Fits w k) (sym e) M.fits;
+  fresh = ap (λ (q : Private). q.fresh) e ∙ M.fresh;
+  before = M.before;
+  begun = subst (λ (q : Private). HasBegun M.before q c.roots.items to) (sym e) (subst (λ (t : ToChunks). HasBegun M.before c.part c.roots.items t) (sym f) M.begun);
+}

@@ -82,7 +82,7 @@ settings_send : IsSend Settings.the_row
 settings_send = search (sendable, std.crosses) depth 300 fits 1000000
 
 pub desk_send : IsSend Desk.the_row
-desk_send = search (seat_send, hand.the_field_send, settings_send, sendable) depth 300 fits 1000000
+desk_send = search (seat_send, hand.the_field_send, settings_send, sendable, std.crosses) depth 300 fits 1000000
 
 -- the turn, whose parts are seen by clauses alone
 pub turn_sync : IsSync (Turn.the_row Run.the_row Entry.the_row (Snapshot.the_row Private.the_row) Setup.the_row ghosts)

@@ -1,6 +1,7 @@
 //! The desks of the workers.
 
 use run_trace::Settings;
+use std::alloc::Global;
 use steal_scheduler::Hand;
 use turn_entries::Run;
 use turn_lock::Seat;
@@ -11,6 +12,8 @@ pub struct Desk {
     pub seat: Seat<Run>,
     pub hand: Hand,
     pub worker: u32,
+    /// For the blocks of its parts.
+    pub alloc: Global,
     pub settings: Settings,
     /// How many entries it gave back.
     pub given: u64,

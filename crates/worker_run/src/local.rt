@@ -1,30 +1,47 @@
 //! What a worker does outside the turn, on values that it owns.
-ghost use Rattle.std.specs.Prelude.{◌≡◌};
+ghost use Rattle.std.specs.Prelude.{◌≡◌, IfOk};
 ghost use Rattle.hh_lang.specs.Form.{ProgramText};
-ghost use Rattle.turn_entries.specs.Parts.{AtSome, GrowsTo, MayCopy, MayRun, WasCopied};
+ghost use Rattle.turn_entries.specs.Parts.{AtSome, GrowsTo, HasGrown, MayCopy, MayRun, WasCopied};
 
 use hh_lang::Program;
 use leaf_copy_gc::copy;
 use outside_io::Gate;
+use std::alloc::AllocError;
 use std::snapshot::Snapshot;
-use task_machine::{Private, run_local};
-use turn_entries::{Collecting, Copied, Ready};
+use task_machine::{Paused, Private, run_local};
+use turn_entries::{Collecting, Copied, HeldPart, Ready};
 
 // The most private steps of one entry.
 const MOST_STEPS: u32 = 256;
 
+// Takes steps of a part until they pause, at most as many as one entry holds, and settles its heap where a fork comes next.
+fn take_steps<G: Gate>(
+    part: &mut Private,
+    program: &Program,
+    gate: &G,
+    worker: u32,
+) -> Result<Paused, AllocError>
+    requires { AtSome program.now (λ w. MayRun w worker part.old) }
+    ensures { IfOk result (HasGrown program.now worker part.old part.new) }
+{
+    let budget = MOST_STEPS - part.fresh;
+    match run_local(part, program, budget, gate, worker) {
+        Ok(why) => {
+            part.settle_before_fork(program);
+            Ok(why)
+        }
+        Err(e) => Err(e),
+    }
+}
+
 /// Takes steps of a part until they pause, at most as many as one entry holds.
-pub fn run_part<G: Gate>(part: Private, program: &Program, gate: &G, worker: u32) -> Ready
+pub fn run_part<G: Gate>(part: HeldPart, program: &Program, gate: &G, worker: u32) -> Ready
     requires { AtSome program.now (λ w. MayRun w worker part) }
     ensures { GrowsTo program.now worker part result }
 {
     let mut part = part;
-    let budget = MOST_STEPS - part.fresh;
-    match run_local(&mut part, program, budget, gate, worker) {
-        Ok(why) => {
-            part.settle_before_fork(program);
-            Ready::Paused(part, why)
-        }
+    match take_steps(part.get_mut(), program, gate, worker) {
+        Ok(why) => Ready::Paused(part, why),
         Err(_) => Ready::Wanting,
     }
 }
@@ -36,20 +53,22 @@ pub fn copy_part<G: Gate>(collecting: Collecting, gate: &G, worker: u32) -> Copi
     ensures copied { (p : ProgramText) → WasCopied p worker result }
 {
     let Collecting {
-        mut part,
+        part,
         roots,
         to_chunks,
     } = collecting;
+    let (mut part, block) = part.take_out();
     let begun = Snapshot::of(&part);
     let task = part.task;
     let moved = copy(
         &mut part.heap,
         &mut part.frames,
         &roots,
-        to_chunks,
+        to_chunks.into_inner(),
         gate,
         worker,
         task,
     );
+    let part = block.fill(part);
     Copied { part, moved, begun }
 }

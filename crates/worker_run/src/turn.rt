@@ -51,12 +51,12 @@ fn give(turn: &Turn<Run>, desk: &mut Desk, program: &Program, run: Run, next: Ne
 {
     match next {
         Next::Running(part) => {
-            let kept = Snapshot::of(&part);
+            let kept = part.snapshot();
             give_entry(turn, desk, program, run, Some(&kept));
             Next::Running(part)
         }
         Next::Collecting(collecting) => {
-            let kept = Snapshot::of(&collecting.part);
+            let kept = collecting.part.snapshot();
             give_entry(turn, desk, program, run, Some(&kept));
             Next::Collecting(collecting)
         }
@@ -87,7 +87,7 @@ pub fn take_turn<R: Wait>(
     ensures turn { TakesTurn desk.old desk.new ready result }
 {
     let run = turn.take(rt, &mut desk.seat);
-    match run.act(desk.worker, ready) {
+    match run.act(desk.alloc, desk.worker, ready) {
         Acted::Entered(run, next) => give(turn, desk, program, run, next),
         Acted::Same(run, next) => {
             turn.give_same(&mut desk.seat, run);

@@ -76,6 +76,7 @@ fn desks_of(
             seat,
             hand,
             worker,
+            alloc,
             settings,
             given: 0,
             heard: 0,

@@ -97,8 +97,8 @@ pub fn prepare<R: Wait, G: Gate>(
 // The task that the gate is told of.
 fn task_of(ready: &Ready) -> u32 {
     match ready {
-        Ready::Paused(part, _) => part.task,
-        Ready::Copied(copied) => copied.part.task,
+        Ready::Paused(part, _) => part.get().task,
+        Ready::Copied(copied) => copied.part.get().task,
         Ready::Found(Some(task)) => *task,
         _ => 0,
     }

@@ -37,7 +37,7 @@ pub loop-settings-preserved : goal.loop-settings-preserved
 loop-settings-preserved c =
     let inv = c.loop-settings.invariant in
     let hand : Hand = c.remove-hand.result in
-    let desk : Desk = record { seat = c.remove-seat.result; hand = hand; worker = c.loop-settings.worker; settings = c.args.settings; given = 0; heard = 0 } in
+    let desk : Desk = record { seat = c.remove-seat.result; hand = hand; worker = c.loop-settings.worker; alloc = c.args.alloc; settings = c.args.settings; given = 0; heard = 0 } in
     let some : 0 < length c.loop-settings.seats.items = search rules in
     let more : 0 < length c.loop-settings.hands.items = search rules in
     let made : c.push.new.self.items ≡ c.loop-settings.desks.items ++ desk ∷ [] = c.in_ok-push.ensures.items in

@@ -1,6 +1,5 @@
 use Rattle.std.proofs.Common.{Some, ap}
 use Rattle.std.proofs.Common.{rules, ◌≡◌, true, false}
-use Rattle.run_trace.specs.declared.entry.Kind.{Kind}
 use Rattle.run_trace.specs.declared.entry.Kind.TheVariants.{Begin, PutOff}
 use Rattle.run_ledger.specs.Entries.{is_pool_enough}
 use Rattle.shared_value.specs.World.{accounts}

@@ -1,4 +1,4 @@
-use Rattle.std.proofs.Common.{refl, ap, sym, ◌∙◌, is_some}
+use Rattle.std.proofs.Common.{ap, sym, ◌∙◌, is_some}
 use Rattle.run_trace.specs.declared.entry.Kind.TheVariants.{Fuel}
 use Rattle.run_ledger.specs.declared.data.Ledger.{Ledger}
 use Rattle.shared_value.specs.Entered.{cause_of}

@@ -1,18 +1,32 @@
-use Rattle.std.proofs.Common.{refl, ap, sym, ◌∙◌}
+use Rattle.std.proofs.Common.{◌≡◌, ap, sym, subst, ◌∙◌}
 use Rattle.run_trace.specs.declared.entry.Kind.{Kind}
 use Rattle.run_trace.specs.declared.entry.Kind.TheVariants.{End}
+use Rattle.task_machine.specs.declared.part.Private.{Private}
+use Rattle.shared_value.specs.Entered.{Enters, refused}
+use Rattle.leaf_collections.specs.LeafEnd.{FitsCopied, end_event, ended}
 use Rattle.shared_tree.specs.Ends.{end_cause}
 use Rattle.turn_entries.proofs.Free.{end_free, not_refused}
 use Rattle.turn_entries.proofs.Going.{may_ended}
 use Rattle.turn_entries.proofs.Turning.{one}
 use Rattle.turn_entries.proofs.run.Run.end_leaf.Goals as goal
 
+pub leaf_end-requires-clause-fits : goal.leaf_end-requires-clause-fits
+leaf_end-requires-clause-fits c = subst (λ (q : Private). FitsCopied c.args.self.paced c.args.worker q c.args.copied.moved) (sym c.get_mut.ensures.value) c.requires.fits
+
 pub unreachable-requires : goal.unreachable-requires
 unreachable-requires c =
-    not_refused _ c.in-Err.field-0.cause (end_free c.args.self.paced c.args.worker c.args.copied.part c.args.copied.moved c.stands.ensures c.requires.free c.requires.fits) (sym c.leaf_end.ensures.refused ∙ ap end_cause c.in-Err.is)
+    not_refused _ c.in-Err.field-0.cause (end_free c.args.self.paced c.args.worker c.args.copied.part c.args.copied.moved c.stands.ensures c.requires.free c.requires.fits)
+    (ap (λ (q : Private). refused c.args.self.paced (end_event c.args.worker q c.args.copied.moved)) (sym c.get_mut.ensures.value) ∙ (sym c.leaf_end.ensures.refused ∙ ap end_cause c.in-Err.is))
 
 pub returns : goal.returns
 returns c = λ ready.
     let kind : Kind = End c.args.copied.part.task c.args.copied.moved.taken c.args.copied.moved.given c.args.copied.moved.left in
-    c.entered.ensures c.args.self c.args.worker ready kind (one c.args.self.paced c.leaf_end.new.self c.args.worker kind c.in-Ok.ensures.enters c.in-Ok.ensures.others) c.requires.on
-    (λ on. (on, may_ended c.leaf_end.new.self c.args.worker c.args.copied.part c.leaf_end.new.part c.args.self.paced c.args.copied.moved c.in-Ok.ensures.fits c.requires.fits c.in-Ok.ensures.part))
+    c.entered.ensures c.args.self c.args.worker ready kind
+    (one c.args.self.paced c.leaf_end.new.self c.args.worker kind
+    (subst (λ (q : Private). Enters c.args.self.paced c.leaf_end.new.self (end_event c.args.worker q c.args.copied.moved)) c.get_mut.ensures.value c.in-Ok.ensures.enters) c.in-Ok.ensures.others)
+    c.requires.on
+    (λ on. (
+      on,
+      may_ended c.leaf_end.new.self c.args.worker c.args.copied.part c.leaf_end.new.part c.args.self.paced c.args.copied.moved c.in-Ok.ensures.fits c.requires.fits
+          (subst (λ (q : Private). c.leaf_end.new.part ≡ ended q) c.get_mut.ensures.value c.in-Ok.ensures.part),
+    ))

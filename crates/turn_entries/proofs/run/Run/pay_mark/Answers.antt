@@ -1,4 +1,4 @@
-use Rattle.std.proofs.Common.{Some, refl}
+use Rattle.std.proofs.Common.{Some}
 use Rattle.run_trace.specs.declared.entry.Kind.{Kind}
 use Rattle.run_trace.specs.declared.entry.Kind.TheVariants.{Mark}
 use Rattle.turn_entries.proofs.Free.{mark_free, only_memory}

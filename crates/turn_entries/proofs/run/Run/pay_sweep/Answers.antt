@@ -1,4 +1,4 @@
-use Rattle.std.proofs.Common.{ℕ, Some, subst, refl, ap, sym, ◌∙◌}
+use Rattle.std.proofs.Common.{ℕ, Some, subst, ap, sym, ◌∙◌}
 use Rattle.run_trace.specs.declared.entry.Kind.{Kind}
 use Rattle.run_trace.specs.declared.entry.Kind.TheVariants.{Sweep}
 use Rattle.shared_value.specs.Entered.{cause_of}

@@ -1,17 +1,29 @@
-use Rattle.std.proofs.Common.{refl, ap, sym, ◌∙◌}
+use Rattle.std.proofs.Common.{◌≡◌, ap, sym, subst, ◌∙◌}
 use Rattle.run_trace.specs.declared.entry.Kind.TheVariants.{PutOff}
-use Rattle.shared_value.specs.Entered.{cause_of}
+use Rattle.task_machine.specs.declared.part.Private.{Private}
+use Rattle.shared_value.specs.Entered.{cause_of, Enters, refused}
+use Rattle.shared_value.specs.Fits.{Fits}
 use Rattle.turn_entries.proofs.Free.{not_refused, put_off_free}
 use Rattle.turn_entries.proofs.Going.{may_heap}
 use Rattle.turn_entries.proofs.Turning.{one}
 use Rattle.turn_entries.proofs.run.Run.put_off_leaf.Goals as goal
 
+pub put_off-requires-clause-fits : goal.put_off-requires-clause-fits
+put_off-requires-clause-fits c = subst (Fits c.args.self.paced c.args.worker) (sym c.get_mut.ensures.value) c.requires.paused.may.fits
+
 pub unreachable-requires : goal.unreachable-requires
 unreachable-requires c =
     not_refused _ c.in-Err.field-0 (put_off_free c.args.self.paced c.args.worker c.args.part c.stands.ensures c.requires.free c.requires.paused.may.fits c.requires.paused.may.idle c.requires.fresh c.requires.goes c.requires.paused c.requires.short)
-    (sym c.put_off.ensures.refused ∙ ap cause_of c.in-Err.is)
+    (ap (λ (q : Private). refused c.args.self.paced (record { worker = c.args.worker; kind = PutOff q.task })) (sym c.get_mut.ensures.value) ∙ (sym c.put_off.ensures.refused ∙ ap cause_of c.in-Err.is))
 
 pub returns : goal.returns
 returns c = λ ready.
-    c.entered.ensures c.args.self c.args.worker ready (PutOff c.args.part.task) (one c.args.self.paced c.put_off.new.self c.args.worker (PutOff c.args.part.task) c.in-Ok.ensures.enters c.in-Ok.ensures.others) c.requires.on
-    (λ on. (on, may_heap c.put_off.new.self c.args.worker c.args.part c.put_off.new.part (record c.args.part.heap { since = 0 }) c.put_off.ensures.fits c.requires.paused.may.idle c.requires.fresh c.in-Ok.ensures.part))
+    c.entered.ensures c.args.self c.args.worker ready (PutOff c.args.part.task)
+    (one c.args.self.paced c.put_off.new.self c.args.worker (PutOff c.args.part.task)
+    (subst (λ (q : Private). Enters c.args.self.paced c.put_off.new.self (record { worker = c.args.worker; kind = PutOff q.task })) c.get_mut.ensures.value c.in-Ok.ensures.enters) c.in-Ok.ensures.others)
+    c.requires.on
+    (λ on. (
+      on,
+      may_heap c.put_off.new.self c.args.worker c.args.part c.put_off.new.part (record c.args.part.heap { since = 0 }) c.put_off.ensures.fits c.requires.paused.may.idle c.requires.fresh
+          (subst (λ (q : Private). c.put_off.new.part ≡ record q { heap = record q.heap { since = 0 } }) c.get_mut.ensures.value c.in-Ok.ensures.part),
+    ))

@@ -1,0 +1,37 @@
+use Rattle.std.proofs.Common.{ap, sym, subst, ◌∙◌, Some}
+use Rattle.run_trace.specs.declared.entry.Kind.TheVariants.{Begin}
+use Rattle.leaf_copy_gc.specs.declared.lists.ToChunks.{ToChunks}
+use Rattle.task_machine.specs.declared.part.Private.{Private}
+use Rattle.shared_value.specs.Entered.{Enters, IsCaused, refused}
+use Rattle.shared_value.specs.Fits.{Fits}
+use Rattle.shared_value.specs.LeafBegin.{HasBegun}
+use Rattle.turn_entries.proofs.Free.{begin_free, only_memory}
+use Rattle.turn_entries.proofs.Turning.{not_over, one, unchanged}
+use Rattle.turn_entries.proofs.run.Run.begin_in.Goals as goal
+
+pub leaf_begin-requires-clause-fits : goal.leaf_begin-requires-clause-fits
+leaf_begin-requires-clause-fits c = subst (Fits c.args.self.paced c.args.worker) (sym c.get_mut.ensures.value) c.requires.paused.may.fits
+
+pub wanting-requires : goal.wanting-requires
+wanting-requires c =
+    only_memory c.in-Err.cause _ (begin_free c.args.self.paced c.args.worker c.args.part c.stands.ensures c.requires.free c.requires.paused.may.fits c.requires.paused.may.idle c.requires.fresh c.requires.goes c.requires.paused c.requires.enough)
+    (subst (λ (q : Private). IsCaused c.in-Err.cause (refused c.args.self.paced (record { worker = c.args.worker; kind = Begin q.task }))) c.get_mut.ensures.value c.in-Err.ensures.refused)
+
+pub returns-in-Ok : goal.returns-in-Ok
+returns-in-Ok c = λ ready.
+    c.entered.ensures c.args.self c.args.worker ready (Begin c.args.part.task)
+    (one c.args.self.paced c.leaf_begin.new.self c.args.worker (Begin c.args.part.task)
+    (subst (λ (q : Private). Enters c.args.self.paced c.leaf_begin.new.self (record { worker = c.args.worker; kind = Begin q.task })) c.get_mut.ensures.value c.in-Ok.ensures.enters) c.in-Ok.ensures.others)
+    c.requires.on
+    (λ on. (
+      on,
+      record {
+        fits = c.leaf_begin.ensures.fits;
+        fresh = ap (λ (p : Private). p.fresh) c.in-Ok.ensures.begun.part ∙ (ap (λ (p : Private). p.fresh) c.get_mut.ensures.value ∙ c.requires.fresh);
+        before = c.get_mut.result.now;
+        begun = subst (λ (t : ToChunks). HasBegun c.get_mut.result.now c.leaf_begin.new.part c.in-Ok.roots.items t) (sym c.put_chunks.ensures) c.in-Ok.ensures.begun;
+      },
+    ))
+
+pub returns-in-Err : goal.returns-in-Err
+returns-in-Err c = λ ready. c.wanting.ensures c.args.self c.args.worker ready (Some (Begin c.args.part.task)) (unchanged c.args.self.paced c.leaf_begin.new.self c.in-Err.ensures.same) (not_over c.args.self c.requires.on c.requires.goes)

@@ -1,0 +1,9 @@
+-- What a part ends as, where a `&mut` to it is returned.
+use Rattle.std.specs.Borrow.{Fml, Lends, MutBor}
+use Rattle.task_machine.specs.declared.part.Private.{Private}
+use Rattle.task_machine.specs.contracts.part.Private.{the_row as part_row}
+use Rattle.turn_entries.specs.contracts.held_part.HeldPart.{the_row}
+
+-- once the borrow r ends, the part is the last one written through r
+abbrev pub lends_part : MutBor Private → MutBor Private → Fml
+lends_part s r = Lends the_row part_row s r (λ part. part)
