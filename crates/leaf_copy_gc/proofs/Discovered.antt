@@ -13,12 +13,13 @@ use Rattle.listed.proofs.Members.{In, in_append_left, in_append_right, in_append
 use Rattle.walks.proofs.Reached.{reached_within}
 use Rattle.leaf_copy_gc.specs.declared.lists.Survivor.{Survivor}
 use Rattle.leaf_copy_gc.specs.Survivors.{olds, old_of, IsSurvivor, Starts}
-use Rattle.leaf_copy_gc.specs.Search.{found_in, all_found, Search, visited, visited_at, birth_in, IsTarget}
+use Rattle.leaf_copy_gc.specs.Collection.{Collection}
+use Rattle.leaf_copy_gc.specs.Search.{found_in, all_found, visited, visited_at, birth_in, IsTarget}
 use Rattle.leaf_copy_gc.proofs.Puts as puts
 use Rattle.leaf_copy_gc.proofs.FoundLemmas as marks
 use Rattle.leaf_copy_gc.proofs.FoundLemmas.{birth_live, live_birth, born_live}
 use Rattle.leaf_copy_gc.proofs.ListLemmas.{in_read, read_in, all_from, fold_append}
-use Rattle.leaf_copy_gc.specs.Survivors.{held_by, as_reference}
+use Rattle.leaf_copy_gc.specs.Survivors.{held_by, as_reference, with_chunks}
 use Rattle.task_frames.specs.declared.frames.Frame.{Frame}
 
 -- ---- what has been found so far
@@ -31,39 +32,39 @@ olds_push [] ys = refl
 olds_push (x ∷ xs) ys = ap (λ (zs : List Addr). x.old ∷ zs) (olds_push xs ys)
 
 module _ (h : List Content) (from : List (Option Addr)) where
-  pub record Discovered (s : Search) : Type 0 where
-    pub heap : s.heap ≡ all_found h (olds s.found)
+  pub record Discovered (s : Collection) : Type 0 where
+    pub marked : s.heap.chunks ≡ all_found h (olds s.found)
     pub born : (x : Survivor) → In s.found x → (cell_of h x.old).mark ≡ Born x.birth
     pub kept : (a : Addr) → In (olds s.found) a → IsSurvivor h from a
     pub once : Once (olds s.found)
 
-  pub record Visits (s : Search) (rs : List (Option Addr)) (t : Search) : Type 0 where
+  pub record Visits (s : Collection) (rs : List (Option Addr)) (t : Collection) : Type 0 where
     pub discovered : Discovered t
     pub grows : Grows s.found t.found
     pub covers : (a : Addr) → In rs (Some a) → IsHeld h a → In (olds t.found) a
 
-  stays : (s : Search) → Discovered s → Grows s.found s.found
+  stays : (s : Collection) → Discovered s → Grows s.found s.found
   stays s d = ([], sym (append-nil s.found))
 
   grows_in : (xs ys : List Survivor) → Grows xs ys → (a : Addr) → In (olds xs) a → In (olds ys) a
   grows_in xs ys g a i = subst (λ (zs : List Addr). In zs a) (sym (ap olds g.1 ∙ olds_push xs g.0)) (in_append_left (olds xs) (olds g.0) a i)
 
   -- the marks tell what was found
-  live_now : (s : Search) → Discovered s → (a : Addr) → IsHeld h a → (In (olds s.found) a → ⊥) → cell_of s.heap a ≡ cell_of h a
-  live_now s d a l n = ap (λ (k : List Content). cell_of k a) d.heap ∙ marks.found_kept h (olds s.found) a n
+  live_now : (s : Collection) → Discovered s → (a : Addr) → IsHeld h a → (In (olds s.found) a → ⊥) → cell_of s.heap.chunks a ≡ cell_of h a
+  live_now s d a l n = ap (λ (k : List Content). cell_of k a) d.marked ∙ marks.found_kept h (olds s.found) a n
 
-  module _ (s : Search) (d : Discovered s) (a : Addr) (kept : IsHeld h a → IsSurvivor h from a) where
-    visit_found : (b : Birth) → birth_in (cell_of s.heap a).mark ≡ Some b → Visits s (Some a ∷ []) (visited_at s a (Some b))
+  module _ (s : Collection) (d : Discovered s) (a : Addr) (kept : IsHeld h a → IsSurvivor h from a) where
+    visit_found : (b : Birth) → birth_in (cell_of s.heap.chunks a).mark ≡ Some b → Visits s (Some a ∷ []) (visited_at s a (Some b))
     visit_found b e =
-        let now : (cell_of s.heap a).mark ≡ Born b = birth_live (cell_of s.heap a).mark b e in
-        let there : IsHeld s.heap a = born_live (cell_of s.heap a).mark b now in
-        let was = marks.found_live h (olds s.found) a (subst (λ (k : List Content). IsHeld k a) d.heap there) in
-        let same : cell_of s.heap a ≡ cell_of h a = live_now s d a was.0 was.1 in
+        let now : (cell_of s.heap.chunks a).mark ≡ Born b = birth_live (cell_of s.heap.chunks a).mark b e in
+        let there : IsHeld s.heap.chunks a = born_live (cell_of s.heap.chunks a).mark b now in
+        let was = marks.found_live h (olds s.found) a (subst (λ (k : List Content). IsHeld k a) d.marked there) in
+        let same : cell_of s.heap.chunks a ≡ cell_of h a = live_now s d a was.0 was.1 in
         let x : Survivor = record { birth = b; old = a } in
         let more : olds (s.found ++ x ∷ []) ≡ olds s.found ++ a ∷ [] = olds_push s.found (x ∷ []) in
         record {
           discovered = record {
-            heap = ap (λ (k : List Content). found_in k a) d.heap ∙ (sym (marks.found_push h (olds s.found) a) ∙ ap (all_found h) (sym more));
+            marked = ap (λ (k : List Content). found_in k a) d.marked ∙ (sym (marks.found_push h (olds s.found) a) ∙ ap (all_found h) (sym more));
             born = λ y i. elim (in_append_cases s.found (x ∷ []) y i) [
               | inl j ↦ d.born y j
               | inr j ↦ elim j [
@@ -90,7 +91,7 @@ module _ (h : List Content) (from : List (Option Addr)) where
         some_same : {c : Addr} → Some a ≡ Some c → a ≡ c
         some_same e = cc
 
-    visit_known : birth_in (cell_of s.heap a).mark ≡ None → Visits s (Some a ∷ []) s
+    visit_known : birth_in (cell_of s.heap.chunks a).mark ≡ None → Visits s (Some a ∷ []) s
     visit_known e =
         record {
           discovered = d;
@@ -109,15 +110,15 @@ module _ (h : List Content) (from : List (Option Addr)) where
             elim (puts.in_or_not (olds s.found) c) [
               | inl i ↦ i
               | inr n ↦
-                  let now : IsHeld s.heap c = subst (λ (x : Cell). IsBorn x.mark) (sym (live_now s d c l n)) l in
-                  absurd (live_birth (cell_of s.heap a).mark (subst (IsHeld s.heap) (sym q) now) e)
+                  let now : IsHeld s.heap.chunks c = subst (λ (x : Cell). IsBorn x.mark) (sym (live_now s d c l n)) l in
+                  absurd (live_birth (cell_of s.heap.chunks a).mark (subst (IsHeld s.heap.chunks) (sym q) now) e)
             ]
 
-    visit_at : (b : Option Birth) → birth_in (cell_of s.heap a).mark ≡ b → Visits s (Some a ∷ []) (visited_at s a b)
+    visit_at : (b : Option Birth) → birth_in (cell_of s.heap.chunks a).mark ≡ b → Visits s (Some a ∷ []) (visited_at s a b)
     visit_at None e = visit_known e
     visit_at (Some b) e = visit_found b e
 
-  pub visit_one : (s : Search) → Discovered s → (r : Option Addr) → ((a : Addr) → r ≡ Some a → IsHeld h a → IsSurvivor h from a) → Visits s (r ∷ []) (visited s r)
+  pub visit_one : (s : Collection) → Discovered s → (r : Option Addr) → ((a : Addr) → r ≡ Some a → IsHeld h a → IsSurvivor h from a) → Visits s (r ∷ []) (visited s r)
   visit_one s d None kept =
       record {
         discovered = d;
@@ -127,9 +128,9 @@ module _ (h : List Content) (from : List (Option Addr)) where
     where
       none : {c : Addr} → None ≡ Some c → ⊥
       none e = absurd cc
-  visit_one s d (Some a) kept = visit_at s d a (kept a refl) (birth_in (cell_of s.heap a).mark) refl
+  visit_one s d (Some a) kept = visit_at s d a (kept a refl) (birth_in (cell_of s.heap.chunks a).mark) refl
 
-  visits_then : (s t u : Search) (r : Option Addr) (rs : List (Option Addr)) → Visits s (r ∷ []) t → Visits t rs u → Visits s (r ∷ rs) u
+  visits_then : (s t u : Collection) (r : Option Addr) (rs : List (Option Addr)) → Visits s (r ∷ []) t → Visits t rs u → Visits s (r ∷ rs) u
   visits_then s t u r rs v w =
       record {
         discovered = w.discovered;
@@ -141,17 +142,22 @@ module _ (h : List Content) (from : List (Option Addr)) where
       }
 
   -- each of a list of references is followed
-  pub visit_all : (s : Search) → Discovered s → (rs : List (Option Addr)) → ((a : Addr) → In rs (Some a) → IsHeld h a → IsSurvivor h from a) → Visits s rs (fold visited s rs)
+  pub visit_all : (s : Collection) → Discovered s → (rs : List (Option Addr)) → ((a : Addr) → In rs (Some a) → IsHeld h a → IsSurvivor h from a) → Visits s rs (fold visited s rs)
   visit_all s d [] kept = record { discovered = d; grows = stays s d; covers = λ a i l. absurd i }
   visit_all s d (r ∷ rs) kept =
       let v = visit_one s d r (λ a e l. kept a (inl e) l) in
       visits_then s (visited s r) (fold visited s (r ∷ rs)) r rs v (visit_all (visited s r) v.discovered rs (λ a i l. kept a (inr i) l))
 
-  pub discovered_none : Discovered (record { heap = h; found = [] })
-  discovered_none = record { heap = refl; born = λ x i. absurd i; kept = λ a i. absurd i; once = tt }
+  pub discovered_none : (b : Collection) → b.heap.chunks ≡ h → b.found ≡ [] → Discovered b
+  discovered_none b e n = record {
+    marked = e ∙ sym (ap (λ (xs : List Survivor). all_found h (olds xs)) n);
+    born = λ x i. absurd (subst (λ (xs : List Survivor). In xs x) n i);
+    kept = λ a i. absurd (subst (λ (xs : List Survivor). In (olds xs) a) n i);
+    once = subst (λ (xs : List Survivor). Once (olds xs)) (sym n) tt;
+  }
 
   -- exactly what survives is found, where nothing is left to follow
-  pub found_exactly : (s : Search) → Discovered s → ((a : Addr) → In from (Some a) → IsHeld h a → In (olds s.found) a)
+  pub found_exactly : (s : Collection) → Discovered s → ((a : Addr) → In from (Some a) → IsHeld h a → In (olds s.found) a)
       → ((m a : Addr) → In (olds s.found) m → In (cell_of h m).refs (Some a) → IsHeld h a → In (olds s.found) a)
       → (a : Addr) → Contains (olds s.found) a ↔ IsSurvivor h from a
   found_exactly s d first closed a = (
@@ -162,45 +168,12 @@ module _ (h : List Content) (from : List (Option Addr)) where
         a w),
   )
 
-  -- ---- the two loops
-
-  visits_append : (s t u : Search) (rs : List (Option Addr)) (r : Option Addr) → Visits s rs t → Visits t (r ∷ []) u → Visits s (rs ++ r ∷ []) u
-  visits_append s t u rs r v w =
-      record {
-        discovered = w.discovered;
-        grows = (v.grows.0 ++ w.grows.0, w.grows.1 ∙ (ap (λ (xs : List Survivor). xs ++ w.grows.0) v.grows.1 ∙ append_assoc s.found v.grows.0 w.grows.0));
-        covers = λ a i l. elim (in_append_cases rs (r ∷ []) (Some a) i) [
-          | inl j ↦ grows_in t.found u.found w.grows a (v.covers a j l)
-          | inr j ↦ w.covers a j l
-        ];
-      }
-
-  pub first_none : Visits (record { heap = h; found = [] }) [] (record { heap = h; found = [] })
-  first_none = record { discovered = discovered_none; grows = ([], refl); covers = λ a i l. absurd i }
-
-  -- one reference from outside more was followed
-  pub first_more : (s : Search) (k : ℕ) (r : Option Addr) → k < length from → get_or from k r ≡ r
-      → Visits (record { heap = h; found = [] }) (take k from) s → Visits (record { heap = h; found = [] }) (take (k + 1) from) (visited s r)
-  first_more s k r l e v =
-      let more : take (k + 1) from ≡ take k from ++ r ∷ [] = take_more from k r l ∙ ap (λ (x : Option Addr). take k from ++ x ∷ []) e in
-      subst (λ (rs : List (Option Addr)). Visits (record { heap = h; found = [] }) rs (visited s r)) (sym more)
-      (visits_append _ s (visited s r) (take k from) r v
-      (visit_one s v.discovered r (λ a q live. (0, (live, (k, l, let w : get_or from k (Some a) ≡ Some a = subst (λ (x : Option Addr). get_or from k x ≡ x) q e in w))))))
-
   -- all is found that the first n of those found refer to
-  pub record Going (s : Search) (n : ℕ) : Type 0 where
+  pub record Going (s : Collection) (n : ℕ) : Type 0 where
     pub discovered : Discovered s
     pub first : (a : Addr) → In from (Some a) → IsHeld h a → In (olds s.found) a
     pub closed : (m a : Addr) → In (olds (take n s.found)) m → In (cell_of h m).refs (Some a) → IsHeld h a → In (olds s.found) a
     pub within : n ≤ length s.found
-
-  pub going_none : (s : Search) (k : ℕ) → length from ≤ k → Visits (record { heap = h; found = [] }) (take k from) s → Going s 0
-  going_none s k l v = record {
-    discovered = v.discovered;
-    first = λ a i live. v.covers a (subst (λ (rs : List (Option Addr)). In rs (Some a)) (sym (take_all k from l)) i) live;
-    closed = λ m a i j live. absurd i;
-    within = omega arith;
-  }
 
   pub survivor_live : (a : Addr) → IsSurvivor h from a → IsHeld h a
   survivor_live a w = reached_within (Starts h from) (Leads h) (IsHeld h) (λ b q. q.0) (λ m b i q. q.1) a w
@@ -210,25 +183,25 @@ module _ (h : List Content) (from : List (Option Addr)) where
   in_olds (y ∷ ys) x (inl e) = inl (ap old_of e)
   in_olds (y ∷ ys) x (inr i) = inr (in_olds ys x i)
 
-  pub found_births : (s : Search) → Discovered s → All (λ (x : Survivor). (cell_of h x.old).mark ≡ Born x.birth) s.found
+  pub found_births : (s : Collection) → Discovered s → All (λ (x : Survivor). (cell_of h x.old).mark ≡ Born x.birth) s.found
   found_births s d = λ k x l. d.born (get_or s.found k x) (in_read s.found k x l)
 
-  module _ (s : Search) (n : ℕ) (g : Going s n) (x : Survivor) (l : n < length s.found) (e : x ≡ get_or s.found n x) where
+  module _ (s : Collection) (n : ℕ) (g : Going s n) (x : Survivor) (l : n < length s.found) (e : x ≡ get_or s.found n x) where
     next_in : In (olds s.found) x.old
     next_in = in_olds s.found x (subst (In s.found) (sym e) (in_read s.found n x l))
 
     pub next_live : IsHeld h x.old
     next_live = survivor_live x.old (g.discovered.kept x.old next_in)
 
-    same_refs : (cell_of s.heap x.old).refs ≡ (cell_of h x.old).refs
-    same_refs = ap (λ (k : List Content). (cell_of k x.old).refs) g.discovered.heap ∙ marks.all_found_refs h (olds s.found) x.old
+    same_refs : (cell_of s.heap.chunks x.old).refs ≡ (cell_of h x.old).refs
+    same_refs = ap (λ (k : List Content). (cell_of k x.old).refs) g.discovered.marked ∙ marks.all_found_refs h (olds s.found) x.old
 
     -- the next one's references were followed
-    pub going_more : Going (fold visited s (cell_of s.heap x.old).refs) (n + 1)
+    pub going_more : Going (fold visited s (cell_of s.heap.chunks x.old).refs) (n + 1)
     going_more =
-        let v = visit_all s g.discovered (cell_of s.heap x.old).refs
+        let v = visit_all s g.discovered (cell_of s.heap.chunks x.old).refs
         (λ a i live. let w = g.discovered.kept x.old next_in in (suc w.0, (x.old, w.1, (next_live, live, contains_from_in (cell_of h x.old).refs (Some a) (subst (λ (rs : List (Option Addr)). In rs (Some a)) same_refs i))))) in
-        let t : Search = fold visited s (cell_of s.heap x.old).refs in
+        let t : Collection = fold visited s (cell_of s.heap.chunks x.old).refs in
         let len : length t.found ≡ length s.found + length v.grows.0 = ap length v.grows.1 ∙ length-append s.found v.grows.0 in
         let front : take n t.found ≡ take n s.found = ap (take n) v.grows.1 ∙ take-append-le n s.found v.grows.0 g.within in
         let here : get_or t.found n x ≡ x = ap (λ (xs : List Survivor). get_or xs n x) v.grows.1 ∙ (get_or_append_left s.found v.grows.0 x n l ∙ sym e) in
@@ -247,49 +220,69 @@ module _ (h : List Content) (from : List (Option Addr)) where
           within = omega arith;
         }
 
-  pub going_all : (s : Search) (n : ℕ) → Going s n → length s.found ≤ n → (a : Addr) → Contains (olds s.found) a ↔ IsSurvivor h from a
+  pub going_all : (s : Collection) (n : ℕ) → Going s n → length s.found ≤ n → (a : Addr) → Contains (olds s.found) a ↔ IsSurvivor h from a
   going_all s n g l = found_exactly s g.discovered g.first (λ m a i j live. g.closed m a (subst (λ (xs : List Survivor). In (olds xs) m) (sym (take_all n s.found l)) i) j live)
 
 -- ---- what calls need
 
-module _ (h : List Content) (from : List (Option Addr)) (closed : IsClosed h) (s : Search) (d : Discovered h from s) where
-  pub target_now : (r : Option Addr) → IsSound h r → IsTarget s.heap r
-  target_now r t = subst (λ (k : List Content). IsTarget k r) (sym d.heap) (marks.found_target h (olds s.found) r (marks.sound_target h r t))
+module _ (h : List Content) (from : List (Option Addr)) (closed : IsClosed h) (s : Collection) (d : Discovered h from s) where
+  pub target_now : (r : Option Addr) → IsSound h r → IsTarget s.heap.chunks r
+  target_now r t = subst (λ (k : List Content). IsTarget k r) (sym d.marked) (marks.found_target h (olds s.found) r (marks.sound_target h r t))
 
-  pub targets_now : (rs : List (Option Addr)) → All (IsSound h) rs → All (IsTarget s.heap) rs
+  pub targets_now : (rs : List (Option Addr)) → All (IsSound h) rs → All (IsTarget s.heap.chunks) rs
   targets_now rs all = λ k r l. target_now (get_or rs k r) (all k r l)
 
-  pub refs_now : (a : Addr) → IsHeld h a → All (IsTarget s.heap) (cell_of s.heap a).refs
+  pub refs_now : (a : Addr) → IsHeld h a → All (IsTarget s.heap.chunks) (cell_of s.heap.chunks a).refs
   refs_now a l =
-      subst (λ (rs : List (Option Addr)). All (IsTarget s.heap) rs)
-      (sym (ap (λ (k : List Content). (cell_of k a).refs) d.heap ∙ marks.all_found_refs h (olds s.found) a))
+      subst (λ (rs : List (Option Addr)). All (IsTarget s.heap.chunks) rs)
+      (sym (ap (λ (k : List Content). (cell_of k a).refs) d.marked ∙ marks.all_found_refs h (olds s.found) a))
       (targets_now (cell_of h a).refs (closed a l))
 
   -- it is an object still, found or not
-  pub object_now : (a : Addr) → IsHeld h a → IsObject (cell_of s.heap a).mark
-  object_now a l = subst (λ (k : List Content). IsObject (cell_of k a).mark) (sym d.heap) (marks.all_found_object h (olds s.found) a (laws.born_object h a l))
+  pub object_now : (a : Addr) → IsHeld h a → IsObject (cell_of s.heap.chunks a).mark
+  object_now a l = subst (λ (k : List Content). IsObject (cell_of k a).mark) (sym d.marked) (marks.all_found_object h (olds s.found) a (laws.born_object h a l))
 
 -- the frames and the roots were followed
-module _ (h : List Content) (fs : List Frame) (roots : List Addr) (sound : All (IsSound h) (held_by fs ++ map as_reference roots)) where
-  first_targets : All (IsTarget h) (held_by fs)
-  first_targets = all_from (IsTarget h) (held_by fs) (λ r i. marks.sound_target h r (read_in (IsSound h) (held_by fs ++ map as_reference roots) r (in_append_left (held_by fs) (map as_reference roots) r i) sound))
+module _ (b : Collection) (none : b.found ≡ []) (fs : List Frame) (roots : List Addr) (sound : All (IsSound b.heap.chunks) (held_by fs ++ map as_reference roots)) where
+  pub frames_targets : All (IsTarget b.heap.chunks) (held_by fs)
+  frames_targets = all_from (IsTarget b.heap.chunks) (held_by fs) (λ r i. marks.sound_target b.heap.chunks r (read_in (IsSound b.heap.chunks) (held_by fs ++ map as_reference roots) r (in_append_left (held_by fs) (map as_reference roots) r i) sound))
 
-  pub frames_targets : All (IsTarget h) (held_by fs)
-  frames_targets = first_targets
+  pub roots_targets : (s : Collection) → s ≡ fold visited b (held_by fs) → All (IsTarget s.heap.chunks) (map as_reference roots)
+  roots_targets s e =
+      marks.fold_all_targets b (held_by fs) s.heap.chunks (ap (λ (t : Collection). t.heap.chunks) e) (map as_reference roots)
+      (all_from (IsTarget b.heap.chunks) (map as_reference roots) (λ r i. marks.sound_target b.heap.chunks r (read_in (IsSound b.heap.chunks) (held_by fs ++ map as_reference roots) r (in_append_right (held_by fs) (map as_reference roots) r i) sound)))
 
-  pub roots_targets : (k : List Content) (found : List Survivor) → ◌≡◌ {A = Search} (record { heap = k; found = found }) (fold visited (record { heap = h; found = [] }) (held_by fs)) → All (IsTarget k) (map as_reference roots)
-  roots_targets k found e =
-      marks.fold_all_targets (record { heap = h; found = [] }) (held_by fs) k (ap (λ (t : Search). t.heap) e) (map as_reference roots)
-      (all_from (IsTarget h) (map as_reference roots) (λ r i. marks.sound_target h r (read_in (IsSound h) (held_by fs ++ map as_reference roots) r (in_append_right (held_by fs) (map as_reference roots) r i) sound)))
-
-  pub begun : (s t : Search) → s ≡ fold visited (record { heap = h; found = [] }) (held_by fs) → t ≡ fold visited s (map as_reference roots) → Going h (held_by fs ++ map as_reference roots) t 0
+  pub begun : (s t : Collection) → s ≡ fold visited b (held_by fs) → t ≡ fold visited s (map as_reference roots) → Going b.heap.chunks (held_by fs ++ map as_reference roots) t 0
   begun s t e f =
       let from = held_by fs ++ map as_reference roots in
-      let whole : t ≡ fold visited (record { heap = h; found = [] }) from = f ∙ (ap (λ (x : Search). fold visited x (map as_reference roots)) e ∙ sym (fold_append visited (record { heap = h; found = [] }) (held_by fs) (map as_reference roots))) in
-      let v = visit_all h from (record { heap = h; found = [] }) (discovered_none h from) from (λ a i l. (0, (l, contains_from_in from (Some a) i))) in
-      subst (λ (x : Search). Going h from x 0) (sym whole) (record {
+      let whole : t ≡ fold visited b from = f ∙ (ap (λ (x : Collection). fold visited x (map as_reference roots)) e ∙ sym (fold_append visited b (held_by fs) (map as_reference roots))) in
+      let v = visit_all b.heap.chunks from b (discovered_none b.heap.chunks from b refl none) from (λ a i l. (0, (l, contains_from_in from (Some a) i))) in
+      subst (λ (x : Collection). Going b.heap.chunks from x 0) (sym whole) (record {
         discovered = v.discovered;
         first = λ a i l. v.covers a i l;
         closed = λ m a i j l. absurd i;
         within = omega arith;
       })
+
+-- ---- a search changes the heap's objects and what is found, and nothing else
+
+abbrev pub Searches : Collection → Collection → Type 0
+Searches s t = t ≡ record s { heap = with_chunks s.heap t.heap.chunks; found = t.found }
+
+pub searches_then : (s t u : Collection) → Searches s t → Searches t u → Searches s u
+searches_then s t u p q = q ∙ ap (λ (z : Collection). let w : Collection = record z { heap = with_chunks z.heap u.heap.chunks; found = u.found } in w) p
+
+searches_at : (s : Collection) (a : Addr) (b : Option Birth) → Searches s (visited_at s a b)
+searches_at s a None = refl
+searches_at s a (Some b) = refl
+
+searches_one : (s : Collection) (r : Option Addr) → Searches s (visited s r)
+searches_one s None = refl
+searches_one s (Some a) = searches_at s a (birth_in (cell_of s.heap.chunks a).mark)
+
+searches_all : (s : Collection) (rs : List (Option Addr)) → Searches s (fold visited s rs)
+searches_all s [] = refl
+searches_all s (r ∷ rs) = searches_then s (visited s r) (fold visited (visited s r) rs) (searches_one s r) (searches_all (visited s r) rs)
+
+pub searches_by : (s t : Collection) (rs : List (Option Addr)) → t ≡ fold visited s rs → Searches s t
+searches_by s t rs e = subst (Searches s) (sym e) (searches_all s rs)

@@ -18,7 +18,8 @@ use Rattle.leaf_copy_gc.specs.declared.lists.Survivor.{Survivor}
 use Rattle.leaf_copy_gc.specs.Survivors.{IsSurvivor, olds, old_of, HaveNames}
 use Rattle.leaf_copy_gc.specs.Search.{all_found, found_in}
 use Rattle.leaf_copy_gc.specs.Laid.{before, is_small, smalls, relocations, AreNew, laid_at}
-use Rattle.leaf_copy_gc.specs.Copying.{Copying, copied, copied_one}
+use Rattle.leaf_copy_gc.specs.Collection.{Collection}
+use Rattle.leaf_copy_gc.specs.Copying.{copied, copied_one}
 use Rattle.leaf_copy_gc.specs.Redirected.{followed_ref, followed_large, redirected, led}
 use Rattle.leaf_copy_gc.specs.Collected.{AreAlike, IsLeft}
 use Rattle.leaf_copy_gc.proofs.Puts as puts
@@ -30,45 +31,45 @@ alike_found : (h : List Content) (xs : List Addr) → AreAlike h (all_found h xs
 alike_found h [] = larges.alike_itself h
 alike_found h (x ∷ xs) = larges.alike_then h (found_in h x) (all_found (found_in h x) xs) (larges.alike_put h x (with_mark (cell_of h x) (Moved x)) refl) (alike_found (found_in h x) xs)
 
-alike_step : (k : Copying) (s : Survivor) (b : Bool) → AreAlike k.old (cond b (copied_one k s) k).old
-alike_step k s true = larges.alike_put k.old s.old (with_mark (cell_of k.old s.old) (Moved (laid_at k.laying (size_of (cell_of k.old s.old))))) refl
-alike_step k s false = larges.alike_itself k.old
+alike_step : (k : Collection) (s : Survivor) (b : Bool) → AreAlike k.heap.chunks (cond b (copied_one k s) k).heap.chunks
+alike_step k s true = larges.alike_put k.heap.chunks s.old (with_mark (cell_of k.heap.chunks s.old) (Moved (laid_at k.laying (size_of (cell_of k.heap.chunks s.old))))) refl
+alike_step k s false = larges.alike_itself k.heap.chunks
 
-alike_copied : (k : Copying) (ss : List Survivor) → AreAlike k.old (fold copied k ss).old
-alike_copied k [] = larges.alike_itself k.old
-alike_copied k (s ∷ ss) = larges.alike_then k.old (copied k s).old (fold copied (copied k s) ss).old (alike_step k s (is_small k.old s.old)) (alike_copied (copied k s) ss)
+alike_copied : (k : Collection) (ss : List Survivor) → AreAlike k.heap.chunks (fold copied k ss).heap.chunks
+alike_copied k [] = larges.alike_itself k.heap.chunks
+alike_copied k (s ∷ ss) = larges.alike_then k.heap.chunks (copied k s).heap.chunks (fold copied (copied k s) ss).heap.chunks (alike_step k s (is_small k.heap.chunks s.old)) (alike_copied (copied k s) ss)
 
 module _ (h : List Content) (from : List (Option Addr)) (closed : IsClosed h) (sound : All (IsSound h) from)
     (ss : List Survivor) (found : List Addr) (spare : List Content)
     (kept : (a : Addr) → Contains (olds ss) a ↔ IsSurvivor h from a) (once : Once (olds ss))
     (all : (a : Addr) → In (olds ss) a → In found a) (back : (a : Addr) → In found a → In (olds ss) a)
     (names : HaveNames h ss)
-    (k : Copying) (k_old : k.old ≡ all_found h found) (k_laying : k.laying ≡ before spare) (k_moved : k.moved ≡ [])
-    (new : AreNew spare) (t : Copying) (is : t ≡ fold copied k ss) where
-  alike : AreAlike h (fold followed_large t.old ss)
+    (k : Collection) (k_old : k.heap.chunks ≡ all_found h found) (k_laying : k.laying ≡ before spare) (k_moved : k.moved ≡ [])
+    (new : AreNew spare) (t : Collection) (is : t ≡ fold copied k ss) where
+  alike : AreAlike h (fold followed_large t.heap.chunks ss)
   alike =
-      larges.alike_then h t.old (fold followed_large t.old ss)
-      (subst (λ (z : Copying). AreAlike h z.old) (sym is) (larges.alike_then h k.old (fold copied k ss).old (subst (AreAlike h) (sym k_old) (alike_found h found)) (alike_copied k ss)))
-      (larges.alike_larges t.old ss)
+      larges.alike_then h t.heap.chunks (fold followed_large t.heap.chunks ss)
+      (subst (λ (z : Collection). AreAlike h z.heap.chunks) (sym is) (larges.alike_then h k.heap.chunks (fold copied k ss).heap.chunks (subst (AreAlike h) (sym k_old) (alike_found h found)) (alike_copied k ss)))
+      (larges.alike_larges t.heap.chunks ss)
 
-  large : (a : Addr) → Contains (olds ss) a → is_small h a ≡ false → cell_of (fold followed_large t.old ss) a ≡ led (redirected (relocations (before spare) h (smalls h (olds ss)))) (with_mark (cell_of h a) (Moved a))
+  large : (a : Addr) → Contains (olds ss) a → is_small h a ≡ false → cell_of (fold followed_large t.heap.chunks ss) a ≡ led (redirected (relocations (before spare) h (smalls h (olds ss)))) (with_mark (cell_of h a) (Moved a))
   large a c s =
       let i = in_from_contains (olds ss) a c in
       let marked = leading.large_marked h from closed sound ss found spare kept once all names k k_old k_laying k_moved new t is a i s in
-      let object : IsObject (cell_of t.old a).mark = subst (λ (d : Cell). IsObject d.mark) (sym marked) tt in
-      let small : is_small t.old a ≡ false = ap (λ (d : Cell). nat_le (size_of d) 1024) marked ∙ s in
-      let refs = leading.refs_same t.old (relocations (before spare) h (smalls h (olds ss))) (cell_of h a).refs (leading.leads_refs h from closed sound ss found spare kept once all names k k_old k_laying k_moved new t is a i) in
-      larges.larges_led t.old ss (followed_ref t.old) once (λ r. refl) a i object small
-      ∙ (ap (led (followed_ref t.old)) marked
+      let object : IsObject (cell_of t.heap.chunks a).mark = subst (λ (d : Cell). IsObject d.mark) (sym marked) tt in
+      let small : is_small t.heap.chunks a ≡ false = ap (λ (d : Cell). nat_le (size_of d) 1024) marked ∙ s in
+      let refs = leading.refs_same t.heap.chunks (relocations (before spare) h (smalls h (olds ss))) (cell_of h a).refs (leading.leads_refs h from closed sound ss found spare kept once all names k k_old k_laying k_moved new t is a i) in
+      larges.larges_led t.heap.chunks ss (followed_ref t.heap.chunks) once (λ r. refl) a i object small
+      ∙ (ap (led (followed_ref t.heap.chunks)) marked
       ∙ ap (λ (rs : List (Option Addr)). let d : Cell = record (with_mark (cell_of h a) (Moved a)) { refs = rs } in d) refs)
 
-  others : (a : Addr) → (Contains (olds ss) a → ⊥) → cell_of (fold followed_large t.old ss) a ≡ cell_of h a
+  others : (a : Addr) → (Contains (olds ss) a → ⊥) → cell_of (fold followed_large t.heap.chunks ss) a ≡ cell_of h a
   others a n =
       let out : In (olds ss) a → ⊥ = λ i. n (contains_from_in (olds ss) a i) in
-      larges.larges_other t.old ss a out
+      larges.larges_other t.heap.chunks ss a out
       ∙ leading.dead_stays h from closed sound ss found spare kept once all names k k_old k_laying k_moved new t is a out (back a)
 
-  pub left : IsLeft h (fold followed_large t.old ss) (olds ss) (redirected (relocations (before spare) h (smalls h (olds ss))))
+  pub left : IsLeft h (fold followed_large t.heap.chunks ss) (olds ss) (redirected (relocations (before spare) h (smalls h (olds ss))))
   left = record { alike = alike; large = large; others = others }
 
 -- ---- a sort keeps the survivors, each once

@@ -8,7 +8,8 @@ use Rattle.object_layout.specs.Chunks.{cell_of, place_in, place_of}
 use Rattle.object_layout.specs.Graph.{IsHeld, IsSound}
 use Rattle.object_layout.proofs.ChunkLaws as laws
 use Rattle.listed.proofs.Members.{In}
-use Rattle.leaf_copy_gc.specs.Search.{found_in, all_found, birth_in, visited, visited_at, IsTarget, Search}
+use Rattle.leaf_copy_gc.specs.Collection.{Collection}
+use Rattle.leaf_copy_gc.specs.Search.{found_in, all_found, birth_in, visited, visited_at, IsTarget}
 use Rattle.leaf_copy_gc.proofs.Puts as puts
 
 pub found_other : (h : List Content) (x a : Addr) → (x ≡ a → ⊥) → cell_of (found_in h x) a ≡ cell_of h a
@@ -76,13 +77,13 @@ pub sound_target : (h : List Content) (r : Option Addr) → IsSound h r → IsTa
 sound_target h None t = tt
 sound_target h (Some a) t = λ l. let w = t l in (laws.born_object h a w.0, w.1)
 
-at_targets : (s : Search) (x : Addr) (b : Option Birth) (r : Option Addr) → IsTarget s.heap r → IsTarget (visited_at s x b).heap r
+at_targets : (s : Collection) (x : Addr) (b : Option Birth) (r : Option Addr) → IsTarget s.heap.chunks r → IsTarget (visited_at s x b).heap.chunks r
 at_targets s x None r t = t
-at_targets s x (Some b) r t = target_stays s.heap x r t
+at_targets s x (Some b) r t = target_stays s.heap.chunks x r t
 
-pub visited_targets : (s : Search) (v : Option Addr) (r : Option Addr) → IsTarget s.heap r → IsTarget (visited s v).heap r
+pub visited_targets : (s : Collection) (v : Option Addr) (r : Option Addr) → IsTarget s.heap.chunks r → IsTarget (visited s v).heap.chunks r
 visited_targets s None r t = t
-visited_targets s (Some x) r t = at_targets s x (birth_in (cell_of s.heap x).mark) r t
+visited_targets s (Some x) r t = at_targets s x (birth_in (cell_of s.heap.chunks x).mark) r t
 
 -- ---- what a mark tells
 
@@ -113,39 +114,39 @@ moved_dead Hole to e = refl
 pub visit_live : (h : List Content) (a : Addr) (b : Birth) (r : Option Birth) → r ≡ birth_in (cell_of h a).mark → r ≡ Some b → IsHeld h a
 visit_live h a b r e f = born_live (cell_of h a).mark b (birth_live (cell_of h a).mark b (sym e ∙ f))
 
-pub visited_all_targets : (s : Search) (v : Option Addr) (k : List Content) → k ≡ (visited s v).heap → (rs : List (Option Addr)) → All (IsTarget s.heap) rs → All (IsTarget k) rs
+pub visited_all_targets : (s : Collection) (v : Option Addr) (k : List Content) → k ≡ (visited s v).heap.chunks → (rs : List (Option Addr)) → All (IsTarget s.heap.chunks) rs → All (IsTarget k) rs
 visited_all_targets s v k e rs all = λ i r l. subst (λ (h : List Content). IsTarget h (get_or rs i r)) (sym e) (visited_targets s v (get_or rs i r) (all i r l))
 
-at_place : (s : Search) (x : Addr) (b : Option Birth) (n : ℕ) → place_in (visited_at s x b).heap n ≡ place_in s.heap n
+at_place : (s : Collection) (x : Addr) (b : Option Birth) (n : ℕ) → place_in (visited_at s x b).heap.chunks n ≡ place_in s.heap.chunks n
 at_place s x None n = refl
-at_place s x (Some b) n = laws.place_in-put s.heap x (with_mark (cell_of s.heap x) (Moved x)) n
+at_place s x (Some b) n = laws.place_in-put s.heap.chunks x (with_mark (cell_of s.heap.chunks x) (Moved x)) n
 
 -- no chunk moves
-pub visited_place : (s : Search) (v : Option Addr) (n : ℕ) → place_in (visited s v).heap n ≡ place_in s.heap n
+pub visited_place : (s : Collection) (v : Option Addr) (n : ℕ) → place_in (visited s v).heap.chunks n ≡ place_in s.heap.chunks n
 visited_place s None n = refl
-visited_place s (Some x) n = at_place s x (birth_in (cell_of s.heap x).mark) n
+visited_place s (Some x) n = at_place s x (birth_in (cell_of s.heap.chunks x).mark) n
 
-at_refs : (s : Search) (x : Addr) (b : Option Birth) (a : Addr) → (cell_of (visited_at s x b).heap a).refs ≡ (cell_of s.heap a).refs
+at_refs : (s : Collection) (x : Addr) (b : Option Birth) (a : Addr) → (cell_of (visited_at s x b).heap.chunks a).refs ≡ (cell_of s.heap.chunks a).refs
 at_refs s x None a = refl
-at_refs s x (Some b) a = found_refs s.heap x a
+at_refs s x (Some b) a = found_refs s.heap.chunks x a
 
-pub visited_refs : (s : Search) (v : Option Addr) (a : Addr) → (cell_of (visited s v).heap a).refs ≡ (cell_of s.heap a).refs
+pub visited_refs : (s : Collection) (v : Option Addr) (a : Addr) → (cell_of (visited s v).heap.chunks a).refs ≡ (cell_of s.heap.chunks a).refs
 visited_refs s None a = refl
-visited_refs s (Some x) a = at_refs s x (birth_in (cell_of s.heap x).mark) a
+visited_refs s (Some x) a = at_refs s x (birth_in (cell_of s.heap.chunks x).mark) a
 
-at_object : (s : Search) (x : Addr) (b : Option Birth) (a : Addr) → IsObject (cell_of s.heap a).mark → IsObject (cell_of (visited_at s x b).heap a).mark
+at_object : (s : Collection) (x : Addr) (b : Option Birth) (a : Addr) → IsObject (cell_of s.heap.chunks a).mark → IsObject (cell_of (visited_at s x b).heap.chunks a).mark
 at_object s x None a o = o
-at_object s x (Some b) a o = puts.mark_object s.heap x (Moved x) tt a o
+at_object s x (Some b) a o = puts.mark_object s.heap.chunks x (Moved x) tt a o
 
-pub visited_object : (s : Search) (v : Option Addr) (a : Addr) → IsObject (cell_of s.heap a).mark → IsObject (cell_of (visited s v).heap a).mark
+pub visited_object : (s : Collection) (v : Option Addr) (a : Addr) → IsObject (cell_of s.heap.chunks a).mark → IsObject (cell_of (visited s v).heap.chunks a).mark
 visited_object s None a o = o
-visited_object s (Some x) a o = at_object s x (birth_in (cell_of s.heap x).mark) a o
+visited_object s (Some x) a o = at_object s x (birth_in (cell_of s.heap.chunks x).mark) a o
 
-fold_targets : (s : Search) (vs : List (Option Addr)) (r : Option Addr) → IsTarget s.heap r → IsTarget (fold visited s vs).heap r
+fold_targets : (s : Collection) (vs : List (Option Addr)) (r : Option Addr) → IsTarget s.heap.chunks r → IsTarget (fold visited s vs).heap.chunks r
 fold_targets s [] r t = t
 fold_targets s (v ∷ vs) r t = fold_targets (visited s v) vs r (visited_targets s v r t)
 
-pub fold_all_targets : (s : Search) (vs : List (Option Addr)) (k : List Content) → k ≡ (fold visited s vs).heap → (rs : List (Option Addr)) → All (IsTarget s.heap) rs → All (IsTarget k) rs
+pub fold_all_targets : (s : Collection) (vs : List (Option Addr)) (k : List Content) → k ≡ (fold visited s vs).heap.chunks → (rs : List (Option Addr)) → All (IsTarget s.heap.chunks) rs → All (IsTarget k) rs
 fold_all_targets s vs k e rs all = λ i r l. subst (λ (h : List Content). IsTarget h (get_or rs i r)) (sym e) (fold_targets s vs (get_or rs i r) (all i r l))
 
 pub all_found_object : (h : List Content) (xs : List Addr) (a : Addr) → IsObject (cell_of h a).mark → IsObject (cell_of (all_found h xs) a).mark

@@ -15,7 +15,8 @@ use Rattle.leaf_copy_gc.specs.declared.lists.Survivor.{Survivor}
 use Rattle.leaf_copy_gc.specs.Survivors.{IsSurvivor, olds, old_of, HaveNames}
 use Rattle.leaf_copy_gc.specs.Search.{all_found, IsTarget}
 use Rattle.leaf_copy_gc.specs.Laid.{Laying, is_small, smalls, laid_all, laid_one, opened, open_next, placed, room_in, relocations, before, AreNew, HaveRoom, small_words}
-use Rattle.leaf_copy_gc.specs.Copying.{Copying, copied, copied_one, IsReady}
+use Rattle.leaf_copy_gc.specs.Collection.{Collection}
+use Rattle.leaf_copy_gc.specs.Copying.{copied, copied_one, IsReady}
 use Rattle.leaf_copy_gc.specs.Redirected.{followed, followed_ref, new_address, redirected, led, led_chunk, HasTargets}
 use Rattle.leaf_copy_gc.proofs.ListLemmas.{in_map, in_read, read_in}
 use Rattle.leaf_copy_gc.proofs.Puts as puts
@@ -109,12 +110,12 @@ module _ (h : List Content) (from : List (Option Addr)) (closed : IsClosed h) (s
     (kept : (a : Addr) → Contains (olds ss) a ↔ IsSurvivor h from a) (once : Once (olds ss))
     (all : (a : Addr) → In (olds ss) a → In found a)
     (names : HaveNames h ss)
-    (k : Copying) (k_old : k.old ≡ all_found h found) (k_laying : k.laying ≡ before spare) (k_moved : k.moved ≡ [])
+    (k : Collection) (k_old : k.heap.chunks ≡ all_found h found) (k_laying : k.laying ≡ before spare) (k_moved : k.moved ≡ [])
     (new : AreNew spare) where
   born : (s : Survivor) → In ss s → (cell_of h s.old).mark ≡ Born s.birth
   born s i = read_in (λ (x : Survivor). (cell_of h x.old).mark ≡ Born x.birth) ss s i names
 
-  pub as_were : AreAs h k.old ss
+  pub as_were : AreAs h k.heap.chunks ss
   as_were = subst (λ (old : List Content). AreAs h old ss) (sym k_old) (moves.are_as h found ss born)
 
   pub can_copy : HaveRoom (before spare) h (smalls h (olds ss)) → IsReady k ss
@@ -126,7 +127,7 @@ module _ (h : List Content) (from : List (Option Addr)) (closed : IsClosed h) (s
   small_once : Once (olds (small_ones h ss))
   small_once = subst Once (sym (moves.olds_small h ss)) (moves.once_smalls h (olds ss) once)
 
-  small_as : AreAs h k.old (small_ones h ss)
+  small_as : AreAs h k.heap.chunks (small_ones h ss)
   small_as s i = as_were s (moves.in_small h ss s i)
 
   pub enough : 2 * ((small_words h + 1023) / 1024) ≤ length spare + 1 → HaveRoom (before spare) h (smalls h (olds ss))
@@ -137,13 +138,13 @@ module _ (h : List Content) (from : List (Option Addr)) (closed : IsClosed h) (s
       rooms.enough_room h ((small_words h + 1023) / 1024) spare (smalls h (olds ss)) new (omega arith) room (λ a i. leb-true (size_of (cell_of h a)) 1024 (small a i).1)
 
   -- what the copying gave
-  module _ (t : Copying) (is : t ≡ fold copied k ss) where
+  module _ (t : Collection) (is : t ≡ fold copied k ss) where
     t_is : t ≡ fold copied_one k (small_ones h ss)
     t_is = is ∙ moves.small_alone h k ss once as_were
 
     pub laying_is : t.laying ≡ laid_all (before spare) h (smalls h (olds ss))
     laying_is =
-        ap (λ (z : Copying). z.laying) t_is ∙ (moves.copied_laying h k (small_ones h ss) small_once small_as
+        ap (λ (z : Collection). z.laying) t_is ∙ (moves.copied_laying h k (small_ones h ss) small_once small_as
         ∙ (ap (λ (y : Laying). laid_all y h (olds (small_ones h ss))) k_laying ∙ ap (laid_all (before spare) h) (moves.olds_small h ss)))
 
     places_are : relocations k.laying h (olds (small_ones h ss)) ≡ relocations (before spare) h (smalls h (olds ss))
@@ -151,30 +152,30 @@ module _ (h : List Content) (from : List (Option Addr)) (closed : IsClosed h) (s
 
     pub moved_is : t.moved ≡ relocations (before spare) h (smalls h (olds ss))
     moved_is =
-        ap (λ (z : Copying). z.moved) t_is
+        ap (λ (z : Collection). z.moved) t_is
         ∙ (moves.copied_moved h k (small_ones h ss) small_once small_as
         ∙ (ap (λ (ps : List (Addr × Addr)). ps ++ relocations k.laying h (olds (small_ones h ss))) k_moved ∙ places_are))
 
-    place_is : (n : ℕ) → place_of t.old n ≡ place_of h n
+    place_is : (n : ℕ) → place_of t.heap.chunks n ≡ place_of h n
     place_is n =
-        ap (λ (z : Copying). place_of z.old n) t_is ∙ (moves.copied_place h k (small_ones h ss) n
+        ap (λ (z : Collection). place_of z.heap.chunks n) t_is ∙ (moves.copied_place h k (small_ones h ss) n
         ∙ (ap (λ (old : List Content). place_of old n) k_old ∙ marks.found_place h found n))
 
-    length_is : length t.old ≡ length h
+    length_is : length t.heap.chunks ≡ length h
     length_is =
-        ap (λ (z : Copying). length z.old) t_is ∙ (moves.copied_length h k (small_ones h ss)
+        ap (λ (z : Collection). length z.heap.chunks) t_is ∙ (moves.copied_length h k (small_ones h ss)
         ∙ (ap (λ (old : List Content). length old) k_old ∙ marks.found_length h found))
 
     -- where the mark of a survivor leads
-    mark_leads : (a : Addr) → In (olds ss) a → moved_to (cell_of t.old a).mark ≡ Some (new_address (relocations (before spare) h (smalls h (olds ss))) a)
+    mark_leads : (a : Addr) → In (olds ss) a → moved_to (cell_of t.heap.chunks a).mark ≡ Some (new_address (relocations (before spare) h (smalls h (olds ss))) a)
     mark_leads a i =
         elim (puts.in_or_not (olds (small_ones h ss)) a) [
           | inl j ↦
-              ap (λ (z : Copying). moved_to (cell_of z.old a).mark) t_is
+              ap (λ (z : Collection). moved_to (cell_of z.heap.chunks a).mark) t_is
               ∙ (moves.copied_mark h k (small_ones h ss) small_once small_as a j ∙ ap (λ (ps : List (Addr × Addr)). Some (new_address ps a)) places_are)
           | inr n ↦
               let out : In (smalls h (olds ss)) a → ⊥ = λ j. n (subst (λ (xs : List Addr). In xs a) (sym (moves.olds_small h ss)) j) in
-              ap (λ (z : Copying). moved_to (cell_of z.old a).mark) t_is
+              ap (λ (z : Collection). moved_to (cell_of z.heap.chunks a).mark) t_is
               ∙ (ap (λ (c : Cell). moved_to c.mark) (moves.copied_other h k (small_ones h ss) a n)
               ∙ (ap (λ (old : List Content). moved_to (cell_of old a).mark) k_old
               ∙ (ap moved_to (moves.found_marked h found a (all a i) (laws.born_object h a (lives a i)))
@@ -182,83 +183,83 @@ module _ (h : List Content) (from : List (Option Addr)) (closed : IsClosed h) (s
         ]
 
     pub leads_reference : (r : Option Addr) → IsSound h r → ((a : Addr) → r ≡ Some a → IsHeld h a → IsSurvivor h from a)
-        → Leads t.old (relocations (before spare) h (smalls h (olds ss))) r
+        → Leads t.heap.chunks (relocations (before spare) h (smalls h (olds ss))) r
     leads_reference None s reach = (refl, tt)
     leads_reference (Some a) s reach = (
       elim (cases_lt (place_of h a.chunk) (length h)) [
         | inl l ↦
             let p = place_is a.chunk in let n = length_is in
             let i : In (olds ss) a = in_from_contains (olds ss) a ((kept a).1 (reach a refl (s l).0)) in
-            followed_in t.old a (omega arith) ∙ mark_leads a i
+            followed_in t.heap.chunks a (omega arith) ∙ mark_leads a i
         | inr l ↦
             let p = place_is a.chunk in let n = length_is in
             let out : In (smalls h (olds ss)) a → ⊥ = λ j. let z = puts.live_chunk h a (lives a (moves.in_smalls h (olds ss) a j).0) in omega arith in
-            followed_out t.old a (omega arith) ∙ sym (ap (λ (o : Option Addr). Some (unwrap_or o a)) (moves.new_none (before spare) h (smalls h (olds ss)) a out))
+            followed_out t.heap.chunks a (omega arith) ∙ sym (ap (λ (o : Option Addr). Some (unwrap_or o a)) (moves.new_none (before spare) h (smalls h (olds ss)) a out))
       ],
-      subst (λ (z : Copying). IsTarget z.old (Some a)) (sym t_is)
+      subst (λ (z : Collection). IsTarget z.heap.chunks (Some a)) (sym t_is)
           (moves.copied_target h k (small_ones h ss) (Some a) (subst (λ (old : List Content). IsTarget old (Some a)) (sym k_old) (marks.found_target h found (Some a) (marks.sound_target h (Some a) s)))),
     )
 
-    pub leads_refs : (a : Addr) → In (olds ss) a → All (Leads t.old (relocations (before spare) h (smalls h (olds ss)))) (cell_of h a).refs
+    pub leads_refs : (a : Addr) → In (olds ss) a → All (Leads t.heap.chunks (relocations (before spare) h (smalls h (olds ss)))) (cell_of h a).refs
     leads_refs a i =
         let w = (kept a).0 (contains_from_in (olds ss) a i) in
         λ j d l. leads_reference (get_or (cell_of h a).refs j d) (closed a (lives a i) j d l)
         (λ b e live. (suc w.0, (a, w.1, (lives a i, live, contains_from_in (cell_of h a).refs (Some b) (subst (In (cell_of h a).refs) e (in_read (cell_of h a).refs j d l))))))
 
-    pub leads_from : All (Leads t.old (relocations (before spare) h (smalls h (olds ss)))) from
+    pub leads_from : All (Leads t.heap.chunks (relocations (before spare) h (smalls h (olds ss)))) from
     leads_from = λ j d l. leads_reference (get_or from j d) (sound j d l)
         (λ b e live. (0, (live, contains_from_in from (Some b) (subst (In from) e (in_read from j d l)))))
 
-    pub each_leads : Each (CellLeads t.old (relocations (before spare) h (smalls h (olds ss)))) t.laying.laid
+    pub each_leads : Each (CellLeads t.heap.chunks (relocations (before spare) h (smalls h (olds ss)))) t.laying.laid
     each_leads =
-        subst (λ (z : Laying). Each (CellLeads t.old (relocations (before spare) h (smalls h (olds ss)))) z.laid) (sym laying_is)
-        (each_laid (CellLeads t.old (relocations (before spare) h (smalls h (olds ss)))) (before spare) h (smalls h (olds ss)) tt new
+        subst (λ (z : Laying). Each (CellLeads t.heap.chunks (relocations (before spare) h (smalls h (olds ss)))) z.laid) (sym laying_is)
+        (each_laid (CellLeads t.heap.chunks (relocations (before spare) h (smalls h (olds ss)))) (before spare) h (smalls h (olds ss)) tt new
         (λ a i. let p = moves.in_smalls h (olds ss) a i in (laws.born_object h a (lives a p.0), leads_refs a p.0)))
 
-    pub chunks_are : map (led_chunk (followed_ref t.old)) t.laying.laid ≡ map (led_chunk (redirected (relocations (before spare) h (smalls h (olds ss))))) (laid_all (before spare) h (smalls h (olds ss))).laid
+    pub chunks_are : map (led_chunk (followed_ref t.heap.chunks)) t.laying.laid ≡ map (led_chunk (redirected (relocations (before spare) h (smalls h (olds ss))))) (laid_all (before spare) h (smalls h (olds ss))).laid
     chunks_are =
-        chunks_same t.old (relocations (before spare) h (smalls h (olds ss))) t.laying.laid each_leads
+        chunks_same t.heap.chunks (relocations (before spare) h (smalls h (olds ss))) t.laying.laid each_leads
         ∙ ap (λ (z : Laying). map (led_chunk (redirected (relocations (before spare) h (smalls h (olds ss))))) z.laid) laying_is
 
-    pub chunks_have : All (λ (c : Content). All (HasTargets t.old) c.cells) t.laying.laid
-    chunks_have = chunks_targets t.old (relocations (before spare) h (smalls h (olds ss))) t.laying.laid each_leads
+    pub chunks_have : All (λ (c : Content). All (HasTargets t.heap.chunks) c.cells) t.laying.laid
+    chunks_have = chunks_targets t.heap.chunks (relocations (before spare) h (smalls h (olds ss))) t.laying.laid each_leads
 
     -- the cell of a survivor, but for its mark
-    pub still : (a : Addr) → (cell_of t.old a).refs ≡ (cell_of h a).refs
+    pub still : (a : Addr) → (cell_of t.heap.chunks a).refs ≡ (cell_of h a).refs
     still a =
-        ap (λ (z : Copying). (cell_of z.old a).refs) t_is
+        ap (λ (z : Collection). (cell_of z.heap.chunks a).refs) t_is
         ∙ (ap (λ (c : Cell). c.refs) (moves.copied_alone h k (small_ones h ss) a (Moved a))
         ∙ (ap (λ (old : List Content). (cell_of old a).refs) k_old ∙ marks.all_found_refs h found a))
 
-    pub still_but_mark : (a : Addr) → with_mark (cell_of t.old a) (Moved a) ≡ with_mark (cell_of h a) (Moved a)
+    pub still_but_mark : (a : Addr) → with_mark (cell_of t.heap.chunks a) (Moved a) ≡ with_mark (cell_of h a) (Moved a)
     still_but_mark a =
-        ap (λ (z : Copying). with_mark (cell_of z.old a) (Moved a)) t_is
+        ap (λ (z : Collection). with_mark (cell_of z.heap.chunks a) (Moved a)) t_is
         ∙ (moves.copied_alone h k (small_ones h ss) a (Moved a)
         ∙ (ap (λ (old : List Content). with_mark (cell_of old a) (Moved a)) k_old ∙ marks.all_found_alone h found a (Moved a)))
 
     -- a large survivor is marked as moved to where it is
-    pub large_marked : (a : Addr) → In (olds ss) a → is_small h a ≡ false → cell_of t.old a ≡ with_mark (cell_of h a) (Moved a)
+    pub large_marked : (a : Addr) → In (olds ss) a → is_small h a ≡ false → cell_of t.heap.chunks a ≡ with_mark (cell_of h a) (Moved a)
     large_marked a i s =
         let n : In (olds (small_ones h ss)) a → ⊥ = λ j. false≢true (sym s ∙ (moves.in_smalls h (olds ss) a (subst (λ (xs : List Addr). In xs a) (moves.olds_small h ss) j)).1) in
-        let same : cell_of t.old a ≡ cell_of (all_found h found) a = ap (λ (z : Copying). cell_of z.old a) t_is ∙ (moves.copied_other h k (small_ones h ss) a n ∙ ap (λ (old : List Content). cell_of old a) k_old) in
-        let m : (cell_of t.old a).mark ≡ Moved a = ap (λ (c : Cell). c.mark) same ∙ moves.found_marked h found a (all a i) (laws.born_object h a (lives a i)) in
-        marked_cell (cell_of t.old a) a m ∙ still_but_mark a
+        let same : cell_of t.heap.chunks a ≡ cell_of (all_found h found) a = ap (λ (z : Collection). cell_of z.heap.chunks a) t_is ∙ (moves.copied_other h k (small_ones h ss) a n ∙ ap (λ (old : List Content). cell_of old a) k_old) in
+        let m : (cell_of t.heap.chunks a).mark ≡ Moved a = ap (λ (c : Cell). c.mark) same ∙ moves.found_marked h found a (all a i) (laws.born_object h a (lives a i)) in
+        marked_cell (cell_of t.heap.chunks a) a m ∙ still_but_mark a
       where
         marked_cell : (c : Cell) (to : Addr) → c.mark ≡ Moved to → c ≡ with_mark c (Moved to)
         marked_cell c to e = λ i. record { mark = e i; mutable = c.mutable; refs = c.refs; ints = c.ints }
 
     -- what doesn't survive stays as it was
-    pub dead_stays : (a : Addr) → (In (olds ss) a → ⊥) → (In found a → In (olds ss) a) → cell_of t.old a ≡ cell_of h a
+    pub dead_stays : (a : Addr) → (In (olds ss) a → ⊥) → (In found a → In (olds ss) a) → cell_of t.heap.chunks a ≡ cell_of h a
     dead_stays a n back =
         let out : In (olds (small_ones h ss)) a → ⊥ = λ j. n (moves.in_smalls h (olds ss) a (subst (λ (xs : List Addr). In xs a) (moves.olds_small h ss) j)).0 in
-        ap (λ (z : Copying). cell_of z.old a) t_is
+        ap (λ (z : Collection). cell_of z.heap.chunks a) t_is
         ∙ (moves.copied_other h k (small_ones h ss) a out
         ∙ (ap (λ (old : List Content). cell_of old a) k_old ∙ marks.found_kept h found a (λ i. n (back i))))
 
-    pub target_refs : (s : Survivor) → In ss s → HasTargets t.old (cell_of t.old s.old)
+    pub target_refs : (s : Survivor) → In ss s → HasTargets t.heap.chunks (cell_of t.heap.chunks s.old)
     target_refs s i =
         let j = in_map old_of ss s i in (
-          subst (λ (z : Copying). IsObject (cell_of z.old s.old).mark) (sym t_is)
+          subst (λ (z : Collection). IsObject (cell_of z.heap.chunks s.old).mark) (sym t_is)
               (moves.copied_object h k (small_ones h ss) s.old (subst (λ (old : List Content). IsObject (cell_of old s.old).mark) (sym k_old) (marks.all_found_object h found s.old (laws.born_object h s.old (lives s.old j))))),
-          subst (λ (rs : List (Option Addr)). All (IsTarget t.old) rs) (sym (still s.old)) (refs_targets t.old (relocations (before spare) h (smalls h (olds ss))) (cell_of h s.old).refs (leads_refs s.old j)),
+          subst (λ (rs : List (Option Addr)). All (IsTarget t.heap.chunks) rs) (sym (still s.old)) (refs_targets t.heap.chunks (relocations (before spare) h (smalls h (olds ss))) (cell_of h s.old).refs (leads_refs s.old j)),
         )

@@ -9,10 +9,12 @@ mod FrameLemmas
 mod Exchanges
 pub mod Moves
 pub mod Rooms
+mod Places
 mod Leading
 mod Larges
 mod NoLarge
 mod Evacuated
+mod Phases
 pub mod Numbers
 pub mod Extent
 pub mod Rebuilt

@@ -17,7 +17,8 @@ use Rattle.leaf_copy_gc.specs.declared.lists.Survivor.{Survivor}
 use Rattle.leaf_copy_gc.specs.Survivors.{olds, old_of}
 use Rattle.leaf_copy_gc.specs.Search.{all_found, found_in, IsTarget}
 use Rattle.leaf_copy_gc.specs.Laid.{Laying, is_small, smalls, laid_one, laid_at, relocations, laid_all, HasRoom, HaveRoom}
-use Rattle.leaf_copy_gc.specs.Copying.{Copying, copied, copied_one, survivor_cell, IsReady}
+use Rattle.leaf_copy_gc.specs.Collection.{Collection}
+use Rattle.leaf_copy_gc.specs.Copying.{copied, copied_one, survivor_cell, IsReady}
 use Rattle.leaf_copy_gc.specs.Redirected.{new_address}
 use Rattle.leaf_copy_gc.proofs.ListLemmas.{in_map}
 use Rattle.leaf_copy_gc.proofs.Puts as puts
@@ -119,32 +120,32 @@ module _ (h : List Content) where
   pub same_small : (old : List Content) (s : Survivor) → survivor_cell old s ≡ cell_of h s.old → is_small old s.old ≡ is_small h s.old
   same_small old s e = ap (λ (c : Cell). nat_le (size_of c) 1024) e
 
-  step_as : (k : Copying) (s : Survivor) (ss : List Survivor) → (In (olds ss) s.old → ⊥) → AreAs k.old ss → AreAs (copied_one k s).old ss
+  step_as : (k : Collection) (s : Survivor) (ss : List Survivor) → (In (olds ss) s.old → ⊥) → AreAs k.heap.chunks ss → AreAs (copied_one k s).heap.chunks ss
   step_as k s ss n as' t i =
-      let other = puts.mark_other k.old s.old (Moved (laid_at k.laying (size_of (cell_of k.old s.old)))) t.old (λ e. n (subst (In (olds ss)) (sym e) (in_map old_of ss t i))) in
+      let other = puts.mark_other k.heap.chunks s.old (Moved (laid_at k.laying (size_of (cell_of k.heap.chunks s.old)))) t.old (λ e. n (subst (In (olds ss)) (sym e) (in_map old_of ss t i))) in
       (ap (λ (c : Cell). with_mark c (Born t.birth)) other ∙ (as' t i).0, subst (λ (c : Cell). IsObject c.mark) (sym other) (as' t i).1)
 
   not_again : (s : Survivor) (ss : List Survivor) → Once (olds (s ∷ ss)) → In (olds ss) s.old → ⊥
   not_again s ss o i = o.0 (contains_from_in (olds ss) s.old i)
 
   -- only the small ones are copied
-  small_step : (k : Copying) (s : Survivor) (ss : List Survivor) → Once (olds (s ∷ ss)) → AreAs k.old (s ∷ ss)
-      → ((k' : Copying) → AreAs k'.old ss → fold copied k' ss ≡ fold copied_one k' (small_ones h ss))
+  small_step : (k : Collection) (s : Survivor) (ss : List Survivor) → Once (olds (s ∷ ss)) → AreAs k.heap.chunks (s ∷ ss)
+      → ((k' : Collection) → AreAs k'.heap.chunks ss → fold copied k' ss ≡ fold copied_one k' (small_ones h ss))
       → (b : Bool) → is_small h s.old ≡ b → fold copied (cond b (copied_one k s) k) ss ≡ fold copied_one k (cond b (s ∷ small_ones h ss) (small_ones h ss))
   small_step k s ss o as' rest true is = rest (copied_one k s) (step_as k s ss (not_again s ss o) (λ t i. as' t (inr i)))
   small_step k s ss o as' rest false is = rest k (λ t i. as' t (inr i))
 
-  pub small_alone : (k : Copying) (ss : List Survivor) → Once (olds ss) → AreAs k.old ss → fold copied k ss ≡ fold copied_one k (small_ones h ss)
+  pub small_alone : (k : Collection) (ss : List Survivor) → Once (olds ss) → AreAs k.heap.chunks ss → fold copied k ss ≡ fold copied_one k (small_ones h ss)
   small_alone k [] o as' = refl
   small_alone k (s ∷ ss) o as' =
-      ap (λ (b : Bool). fold copied (cond b (copied_one k s) k) ss) (same_small k.old s (as' s (inl refl)).0)
+      ap (λ (b : Bool). fold copied (cond b (copied_one k s) k) ss) (same_small k.heap.chunks s (as' s (inl refl)).0)
       ∙ small_step k s ss o as' (λ k' a. small_alone k' ss o.1 a) (is_small h s.old) refl
 
   -- what finds room can be copied
-  ready_step : (k : Copying) (s : Survivor) (ss : List Survivor) → Once (olds (s ∷ ss)) → AreAs k.old (s ∷ ss)
-      → ((k' : Copying) → AreAs k'.old ss → HaveRoom k'.laying h (smalls h (olds ss)) → IsReady k' ss)
+  ready_step : (k : Collection) (s : Survivor) (ss : List Survivor) → Once (olds (s ∷ ss)) → AreAs k.heap.chunks (s ∷ ss)
+      → ((k' : Collection) → AreAs k'.heap.chunks ss → HaveRoom k'.laying h (smalls h (olds ss)) → IsReady k' ss)
       → (b : Bool) → is_small h s.old ≡ b → HaveRoom k.laying h (cond b (s.old ∷ smalls h (olds ss)) (smalls h (olds ss)))
-      → (b ≡ true → HasRoom k.laying (size_of (cell_of k.old s.old))) × IsReady (cond b (copied_one k s) k) ss
+      → (b ≡ true → HasRoom k.laying (size_of (cell_of k.heap.chunks s.old))) × IsReady (cond b (copied_one k s) k) ss
   ready_step k s ss o as' rest true is room =
       let e = (as' s (inl refl)).0 in (
         λ _. subst (λ (c : Cell). HasRoom k.laying (size_of c)) (sym e) room.0,
@@ -152,50 +153,50 @@ module _ (h : List Content) where
       )
   ready_step k s ss o as' rest false is room = ((λ e. absurd (false≢true e)), rest k (λ t i. as' t (inr i)) room)
 
-  pub are_ready : (k : Copying) (ss : List Survivor) → Once (olds ss) → AreAs k.old ss → HaveRoom k.laying h (smalls h (olds ss)) → IsReady k ss
+  pub are_ready : (k : Collection) (ss : List Survivor) → Once (olds ss) → AreAs k.heap.chunks ss → HaveRoom k.laying h (smalls h (olds ss)) → IsReady k ss
   are_ready k [] o as' room = tt
   are_ready k (s ∷ ss) o as' room =
-      let same = same_small k.old s (as' s (inl refl)).0 in
+      let same = same_small k.heap.chunks s (as' s (inl refl)).0 in
       let r = ready_step k s ss o as' (λ k' a q. are_ready k' ss o.1 a q) (is_small h s.old) refl room in
-      let t : (is_small k.old s.old ≡ true → HasRoom k.laying (size_of (cell_of k.old s.old))) × IsReady (cond (is_small k.old s.old) (copied_one k s) k) ss
-      = subst (λ (b : Bool). (b ≡ true → HasRoom k.laying (size_of (cell_of k.old s.old))) × IsReady (cond b (copied_one k s) k) ss) (sym same) r in
+      let t : (is_small k.heap.chunks s.old ≡ true → HasRoom k.laying (size_of (cell_of k.heap.chunks s.old))) × IsReady (cond (is_small k.heap.chunks s.old) (copied_one k s) k) ss
+      = subst (λ (b : Bool). (b ≡ true → HasRoom k.laying (size_of (cell_of k.heap.chunks s.old))) × IsReady (cond b (copied_one k s) k) ss) (sym same) r in
       (((as' s (inl refl)).1, t.0), t.1)
 
   -- ---- by the heap as it was; ss are small from here on
 
-  pub copied_laying : (k : Copying) (ss : List Survivor) → Once (olds ss) → AreAs k.old ss → (fold copied_one k ss).laying ≡ laid_all k.laying h (olds ss)
+  pub copied_laying : (k : Collection) (ss : List Survivor) → Once (olds ss) → AreAs k.heap.chunks ss → (fold copied_one k ss).laying ≡ laid_all k.laying h (olds ss)
   copied_laying k [] once as' = refl
   copied_laying k (s ∷ ss) once as' =
       copied_laying (copied_one k s) ss once.1 (step_as k s ss (not_again s ss once) (λ t i. as' t (inr i))) ∙ ap (λ (c : Cell). laid_all (laid_one k.laying c) h (olds ss)) (as' s (inl refl)).0
 
-  pub copied_moved : (k : Copying) (ss : List Survivor) → Once (olds ss) → AreAs k.old ss → (fold copied_one k ss).moved ≡ k.moved ++ relocations k.laying h (olds ss)
+  pub copied_moved : (k : Collection) (ss : List Survivor) → Once (olds ss) → AreAs k.heap.chunks ss → (fold copied_one k ss).moved ≡ k.moved ++ relocations k.laying h (olds ss)
   copied_moved k [] once as' = sym (append-nil k.moved)
   copied_moved k (s ∷ ss) once as' =
       let e = (as' s (inl refl)).0 in
       copied_moved (copied_one k s) ss once.1 (step_as k s ss (not_again s ss once) (λ t i. as' t (inr i)))
-      ∙ (append_assoc k.moved ((s.old, laid_at k.laying (size_of (cell_of k.old s.old))) ∷ []) (relocations (copied_one k s).laying h (olds ss))
+      ∙ (append_assoc k.moved ((s.old, laid_at k.laying (size_of (cell_of k.heap.chunks s.old))) ∷ []) (relocations (copied_one k s).laying h (olds ss))
       ∙ ap (λ (c : Cell). k.moved ++ (s.old, laid_at k.laying (size_of c)) ∷ relocations (laid_one k.laying c) h (olds ss)) e)
 
-  pub copied_other : (k : Copying) (ss : List Survivor) (a : Addr) → (In (olds ss) a → ⊥) → cell_of (fold copied_one k ss).old a ≡ cell_of k.old a
+  pub copied_other : (k : Collection) (ss : List Survivor) (a : Addr) → (In (olds ss) a → ⊥) → cell_of (fold copied_one k ss).heap.chunks a ≡ cell_of k.heap.chunks a
   copied_other k [] a n = refl
   copied_other k (s ∷ ss) a n =
       copied_other (copied_one k s) ss a (λ i. n (inr i))
-      ∙ puts.mark_other k.old s.old (Moved (laid_at k.laying (size_of (cell_of k.old s.old)))) a (λ e. n (inl e))
+      ∙ puts.mark_other k.heap.chunks s.old (Moved (laid_at k.laying (size_of (cell_of k.heap.chunks s.old)))) a (λ e. n (inl e))
 
   -- nothing but marks changes
-  pub copied_alone : (k : Copying) (ss : List Survivor) (a : Addr) (m : Mark) → with_mark (cell_of (fold copied_one k ss).old a) m ≡ with_mark (cell_of k.old a) m
+  pub copied_alone : (k : Collection) (ss : List Survivor) (a : Addr) (m : Mark) → with_mark (cell_of (fold copied_one k ss).heap.chunks a) m ≡ with_mark (cell_of k.heap.chunks a) m
   copied_alone k [] a m = refl
-  copied_alone k (s ∷ ss) a m = copied_alone (copied_one k s) ss a m ∙ puts.mark_alone k.old s.old (Moved (laid_at k.laying (size_of (cell_of k.old s.old)))) a m
+  copied_alone k (s ∷ ss) a m = copied_alone (copied_one k s) ss a m ∙ puts.mark_alone k.heap.chunks s.old (Moved (laid_at k.laying (size_of (cell_of k.heap.chunks s.old)))) a m
 
-  pub copied_mark : (k : Copying) (ss : List Survivor) → Once (olds ss) → AreAs k.old ss → (a : Addr) → In (olds ss) a →
-      moved_to (cell_of (fold copied_one k ss).old a).mark ≡ Some (new_address (relocations k.laying h (olds ss)) a)
+  pub copied_mark : (k : Collection) (ss : List Survivor) → Once (olds ss) → AreAs k.heap.chunks ss → (a : Addr) → In (olds ss) a →
+      moved_to (cell_of (fold copied_one k ss).heap.chunks a).mark ≡ Some (new_address (relocations k.laying h (olds ss)) a)
   copied_mark k [] once as' a i = absurd i
   copied_mark k (s ∷ ss) once as' a i =
       elim (puts.same_or_other s.old a) [
         | inl e ↦
-            let c : Cell = with_mark (cell_of k.old s.old) (Moved (laid_at k.laying (size_of (cell_of k.old s.old)))) in
+            let c : Cell = with_mark (cell_of k.heap.chunks s.old) (Moved (laid_at k.laying (size_of (cell_of k.heap.chunks s.old)))) in
             let rest : In (olds ss) a → ⊥ = λ j. not_again s ss once (subst (In (olds ss)) (sym e) j) in
-            let here : cell_of (copied_one k s).old a ≡ c = subst (λ (b : Addr). cell_of (put_object k.old s.old c) b ≡ c) e (laws.cell_of-put_same k.old s.old c (as' s (inl refl)).1) in
+            let here : cell_of (copied_one k s).heap.chunks a ≡ c = subst (λ (b : Addr). cell_of (put_object k.heap.chunks s.old c) b ≡ c) e (laws.cell_of-put_same k.heap.chunks s.old c (as' s (inl refl)).1) in
             rw (addr_itself s.old a e)
             (ap (λ (d : Cell). moved_to d.mark) (copied_other (copied_one k s) ss a rest ∙ here)
             ∙ ap (λ (d : Cell). Some (laid_at k.laying (size_of d))) (as' s (inl refl)).0)
@@ -206,21 +207,21 @@ module _ (h : List Content) where
             ∙ ap (λ (d : Cell). Some (new_address (relocations (laid_one k.laying d) h (olds ss)) a)) (as' s (inl refl)).0)
       ]
 
-  pub copied_place : (k : Copying) (ss : List Survivor) (n : ℕ) → place_of (fold copied_one k ss).old n ≡ place_of k.old n
+  pub copied_place : (k : Collection) (ss : List Survivor) (n : ℕ) → place_of (fold copied_one k ss).heap.chunks n ≡ place_of k.heap.chunks n
   copied_place k [] n = refl
-  copied_place k (s ∷ ss) n = copied_place (copied_one k s) ss n ∙ puts.place_put k.old s.old (with_mark (cell_of k.old s.old) (Moved (laid_at k.laying (size_of (cell_of k.old s.old))))) n
+  copied_place k (s ∷ ss) n = copied_place (copied_one k s) ss n ∙ puts.place_put k.heap.chunks s.old (with_mark (cell_of k.heap.chunks s.old) (Moved (laid_at k.laying (size_of (cell_of k.heap.chunks s.old))))) n
 
-  pub copied_length : (k : Copying) (ss : List Survivor) → length (fold copied_one k ss).old ≡ length k.old
+  pub copied_length : (k : Collection) (ss : List Survivor) → length (fold copied_one k ss).heap.chunks ≡ length k.heap.chunks
   copied_length k [] = refl
-  copied_length k (s ∷ ss) = copied_length (copied_one k s) ss ∙ puts.length_put k.old s.old (with_mark (cell_of k.old s.old) (Moved (laid_at k.laying (size_of (cell_of k.old s.old)))))
+  copied_length k (s ∷ ss) = copied_length (copied_one k s) ss ∙ puts.length_put k.heap.chunks s.old (with_mark (cell_of k.heap.chunks s.old) (Moved (laid_at k.laying (size_of (cell_of k.heap.chunks s.old)))))
 
-  pub copied_target : (k : Copying) (ss : List Survivor) (r : Option Addr) → IsTarget k.old r → IsTarget (fold copied_one k ss).old r
+  pub copied_target : (k : Collection) (ss : List Survivor) (r : Option Addr) → IsTarget k.heap.chunks r → IsTarget (fold copied_one k ss).heap.chunks r
   copied_target k [] r t = t
-  copied_target k (s ∷ ss) r t = copied_target (copied_one k s) ss r (target_mark k.old s.old (laid_at k.laying (size_of (cell_of k.old s.old))) r t)
+  copied_target k (s ∷ ss) r t = copied_target (copied_one k s) ss r (target_mark k.heap.chunks s.old (laid_at k.laying (size_of (cell_of k.heap.chunks s.old))) r t)
 
-  pub copied_object : (k : Copying) (ss : List Survivor) (a : Addr) → IsObject (cell_of k.old a).mark → IsObject (cell_of (fold copied_one k ss).old a).mark
+  pub copied_object : (k : Collection) (ss : List Survivor) (a : Addr) → IsObject (cell_of k.heap.chunks a).mark → IsObject (cell_of (fold copied_one k ss).heap.chunks a).mark
   copied_object k [] a o = o
-  copied_object k (s ∷ ss) a o = copied_object (copied_one k s) ss a (puts.mark_object k.old s.old (Moved (laid_at k.laying (size_of (cell_of k.old s.old)))) tt a o)
+  copied_object k (s ∷ ss) a o = copied_object (copied_one k s) ss a (puts.mark_object k.heap.chunks s.old (Moved (laid_at k.laying (size_of (cell_of k.heap.chunks s.old)))) tt a o)
 
 -- ---- the marked heap
 

@@ -42,7 +42,7 @@ place_placed (k ∷ []) c l = place.words_in-push k.cells c
 place_placed (k ∷ (x ∷ [])) c l = place_placed (x ∷ []) c (omega arith)
 place_placed (k ∷ (x ∷ (m ∷ ks))) c l = place_placed (x ∷ (m ∷ ks)) c (omega arith)
 
-length_placed : (ks : List Content) (c : Cell) → length (placed ks c) ≡ length ks
+pub length_placed : (ks : List Content) (c : Cell) → length (placed ks c) ≡ length ks
 length_placed [] c = refl
 length_placed (k ∷ []) c = refl
 length_placed (k ∷ (l ∷ ks)) c = let ih = length_placed (l ∷ ks) c in omega arith

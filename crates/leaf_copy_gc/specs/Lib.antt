@@ -1,9 +1,11 @@
 pub mod Survivors
+pub mod Collection
 pub mod Search
 pub mod Laid
 pub mod Copying
 pub mod Redirected
 pub mod Exchanged
 pub mod Collected
+pub mod Evacuated
 pub mod Lists
 pub mod Laws

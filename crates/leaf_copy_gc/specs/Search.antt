@@ -5,7 +5,8 @@ use Rattle.object_layout.specs.declared.word.Birth.{Birth}
 use Rattle.object_layout.specs.Cell.{Born, Hole, IsObject, Mark, Moved, with_mark}
 use Rattle.object_layout.specs.Content.{Content}
 use Rattle.object_layout.specs.Chunks.{cell_of, place_of, put_object}
-use Rattle.leaf_copy_gc.specs.declared.lists.Survivor.{Survivor}
+use Rattle.leaf_copy_gc.specs.Survivors.{with_chunks}
+use Rattle.leaf_copy_gc.specs.Collection.{Collection}
 
 -- the heap with one object marked as found: as if it had been moved to where it is
 abbrev pub found_in : List Content → Addr → List Content
@@ -15,11 +16,6 @@ found_in h a = put_object h a (with_mark (cell_of h a) (Moved a))
 abbrev pub all_found : List Content → List Addr → List Content
 all_found h xs = fold found_in h xs
 
--- a heap, and what was found in it
-pub record Search : Type 0 where
-  pub heap : List Content
-  pub found : List Survivor
-
 -- the birth name of what bears it still
 abbrev pub birth_in : Mark → Option Birth
 birth_in (Born b) = Some b
@@ -27,14 +23,17 @@ birth_in (Moved to) = None
 birth_in Hole = None
 
 -- an address was visited, at which an object with this birth name was there, or none
-abbrev pub visited_at : Search → Addr → Option Birth → Search
-visited_at s a None = s
-visited_at s a (Some b) = record { heap = found_in s.heap a; found = s.found ++ record { birth = b; old = a } ∷ [] }
+abbrev pub visited_at : Collection → Addr → Option Birth → Collection
+visited_at c a None = c
+visited_at c a (Some b) = record c {
+  heap = with_chunks c.heap (found_in c.heap.chunks a);
+  found = c.found ++ record { birth = b; old = a } ∷ [];
+}
 
 -- a reference was followed
-abbrev pub visited : Search → Option Addr → Search
-visited s None = s
-visited s (Some a) = visited_at s a (birth_in (cell_of s.heap a).mark)
+abbrev pub visited : Collection → Option Addr → Collection
+visited c None = c
+visited c (Some a) = visited_at c a (birth_in (cell_of c.heap.chunks a).mark)
 
 -- a reference into the heap leads to an object there, found or not, at a place that a word can hold
 abbrev pub IsTarget : List Content → Option Addr → Type 0

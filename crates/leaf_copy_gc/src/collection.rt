@@ -8,7 +8,7 @@ ghost use Rattle.leaf_copy_gc.specs.Laid.{small_words, AreNew};
 ghost use Rattle.leaf_copy_gc.specs.Exchanged.{counted32};
 ghost use Rattle.leaf_copy_gc.specs.Lists.{AreReserved, IsCollected};
 
-use crate::evacuation::evacuate;
+use crate::collector::Collector;
 use crate::exchange::{counted, exchange, name_all, units_of};
 use crate::lists::{Moved, ToChunks};
 use alloc_path::{LeafHeap, Space};
@@ -40,58 +40,64 @@ pub fn copy<G: Gate>(
     ensures { IsCollected heap.old frames.old roots.now to_chunks.chunks.items heap.new frames.new result }
 {
     gate.pass(worker, task, Point::AfterBegin);
-    let mut space = heap.open();
-    let moved = collect(&mut space, frames, roots, to_chunks);
+    let (space, moved) = collect(heap.open(), frames, roots, to_chunks);
     heap.close(space);
     moved
 }
 
 // The collection itself.
-fn collect(heap: &mut Space, frames: &mut Frames, roots: &[Addr], to_chunks: ToChunks) -> Moved
-    requires closed { IsClosed heap.old.chunks }
-    requires outside { All (IsSound heap.old.chunks) (outside frames.old roots.now) }
-    requires tidy { AreTidy heap.old.chunks }
-    requires apart { AreApart (heap.old.chunks ++ to_chunks.chunks.items) }
+fn collect(heap: Space, frames: &mut Frames, roots: &[Addr], to_chunks: ToChunks) -> (Space, Moved)
+    requires closed { IsClosed heap.chunks }
+    requires outside { All (IsSound heap.chunks) (outside frames.old roots.now) }
+    requires tidy { AreTidy heap.chunks }
+    requires apart { AreApart (heap.chunks ++ to_chunks.chunks.items) }
     requires new { AreNew to_chunks.chunks.items }
-    requires enough { 2 * ((small_words heap.old.chunks + 1023) / 1024) ≤ length to_chunks.chunks.items + 1 }
-    requires reserved { AreReserved heap.old (vec_len to_chunks.chunks) to_chunks }
-    ensures collected { IsCollected heap.old frames.old roots.now to_chunks.chunks.items heap.new frames.new result }
-    ensures settled { IsSettled heap.new.chunks }
+    requires enough { 2 * ((small_words heap.chunks + 1023) / 1024) ≤ length to_chunks.chunks.items + 1 }
+    requires reserved { AreReserved heap (vec_len to_chunks.chunks) to_chunks }
+    ensures collected { IsCollected heap frames.old roots.now to_chunks.chunks.items result.0 frames.new result.1 }
+    ensures settled { IsSettled result.0.chunks }
 {
     let ToChunks {
-        mut chunks,
+        chunks,
         lists,
-        mut found,
-        mut laid,
+        found,
+        laid,
     } = to_chunks;
     let Moved {
-        mut moved,
+        moved,
         mut back,
         ..
     } = lists;
-    evacuate(
+    let mut collector = Collector {
         heap,
-        frames,
-        roots,
-        &mut found,
-        &mut laid,
-        &mut chunks,
-        &mut moved,
-    );
+        found,
+        laid,
+        spare: chunks,
+        moved,
+    };
+    collector.evacuate(frames, roots);
+    let Collector {
+        mut heap,
+        found,
+        laid,
+        mut spare,
+        mut moved,
+    } = collector;
     moved.sort_unstable();
     let taken = count_of(&laid);
     let reserved = heap.reserved();
-    exchange(heap, laid, reserved, &mut back);
-    give_rest(&mut back, &mut chunks);
-    name_all(heap, &found);
+    exchange(&mut heap, laid, reserved, &mut back);
+    give_rest(&mut back, &mut spare);
+    name_all(&mut heap, &found);
     heap.reset_since();
-    Moved {
+    let moved = Moved {
         moved,
         taken,
         given: units_of(&back),
         left: counted(heap.words()),
         back,
-    }
+    };
+    (heap, moved)
 }
 
 // Puts the new chunks that were not opened with those to give back.

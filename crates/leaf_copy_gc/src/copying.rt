@@ -1,12 +1,13 @@
 // Copies survivors into new chunks, in their order.
 
-ghost use Rattle.std.specs.Prelude.{◌≡◌, ◌+◌, ◌≤◌, ◌<◌, [], ◌∷◌, ◌++◌, length, vec_len, vec_capacity, fold, reverse, true, Some};
+ghost use Rattle.std.specs.Prelude.{◌≡◌, ◌+◌, ◌≤◌, ◌<◌, [], length, fold, true, Some};
 ghost use Rattle.object_layout.specs.Cell.{Moved, size_of, with_mark, IsObject};
 ghost use Rattle.object_layout.specs.Chunks.{cell_of, place_in, put_object};
 ghost use Rattle.leaf_copy_gc.specs.Survivors.{with_chunks};
-ghost use Rattle.leaf_copy_gc.specs.Laid.{is_small, next_place, opened, placed, room_in, HasRoom, Laying};
-ghost use Rattle.leaf_copy_gc.specs.Copying.{copied, copied_one, survivor_cell, Copying, IsReady};
+ghost use Rattle.leaf_copy_gc.specs.Laid.{is_small, next_place, opened, placed, room_in, HasRoom};
+ghost use Rattle.leaf_copy_gc.specs.Copying.{copied, copied_last, copied_one, survivor_cell, IsReady};
 
+use crate::collector::Collector;
 use crate::lists::Survivor;
 use alloc_path::Space;
 use object_layout::{Addr, Chunk, header_at};
@@ -45,22 +46,8 @@ fn room_left(laid: &[Chunk]) -> u32
     chunk.size() - chunk.used()
 }
 
-// Opens the next chunk, if the last one has less room than this.
-fn open(laid: &mut Vec<Chunk>, spare: &mut Vec<Chunk>, size: u32)
-    requires { vec_len laid.old + vec_len spare.old ≤ vec_capacity laid.old }
-    ensures opened { ◌≡◌ {A = Laying} (record { laid = laid.new.items; spare = reverse spare.new.items }) (opened (record { laid = laid.old.items; spare = reverse spare.old.items }) size) }
-    ensures count { vec_len laid.new + vec_len spare.new ≡ vec_len laid.old + vec_len spare.old }
-    ensures room { vec_capacity laid.new ≡ vec_capacity laid.old }
-{
-    if room_left(laid) < size {
-        if let Some(chunk) = spare.pop() {
-            laid.push_reserved(chunk);
-        }
-    }
-}
-
 // Copies an object, whose chunk stands at this place, behind those of the last new chunk, and leaves its new address.
-fn copy_last(heap: &mut Space, place: usize, survivor: Survivor, laid: &mut [Chunk]) -> Addr
+fn move_last(heap: &mut Space, place: usize, survivor: Survivor, laid: &mut [Chunk]) -> Addr
     requires place { place_in heap.old.chunks survivor.old.chunk ≡ Some place }
     requires object { IsObject (cell_of heap.old.chunks survivor.old).mark }
     requires room { size_of (cell_of heap.old.chunks survivor.old) ≤ room_in laid.old }
@@ -73,77 +60,67 @@ fn copy_last(heap: &mut Space, place: usize, survivor: Survivor, laid: &mut [Chu
     heap.move_in(place, survivor.old, survivor.birth, &mut laid[last])
 }
 
-// Copies one small survivor of so many words, whose chunk stands at this place.
-fn copy_one(
-    heap: &mut Space,
-    place: usize,
-    size: u32,
-    survivor: Survivor,
-    laid: &mut Vec<Chunk>,
-    spare: &mut Vec<Chunk>,
-    moved: &mut Vec<(Addr, Addr)>,
-)
-    requires place { place_in heap.old.chunks survivor.old.chunk ≡ Some place }
-    requires size { size ≡ size_of (cell_of heap.old.chunks survivor.old) }
-    requires object { IsObject (cell_of heap.old.chunks survivor.old).mark }
-    requires room { HasRoom (record { laid = laid.old.items; spare = reverse spare.old.items }) (size_of (cell_of heap.old.chunks survivor.old)) }
-    requires chunks { vec_len laid.old + vec_len spare.old ≤ vec_capacity laid.old }
-    requires list { vec_len moved.old < vec_capacity moved.old }
-    ensures copied { ◌≡◌ {A = Copying} (record { old = heap.new.chunks; laying = record { laid = laid.new.items; spare = reverse spare.new.items }; moved = moved.new.items }) (copied_one (record { old = heap.old.chunks; laying = record { laid = laid.old.items; spare = reverse spare.old.items }; moved = moved.old.items }) survivor) }
-    ensures kept { heap.new ≡ with_chunks heap.old heap.new.chunks }
-    ensures chunks { vec_len laid.new + vec_len spare.new ≡ vec_len laid.old + vec_len spare.old }
-    ensures capacity { vec_capacity laid.new ≡ vec_capacity laid.old }
-    ensures list { vec_len moved.new ≡ vec_len moved.old + 1 }
-    ensures list_room { vec_capacity moved.new ≡ vec_capacity moved.old }
-{
-    open(laid, spare, size);
-    let address = copy_last(heap, place, survivor, laid);
-    moved.push_reserved((survivor.old, address));
-}
-
-// Copies one survivor, if it is small.
-fn copy_small(
-    heap: &mut Space,
-    survivor: Survivor,
-    laid: &mut Vec<Chunk>,
-    spare: &mut Vec<Chunk>,
-    moved: &mut Vec<(Addr, Addr)>,
-)
-    requires object { IsObject (cell_of heap.old.chunks survivor.old).mark }
-    requires room { is_small heap.old.chunks survivor.old ≡ true → HasRoom (record { laid = laid.old.items; spare = reverse spare.old.items }) (size_of (cell_of heap.old.chunks survivor.old)) }
-    requires chunks { vec_len laid.old + vec_len spare.old ≤ vec_capacity laid.old }
-    requires list { vec_len moved.old < vec_capacity moved.old }
-    ensures copied { ◌≡◌ {A = Copying} (record { old = heap.new.chunks; laying = record { laid = laid.new.items; spare = reverse spare.new.items }; moved = moved.new.items }) (copied (record { old = heap.old.chunks; laying = record { laid = laid.old.items; spare = reverse spare.old.items }; moved = moved.old.items }) survivor) }
-    ensures kept { heap.new ≡ with_chunks heap.old heap.new.chunks }
-    ensures chunks { vec_len laid.new + vec_len spare.new ≡ vec_len laid.old + vec_len spare.old }
-    ensures capacity { vec_capacity laid.new ≡ vec_capacity laid.old }
-    ensures list { vec_len moved.new ≤ vec_len moved.old + 1 }
-    ensures list_room { vec_capacity moved.new ≡ vec_capacity moved.old }
-{
-    let place = heap.own_place(survivor.old.chunk);
-    let size = size_in(heap, place, survivor.old);
-    if size <= SMALL {
-        copy_one(heap, place, size, survivor, laid, spare, moved);
+impl Collector {
+    // Opens the next chunk, if the last one has less room than this.
+    fn open(&mut self, size: u32)
+        ensures { self.new ≡ record self.old { laying = opened self.old.laying size } }
+    {
+        if room_left(&self.laid) < size {
+            if let Some(chunk) = self.spare.pop() {
+                self.laid.push_reserved(chunk);
+            }
+        }
     }
-}
 
-/// Copies the small survivors in this order.
-pub fn copy_all(
-    heap: &mut Space,
-    found: &[Survivor],
-    laid: &mut Vec<Chunk>,
-    spare: &mut Vec<Chunk>,
-    moved: &mut Vec<(Addr, Addr)>,
-)
-    requires ready { IsReady (record { old = heap.old.chunks; laying = record { laid = laid.old.items; spare = reverse spare.old.items }; moved = moved.old.items }) found.now }
-    requires chunks { vec_len laid.old + vec_len spare.old ≤ vec_capacity laid.old }
-    requires list { vec_len moved.old + length found.now ≤ vec_capacity moved.old }
-    ensures copied { ◌≡◌ {A = Copying} (record { old = heap.new.chunks; laying = record { laid = laid.new.items; spare = reverse spare.new.items }; moved = moved.new.items }) (fold copied (record { old = heap.old.chunks; laying = record { laid = laid.old.items; spare = reverse spare.old.items }; moved = moved.old.items }) found.now) }
-    ensures kept { heap.new ≡ with_chunks heap.old heap.new.chunks }
-    ensures chunks { vec_len laid.new + vec_len spare.new ≡ vec_len laid.old + vec_len spare.old }
-    ensures capacity { vec_capacity laid.new ≡ vec_capacity laid.old }
-{
-    for &survivor in found {
-        copy_small(heap, survivor, laid, spare, moved);
+    // Copies a survivor, whose chunk stands at this place, behind the objects of the last new chunk.
+    fn copy_last(&mut self, place: usize, survivor: Survivor)
+        requires place { place_in self.old.heap.chunks survivor.old.chunk ≡ Some place }
+        requires object { IsObject (cell_of self.old.heap.chunks survivor.old).mark }
+        requires fits { size_of (cell_of self.old.heap.chunks survivor.old) ≤ room_in self.old.laying.laid }
+        requires begins { (next_place self.old.laying.laid).offset < 1024 }
+        requires list { length self.old.moved < length self.old.found }
+        ensures { self.new ≡ copied_last self.old survivor }
+    {
+        let address = move_last(&mut self.heap, place, survivor, &mut self.laid);
+        self.moved.push_reserved((survivor.old, address));
+    }
+
+    // Copies a survivor of so many words, whose chunk stands at this place.
+    fn copy_one(&mut self, place: usize, size: u32, survivor: Survivor)
+        requires place { place_in self.old.heap.chunks survivor.old.chunk ≡ Some place }
+        requires size { size ≡ size_of (cell_of self.old.heap.chunks survivor.old) }
+        requires object { IsObject (cell_of self.old.heap.chunks survivor.old).mark }
+        requires room { HasRoom self.old.laying size }
+        requires list { length self.old.moved < length self.old.found }
+        ensures { self.new ≡ copied_one self.old survivor }
+    {
+        self.open(size);
+        self.copy_last(place, survivor);
+    }
+
+    // Copies a survivor, if it is small.
+    fn copy_small(&mut self, survivor: Survivor)
+        requires object { IsObject (cell_of self.old.heap.chunks survivor.old).mark }
+        requires room { is_small self.old.heap.chunks survivor.old ≡ true → HasRoom self.old.laying (size_of (cell_of self.old.heap.chunks survivor.old)) }
+        requires list { length self.old.moved < length self.old.found }
+        ensures { self.new ≡ copied self.old survivor }
+    {
+        let place = self.heap.own_place(survivor.old.chunk);
+        let size = size_in(&self.heap, place, survivor.old);
+        if size <= SMALL {
+            self.copy_one(place, size, survivor);
+        }
+    }
+
+    /// Copies the small survivors in the order in which they stand.
+    pub(crate) fn copy_all(&mut self)
+        requires ready { IsReady self.old self.old.found }
+        requires none { self.old.moved ≡ [] }
+        ensures { self.new ≡ fold copied self.old self.old.found }
+    {
+        for next in 0..self.found.len() {
+            let survivor = self.found[next];
+            self.copy_small(survivor);
+        }
     }
 }

@@ -2,6 +2,7 @@
 #![tactic(auto)]
 
 mod collection;
+mod collector;
 mod copying;
 mod discovery;
 mod evacuation;

@@ -9,6 +9,7 @@ ghost use Rattle.leaf_copy_gc.specs.Survivors.{held_by, with_chunks};
 ghost use Rattle.leaf_copy_gc.specs.Search.{IsTarget};
 ghost use Rattle.leaf_copy_gc.specs.Redirected.{followed_at, followed_large, followed_ref, led, led_chunk, led_frame, CanFollow, HasTargets};
 
+use crate::collector::Collector;
 use crate::copying::{SMALL, size_at};
 use crate::lists::Survivor;
 use alloc_path::Space;
@@ -55,8 +56,8 @@ fn follow_chunk(chunk: &mut Chunk, heap: &Space)
     }
 }
 
-/// Leads the references of all objects of the new chunks.
-pub fn follow_chunks(chunks: &mut [Chunk], heap: &Space)
+// Leads the references of all objects of the new chunks.
+fn follow_chunks(chunks: &mut [Chunk], heap: &Space)
     requires { All (λ k. All (HasTargets heap.now.chunks) k.cells) chunks.old }
     ensures { chunks.new ≡ map (led_chunk (followed_ref heap.now.chunks)) chunks.old }
 {
@@ -86,8 +87,8 @@ fn follow_all(references: &mut [Option<Addr>], heap: &Space)
     }
 }
 
-/// Leads the references of all frames.
-pub fn follow_frames(frames: &mut Frames, heap: &Space)
+// Leads the references of all frames.
+fn follow_frames(frames: &mut Frames, heap: &Space)
     requires { All (IsTarget heap.now.chunks) (held_by (frames_of frames.old)) }
     ensures { frames_of frames.new ≡ map (led_frame (followed_ref heap.now.chunks)) (frames_of frames.old) }
 {
@@ -116,8 +117,8 @@ fn has_small_alone(heap: &Space) -> bool
     words < u64::MAX && heap.small_words() == words
 }
 
-/// Leads the references of the large survivors, where they are. Where no object of the heap is large, it looks at none.
-pub fn follow_larges(heap: &mut Space, found: &[Survivor])
+// Leads the references of the large survivors, where they are. Where no object of the heap is large, it looks at none.
+fn follow_larges(heap: &mut Space, found: &[Survivor])
     requires { CanFollow heap.old.chunks found.now }
     ensures { heap.new ≡ with_chunks heap.old (fold followed_large heap.old.chunks found.now) }
 {
@@ -126,5 +127,31 @@ pub fn follow_larges(heap: &mut Space, found: &[Survivor])
     }
     for &survivor in found {
         follow_if_large(heap, survivor);
+    }
+}
+
+impl Collector {
+    /// Leads the references of all objects of the new chunks.
+    pub(crate) fn lead_chunks(&mut self)
+        requires { All (λ k. All (HasTargets self.old.heap.chunks) k.cells) self.old.laying.laid }
+        ensures { self.new ≡ record self.old { laying = record self.old.laying { laid = map (led_chunk (followed_ref self.old.heap.chunks)) self.old.laying.laid } } }
+    {
+        follow_chunks(&mut self.laid, &self.heap);
+    }
+
+    /// Leads the references of all frames.
+    pub(crate) fn lead_frames(&self, frames: &mut Frames)
+        requires { All (IsTarget self.now.heap.chunks) (held_by (frames_of frames.old)) }
+        ensures { frames_of frames.new ≡ map (led_frame (followed_ref self.now.heap.chunks)) (frames_of frames.old) }
+    {
+        follow_frames(frames, &self.heap);
+    }
+
+    /// Leads the references of the large survivors, where they are.
+    pub(crate) fn lead_larges(&mut self)
+        requires { CanFollow self.old.heap.chunks self.old.found }
+        ensures { self.new ≡ record self.old { heap = with_chunks self.old.heap (fold followed_large self.old.heap.chunks self.old.found) } }
+    {
+        follow_larges(&mut self.heap, &self.found);
     }
 }

@@ -1,120 +1,183 @@
-use Rattle.std.proofs.Common.{◌≡◌, ℕ, List, length, fold, reverse, refl, sym, ap, ◌∙◌, subst, arith, Option}
+use Rattle.std.proofs.Common.{◌≡◌, ℕ, List, length, map, fold, reverse, refl, sym, ap, ◌∙◌, subst, arith, Option}
+use Rattle.std.proofs.lemmas.List.{length-map, length-reverse}
 use Rattle.object_layout.specs.declared.word.Addr.{Addr}
 use Rattle.object_layout.specs.Content.{Content}
 use Rattle.object_layout.proofs.Distinct.{once_from}
 use Rattle.alloc_path.specs.Heap.{Heap}
 use Rattle.leaf_copy_gc.specs.declared.lists.Survivor.{Survivor}
 use Rattle.leaf_copy_gc.specs.Survivors.{olds, outside, with_chunks}
+use Rattle.leaf_copy_gc.specs.Collection.{Collection}
+use Rattle.leaf_copy_gc.specs.Redirected.{led_chunk}
+use Rattle.leaf_copy_gc.specs.Collected.{laying_of, redirection}
+use Rattle.leaf_copy_gc.specs.Evacuated.{IsEvacuated}
 use Rattle.leaf_copy_gc.specs.Exchanged.{counted32, named, unit_count, CanName}
 use Rattle.leaf_copy_gc.proofs.Collecting as collecting
 use Rattle.leaf_copy_gc.proofs.Numbers as nums
 use Rattle.leaf_copy_gc.proofs.Order as orders
 use Rattle.leaf_copy_gc.proofs.Moves as moves
+use Rattle.leaf_copy_gc.proofs.Places as places
 use Rattle.std.specs.List.Sorted.{IsPermutation}
 use Rattle.listed.proofs.Members.{contains_from_in}
 use Rattle.leaf_copy_gc.specs.Laid.{before, smalls}
 use Rattle.leaf_copy_gc.proofs.collection.collect.Goals as goal
 
-pub evacuate-requires-clause-new : goal.evacuate-requires-clause-new
-evacuate-requires-clause-new c =
-    nums.new_reverse c.args.to_chunks.chunks.items c.requires.new
+pub evacuate-requires-clause-begins : goal.evacuate-requires-clause-begins
+evacuate-requires-clause-begins c =
+    let news : List Content = c.args.to_chunks.chunks.items in
+    let enough = c.requires.enough in
+    let count = length-reverse news in
+    record {
+      found = c.requires.reserved.found;
+      laid = c.requires.reserved.laid;
+      moved = c.requires.reserved.moved;
+      new = nums.new_reverse news c.requires.new;
+      enough = rw count enough;
+    }
 
 pub exchange-requires-clause-apart : goal.exchange-requires-clause-apart
 exchange-requires-clause-apart c =
-    let h : List Content = c.args.heap.now.chunks in
-    let g : Heap = c.evacuate.new.heap in
-    let ss : List Survivor = c.evacuate.new.found.items in
+    let h : List Content = c.args.heap.chunks in
     let news : List Content = c.args.to_chunks.chunks.items in
-    let laid : List Content = c.evacuate.new.laid.items in
+    let b : Collection = record { heap = c.args.heap; found = c.args.to_chunks.found.items; laying = record { laid = c.args.to_chunks.laid.items; spare = reverse news }; moved = c.args.to_chunks.lists.moved.items } in
+    let k : Collection = record { heap = c.collector.inside.heap; found = c.collector.inside.found.items; laying = record { laid = c.collector.inside.laid.items; spare = reverse c.collector.inside.spare.items }; moved = c.collector.inside.moved.items } in
+    let e : IsEvacuated b c.args.frames.now c.args.roots.now k c.evacuate.new.frames = subst (λ (z : Collection). IsEvacuated b c.args.frames.now c.args.roots.now z c.evacuate.new.frames) (sym c.collector.view_is) c.evacuate.ensures in
+    let g : Heap = c.collector.inside.heap in
+    let ss : List Survivor = c.collector.inside.found.items in
+    let laid : List Content = c.collector.inside.laid.items in
     let r : Option ℕ = c.reserved-reserved.result in
-    let s = c.evacuate.ensures.survivors in
-    collecting.now_apart h g.chunks ss news r laid c.evacuate.ensures.left c.requires.tidy c.requires.apart c.requires.new (once_from (olds ss) s.once) s.names c.reserved-reserved.ensures.empty c.evacuate.ensures.laid
+    let s = e.survivors in
+    collecting.now_apart h g.chunks ss news r laid e.left c.requires.tidy c.requires.apart c.requires.new (once_from (olds ss) s.once) s.names c.reserved-reserved.ensures.empty e.laid
 
 pub exchange-requires-clause-small : goal.exchange-requires-clause-small
 exchange-requires-clause-small c =
-    let h : List Content = c.args.heap.now.chunks in
-    let g : Heap = c.evacuate.new.heap in
-    let ss : List Survivor = c.evacuate.new.found.items in
+    let h : List Content = c.args.heap.chunks in
     let news : List Content = c.args.to_chunks.chunks.items in
-    let laid : List Content = c.evacuate.new.laid.items in
+    let b : Collection = record { heap = c.args.heap; found = c.args.to_chunks.found.items; laying = record { laid = c.args.to_chunks.laid.items; spare = reverse news }; moved = c.args.to_chunks.lists.moved.items } in
+    let k : Collection = record { heap = c.collector.inside.heap; found = c.collector.inside.found.items; laying = record { laid = c.collector.inside.laid.items; spare = reverse c.collector.inside.spare.items }; moved = c.collector.inside.moved.items } in
+    let e : IsEvacuated b c.args.frames.now c.args.roots.now k c.evacuate.new.frames = subst (λ (z : Collection). IsEvacuated b c.args.frames.now c.args.roots.now z c.evacuate.new.frames) (sym c.collector.view_is) c.evacuate.ensures in
+    let g : Heap = c.collector.inside.heap in
+    let ss : List Survivor = c.collector.inside.found.items in
+    let laid : List Content = c.collector.inside.laid.items in
     let r : Option ℕ = c.reserved-reserved.result in
-    let s = c.evacuate.ensures.survivors in
-    collecting.small_last h g.chunks ss news r laid c.evacuate.ensures.left c.requires.tidy c.requires.apart c.requires.new (once_from (olds ss) s.once) s.names c.reserved-reserved.ensures.empty c.evacuate.ensures.laid
-
-pub exchange-requires-clause-laid : goal.exchange-requires-clause-laid
-exchange-requires-clause-laid c =
-    let count = ap (λ (x : Heap). length x.chunks) c.evacuate.ensures.kept in
-    let n = nums.alike_length c.args.heap.now.chunks c.evacuate.new.heap.chunks c.evacuate.ensures.left.alike in
-    let none = ap (λ (ks : List Content). length ks) c.requires.reserved.laid in
-    let room = c.requires.reserved.laid_room in
-    omega arith
+    let s = e.survivors in
+    collecting.small_last h g.chunks ss news r laid e.left c.requires.tidy c.requires.apart c.requires.new (once_from (olds ss) s.once) s.names c.reserved-reserved.ensures.empty e.laid
 
 pub exchange-requires-clause-back : goal.exchange-requires-clause-back
 exchange-requires-clause-back c =
-    let n = nums.alike_length c.args.heap.now.chunks c.evacuate.new.heap.chunks c.evacuate.ensures.left.alike in
+    let h : List Content = c.args.heap.chunks in
+    let news : List Content = c.args.to_chunks.chunks.items in
+    let b : Collection = record { heap = c.args.heap; found = c.args.to_chunks.found.items; laying = record { laid = c.args.to_chunks.laid.items; spare = reverse news }; moved = c.args.to_chunks.lists.moved.items } in
+    let k : Collection = record { heap = c.collector.inside.heap; found = c.collector.inside.found.items; laying = record { laid = c.collector.inside.laid.items; spare = reverse c.collector.inside.spare.items }; moved = c.collector.inside.moved.items } in
+    let e : IsEvacuated b c.args.frames.now c.args.roots.now k c.evacuate.new.frames = subst (λ (z : Collection). IsEvacuated b c.args.frames.now c.args.roots.now z c.evacuate.new.frames) (sym c.collector.view_is) c.evacuate.ensures in
+    let g : Heap = c.collector.inside.heap in
+    let ss : List Survivor = c.collector.inside.found.items in
+    let laid : List Content = c.collector.inside.laid.items in
+    let r : Option ℕ = c.reserved-reserved.result in
+    let s = e.survivors in
+    let n = nums.alike_length h g.chunks e.left.alike in
     let none = ap (λ (ks : List Content). length ks) c.requires.reserved.back in
     let room = c.requires.reserved.back_room in
+    omega arith
+
+pub exchange-requires-clause-spare : goal.exchange-requires-clause-spare
+exchange-requires-clause-spare c =
+    let h : List Content = c.args.heap.chunks in
+    let news : List Content = c.args.to_chunks.chunks.items in
+    let b : Collection = record { heap = c.args.heap; found = c.args.to_chunks.found.items; laying = record { laid = c.args.to_chunks.laid.items; spare = reverse news }; moved = c.args.to_chunks.lists.moved.items } in
+    let k : Collection = record { heap = c.collector.inside.heap; found = c.collector.inside.found.items; laying = record { laid = c.collector.inside.laid.items; spare = reverse c.collector.inside.spare.items }; moved = c.collector.inside.moved.items } in
+    let e : IsEvacuated b c.args.frames.now c.args.roots.now k c.evacuate.new.frames = subst (λ (z : Collection). IsEvacuated b c.args.frames.now c.args.roots.now z c.evacuate.new.frames) (sym c.collector.view_is) c.evacuate.ensures in
+    let g : Heap = c.collector.inside.heap in
+    let ss : List Survivor = c.collector.inside.found.items in
+    let laid : List Content = c.collector.inside.laid.items in
+    let r : Option ℕ = c.reserved-reserved.result in
+    let s = e.survivors in
+    let same : length laid ≡ length (laying_of h ss (reverse news)).laid = ap (λ (ks : List Content). length ks) e.laid ∙ length-map (laying_of h ss (reverse news)).laid (led_chunk (redirection h ss (reverse news))) in
+    let count = places.count_laid (before (reverse news)) h (smalls h (olds ss)) in
+    let turned = length-reverse news in
+    let kept = ap (λ (x : Heap). x.spare) e.kept in
+    let room = c.requires.reserved.spare in
+    omega arith
+
+pub give_rest-requires : goal.give_rest-requires
+give_rest-requires c =
+    let h : List Content = c.args.heap.chunks in
+    let news : List Content = c.args.to_chunks.chunks.items in
+    let b : Collection = record { heap = c.args.heap; found = c.args.to_chunks.found.items; laying = record { laid = c.args.to_chunks.laid.items; spare = reverse news }; moved = c.args.to_chunks.lists.moved.items } in
+    let k : Collection = record { heap = c.collector.inside.heap; found = c.collector.inside.found.items; laying = record { laid = c.collector.inside.laid.items; spare = reverse c.collector.inside.spare.items }; moved = c.collector.inside.moved.items } in
+    let e : IsEvacuated b c.args.frames.now c.args.roots.now k c.evacuate.new.frames = subst (λ (z : Collection). IsEvacuated b c.args.frames.now c.args.roots.now z c.evacuate.new.frames) (sym c.collector.view_is) c.evacuate.ensures in
+    let g : Heap = c.collector.inside.heap in
+    let ss : List Survivor = c.collector.inside.found.items in
+    let laid : List Content = c.collector.inside.laid.items in
+    let r : Option ℕ = c.reserved-reserved.result in
+    let s = e.survivors in
+    let n = nums.alike_length h g.chunks e.left.alike in
+    let none = ap (λ (ks : List Content). length ks) c.requires.reserved.back in
+    let room = c.requires.reserved.back_room in
+    let count = c.exchange.ensures.back_count in
+    let same = c.exchange.ensures.back_room in
+    let rest = ap (λ (ks : List Content). length ks) e.spare in
+    let all = places.count_laid (before (reverse news)) h (smalls h (olds ss)) in
+    let turned = length-reverse news in
+    let turned_rest = length-reverse c.collector.inside.spare.items in
     omega arith
 
 pub name_all-requires : goal.name_all-requires
 name_all-requires c =
-    let h : List Content = c.args.heap.now.chunks in
-    let g : Heap = c.evacuate.new.heap in
-    let ss : List Survivor = c.evacuate.new.found.items in
+    let h : List Content = c.args.heap.chunks in
     let news : List Content = c.args.to_chunks.chunks.items in
-    let laid : List Content = c.evacuate.new.laid.items in
+    let b : Collection = record { heap = c.args.heap; found = c.args.to_chunks.found.items; laying = record { laid = c.args.to_chunks.laid.items; spare = reverse news }; moved = c.args.to_chunks.lists.moved.items } in
+    let k : Collection = record { heap = c.collector.inside.heap; found = c.collector.inside.found.items; laying = record { laid = c.collector.inside.laid.items; spare = reverse c.collector.inside.spare.items }; moved = c.collector.inside.moved.items } in
+    let e : IsEvacuated b c.args.frames.now c.args.roots.now k c.evacuate.new.frames = subst (λ (z : Collection). IsEvacuated b c.args.frames.now c.args.roots.now z c.evacuate.new.frames) (sym c.collector.view_is) c.evacuate.ensures in
+    let g : Heap = c.collector.inside.heap in
+    let ss : List Survivor = c.collector.inside.found.items in
+    let laid : List Content = c.collector.inside.laid.items in
     let r : Option ℕ = c.reserved-reserved.result in
-    let s = c.evacuate.ensures.survivors in
+    let s = e.survivors in
     let chunks = ap (λ (x : Heap). x.chunks) c.exchange.ensures.heap in
     subst (CanName c.exchange.new.heap.chunks) (sym c.deref-2.ensures.value)
-    (subst (λ (ks : List Content). CanName ks ss) (sym chunks) (collecting.can_name h g.chunks ss news r laid c.evacuate.ensures.left c.requires.tidy c.requires.apart c.requires.new (once_from (olds ss) s.once) s.names c.reserved-reserved.ensures.empty c.evacuate.ensures.laid))
+    (subst (λ (ks : List Content). CanName ks ss) (sym chunks) (collecting.can_name h g.chunks ss news r laid e.left c.requires.tidy c.requires.apart c.requires.new (once_from (olds ss) s.once) s.names c.reserved-reserved.ensures.empty e.laid))
 
 pub returns-clause-collected : goal.returns-clause-collected
 returns-clause-collected c =
-    let h : List Content = c.args.heap.now.chunks in
-    let g : Heap = c.evacuate.new.heap in
-    let ss : List Survivor = c.evacuate.new.found.items in
+    let h : List Content = c.args.heap.chunks in
     let news : List Content = c.args.to_chunks.chunks.items in
-    let laid : List Content = c.evacuate.new.laid.items in
+    let b : Collection = record { heap = c.args.heap; found = c.args.to_chunks.found.items; laying = record { laid = c.args.to_chunks.laid.items; spare = reverse news }; moved = c.args.to_chunks.lists.moved.items } in
+    let k : Collection = record { heap = c.collector.inside.heap; found = c.collector.inside.found.items; laying = record { laid = c.collector.inside.laid.items; spare = reverse c.collector.inside.spare.items }; moved = c.collector.inside.moved.items } in
+    let e : IsEvacuated b c.args.frames.now c.args.roots.now k c.evacuate.new.frames = subst (λ (z : Collection). IsEvacuated b c.args.frames.now c.args.roots.now z c.evacuate.new.frames) (sym c.collector.view_is) c.evacuate.ensures in
+    let g : Heap = c.collector.inside.heap in
+    let ss : List Survivor = c.collector.inside.found.items in
+    let laid : List Content = c.collector.inside.laid.items in
     let r : Option ℕ = c.reserved-reserved.result in
-    let s = c.evacuate.ensures.survivors in
-    let r_is : r ≡ c.args.heap.now.reserved = c.reserved-reserved.ensures.place ∙ ap (λ (x : Heap). x.reserved) c.evacuate.ensures.kept in
-    let permuted = subst (λ (ms : List (Addr × Addr)). IsPermutation ms c.sort_unstable.new.self.items) c.evacuate.ensures.moved c.sort_unstable.ensures.permutation in
+    let s = e.survivors in
+    let r_is : r ≡ c.args.heap.reserved = c.reserved-reserved.ensures.place ∙ ap (λ (x : Heap). x.reserved) e.kept in
+    let permuted = subst (λ (ms : List (Addr × Addr)). IsPermutation ms c.sort_unstable.new.self.items) e.moved c.sort_unstable.ensures.permutation in
     record {
       survivors = ss;
       are = s;
-      heap = collecting.heap_is h g.chunks ss news r laid c.evacuate.ensures.left c.requires.tidy c.requires.apart c.requires.new (once_from (olds ss) s.once) s.names c.reserved-reserved.ensures.empty c.evacuate.ensures.laid c.args.heap.now r_is refl c.exchange.new.heap c.name_all.new.heap c.reset_since.new.self g c.exchange.ensures.heap
+      heap = collecting.heap_is h g.chunks ss news r laid e.left c.requires.tidy c.requires.apart c.requires.new (once_from (olds ss) s.once) s.names c.reserved-reserved.ensures.empty e.laid c.args.heap r_is refl c.exchange.new.heap c.name_all.new.heap c.reset_since.new.self g c.exchange.ensures.heap
           (c.name_all.ensures ∙ ap (λ (xs : List Survivor). with_chunks c.exchange.new.heap (fold named c.exchange.new.heap.chunks xs)) c.deref-2.ensures.value) c.reset_since.ensures;
-      frames = c.evacuate.ensures.frames;
+      frames = e.frames;
       moved = permuted;
       order = orders.moved_in_order (before (reverse news)) h (smalls h (olds ss)) c.sort_unstable.new.self.items permuted c.sort_unstable.ensures.sorted (moves.once_smalls h (olds ss) (once_from (olds ss) s.once))
           (λ a i. orders.survivor_place h (outside c.args.frames.now c.args.roots.now) c.requires.closed c.requires.outside a ((s.exactly a).0 (contains_from_in (olds ss) a (moves.in_smalls h (olds ss) a i).0)));
-      taken = c.count_of-taken.ensures ∙ ap (λ (ks : List Content). counted32 (length ks)) (c.deref.ensures.value ∙ c.evacuate.ensures.laid);
+      taken = c.count_of-taken.ensures ∙ ap (λ (ks : List Content). counted32 (length ks)) (c.deref.ensures.value ∙ e.laid);
       given = c.units_of.ensures ∙ ap (λ (ks : List Content). counted32 (unit_count ks)) c.deref-3.ensures.value;
       left = c.counted.ensures ∙ (ap counted32 c.words.ensures ∙ omega arith);
-      back = c.give_rest.ensures ∙ collecting.back_is h g.chunks ss news r laid c.evacuate.ensures.left c.requires.tidy c.requires.apart c.requires.new (once_from (olds ss) s.once) s.names c.reserved-reserved.ensures.empty c.evacuate.ensures.laid c.args.heap.now r_is c.args.to_chunks.lists.back.items c.requires.reserved.back c.evacuate.new.spare.items c.evacuate.ensures.spare c.exchange.new.back.items c.exchange.ensures.back;
+      back = c.give_rest.ensures ∙ collecting.back_is h g.chunks ss news r laid e.left c.requires.tidy c.requires.apart c.requires.new (once_from (olds ss) s.once) s.names c.reserved-reserved.ensures.empty e.laid c.args.heap r_is c.args.to_chunks.lists.back.items c.requires.reserved.back c.collector.inside.spare.items e.spare c.exchange.new.back.items c.exchange.ensures.back;
     }
-
-pub give_rest-requires : goal.give_rest-requires
-give_rest-requires c =
-    let n = nums.alike_length c.args.heap.now.chunks c.evacuate.new.heap.chunks c.evacuate.ensures.left.alike in
-    let none = ap (λ (ks : List Content). length ks) c.requires.reserved.back in
-    let laid = ap (λ (ks : List Content). length ks) c.requires.reserved.laid in
-    let room = c.requires.reserved.back_room in
-    let count = c.exchange.ensures.back_count in
-    let same = c.exchange.ensures.back_room in
-    let spare = c.evacuate.ensures.room in
-    omega arith
 
 pub returns-clause-settled : goal.returns-clause-settled
 returns-clause-settled c =
-    let h : List Content = c.args.heap.now.chunks in
-    let g : Heap = c.evacuate.new.heap in
-    let ss : List Survivor = c.evacuate.new.found.items in
+    let h : List Content = c.args.heap.chunks in
     let news : List Content = c.args.to_chunks.chunks.items in
-    let laid : List Content = c.evacuate.new.laid.items in
+    let b : Collection = record { heap = c.args.heap; found = c.args.to_chunks.found.items; laying = record { laid = c.args.to_chunks.laid.items; spare = reverse news }; moved = c.args.to_chunks.lists.moved.items } in
+    let k : Collection = record { heap = c.collector.inside.heap; found = c.collector.inside.found.items; laying = record { laid = c.collector.inside.laid.items; spare = reverse c.collector.inside.spare.items }; moved = c.collector.inside.moved.items } in
+    let e : IsEvacuated b c.args.frames.now c.args.roots.now k c.evacuate.new.frames = subst (λ (z : Collection). IsEvacuated b c.args.frames.now c.args.roots.now z c.evacuate.new.frames) (sym c.collector.view_is) c.evacuate.ensures in
+    let g : Heap = c.collector.inside.heap in
+    let ss : List Survivor = c.collector.inside.found.items in
+    let laid : List Content = c.collector.inside.laid.items in
     let r : Option ℕ = c.reserved-reserved.result in
-    let s = c.evacuate.ensures.survivors in
-    collecting.settled_now h g.chunks ss news r laid c.evacuate.ensures.left c.requires.tidy c.requires.apart c.requires.new (once_from (olds ss) s.once) s.names c.reserved-reserved.ensures.empty c.evacuate.ensures.laid
+    let s = e.survivors in
+    collecting.settled_now h g.chunks ss news r laid e.left c.requires.tidy c.requires.apart c.requires.new (once_from (olds ss) s.once) s.names c.reserved-reserved.ensures.empty e.laid
     c.exchange.new.heap c.name_all.new.heap c.reset_since.new.self (ap (λ (x : Heap). x.chunks) c.exchange.ensures.heap)
     (c.name_all.ensures ∙ ap (λ (xs : List Survivor). with_chunks c.exchange.new.heap (fold named c.exchange.new.heap.chunks xs)) c.deref-2.ensures.value) c.reset_since.ensures

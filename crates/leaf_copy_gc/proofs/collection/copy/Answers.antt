@@ -3,10 +3,10 @@ use Rattle.alloc_path.specs.Heap.{AreApart, AreTidy, Heap}
 use Rattle.leaf_copy_gc.proofs.Numbers as nums
 use Rattle.leaf_copy_gc.proofs.collection.copy.Goals as goal
 
-pub collect-moved-requires-clause-tidy : goal.collect-moved-requires-clause-tidy
-collect-moved-requires-clause-tidy g c = subst (λ (h : Heap). AreTidy h.chunks) (sym c.open-space.ensures.space) c.open-space.ensures.settled.tidy
+pub collect-space-requires-clause-tidy : goal.collect-space-requires-clause-tidy
+collect-space-requires-clause-tidy g c = subst (λ (h : Heap). AreTidy h.chunks) (sym c.open.ensures.space) c.open.ensures.settled.tidy
 
-pub collect-moved-requires-clause-apart : goal.collect-moved-requires-clause-apart
-collect-moved-requires-clause-apart g c =
-    subst (λ (h : Heap). AreApart (h.chunks ++ c.args.to_chunks.chunks.items)) (sym c.open-space.ensures.space)
-    (nums.apart_append c.args.heap.now.chunks c.args.to_chunks.chunks.items c.open-space.ensures.settled.apart c.requires.apart c.requires.fresh)
+pub collect-space-requires-clause-apart : goal.collect-space-requires-clause-apart
+collect-space-requires-clause-apart g c =
+    subst (λ (h : Heap). AreApart (h.chunks ++ c.args.to_chunks.chunks.items)) (sym c.open.ensures.space)
+    (nums.apart_append c.args.heap.now.chunks c.args.to_chunks.chunks.items c.open.ensures.settled.apart c.requires.apart c.requires.fresh)

@@ -4,7 +4,7 @@ use Rattle.object_layout.specs.Chunks.{cell_of}
 use Rattle.object_layout.specs.Content.{Content}
 use Rattle.object_layout.specs.declared.word.Addr.{Addr}
 use Rattle.leaf_copy_gc.proofs.LastChunk as last
-use Rattle.leaf_copy_gc.proofs.copying.copy_last.Goals as goal
+use Rattle.leaf_copy_gc.proofs.copying.move_last.Goals as goal
 
 pub move_in-requires-clause-room : goal.move_in-requires-clause-room
 move_in-requires-clause-room c =

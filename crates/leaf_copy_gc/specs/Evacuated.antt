@@ -1,0 +1,28 @@
+-- What an evacuation makes of a heap and its frames.
+use Rattle.std.specs.Prelude.{◌≡◌, ℕ, ◌+◌, ◌*◌, ◌/◌, ◌≤◌, List, [], length, map}
+use Rattle.object_layout.specs.declared.word.Addr.{Addr}
+use Rattle.task_frames.specs.Stack.{Stack, frames_of}
+use Rattle.leaf_copy_gc.specs.Survivors.{olds, outside, with_chunks}
+use Rattle.leaf_copy_gc.specs.Laid.{AreNew, small_words}
+use Rattle.leaf_copy_gc.specs.Redirected.{led_chunk, led_frame}
+use Rattle.leaf_copy_gc.specs.Collection.{Collection}
+use Rattle.leaf_copy_gc.specs.Collected.{AreSurvivors, IsLeft, laying_of, moves_of, redirection}
+
+-- nothing is found, laid or moved yet, and the new chunks are enough for what is small
+pub record Begins (c : Collection) : Type 0 where
+  pub found : c.found ≡ []
+  pub laid : c.laying.laid ≡ []
+  pub moved : c.moved ≡ []
+  pub new : AreNew c.laying.spare
+  pub enough : 2 * ((small_words c.heap.chunks + 1023) / 1024) ≤ length c.laying.spare + 1
+
+-- the survivors are found, the small ones laid into new chunks, and all references led there; the old chunks are left with the
+-- new addresses in them
+pub record IsEvacuated (c : Collection) (s : Stack) (roots : List Addr) (d : Collection) (t : Stack) : Type 0 where
+  pub survivors : AreSurvivors c.heap.chunks (outside s roots) d.found
+  pub moved : d.moved ≡ moves_of c.heap.chunks d.found c.laying.spare
+  pub laid : d.laying.laid ≡ map (led_chunk (redirection c.heap.chunks d.found c.laying.spare)) (laying_of c.heap.chunks d.found c.laying.spare).laid
+  pub spare : d.laying.spare ≡ (laying_of c.heap.chunks d.found c.laying.spare).spare
+  pub frames : frames_of t ≡ map (led_frame (redirection c.heap.chunks d.found c.laying.spare)) (frames_of s)
+  pub left : IsLeft c.heap.chunks d.heap.chunks (olds d.found) (redirection c.heap.chunks d.found c.laying.spare)
+  pub kept : d.heap ≡ with_chunks c.heap d.heap.chunks
