@@ -11,6 +11,7 @@ ghost use Rattle.leaf_copy_gc.specs.Lists.{AreReserved, IsCollected};
 use crate::collector::Collector;
 use crate::exchange::{counted, exchange, name_all, units_of};
 use crate::lists::{Moved, ToChunks};
+use crate::sorting::sort;
 use alloc_path::{LeafHeap, Space};
 use object_layout::{Addr, Chunk};
 use outside_io::{Gate, Point};
@@ -20,7 +21,7 @@ use task_frames::Frames;
 ///
 /// The small survivors, of at most 1,024 words, are moved into new chunks in order of birth. Large ones stay where they
 /// are, and chunks of those that were dropped are given back. All references of survivors and frames to moved objects
-/// are led to the new addresses. It takes no memory, and passes the gate before all else.
+/// are led to the new addresses. It needs no memory, and passes the gate before all else.
 pub fn copy<G: Gate>(
     heap: &mut LeafHeap,
     frames: &mut Frames,
@@ -83,7 +84,7 @@ fn collect(heap: Space, frames: &mut Frames, roots: &[Addr], to_chunks: ToChunks
         mut spare,
         mut moved,
     } = collector;
-    moved.sort_unstable();
+    sort(&mut moved);
     let taken = count_of(&laid);
     let reserved = heap.reserved();
     exchange(&mut heap, laid, reserved, &mut back);

@@ -7,6 +7,7 @@ ghost use Rattle.leaf_copy_gc.specs.Survivors.{outside, survivor_order};
 ghost use Rattle.leaf_copy_gc.specs.Evacuated.{Begins, IsEvacuated};
 
 use crate::collector::Collector;
+use crate::sorting::sort;
 use object_layout::Addr;
 use task_frames::Frames;
 
@@ -33,6 +34,6 @@ impl Collector {
         ensures permutation { IsPermutation self.old.found self.new.found }
         ensures order { IsSorted survivor_order self.new.found }
     {
-        self.found.sort_unstable();
+        sort(&mut self.found);
     }
 }

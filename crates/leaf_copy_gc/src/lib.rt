@@ -11,6 +11,7 @@ mod laws;
 mod lists;
 mod redirect;
 mod reserving;
+mod sorting;
 
 pub use collection::copy;
 pub use laws::{

@@ -150,7 +150,7 @@ returns-clause-collected c =
     let r : Option ℕ = c.reserved-reserved.result in
     let s = e.survivors in
     let r_is : r ≡ c.args.heap.reserved = c.reserved-reserved.ensures.place ∙ ap (λ (x : Heap). x.reserved) e.kept in
-    let permuted = subst (λ (ms : List (Addr × Addr)). IsPermutation ms c.sort_unstable.new.self.items) e.moved c.sort_unstable.ensures.permutation in
+    let permuted = subst (λ (ms : List (Addr × Addr)). IsPermutation ms c.sort.new.list.items) e.moved c.sort.ensures.permutation in
     record {
       survivors = ss;
       are = s;
@@ -158,7 +158,7 @@ returns-clause-collected c =
           (c.name_all.ensures ∙ ap (λ (xs : List Survivor). with_chunks c.exchange.new.heap (fold named c.exchange.new.heap.chunks xs)) c.deref-2.ensures.value) c.reset_since.ensures;
       frames = e.frames;
       moved = permuted;
-      order = orders.moved_in_order (before (reverse news)) h (smalls h (olds ss)) c.sort_unstable.new.self.items permuted c.sort_unstable.ensures.sorted (moves.once_smalls h (olds ss) (once_from (olds ss) s.once))
+      order = orders.moved_in_order (before (reverse news)) h (smalls h (olds ss)) c.sort.new.list.items permuted c.sort.ensures.sorted (moves.once_smalls h (olds ss) (once_from (olds ss) s.once))
           (λ a i. orders.survivor_place h (outside c.args.frames.now c.args.roots.now) c.requires.closed c.requires.outside a ((s.exactly a).0 (contains_from_in (olds ss) a (moves.in_smalls h (olds ss) a i).0)));
       taken = c.count_of-taken.ensures ∙ ap (λ (ks : List Content). counted32 (length ks)) (c.deref.ensures.value ∙ e.laid);
       given = c.units_of.ensures ∙ ap (λ (ks : List Content). counted32 (unit_count ks)) c.deref-3.ensures.value;
