@@ -17,6 +17,7 @@ use Rattle.hh_model.specs.Effect.{effect, onward, int_in, with_int, with_ref}
 use Rattle.hh_model.specs.Step.{entry_frame, ended_by, with_task, frame_limit, follow, setting, result_of, result_in, back_in}
 use Rattle.hh_model.specs.Winner.{after}
 use Rattle.hh_model.proofs.Taken.{step_taken}
+use Rattle.hh_model.proofs.Sizes.{wide}
 use Rattle.hh_lang.specs.Loop.{Loop, IsLoop}
 use Rattle.loop_nest.specs.Frames.{Activation, StandsAt, HandsBack}
 use Rattle.loop_nest.specs.LoopLaw.{IsLoopStep, loop_frame, IsInRange, HasReturned, GoesOn, CallsEachNumber, LoopsCallEachNumber, numbers_between, count_of, wrapping_sum}
@@ -26,7 +27,6 @@ use Rattle.loop_nest.proofs.Nests.{Told, told_none, one_split}
 use Rattle.loop_nest.proofs.Registers.{Holds}
 use Rattle.loop_nest.proofs.Frames.{whole_none}
 use Rattle.loop_nest.proofs.Loops.{works_for}
-use Rattle.loop_nest.proofs.Wide.{wide}
 
 module _ (p : ProgramText) (limit : ℕ) (ts : List ℕ) (loop : Loop) (i now : ℕ) (s : IsLoopStep p limit ts loop i) (returned : HasReturned p limit ts loop i s now) where
   abbrev a : Activation
@@ -88,7 +88,7 @@ module _ (p : ProgramText) (limit : ℕ) (ts : List ℕ) (loop : Loop) (i now : 
   }
 
   holds : Holds x.top (entry_frame loop.whole x.top) first last
-  holds = record { i0 = refl; i1 = refl; ints = λ k un. refl; refs = refl; many = wide p limit (take i ts) s.t x s.next.task x.top (inl refl) }
+  holds = record { i0 = refl; i1 = refl; ints = λ k un. refl; refs = refl; many = (wide p limit (take i ts) s.t x s.next.task x.top (inl refl)).ints }
 
   -- UNTIL ITS RETURN
 
