@@ -1,7 +1,7 @@
 -- The tasks above a task, and what their heaps' objects refer to.
 use Rattle.std.proofs.Common.{◌≡◌, ℕ, zero, suc, ◌==◌, Bool, true, false, cond, not, Option, Some, None, List, [], ◌∷◌, slice_get, filter, ◌⊎◌, inl, inr, refl, ap, sym, subst, ◌∙◌, eqb, eqb-true, eq-eqb}
 use Rattle.std.specs.List.{flat_map}
-use Rattle.std.proofs.lemmas.Bool.{and_parts, and_from, or_cases, or_left, or_right, false≢true}
+use Rattle.std.proofs.lemmas.Bool.{and_parts, and_from, or_cases, or_left, or_right, false≢true, not-true}
 use Rattle.listed.proofs.Members.{In, contains_from_in, in_flat, flat_in, in_kept, in_from_kept, got_in}
 use Rattle.hh_model.specs.declared.data.Name.{Name}
 use Rattle.hh_model.specs.declared.data.State.{State}
@@ -96,10 +96,6 @@ module _ (m : State) (heaps : List Heap) (t : ℕ) (owned : AreOwned m.tasks hea
   in_refs u r n i j true e = absurd (false≢true (sym e))
   in_refs u r n i j false e = in_flat refs (names_of (slice_get heaps u)) n r i j
 
-  not_false : (b : Bool) → not b ≡ true → b ≡ false
-  not_false true h = absurd (false≢true h)
-  not_false false h = refl
-
   in_above : (u : ℕ) → is_on_path m.tasks u t ≡ true → (u == t) ≡ false → In (ancestors m.tasks t) u
   in_above u h ne = elim (above_from_path (parents m.tasks) t u t h) [ inl e ↦ absurd (false≢true (sym ne ∙ eq-eqb u t e)) | inr i ↦ i ]
 
@@ -113,7 +109,7 @@ module _ (m : State) (heaps : List Heap) (t : ℕ) (owned : AreOwned m.tasks hea
       let o : own n ≡ u = owner_is u n at.1 in
       let above : is_above m.tasks u t ≡ true = subst (λ b. is_above m.tasks b t ≡ true) o k.1 in
       let both = and_parts (is_on_path m.tasks u t) (not (u == t)) above in
-      let ne : (u == t) ≡ false = not_false (u == t) both.1 in
+      let ne : (u == t) ≡ false = not-true (u == t) both.1 in
       in_flat (refs_in m.store heaps t) (ancestors m.tasks t) u r (in_above u both.0 ne) (in_refs u r n at.1 f.3 (u == t) ne)
 
   pub above_same : (r : Name) → holds_name (flat_map (refs_in m.store heaps t) (ancestors m.tasks t)) r ≡ holds_name (flat_map refs kept) r

@@ -5,7 +5,7 @@ use Rattle.std.proofs.lemmas.List.Sums.{sum_by_push}
 use Rattle.hh_model.specs.declared.data.Name.{Name}
 use Rattle.hh_model.specs.declared.data.State.{State}
 use Rattle.run_ledger.specs.Heaps.{chunk_words, words_at, words_sum, lay, put_last, room_behind}
-use Rattle.ledger_heaps.specs.Parts.{last_words}
+use Rattle.run_ledger.specs.Space.{last_words}
 
 pub lay_first : (m : State) (lists : List (List Name)) (n : Name) → lists ≡ [] → lists ++ (n ∷ []) ∷ [] ≡ lay m lists n
 lay_first m lists n e = rw e refl

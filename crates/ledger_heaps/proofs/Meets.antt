@@ -2,8 +2,10 @@
 use Rattle.std.proofs.Common.{◌≡◌, ℕ, ◌+◌, ◌<◌, Bool, true, false, ◌&&◌, ◌||◌, not, Option, Some, None, List, [], ◌∷◌, ◌++◌, length, take, get_or, refl, ap, sym, ◌∙◌, append-nil, append_assoc, cond, subst, arith}
 use Rattle.std.proofs.lemmas.List.{take_more}
 use Rattle.std.proofs.lemmas.List.Concat.{flat_map-append}
+use Rattle.hh_model.proofs.Tree.{or_and_false}
 use Rattle.run_ledger.proofs.Members.{same_from_is_name}
 use Rattle.std.specs.List.{flat_map}
+use Rattle.std.proofs.Math.Bool.{and-true}
 use Rattle.hh_model.specs.declared.data.Name.{Name}
 use Rattle.hh_model.specs.declared.data.Frame.{Frame}
 use Rattle.hh_model.specs.Names.{named, registers}
@@ -29,17 +31,8 @@ two_waiting false false a b = refl
 two_waiting false true true b = refl
 two_waiting false true false b = refl
 
-and_true : (a : Bool) → (a && true) ≡ a
-and_true true = refl
-and_true false = refl
-
-or_none : (a u : Bool) → (a || (u && false)) ≡ a
-or_none true u = refl
-or_none false true = refl
-or_none false false = refl
-
 pub meets_none : (u : Name → Bool) (w : List Name) → Meets [] u u w w
-meets_none u w = record { unmet = λ n. sym (and_true (u n)); waiting = λ n. sym (or_none (holds_name w n) (u n)) }
+meets_none u w = record { unmet = λ n. sym (and-true (u n)); waiting = λ n. sym (or_and_false (holds_name w n) (u n)) }
 
 pub meets_both : (ns ms : List Name) (u v x : Name → Bool) (w y z : List Name) → Meets ns u v w y → Meets ms v x y z → Meets (ns ++ ms) u x w z
 meets_both ns ms u v x w y z a b = record {

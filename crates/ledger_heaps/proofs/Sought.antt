@@ -1,7 +1,8 @@
 -- A search that meets the roots, then follows the references of each name that it met, meets just what is reached.
 use Rattle.std.proofs.Common.{◌≡◌, ℕ, Bool, true, false, ◌&&◌, ◌||◌, not, List, [], ◌∷◌, ◌++◌, filter, length, ◌⊎◌, inl, inr, refl, ap, sym, subst, ◌∙◌, zero, suc, cond, arith}
 use Rattle.std.specs.List.{list_any}
-use Rattle.std.proofs.lemmas.Bool.{false≢true, or_cases, or_left, or_right}
+use Rattle.std.proofs.lemmas.Bool.{false≢true, or_cases, or_left, or_right, not-true, and_from}
+use Rattle.std.proofs.Math.Bool.{and-false, and-true}
 use Rattle.listed.proofs.Members.{In, in_from_contains, contains_from_in, in_kept, in_from_kept}
 use Rattle.hh_model.specs.declared.data.Name.{Name}
 use Rattle.hh_model.specs.declared.data.Object.{Object}
@@ -33,30 +34,18 @@ right_of : (a b : Bool) → (a && b) ≡ true → b ≡ true
 right_of true b h = h
 right_of false b h = absurd (false≢true h)
 
-not_true : (b : Bool) → not b ≡ true → b ≡ false
-not_true true h = absurd (false≢true h)
-not_true false h = refl
-
 module _ (store : List (List Object)) (names roots : List Name) where
   pub sought_start : (u v : Name → Bool) (w : List Name) → ((n : Name) → u n ≡ holds_name names n) → Meets roots u v [] w → Sought store names roots v w
   sought_start u v w all met = record {
     inside = λ n h. sym (all n) ∙ left_of (u n) (not (holds_name roots n)) (sym (met.unmet n) ∙ h);
-    start = λ n h. not_true (holds_name roots n) (right_of (u n) (not (holds_name roots n)) (sym (met.unmet n) ∙ h));
+    start = λ n h. not-true (holds_name roots n) (right_of (u n) (not (holds_name roots n)) (sym (met.unmet n) ∙ h));
     waits = λ n h.
         let both : (u n && holds_name roots n) ≡ true = sym (met.waiting n) ∙ h in
-        (sym (all n) ∙ left_of (u n) (holds_name roots n) both, met.unmet n ∙ ap (λ b. u n && not b) (right_of (u n) (holds_name roots n) both) ∙ and_false (u n));
+        (sym (all n) ∙ left_of (u n) (holds_name roots n) both, met.unmet n ∙ ap (λ b. u n && not b) (right_of (u n) (holds_name roots n) both) ∙ and-false (u n));
     sound = λ n i h. is_root n i (met_at n i h);
-    closed = λ m n i h out r. absurd (false≢true (sym out ∙ (met.waiting m ∙ and_both (u m) (holds_name roots m) (all m ∙ i) (met_at m i h))));
+    closed = λ m n i h out r. absurd (false≢true (sym out ∙ (met.waiting m ∙ and_from (u m) (holds_name roots m) (all m ∙ i) (met_at m i h))));
   }
     where
-      and_false : (b : Bool) → (b && false) ≡ false
-      and_false true = refl
-      and_false false = refl
-
-      and_both : (a b : Bool) → a ≡ true → b ≡ true → (a && b) ≡ true
-      and_both true b e k = k
-      and_both false b e k = absurd (false≢true e)
-
       by_test : (a b : Bool) → a ≡ true → (a && not b) ≡ false → b ≡ true
       by_test true true e k = refl
       by_test true false e k = absurd (false≢true (sym k))
@@ -83,11 +72,7 @@ module _ (store : List (List Object)) (names roots : List Name) where
     was n h = left_of (u n) (not (holds_name (refs_at store name) n)) (sym (met.unmet n) ∙ h)
 
     gone : (n : Name) → holds_name (refs_at store name) n ≡ true → v n ≡ false
-    gone n h = met.unmet n ∙ (ap (λ b. u n && not b) h ∙ none (u n))
-      where
-        none : (b : Bool) → (b && false) ≡ false
-        none true = refl
-        none false = refl
+    gone n h = met.unmet n ∙ (ap (λ b. u n && not b) h ∙ and-false (u n))
 
     -- what is met newly
     newly : (n : Name) → u n ≡ true → v n ≡ false → holds_name (refs_at store name) n ≡ true
@@ -118,14 +103,10 @@ module _ (store : List (List Object)) (names roots : List Name) where
       | inr e ↦ S.sound n i e
     ]
 
-    both_true : (a b : Bool) → a ≡ true → b ≡ true → (a && b) ≡ true
-    both_true true b e k = k
-    both_true false b e k = absurd (false≢true e)
-
     met_before : (m : Name) → v m ≡ false → holds_name w m ≡ false → u m ≡ false
     met_before m h out = elim (cases (u m)) [
       | inl e ↦
-          absurd (false≢true (sym out ∙ (met.waiting m ∙ or_right (holds_name front m) (u m && holds_name (refs_at store name) m) (both_true (u m) (holds_name (refs_at store name) m) e (newly m e h)))))
+          absurd (false≢true (sym out ∙ (met.waiting m ∙ or_right (holds_name front m) (u m && holds_name (refs_at store name) m) (and_from (u m) (holds_name (refs_at store name) m) e (newly m e h)))))
       | inr e ↦ e
     ]
 
@@ -177,17 +158,9 @@ module _ (store : List (List Object)) (names roots : List Name) where
 
     end_by : (n : Name) (a b c : Bool) → u n ≡ a → holds_name names n ≡ b → holds_name (reached store names roots) n ≡ c → u n ≡ (holds_name names n && not (holds_name (reached store names roots) n))
     end_by n true b true e k r = absurd (false≢true (sym (met_all n r) ∙ e))
-    end_by n true b false e k r = e ∙ (sym (S.inside n e) ∙ (sym (and_all (holds_name names n)) ∙ ap (λ x. holds_name names n && not x) (sym r)))
-      where
-        and_all : (x : Bool) → (x && true) ≡ x
-        and_all true = refl
-        and_all false = refl
+    end_by n true b false e k r = e ∙ (sym (S.inside n e) ∙ (sym (and-true (holds_name names n)) ∙ ap (λ x. holds_name names n && not x) (sym r)))
     end_by n false false c e k r = e ∙ ap (λ x. x && not (holds_name (reached store names roots) n)) (sym k)
-    end_by n false true c e k r = e ∙ (sym (none (holds_name names n)) ∙ ap (λ x. holds_name names n && not x) (sym (S.sound n k e)))
-      where
-        none : (x : Bool) → (x && false) ≡ false
-        none true = refl
-        none false = refl
+    end_by n false true c e k r = e ∙ (sym (and-false (holds_name names n)) ∙ ap (λ x. holds_name names n && not x) (sym (S.sound n k e)))
 
     pub sought_end : (n : Name) → u n ≡ (holds_name names n && not (holds_name (reached store names roots) n))
     sought_end n = end_by n (u n) (holds_name names n) (holds_name (reached store names roots) n) refl refl refl

@@ -1,9 +1,6 @@
 -- What a leaf collection and a sweep put in the place of a heap's parts.
-use Rattle.std.specs.Prelude.{ℕ, None, true, List, [], ◌∷◌}
-use Rattle.hh_model.specs.declared.data.Name.{Name}
-use Rattle.hh_model.specs.declared.data.State.{State}
+use Rattle.std.specs.Prelude.{None, true}
 use Rattle.run_ledger.specs.declared.data.Heap.{Heap}
-use Rattle.run_ledger.specs.Heaps.{words_sum}
 use Rattle.ledger_heaps.specs.declared.collection.Collected.{Collected}
 use Rattle.ledger_heaps.specs.declared.sweeping.Swept.{Swept}
 
@@ -14,9 +11,3 @@ with_collected h c = record h { chunks = c.chunks; large = c.large; room = c.roo
 -- the heap with what its sweep leaves
 abbrev pub with_swept : Heap → Swept → Heap
 with_swept h s = record h { chunks = s.chunks; large = s.large; room = s.room; marked = None; swept = true }
-
--- the words of the last list
-abbrev pub last_words : State → List (List Name) → ℕ
-last_words m [] = 0
-last_words m (ns ∷ []) = words_sum m ns
-last_words m (ns ∷ ms ∷ rest) = last_words m (ms ∷ rest)

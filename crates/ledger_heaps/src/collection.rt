@@ -5,7 +5,8 @@ ghost use Rattle.run_ledger.specs.Heaps.{begun_in, by_birth, collected, end_numb
 ghost use Rattle.std.specs.HashSet.{contains};
 ghost use Rattle.hh_model.specs.declared.data.Name.{Name};
 ghost use Rattle.run_ledger.specs.Reachable.{holds_name, is_name};
-ghost use Rattle.ledger_heaps.specs.Parts.{last_words, with_collected};
+ghost use Rattle.run_ledger.specs.Space.{last_words};
+ghost use Rattle.ledger_heaps.specs.Parts.{with_collected};
 
 use crate::names::{kept, kept_small, table_of};
 use crate::placed::{push_list, put_last};

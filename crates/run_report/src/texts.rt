@@ -1,4 +1,4 @@
-// The lines that are written of a run, and its exit status.
+// The lines that are written of a run.
 
 ghost use Rattle.std.specs.Prelude.{◌≡◌, ◌≢◌, ◌∷◌, ◌++◌, [], IfOk, OnOk, codes};
 ghost use Rattle.std.specs.String.{string_bytes};
