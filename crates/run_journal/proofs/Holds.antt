@@ -1,7 +1,7 @@
 -- Who holds which task, by the task that each worker took last.
 use Rattle.std.proofs.Common.{◌≡◌, ℕ, zero, suc, ◌+◌, ◌-◌, ◌<◌, Bool, true, false, cond, Option, Some, None, List, [], ◌∷◌, ◌++◌, length, slice_get, slice_set, nat_lt, inl, inr, refl, ap, sym, subst, ◌∙◌, arith, eq-eqb, ◌⊎◌, is_none, unwrap_or}
 use Rattle.std.proofs.lemmas.Bool.{both_ways, cases_eq, eqb-true, false≢true}
-use Rattle.std.proofs.lemmas.Option.{same_Some}
+use Rattle.std.proofs.lemmas.Option.{same_Some, none-some}
 use Rattle.listed.proofs.Members.{got_same, got_other}
 use Rattle.run_trace.specs.declared.entry.Kind.{Kind}
 use Rattle.run_trace.specs.declared.entry.Kind.TheVariants.{Took, Ran, Chunk, Begin, End as EndOf, PutOff, Mark, More, Sweep, Fuel}
@@ -23,9 +23,6 @@ use Rattle.run_ledger.proofs.Stocks.{with_heap_any}
 use Rattle.run_ledger.proofs.Journals.{none_unless, out_tells}
 use Rattle.run_journal.specs.Book.{Standing, Agrees, taken_after}
 
-none_some : {A B : Type 0} {x : A} → ◌≡◌ {A = Option A} None (Some x) → B
-none_some q = absurd cc
-
 -- WHO HOLDS A TASK
 
 -- the worker of a task's heap
@@ -46,7 +43,7 @@ held_true : (o : Option ℕ) (w : ℕ) → o ≡ Some w → is_held_by o w ≡ t
 held_true o w e = ap (λ q. is_held_by q w) e ∙ eq-eqb w w refl
 
 found : (w base : ℕ) (heaps : List Heap) → Found w base heaps
-found w base [] = inl (refl, λ u e. none_some e)
+found w base [] = inl (refl, λ u e. absurd (none-some _ e))
 found w base (h ∷ heaps) = by (is_held_by h.worker w) refl (found w (base + 1) heaps)
   where
     by : (v : Bool) → is_held_by h.worker w ≡ v → Found w (base + 1) heaps
@@ -70,7 +67,7 @@ module _ (s : Standing) (A : Agrees s) (w : ℕ) where
     where
       by : Found w 0 s.ledger.heaps → held_from w 0 s.ledger.heaps ≡ None
       by (inl f) = f.0
-      by (inr f) = none_some (sym none ∙ last f.0 f.2)
+      by (inr f) = absurd (none-some _ (sym none ∙ last f.0 f.2))
 
   -- who holds a task holds the one that was taken last
   pub holds_last : (t : ℕ) → unwrap_or (slice_get s.taken w) None ≡ Some t → worker_of s.ledger t ≡ Some w → held_from w 0 s.ledger.heaps ≡ Some t
@@ -130,14 +127,14 @@ module _ (p : ProgramText) (l : Ledger) (t : ℕ) (S : SoundAt t l) (can : can_s
 
   was_k : (u : ℕ) (h : Heap) → slice_get k.heaps u ≡ Some h → Was u h
   was_k =
-      moves_each Was t l.machine.tasks b.heaps k.heaps (step_leaves p l t S can).2 (λ u h e w q. ap (λ o. (or_fresh o).worker) e ∙ q) (λ h q w e. none_some e) (λ u w e. none_some e) (λ ns h q w e. none_some e)
-      (λ u h x y v z is wait none q qx qy w e. ap (λ o. (or_fresh o).worker) is ∙ e) (λ u h none q w e. none_some e)
+      moves_each Was t l.machine.tasks b.heaps k.heaps (step_leaves p l t S can).2 (λ u h e w q. ap (λ o. (or_fresh o).worker) e ∙ q) (λ h q w e. absurd (none-some _ e)) (λ u w e. absurd (none-some _ e)) (λ ns h q w e. absurd (none-some _ e))
+      (λ u h x y v z is wait none q qx qy w e. ap (λ o. (or_fresh o).worker) is ∙ e) (λ u h none q w e. absurd (none-some _ e))
 
   held_k : Held l k
   held_k u w e = held_b (asked p l.machine t) u w (by (slice_get k.heaps u) refl e)
     where
       by : (o : Option Heap) → slice_get k.heaps u ≡ o → (or_fresh o).worker ≡ Some w → worker_of b u ≡ Some w
-      by None q r = none_some r
+      by None q r = absurd (none-some _ r)
       by (Some h) q r = was_k u h q w r
 
 held_step : (p : ProgramText) (l : Ledger) (t : ℕ) → SoundAt t l → Held l (task_step p l t)
@@ -182,7 +179,7 @@ module _ (p : ProgramText) (s : Limits) (l : Ledger) (taken : List (Option ℕ))
     where
       free_of : Found w 0 l.heaps → (u : ℕ) → worker_of l u ≡ Some w → ⊥
       free_of (inl f) u e = f.1 u e
-      free_of (inr f) u e = none_some (sym free ∙ f.1)
+      free_of (inr f) u e = absurd (none-some _ (sym free ∙ f.1))
 
       other : (u v : ℕ) → worker_of l u ≡ Some v → slice_get (slice_set taken w (Some t)) v ≡ Some (Some u)
       other u v e = elim (cases_eq v w) [

@@ -1,6 +1,6 @@
 -- One step of a task, put together from its parts.
 use Rattle.std.proofs.Common.{◌≡◌, ℕ, ◌+◌, ◌-◌, ◌<◌, ◌≤◌, ◌^◌, ◌==◌, not, Bool, true, false, cond, List, [], ◌∷◌, ◌++◌, Option, Some, None, slice_get, slice_set, inl, inr, refl, ap, ap₂, sym, subst, ◌∙◌, arith, nat_lt}
-use Rattle.std.proofs.lemmas.Bool.{false≢true, cases_eq, eqb-true, leb-true, cond-true, cond-false}
+use Rattle.std.proofs.lemmas.Bool.{false≢true, cases_eq, eqb-true, leb-true, cond-true, cond-false, not-false}
 use Rattle.std.proofs.lemmas.Option.{same_Some}
 use Rattle.listed.proofs.Members.{In, got_same, got_other, got_front, got_within, contains_from_in, in_from_contains}
 use Rattle.hh_lang.specs.Form.{ProgramText}
@@ -16,7 +16,8 @@ use Rattle.run_ledger.specs.declared.data.Ledger.{Ledger}
 use Rattle.run_ledger.specs.Heaps.{heap_of, or_fresh, heap_at, fresh, with_heap, with_heap_at, held_in, in_use, placed, is_small, lacks_room, units, units_in, within, forked_heap}
 use Rattle.run_ledger.specs.Steps.{allocated_in, allocated_by, task_step, settled, moved_to, moved_on, at_fork, is_in_need, on_asked}
 use Rattle.run_journal.proofs.Snaps.{settled_paired}
-use Rattle.run_journal.specs.Book.{Standing, Steady, AreOwned, ArePaired, Forks, next_large, used_by, used_after, went_on}
+use Rattle.ledger_heaps.specs.Accounts.{AreOwned}
+use Rattle.run_journal.specs.Book.{Standing, Steady, ArePaired, Forks, next_large, used_by, used_after, went_on}
 
 with_machine : (l : Ledger) (t : ℕ) (f : Heap → Heap) (o : Option Heap) → (with_heap_at l t f o).machine ≡ l.machine
 with_machine l t f None = refl
@@ -78,12 +79,8 @@ placed_since h n w false = refl
 pub small_enough : (h : Heap) (w : ℕ) (b : Bool) → is_small w ≡ b → cond b (nat_lt h.room w) (not (h.reserved == units w)) ≡ false → h.reserved < 2 ^ 20 → w < 2 ^ 31
 small_enough h w true is e few = let le : w ≤ 1024 = leb-true w 1024 is in omega arith
 small_enough h w false is e few =
-    let r : h.reserved ≡ units w = eqb-true h.reserved (units w) (holds (h.reserved == units w) e) in
+    let r : h.reserved ≡ units w = eqb-true h.reserved (units w) (not-false (h.reserved == units w) e) in
     omega arith
-  where
-    holds : (v : Bool) → not v ≡ false → v ≡ true
-    holds true q = refl
-    holds false q = sym q
 
 pub placed_is : (h : Heap) (n : Name) (w : ℕ) (b : Bool) → is_small w ≡ b → (placed h n w).since ≡ h.since + w
 placed_is h n w true e = ap (λ (q : Heap). q.since) (cond-true (is_small w) _ _ e)

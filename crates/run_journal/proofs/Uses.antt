@@ -12,7 +12,7 @@ use Rattle.hh_model.specs.Step.{step, can_step, asked}
 use Rattle.hh_model.proofs.Carried.{next_name}
 use Rattle.run_ledger.specs.declared.data.Heap.{Heap}
 use Rattle.run_ledger.specs.declared.data.Ledger.{Ledger}
-use Rattle.run_ledger.specs.Heaps.{units, is_small, words_of, words_at, units_sum, begun_in, units_in, fresh, heap_of, or_fresh, with_heap, with_heap_at, in_use, placed, put_last, lacks_room, collected, large_survivors, swept_heap, sweep_number, in_snapshot, without_empty}
+use Rattle.run_ledger.specs.Heaps.{units, is_small, words_of, words_at, units_sum, begun_in, units_in, fresh, heap_of, or_fresh, with_heap, with_heap_at, in_use, placed, put_last, small_in, lacks_room, collected, large_survivors, swept_heap, sweep_number, in_snapshot, without_empty}
 use Rattle.run_ledger.specs.Steps.{allocated_by, allocated_in, stepped_to, task_step, is_due, is_in_need}
 use Rattle.run_ledger.proofs.Chunks.{sum_same}
 use Rattle.run_ledger.proofs.Machine.{stepped_machine}
@@ -21,7 +21,7 @@ use Rattle.run_ledger.proofs.Steps.{SoundAt, StepLeaves, heap_of_task, can_tells
 use Rattle.run_ledger.proofs.Grown.{Grown}
 use Rattle.run_ledger.proofs.Weights.{total, total_set, Additive, moves_total}
 use Rattle.run_ledger.proofs.Stocks.{StockedLedger, G, L, with_heap_any}
-use Rattle.run_ledger.proofs.Booked.{BookedLedger, total_same}
+use Rattle.run_ledger.proofs.Booked.{BookedLedger, put_length, total_same, units_additive}
 use Rattle.run_ledger.proofs.Bounds.{asked_bounds}
 use Rattle.ledger_heaps.proofs.Kept.{survivors_units, snapshot_units, fewer_chunks}
 use Rattle.run_journal.specs.Book.{large_by, next_large, used_by, used_after}
@@ -31,24 +31,6 @@ pub one_of : (f : Heap → ℕ) (heaps : List Heap) (u : ℕ) → f fresh ≡ 0 
 one_of f [] u z = omega arith
 one_of f (h ∷ heaps) zero z = let a = sum_by-cons f h heaps in omega arith
 one_of f (h ∷ heaps) (suc u) z = let a = sum_by-cons f h heaps in let b = one_of f heaps u z in omega arith
-
-units_additive : (m : State) → Additive (units_in m)
-units_additive m = record {
-  let_go = λ h. refl;
-  fresh = refl;
-  forked = λ ns h. refl;
-  merged = λ p l r.
-      let a = sum_by-append (λ n. units (words_at m n)) (l.large ++ r.large) p.large in
-      let b = sum_by-append (λ n. units (words_at m n)) l.large r.large in
-      let c = length-append (l.chunks ++ r.chunks) p.chunks in
-      let d = length-append l.chunks r.chunks in
-      omega arith;
-}
-
-put_length : (lists : List (List Name)) (n : Name) → 0 < length lists → length (put_last lists n) ≡ length lists
-put_length [] n l = absurd (omega arith)
-put_length (ns ∷ []) n l = refl
-put_length (ns ∷ ms ∷ rest) n l = ap suc (put_length (ms ∷ rest) n (omega arith))
 
 -- A STEP
 
@@ -83,10 +65,7 @@ module _ (p : ProgramText) (s : Limits) (l : Ledger) (t : ℕ) (S : SoundAt t l)
     units_same u h e =
         ap (λ w. length h.chunks + w + h.reserved + begun_in h)
         (sum_same (λ n. units (words_at m' n)) (λ n. units (words_at m n)) h.large
-        (λ n i. ap units (grown.words n (I.stored n (u, subst (λ o. In (names_of o) n) (sym e) (in_append_right (flat_small h) h.large n i))))))
-      where
-        flat_small : Heap → List Name
-        flat_small h = flat_map (λ ns. ns) h.chunks
+        (λ n i. ap units (grown.words n (I.stored n (u, subst (λ o. In (names_of o) n) (sym e) (in_append_right (small_in h) h.large n i))))))
 
     -- what is asked for is at least two words
     at_least : (w : ℕ) → asked p m t ≡ Some w → 2 ≤ w

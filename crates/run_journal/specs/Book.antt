@@ -20,6 +20,7 @@ use Rattle.run_ledger.specs.declared.data.Ledger.{Ledger}
 use Rattle.run_ledger.specs.declared.data.Heap.{Heap}
 use Rattle.run_ledger.specs.Heaps.{fresh, with_heap, forked_heap, heap_of, or_fresh, begun_in, held_in, is_small, units, words_at, words_in, units_in, in_use}
 use Rattle.run_ledger.specs.Steps.{is_open, join_heaps, is_due, is_in_need, is_private, task_step, task_steps, standing, works_alone}
+use Rattle.ledger_heaps.specs.Accounts.{AreOwned}
 use Rattle.run_journal.specs.declared.ran.Stood.{Stood}
 use Rattle.run_journal.specs.declared.ran.Stood.TheVariants.{Not, Last, More}
 
@@ -47,10 +48,6 @@ went_on s l = record s { ledger = l; used = in_use l }
 abbrev pub taken_after : List (Option ℕ) → ℕ → Kind → List (Option ℕ)
 taken_after taken w (Took t) = slice_set taken w (Some t)
 taken_after taken w _ = taken
-
--- the names of each heap are owned by its task
-abbrev pub AreOwned : List Task → List Heap → Type 0
-AreOwned tasks heaps = (t : ℕ) (n : Name) → Contains (held_in (or_fresh (slice_get heaps t))) n → owner_of tasks n.task ≡ t
 
 -- the left one of the two children of whom t is one
 abbrev pub left_of : ℕ → ℕ

@@ -5,7 +5,8 @@ ghost use Rattle.std.specs.Prelude.{◌≡◌, ℕ, ◌+◌, ◌<◌, ◌^◌, O
 ghost use Rattle.run_ledger.specs.Heaps.{heap_of, in_use, or_fresh, with_heap, let_go};
 ghost use Rattle.run_ledger.specs.Steps.{allocated_in, allocated_by, is_in_need, task_step, at_fork, at_join, join_heaps, moved_to, settled};
 ghost use Rattle.hh_model.specs.Step.{asked, step, is_joined, is_waiting};
-ghost use Rattle.run_journal.specs.Book.{Steady, Forks, Joins, AreOwned, ArePaired, left_of, next_large, used_after, went_on};
+ghost use Rattle.ledger_heaps.specs.Accounts.{AreOwned};
+ghost use Rattle.run_journal.specs.Book.{Steady, Forks, Joins, ArePaired, left_of, next_large, used_after, went_on};
 
 use crate::accounts::Accounts;
 use hh_model::{Machine, Name, State, Status};

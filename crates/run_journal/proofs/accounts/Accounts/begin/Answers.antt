@@ -1,6 +1,7 @@
 use Rattle.std.proofs.Common.{sym, subst}
 use Rattle.hh_model.specs.declared.data.State.{State}
-use Rattle.run_journal.specs.Book.{Standing, AreOwned}
+use Rattle.ledger_heaps.specs.Accounts.{AreOwned}
+use Rattle.run_journal.specs.Book.{Standing}
 use Rattle.run_journal.proofs.accounts.Accounts.begin.Goals as goal
 
 pub within-requires : goal.within-requires

@@ -1,7 +1,8 @@
 use Rattle.std.proofs.Common.{sym, subst}
 use Rattle.std.proofs.lemmas.Result.{on_ok_weaker}
 use Rattle.hh_model.specs.declared.data.State.{State}
-use Rattle.run_journal.specs.Book.{Standing, AreOwned}
+use Rattle.ledger_heaps.specs.Accounts.{AreOwned}
+use Rattle.run_journal.specs.Book.{Standing}
 use Rattle.run_journal.proofs.Stepped.{fork_is}
 use Rattle.run_journal.proofs.accounts.Accounts.fork.Goals as goal
 
