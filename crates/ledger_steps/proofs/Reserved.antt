@@ -1,6 +1,7 @@
 -- A chunk is reserved for none but a task whose next step asks for words.
 use Rattle.std.proofs.Common.{◌≡◌, ℕ, zero, suc, ◌<◌, ◌≤◌, ◌||◌, cond, arith, Option, Some, None, slice_get, ◌⊎◌, inl, inr, refl, ap₂, sym, ◌∙◌}
 use Rattle.std.proofs.lemmas.Bool.{cases_lt}
+use Rattle.std.proofs.lemmas.Option.{none-some}
 use Rattle.hh_lang.specs.Form.{ProgramText}
 use Rattle.run_trace.specs.Settings.{Limits}
 use Rattle.run_ledger.specs.declared.data.Heap.{Heap}
@@ -13,14 +14,11 @@ use Rattle.ledger_steps.specs.Accounts.{ArePrivate}
 use Rattle.ledger_steps.specs.Last.{OnlyAskersReserve}
 use Rattle.ledger_steps.specs.Laws.{AskersReserve}
 
-none_some : {A : Type 0} {w : ℕ} → ◌≡◌ {A = Option ℕ} None (Some w) → A
-none_some e = absurd cc
-
 pub booked_askers : (p : ProgramText) (s : Limits) (l : Ledger) → BookedLedger p s l → OnlyAskersReserve p l
 booked_askers p s l B u none = by (slice_get l.heaps u) refl
   where
     zero_is : (h : Heap) → slice_get l.heaps u ≡ Some h → (0 < h.reserved) ⊎ (h.reserved ≤ 0) → h.reserved ≡ 0
-    zero_is h e (inl lt) = let q = (B.each u h e).reserved lt in none_some (sym none ∙ q.1)
+    zero_is h e (inl lt) = let q = (B.each u h e).reserved lt in absurd (none-some _ (sym none ∙ q.1))
     zero_is h e (inr le) = omega arith
 
     by : (o : Option Heap) → slice_get l.heaps u ≡ o → (or_fresh o).reserved ≡ 0
