@@ -21,7 +21,7 @@ fn take_steps<G: Gate>(
     gate: &G,
     worker: u32,
 ) -> Result<Paused, AllocError>
-    requires { AtSome program.now (λ w. MayRun w worker part.old) }
+    requires may { AtSome program.now (λ w. MayRun w worker part.old) }
     ensures { IfOk result (HasGrown program.now worker part.old part.new) }
 {
     let budget = MOST_STEPS - part.fresh;

@@ -6,8 +6,8 @@ use Rattle.worker_run.specs.Desks.{AreNewDesks}
 use Rattle.worker_run.proofs.Rows.{Chair, all_more, first_of, moved_on, none_left, none_new, rest_of}
 use Rattle.worker_run.proofs.workers.desks_of.Goals as goal
 
-pub loop-settings-init : goal.loop-settings-init
-loop-settings-init c = record {
+pub loop-alloc-init : goal.loop-alloc-init
+loop-alloc-init c = record {
   seats = ap (λ (l : List Desk). map (λ (d : Desk). d.seat) l ++ c.args.seats.items) c.new-desks.ensures.items;
   new = subst (AreNewDesks c.args.settings) (sym c.new-desks.ensures.items) (none_new c.args.settings);
   held = ap (λ (l : List Desk). map (λ (d : Desk). d.hand) l ++ c.args.hands.items) c.new-desks.ensures.items;
@@ -18,49 +18,49 @@ loop-settings-init c = record {
 }
 
 pub remove-hand-requires : goal.remove-hand-requires
-remove-hand-requires c = let inv = c.loop-settings.invariant in let room = inv.room in let some : 0 < length c.loop-settings.seats.items = search rules in let goal : 0 < vec_len c.loop-settings.hands = search (rules, room, some) in goal
+remove-hand-requires c = let inv = c.loop-alloc.invariant in let room = inv.room in let some : 0 < length c.loop-alloc.seats.items = search rules in let goal : 0 < vec_len c.loop-alloc.hands = search (rules, room, some) in goal
 
 pub overflow_add-worker : goal.overflow_add-worker
 overflow_add-worker c =
-    let inv = c.loop-settings.invariant in
+    let inv = c.loop-alloc.invariant in
     let few = inv.few in
-    let some : 0 < length c.loop-settings.seats.items = search rules in
-    let left : vec_len c.loop-settings.seats ≡ length c.loop-settings.seats.items = search rules in
+    let some : 0 < length c.loop-alloc.seats.items = search rules in
+    let left : vec_len c.loop-alloc.seats ≡ length c.loop-alloc.seats.items = search rules in
     let limit = c.requires.few in
-    let goal : c.loop-settings.worker + 1 < 2 ^ 32 = omega (arith, few, some, left, limit) in
+    let goal : c.loop-alloc.worker + 1 < 2 ^ 32 = omega (arith, few, some, left, limit) in
     search (rules, goal)
 
-pub loop-settings-smaller : goal.loop-settings-smaller
-loop-settings-smaller c = search rules
+pub loop-alloc-smaller : goal.loop-alloc-smaller
+loop-alloc-smaller c = search rules
 
-pub loop-settings-preserved : goal.loop-settings-preserved
-loop-settings-preserved c =
-    let inv = c.loop-settings.invariant in
+pub loop-alloc-preserved : goal.loop-alloc-preserved
+loop-alloc-preserved c =
+    let inv = c.loop-alloc.invariant in
     let hand : Hand = c.remove-hand.result in
-    let desk : Desk = record { seat = c.remove-seat.result; hand = hand; worker = c.loop-settings.worker; alloc = c.args.alloc; settings = c.args.settings; given = 0; heard = 0 } in
-    let some : 0 < length c.loop-settings.seats.items = search rules in
-    let more : 0 < length c.loop-settings.hands.items = search rules in
-    let made : c.push.new.self.items ≡ c.loop-settings.desks.items ++ desk ∷ [] = c.in_ok-push.ensures.items in
+    let desk : Desk = record { seat = c.remove-seat.result; hand = hand; worker = c.loop-alloc.worker; alloc = c.args.alloc; settings = c.args.settings; given = 0; heard = 0 } in
+    let some : 0 < length c.loop-alloc.seats.items = search rules in
+    let more : 0 < length c.loop-alloc.hands.items = search rules in
+    let made : c.push.new.self.items ≡ c.loop-alloc.desks.items ++ desk ∷ [] = c.in_ok-push.ensures.items in
     record {
-      seats = ap (λ (l : List Desk). map (λ (d : Desk). d.seat) l ++ c.remove-seat.new.self.items) made ∙ (ap (λ (l : List Chair). map (λ (d : Desk). d.seat) (c.loop-settings.desks.items ++ desk ∷ []) ++ l) c.remove-seat.ensures.items
-          ∙ (moved_on (λ (d : Desk). d.seat) c.loop-settings.desks.items c.loop-settings.seats.items desk c.remove-seat.result refl some c.remove-seat.ensures.value ∙ inv.seats));
-      held = ap (λ (l : List Desk). map (λ (d : Desk). d.hand) l ++ c.remove-hand.new.self.items) made ∙ (ap (λ (l : List Hand). map (λ (d : Desk). d.hand) (c.loop-settings.desks.items ++ desk ∷ []) ++ l) c.remove-hand.ensures.items
-          ∙ (moved_on (λ (d : Desk). d.hand) c.loop-settings.desks.items c.loop-settings.hands.items desk hand refl more c.remove-hand.ensures.value ∙ inv.held));
+      seats = ap (λ (l : List Desk). map (λ (d : Desk). d.seat) l ++ c.remove-seat.new.self.items) made ∙ (ap (λ (l : List Chair). map (λ (d : Desk). d.seat) (c.loop-alloc.desks.items ++ desk ∷ []) ++ l) c.remove-seat.ensures.items
+          ∙ (moved_on (λ (d : Desk). d.seat) c.loop-alloc.desks.items c.loop-alloc.seats.items desk c.remove-seat.result refl some c.remove-seat.ensures.value ∙ inv.seats));
+      held = ap (λ (l : List Desk). map (λ (d : Desk). d.hand) l ++ c.remove-hand.new.self.items) made ∙ (ap (λ (l : List Hand). map (λ (d : Desk). d.hand) (c.loop-alloc.desks.items ++ desk ∷ []) ++ l) c.remove-hand.ensures.items
+          ∙ (moved_on (λ (d : Desk). d.hand) c.loop-alloc.desks.items c.loop-alloc.hands.items desk hand refl more c.remove-hand.ensures.value ∙ inv.held));
       new = subst (AreNewDesks c.args.settings) (sym made)
-          (all_more (λ k (d : Desk). (d.worker ≡ k) × (d.settings ≡ c.args.settings) × (d.given ≡ 0) × (length (thefts d.hand) ≡ c.args.settings.workers)) c.loop-settings.desks.items desk inv.new
-          (inv.worker, refl, refl, inv.hands 0 hand (first_of c.loop-settings.hands.items hand more c.remove-hand.ensures.value)));
-      hands = λ k h at. inv.hands (suc k) h (rest_of c.loop-settings.hands.items hand more c.remove-hand.ensures.value k h (subst (λ (l : List Hand). slice_get l k ≡ Some h) c.remove-hand.ensures.items at));
-      worker = (let a = inv.worker in let b = ap length made in let d = length-append c.loop-settings.desks.items (desk ∷ []) in omega (arith, a, b, d));
+          (all_more (λ k (d : Desk). (d.worker ≡ k) × (d.settings ≡ c.args.settings) × (d.given ≡ 0) × (length (thefts d.hand) ≡ c.args.settings.workers)) c.loop-alloc.desks.items desk inv.new
+          (inv.worker, refl, refl, inv.hands 0 hand (first_of c.loop-alloc.hands.items hand more c.remove-hand.ensures.value)));
+      hands = λ k h at. inv.hands (suc k) h (rest_of c.loop-alloc.hands.items hand more c.remove-hand.ensures.value k h (subst (λ (l : List Hand). slice_get l k ≡ Some h) c.remove-hand.ensures.items at));
+      worker = (let a = inv.worker in let b = ap length made in let d = length-append c.loop-alloc.desks.items (desk ∷ []) in omega (arith, a, b, d));
       room = search rules;
       few = search rules;
     }
 
 pub returns-clause-hands : goal.returns-clause-hands
 returns-clause-hands c =
-    let inv = c.loop-settings.invariant in
+    let inv = c.loop-alloc.invariant in
     let room = inv.room in
-    let none : length c.loop-settings.hands.items ≡ 0 = search (rules, room) in
-    sym (append-nil (map (λ (d : Desk). d.hand) c.loop-settings.desks.items)) ∙ (ap (λ (l : List Hand). map (λ (d : Desk). d.hand) c.loop-settings.desks.items ++ l) (sym (none_left c.loop-settings.hands.items none)) ∙ inv.held)
+    let none : length c.loop-alloc.hands.items ≡ 0 = search (rules, room) in
+    sym (append-nil (map (λ (d : Desk). d.hand) c.loop-alloc.desks.items)) ∙ (ap (λ (l : List Hand). map (λ (d : Desk). d.hand) c.loop-alloc.desks.items ++ l) (sym (none_left c.loop-alloc.hands.items none)) ∙ inv.held)
 
 pub returns-clause-new : goal.returns-clause-new
-returns-clause-new c = c.loop-settings.invariant.new
+returns-clause-new c = c.loop-alloc.invariant.new

@@ -4,8 +4,8 @@ use Rattle.steal_scheduler.specs.Hands.{thefts}
 use Rattle.worker_run.specs.Desks.{AreNewDesks}
 use Rattle.worker_run.proofs.workers.desks_of.Given as goal
 
-abbrev pub invariant-loop-settings : goal.invariant-loop-settings
-invariant-loop-settings l = record {
+abbrev pub invariant-loop-alloc : goal.invariant-loop-alloc
+invariant-loop-alloc l = record {
   seats : map (λ d. d.seat) l.desks.items ++ l.seats.items ≡ l.initial.seats.items;
   new : AreNewDesks l.settings l.desks.items;
   held : map (λ d. d.hand) l.desks.items ++ l.hands.items ≡ l.initial.hands.items;
@@ -15,5 +15,5 @@ invariant-loop-settings l = record {
   few : l.worker + vec_len l.seats ≡ l.settings.workers;
 }
 
-abbrev pub decreases-loop-settings : goal.decreases-loop-settings
-decreases-loop-settings l = length l.seats.items
+abbrev pub decreases-loop-alloc : goal.decreases-loop-alloc
+decreases-loop-alloc l = length l.seats.items
