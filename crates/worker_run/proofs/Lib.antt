@@ -3,4 +3,4 @@ mod Finding
 mod Rows
 mod Giving
 mod Rounding
-mod Sent
+pub mod Sent
