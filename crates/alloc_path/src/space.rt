@@ -40,7 +40,7 @@ pub struct New {
 #[derive(Drop)]
 pub struct Space {
     pub(crate) chunks: Row,
-    // Of chunks that didn't change since they were made.
+    // Pieces of the chunks, and which of these changed since.
     pub(crate) pieces: Pieces,
     pub(crate) table: HashMap<u32, usize>,
     pub(crate) base: usize,

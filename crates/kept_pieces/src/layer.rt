@@ -79,6 +79,9 @@ impl Layer {
     pub fn add(&mut self, alloc: Global, chunk: &Chunk) -> Result<(), AllocError>
         ensures { OnOk result ((n : ℕ) → piece_in self.new n ≡ option_or (piece_in self.old n) (piece_in (level_of (chunk.now ∷ [])) n)) }
     {
+        if self.table.contains_key(&chunk.number()) {
+            return Ok(());
+        }
         let piece = Arc::new(alloc, Piece::of(alloc, chunk)?)?;
         self.put(piece)
     }
