@@ -1,5 +1,5 @@
 -- From the old chunks as they are left to the heap as it is to be.
-use Rattle.std.proofs.Common.{◌≡◌, ℕ, ◌+◌, ◌<◌, List, [], ◌++◌, length, map, filter, fold, refl, sym, ap, ◌∙◌, subst, arith, Option, Some, None}
+use Rattle.std.proofs.Common.{◌≡◌, ℕ, ◌+◌, ◌<◌, List, [], ◌∷◌, ◌++◌, length, map, filter, fold, refl, sym, ap, ◌∙◌, subst, arith, Option, Some, None}
 use Rattle.std.specs.Prelude.{reverse}
 use Rattle.std.proofs.lemmas.List.{length-map, reverse-reverse}
 use Rattle.object_layout.specs.Content.{Content}
@@ -19,6 +19,10 @@ use Rattle.leaf_copy_gc.proofs.Rebuilt as rebuilt
 use Rattle.leaf_copy_gc.proofs.Rebuilt.{marked_chunk, NoneThere}
 use Rattle.leaf_copy_gc.proofs.Naming as naming
 use Rattle.leaf_copy_gc.proofs.Tidied as tidied
+
+no_items : (ks : List Content) → length ks ≡ 0 → ks ≡ []
+no_items [] e = refl
+no_items (k ∷ ks) e = absurd (omega arith)
 
 module _ (h g : List Content) (ss : List Survivor) (news : List Content) (r : Option ℕ) (laid : List Content)
     (left : IsLeft h g (olds ss) (redirection h ss (reverse news))) (tidy : AreTidy h) (apart : AreApart (h ++ news)) (new : AreNew news)
@@ -91,6 +95,12 @@ module _ (h g : List Content) (ss : List Survivor) (news : List Content) (r : Op
   kept_count =
       ap (λ (xs : List Content). length xs) stay_is
       ∙ (length-map (filter (keeps ss) (unreserved h r)) (marked_chunk ss (redirection h ss (reverse news))) ∙ sym (length-map (filter (keeps ss) (unreserved h r)) (led_chunk (redirection h ss (reverse news)))))
+
+  -- where no chunk stays, nothing is named
+  pub none_named : filter stays (unreserved g r) ≡ [] → fold named (laid ++ (filter stays (unreserved g r) ++ reserved_of g r)) ss ≡ laid ++ (filter stays (unreserved g r) ++ reserved_of g r)
+  none_named e =
+      let none : map (led_chunk (redirection h ss (reverse news))) (filter (keeps ss) (unreserved h r)) ≡ [] = no_items _ (sym kept_count ∙ ap (λ (xs : List Content). length xs) e) in
+      named_is ∙ (ap (λ (xs : List Content). laid ++ (xs ++ reserved_of h r)) (none ∙ sym e) ∙ ap (λ (xs : List Content). laid ++ (filter stays (unreserved g r) ++ xs)) (sym reserved_is))
 
   pub settled : IsSettled (laid ++ (map (led_chunk (redirection h ss (reverse news))) (filter (keeps ss) (unreserved h r)) ++ reserved_of h r))
   settled = record {

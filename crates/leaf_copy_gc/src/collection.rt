@@ -9,7 +9,7 @@ ghost use Rattle.leaf_copy_gc.specs.Exchanged.{counted32};
 ghost use Rattle.leaf_copy_gc.specs.Lists.{AreReserved, IsCollected};
 
 use crate::collector::Collector;
-use crate::exchange::{counted, exchange, name_all, units_of};
+use crate::exchange::{counted, exchange, name_larges, units_of};
 use crate::lists::{Moved, ToChunks};
 use crate::sorting::sort;
 use alloc_path::{LeafHeap, Space};
@@ -87,9 +87,9 @@ fn collect(heap: Space, frames: &mut Frames, roots: &[Addr], to_chunks: ToChunks
     sort(&mut moved);
     let taken = count_of(&laid);
     let reserved = heap.reserved();
-    exchange(&mut heap, laid, reserved, &mut back);
+    let are_large = exchange(&mut heap, laid, reserved, &mut back);
     give_rest(&mut back, &mut spare);
-    name_all(&mut heap, &found);
+    name_larges(&mut heap, &found, are_large);
     heap.reset_since();
     let moved = Moved {
         moved,

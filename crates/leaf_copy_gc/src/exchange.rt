@@ -1,6 +1,6 @@
 // Exchanges the chunks of the heap for the new ones.
 
-ghost use Rattle.std.specs.Prelude.{◌≡◌, ◌+◌, ◌-◌, ◌≤◌, ◌<◌, ◌++◌, ◌∷◌, [], length, vec_len, vec_capacity, fold, filter, map, remove, None, Some};
+ghost use Rattle.std.specs.Prelude.{◌≡◌, ◌+◌, ◌-◌, ◌≤◌, ◌<◌, ◌++◌, ◌∷◌, [], length, vec_len, vec_capacity, fold, filter, map, remove, false, None, Some};
 ghost use Rattle.object_layout.specs.Chunks.{held_words};
 ghost use Rattle.alloc_path.specs.Heap.{exchanged, with_places, AreApart, IsCurrent, IsReserved};
 ghost use Rattle.leaf_copy_gc.specs.Survivors.{with_chunks};
@@ -21,8 +21,8 @@ fn has_found_large(chunk: &Chunk) -> bool
     next_at(chunk, 0) > SMALL && !is_born_at(chunk, 0) && is_object_at(chunk, 0)
 }
 
-// Puts the chunks that stay behind the new ones, and the others with those to give back.
-fn part(chunks: Vec<Chunk>, laid: &mut Vec<Chunk>, back: &mut Vec<Chunk>)
+// Puts the chunks that stay behind the new ones, and the others with those to give back; and says whether any stays.
+fn part(chunks: Vec<Chunk>, laid: &mut Vec<Chunk>, back: &mut Vec<Chunk>) -> bool
     requires laid { vec_len laid.old + vec_len chunks ≤ vec_capacity laid.old }
     requires back { vec_len back.old + vec_len chunks ≤ vec_capacity back.old }
     ensures laid { laid.new.items ≡ laid.old.items ++ filter stays chunks.items }
@@ -32,15 +32,19 @@ fn part(chunks: Vec<Chunk>, laid: &mut Vec<Chunk>, back: &mut Vec<Chunk>)
     ensures laid_length { length laid.new.items ≤ length laid.old.items + length chunks.items }
     ensures laid_room { vec_capacity laid.new ≡ vec_capacity laid.old }
     ensures back_room { vec_capacity back.new ≡ vec_capacity back.old }
+    ensures none { result ≡ false → filter stays chunks.items ≡ [] }
 {
+    let mut any = false;
     for mut chunk in chunks {
         if has_found_large(&chunk) {
+            any = true;
             laid.push_reserved(chunk);
         } else {
             chunk.clear();
             back.push_reserved(chunk);
         }
     }
+    any
 }
 
 // A number, as far as 32 bits count.
@@ -86,8 +90,8 @@ fn name(heap: &mut Space, survivor: Survivor)
     }
 }
 
-/// Gives the survivors that are in the heap their birth names again.
-pub fn name_all(heap: &mut Space, found: &[Survivor])
+// Gives the survivors that are in the heap their birth names again.
+fn name_all(heap: &mut Space, found: &[Survivor])
     requires { CanName heap.old.chunks found.now }
     ensures { heap.new ≡ with_chunks heap.old (fold named heap.old.chunks found.now) }
 {
@@ -96,13 +100,25 @@ pub fn name_all(heap: &mut Space, found: &[Survivor])
     }
 }
 
-/// Takes the old chunks out, and puts in the new ones, those of large objects that were found, and the reserved one.
+/// Gives the large survivors, where there are any, their birth names again.
+pub fn name_larges(heap: &mut Space, found: &[Survivor], are_large: bool)
+    requires can { CanName heap.old.chunks found.now }
+    requires none { are_large ≡ false → fold named heap.old.chunks found.now ≡ heap.old.chunks }
+    ensures { heap.new ≡ with_chunks heap.old (fold named heap.old.chunks found.now) }
+{
+    if are_large {
+        name_all(heap, found);
+    }
+}
+
+/// Takes the old chunks out, and puts in the new ones, those of large objects that were found, and the reserved one. It
+/// says whether there are any of large objects.
 pub fn exchange(
     heap: &mut Space,
     mut laid: Vec<Chunk>,
     reserved: Option<usize>,
     back: &mut Vec<Chunk>,
-)
+) -> bool
     requires place { reserved ≡ heap.old.reserved }
     requires empty { IsReserved heap.old.chunks reserved }
     requires apart { AreApart (laid.items ++ (filter stays (unreserved heap.old.chunks reserved) ++ reserved_of heap.old.chunks reserved)) }
@@ -114,20 +130,23 @@ pub fn exchange(
     ensures back { back.new.items ≡ back.old.items ++ map emptied (filter goes (unreserved heap.old.chunks reserved)) }
     ensures back_count { vec_len back.new ≤ vec_len back.old + length heap.old.chunks }
     ensures back_room { vec_capacity back.new ≡ vec_capacity back.old }
+    ensures none { result ≡ false → filter stays (unreserved heap.old.chunks reserved) ≡ [] }
 {
     let current = place_of_last(&laid);
     let mut old = heap.take_chunks();
     match reserved {
         None => {
-            part(old, &mut laid, back);
+            let any = part(old, &mut laid, back);
             heap.put_chunks(laid, current, None);
+            any
         }
         Some(i) => {
             let kept = old.remove(i);
-            part(old, &mut laid, back);
+            let any = part(old, &mut laid, back);
             let place = laid.len();
             laid.push_reserved(kept);
             heap.put_chunks(laid, current, Some(place));
+            any
         }
     }
 }

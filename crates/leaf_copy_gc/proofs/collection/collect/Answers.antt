@@ -34,8 +34,8 @@ evacuate-requires-clause-begins c =
       enough = rw count enough;
     }
 
-pub exchange-requires-clause-apart : goal.exchange-requires-clause-apart
-exchange-requires-clause-apart c =
+pub exchange-are_large-requires-clause-apart : goal.exchange-are_large-requires-clause-apart
+exchange-are_large-requires-clause-apart c =
     let h : List Content = c.args.heap.chunks in
     let news : List Content = c.args.to_chunks.chunks.items in
     let b : Collection = record { heap = c.args.heap; found = c.args.to_chunks.found.items; laying = record { laid = c.args.to_chunks.laid.items; spare = reverse news }; moved = c.args.to_chunks.lists.moved.items } in
@@ -48,8 +48,8 @@ exchange-requires-clause-apart c =
     let s = e.survivors in
     collecting.now_apart h g.chunks ss news r laid e.left c.requires.tidy c.requires.apart c.requires.new (once_from (olds ss) s.once) s.names c.reserved-reserved.ensures.empty e.laid
 
-pub exchange-requires-clause-small : goal.exchange-requires-clause-small
-exchange-requires-clause-small c =
+pub exchange-are_large-requires-clause-small : goal.exchange-are_large-requires-clause-small
+exchange-are_large-requires-clause-small c =
     let h : List Content = c.args.heap.chunks in
     let news : List Content = c.args.to_chunks.chunks.items in
     let b : Collection = record { heap = c.args.heap; found = c.args.to_chunks.found.items; laying = record { laid = c.args.to_chunks.laid.items; spare = reverse news }; moved = c.args.to_chunks.lists.moved.items } in
@@ -62,8 +62,8 @@ exchange-requires-clause-small c =
     let s = e.survivors in
     collecting.small_last h g.chunks ss news r laid e.left c.requires.tidy c.requires.apart c.requires.new (once_from (olds ss) s.once) s.names c.reserved-reserved.ensures.empty e.laid
 
-pub exchange-requires-clause-back : goal.exchange-requires-clause-back
-exchange-requires-clause-back c =
+pub exchange-are_large-requires-clause-back : goal.exchange-are_large-requires-clause-back
+exchange-are_large-requires-clause-back c =
     let h : List Content = c.args.heap.chunks in
     let news : List Content = c.args.to_chunks.chunks.items in
     let b : Collection = record { heap = c.args.heap; found = c.args.to_chunks.found.items; laying = record { laid = c.args.to_chunks.laid.items; spare = reverse news }; moved = c.args.to_chunks.lists.moved.items } in
@@ -79,8 +79,8 @@ exchange-requires-clause-back c =
     let room = c.requires.reserved.back_room in
     omega arith
 
-pub exchange-requires-clause-spare : goal.exchange-requires-clause-spare
-exchange-requires-clause-spare c =
+pub exchange-are_large-requires-clause-spare : goal.exchange-are_large-requires-clause-spare
+exchange-are_large-requires-clause-spare c =
     let h : List Content = c.args.heap.chunks in
     let news : List Content = c.args.to_chunks.chunks.items in
     let b : Collection = record { heap = c.args.heap; found = c.args.to_chunks.found.items; laying = record { laid = c.args.to_chunks.laid.items; spare = reverse news }; moved = c.args.to_chunks.lists.moved.items } in
@@ -113,16 +113,16 @@ give_rest-requires c =
     let n = nums.alike_length h g.chunks e.left.alike in
     let none = ap (λ (ks : List Content). length ks) c.requires.reserved.back in
     let room = c.requires.reserved.back_room in
-    let count = c.exchange.ensures.back_count in
-    let same = c.exchange.ensures.back_room in
+    let count = c.exchange-are_large.ensures.back_count in
+    let same = c.exchange-are_large.ensures.back_room in
     let rest = ap (λ (ks : List Content). length ks) e.spare in
     let all = places.count_laid (before (reverse news)) h (smalls h (olds ss)) in
     let turned = length-reverse news in
     let turned_rest = length-reverse c.collector.inside.spare.items in
     omega arith
 
-pub name_all-requires : goal.name_all-requires
-name_all-requires c =
+pub name_larges-requires-clause-can : goal.name_larges-requires-clause-can
+name_larges-requires-clause-can c =
     let h : List Content = c.args.heap.chunks in
     let news : List Content = c.args.to_chunks.chunks.items in
     let b : Collection = record { heap = c.args.heap; found = c.args.to_chunks.found.items; laying = record { laid = c.args.to_chunks.laid.items; spare = reverse news }; moved = c.args.to_chunks.lists.moved.items } in
@@ -133,9 +133,25 @@ name_all-requires c =
     let laid : List Content = c.collector.inside.laid.items in
     let r : Option ℕ = c.reserved-reserved.result in
     let s = e.survivors in
-    let chunks = ap (λ (x : Heap). x.chunks) c.exchange.ensures.heap in
-    subst (CanName c.exchange.new.heap.chunks) (sym c.deref-2.ensures.value)
+    let chunks = ap (λ (x : Heap). x.chunks) c.exchange-are_large.ensures.heap in
+    subst (CanName c.exchange-are_large.new.heap.chunks) (sym c.deref-2.ensures.value)
     (subst (λ (ks : List Content). CanName ks ss) (sym chunks) (collecting.can_name h g.chunks ss news r laid e.left c.requires.tidy c.requires.apart c.requires.new (once_from (olds ss) s.once) s.names c.reserved-reserved.ensures.empty e.laid))
+
+pub name_larges-requires-clause-none : goal.name_larges-requires-clause-none
+name_larges-requires-clause-none c =
+    let h : List Content = c.args.heap.chunks in
+    let news : List Content = c.args.to_chunks.chunks.items in
+    let b : Collection = record { heap = c.args.heap; found = c.args.to_chunks.found.items; laying = record { laid = c.args.to_chunks.laid.items; spare = reverse news }; moved = c.args.to_chunks.lists.moved.items } in
+    let k : Collection = record { heap = c.collector.inside.heap; found = c.collector.inside.found.items; laying = record { laid = c.collector.inside.laid.items; spare = reverse c.collector.inside.spare.items }; moved = c.collector.inside.moved.items } in
+    let e : IsEvacuated b c.args.frames.now c.args.roots.now k c.evacuate.new.frames = subst (λ (z : Collection). IsEvacuated b c.args.frames.now c.args.roots.now z c.evacuate.new.frames) (sym c.collector.view_is) c.evacuate.ensures in
+    let g : Heap = c.collector.inside.heap in
+    let ss : List Survivor = c.collector.inside.found.items in
+    let laid : List Content = c.collector.inside.laid.items in
+    let r : Option ℕ = c.reserved-reserved.result in
+    let s = e.survivors in
+    let chunks = ap (λ (x : Heap). x.chunks) c.exchange-are_large.ensures.heap in
+    λ no. ap (λ (xs : List Survivor). fold named c.exchange-are_large.new.heap.chunks xs) c.deref-2.ensures.value
+    ∙ (ap (λ (ks : List Content). fold named ks ss) chunks ∙ (collecting.none_named h g.chunks ss news r laid e.left c.requires.tidy c.requires.apart c.requires.new (once_from (olds ss) s.once) s.names c.reserved-reserved.ensures.empty e.laid (c.exchange-are_large.ensures.none no) ∙ sym chunks))
 
 pub returns-clause-collected : goal.returns-clause-collected
 returns-clause-collected c =
@@ -154,8 +170,8 @@ returns-clause-collected c =
     record {
       survivors = ss;
       are = s;
-      heap = collecting.heap_is h g.chunks ss news r laid e.left c.requires.tidy c.requires.apart c.requires.new (once_from (olds ss) s.once) s.names c.reserved-reserved.ensures.empty e.laid c.args.heap r_is refl c.exchange.new.heap c.name_all.new.heap c.reset_since.new.self g c.exchange.ensures.heap
-          (c.name_all.ensures ∙ ap (λ (xs : List Survivor). with_chunks c.exchange.new.heap (fold named c.exchange.new.heap.chunks xs)) c.deref-2.ensures.value) c.reset_since.ensures;
+      heap = collecting.heap_is h g.chunks ss news r laid e.left c.requires.tidy c.requires.apart c.requires.new (once_from (olds ss) s.once) s.names c.reserved-reserved.ensures.empty e.laid c.args.heap r_is refl c.exchange-are_large.new.heap c.name_larges.new.heap c.reset_since.new.self g c.exchange-are_large.ensures.heap
+          (c.name_larges.ensures ∙ ap (λ (xs : List Survivor). with_chunks c.exchange-are_large.new.heap (fold named c.exchange-are_large.new.heap.chunks xs)) c.deref-2.ensures.value) c.reset_since.ensures;
       frames = e.frames;
       moved = permuted;
       order = orders.moved_in_order (before (reverse news)) h (smalls h (olds ss)) c.sort.new.list.items permuted c.sort.ensures.sorted (moves.once_smalls h (olds ss) (once_from (olds ss) s.once))
@@ -163,7 +179,7 @@ returns-clause-collected c =
       taken = c.count_of-taken.ensures ∙ ap (λ (ks : List Content). counted32 (length ks)) (c.deref.ensures.value ∙ e.laid);
       given = c.units_of.ensures ∙ ap (λ (ks : List Content). counted32 (unit_count ks)) c.deref-3.ensures.value;
       left = c.counted.ensures ∙ (ap counted32 c.words.ensures ∙ omega arith);
-      back = c.give_rest.ensures ∙ collecting.back_is h g.chunks ss news r laid e.left c.requires.tidy c.requires.apart c.requires.new (once_from (olds ss) s.once) s.names c.reserved-reserved.ensures.empty e.laid c.args.heap r_is c.args.to_chunks.lists.back.items c.requires.reserved.back c.collector.inside.spare.items e.spare c.exchange.new.back.items c.exchange.ensures.back;
+      back = c.give_rest.ensures ∙ collecting.back_is h g.chunks ss news r laid e.left c.requires.tidy c.requires.apart c.requires.new (once_from (olds ss) s.once) s.names c.reserved-reserved.ensures.empty e.laid c.args.heap r_is c.args.to_chunks.lists.back.items c.requires.reserved.back c.collector.inside.spare.items e.spare c.exchange-are_large.new.back.items c.exchange-are_large.ensures.back;
     }
 
 pub returns-clause-settled : goal.returns-clause-settled
@@ -179,5 +195,5 @@ returns-clause-settled c =
     let r : Option ℕ = c.reserved-reserved.result in
     let s = e.survivors in
     collecting.settled_now h g.chunks ss news r laid e.left c.requires.tidy c.requires.apart c.requires.new (once_from (olds ss) s.once) s.names c.reserved-reserved.ensures.empty e.laid
-    c.exchange.new.heap c.name_all.new.heap c.reset_since.new.self (ap (λ (x : Heap). x.chunks) c.exchange.ensures.heap)
-    (c.name_all.ensures ∙ ap (λ (xs : List Survivor). with_chunks c.exchange.new.heap (fold named c.exchange.new.heap.chunks xs)) c.deref-2.ensures.value) c.reset_since.ensures
+    c.exchange-are_large.new.heap c.name_larges.new.heap c.reset_since.new.self (ap (λ (x : Heap). x.chunks) c.exchange-are_large.ensures.heap)
+    (c.name_larges.ensures ∙ ap (λ (xs : List Survivor). with_chunks c.exchange-are_large.new.heap (fold named c.exchange-are_large.new.heap.chunks xs)) c.deref-2.ensures.value) c.reset_since.ensures

@@ -1,4 +1,4 @@
-use Rattle.std.proofs.Common.{◌≡◌, ◌++◌, ◌≤◌, ◌+◌, length, filter, map, vec_len, vec_capacity}
+use Rattle.std.proofs.Common.{◌≡◌, false, [], ◌++◌, ◌≤◌, ◌+◌, length, filter, map, vec_len, vec_capacity}
 use Rattle.leaf_copy_gc.specs.Exchanged.{emptied, goes, stays}
 use Rattle.leaf_copy_gc.proofs.exchange.part.Given as goal
 
@@ -11,4 +11,5 @@ invariant-loop-chunk l = record {
   laid_length : length l.laid.items ≤ length l.fn.laid.items + length l.yielded;
   laid_room : vec_capacity l.laid ≡ vec_capacity l.fn.laid;
   back_room : vec_capacity l.back ≡ vec_capacity l.fn.back;
+  none : l.any ≡ false → filter stays l.yielded ≡ [];
 }
