@@ -48,25 +48,36 @@ fn kept_pieces_are_shared(rt: HostRuntime) {
     );
 }
 
-// How many layers there are once so many pieces were put one by one, and how many of them are found.
-fn layers_of(alloc: Global, count: u32) -> Option<(usize, usize)> {
+// The layers once so many pieces were put one by one.
+fn layers_of(alloc: Global, count: u32) -> Option<Vec<Arc<Layer, Global>>> {
     let mut pieces = Pieces::new();
     for number in 0..count {
         put_one(alloc, &mut pieces, number)?;
     }
-    let layers = pieces.layers(alloc).ok()?;
+    pieces.layers(alloc).ok()
+}
+
+// How many of so many pieces are found in layers.
+fn found_in(layers: &[Arc<Layer, Global>], count: u32) -> usize {
     let mut found: usize = 0;
     for number in 0..count {
-        if piece_of(&layers, number).is_some() {
+        if piece_of(layers, number).is_some() {
             found = found.saturating_add(1);
         }
     }
+    found
+}
+
+// How many layers there are once so many pieces were put one by one, and how many of the pieces are found in them.
+fn counts_of(alloc: Global, count: u32) -> Option<(usize, usize)> {
+    let layers = layers_of(alloc, count)?;
+    let found = found_in(&layers, count);
     Some((layers.len(), found))
 }
 
 #[test]
 fn layers_are_few(rt: HostRuntime) {
-    assert!(rt; layers_of(rt.alloc(), 3) == Some((2, 3)));
-    assert!(rt; layers_of(rt.alloc(), 8) == Some((1, 8)));
-    assert!(rt; layers_of(rt.alloc(), 15) == Some((4, 15)));
+    assert!(rt; counts_of(rt.alloc(), 3) == Some((2, 3)));
+    assert!(rt; counts_of(rt.alloc(), 8) == Some((1, 8)));
+    assert!(rt; counts_of(rt.alloc(), 15) == Some((4, 15)));
 }
