@@ -1,5 +1,5 @@
 -- What each phase of an evacuation leaves to the next.
-use Rattle.std.proofs.Common.{◌≡◌, ℕ, ◌+◌, ◌*◌, ◌/◌, ◌≤◌, List, [], length, map, fold, refl, sym, ap, ◌∙◌, subst, Option, Contains, ◌↔◌, All}
+use Rattle.std.proofs.Common.{◌≡◌, List, [], map, fold, sym, ap, ◌∙◌, subst, Option, Contains, ◌↔◌, All}
 use Rattle.std.specs.List.{IsDistinct}
 use Rattle.std.specs.List.Sorted.{IsPermutation, IsSorted}
 use Rattle.std.proofs.lemmas.List.Sorted.{All-permutation}

@@ -1,5 +1,5 @@
 -- What the lists of a collection need places for.
-use Rattle.std.proofs.Common.{◌≡◌, ℕ, zero, suc, ◌+◌, ◌-◌, ◌<◌, ◌≤◌, Bool, true, false, cond, List, [], ◌∷◌, ◌++◌, length, fold, refl, sym, ap, ◌∙◌, arith, ⊎_elim, eqb, Option, Some, None, length-append}
+use Rattle.std.proofs.Common.{◌≡◌, ℕ, zero, suc, ◌+◌, ◌-◌, ◌<◌, ◌≤◌, Bool, true, false, cond, List, [], ◌∷◌, length, fold, refl, ap, ◌∙◌, arith, ⊎_elim, eqb, Option, Some, None, length-append}
 use Rattle.std.specs.Prelude.{nat_lt}
 use Rattle.std.proofs.lemmas.Bool.{cases_Bool, cases_lt, le-leb, lt-leb}
 use Rattle.object_layout.specs.declared.word.Addr.{Addr}
@@ -7,15 +7,16 @@ use Rattle.object_layout.specs.declared.word.Birth.{Birth}
 use Rattle.object_layout.specs.Cell.{Cell, Moved, size_of, with_mark}
 use Rattle.object_layout.specs.Content.{Content}
 use Rattle.object_layout.specs.Place.{cell_at, put_cell}
-use Rattle.object_layout.specs.Chunks.{cell_of, put_object}
+use Rattle.object_layout.specs.Chunks.{cell_of, place_in, put_object}
+use Rattle.object_layout.proofs.ChunkLaws as laws
 use Rattle.alloc_path.specs.Heap.{Heap}
 use Rattle.leaf_copy_gc.specs.declared.lists.Survivor.{Survivor}
 use Rattle.leaf_copy_gc.specs.Survivors.{born_in, born_of, live_count, with_chunks}
 use Rattle.leaf_copy_gc.specs.Collection.{Collection}
 use Rattle.leaf_copy_gc.specs.Search.{birth_in, visited, visited_at}
-use Rattle.leaf_copy_gc.specs.Laid.{Laying, is_small, laid_all, laid_one, next_place, open_next, opened, placed, room_in}
+use Rattle.leaf_copy_gc.specs.Laid.{Laying, is_small, laid_all, laid_one, next_place, open_next, opened, room_in}
 use Rattle.leaf_copy_gc.specs.Copying.{copied, copied_one}
-use Rattle.leaf_copy_gc.specs.Redirected.{followed_at, followed_large}
+use Rattle.leaf_copy_gc.specs.Redirected.{followed_at, followed_large, followed_ref, led}
 use Rattle.leaf_copy_gc.proofs.FoundLemmas as marks
 use Rattle.leaf_copy_gc.proofs.Puts as puts
 use Rattle.leaf_copy_gc.proofs.Rooms as rooms
@@ -62,6 +63,15 @@ length_at h s false = puts.length_put h s.old _
 pub length_led : (h : List Content) (ss : List Survivor) → length (fold followed_large h ss) ≡ length h
 length_led h [] = refl
 length_led h (s ∷ ss) = length_led (followed_large h s) ss ∙ length_at h s (is_small h s.old)
+
+place_at : (h : List Content) (s : Survivor) (b : Bool) (n : ℕ) → place_in (cond b h (followed_at h s.old)) n ≡ place_in h n
+place_at h s true n = refl
+place_at h s false n = laws.place_in-put h s.old (led (followed_ref h) (cell_of h s.old)) n
+
+-- and each chunk stands where it stood
+pub place_led : (h : List Content) (ss : List Survivor) (n : ℕ) → place_in (fold followed_large h ss) n ≡ place_in h n
+place_led h [] n = refl
+place_led h (s ∷ ss) n = place_led (followed_large h s) ss n ∙ place_at h s (is_small h s.old) n
 
 -- ---- a search: what is found and what isn't yet are together as many as before
 

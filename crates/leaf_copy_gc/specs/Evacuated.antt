@@ -1,5 +1,5 @@
 -- What an evacuation makes of a heap and its frames.
-use Rattle.std.specs.Prelude.{◌≡◌, ℕ, ◌+◌, ◌*◌, ◌/◌, ◌≤◌, List, [], length, map}
+use Rattle.std.specs.Prelude.{◌≡◌, ◌+◌, ◌*◌, ◌/◌, ◌≤◌, List, [], length, map}
 use Rattle.object_layout.specs.declared.word.Addr.{Addr}
 use Rattle.task_frames.specs.Stack.{Stack, frames_of}
 use Rattle.leaf_copy_gc.specs.Survivors.{olds, outside, with_chunks}

@@ -1,5 +1,6 @@
 pub mod Survivors
 pub mod Collection
+pub mod Near
 pub mod Search
 pub mod Laid
 pub mod Copying

@@ -69,13 +69,7 @@ fn collect(heap: Space, frames: &mut Frames, roots: &[Addr], to_chunks: ToChunks
         mut back,
         ..
     } = lists;
-    let mut collector = Collector {
-        heap,
-        found,
-        laid,
-        spare: chunks,
-        moved,
-    };
+    let mut collector = Collector::of(heap, found, laid, chunks, moved);
     collector.evacuate(frames, roots);
     let Collector {
         mut heap,
@@ -83,6 +77,7 @@ fn collect(heap: Space, frames: &mut Frames, roots: &[Addr], to_chunks: ToChunks
         laid,
         mut spare,
         mut moved,
+        ..
     } = collector;
     sort(&mut moved);
     let taken = count_of(&laid);

@@ -1,6 +1,13 @@
 // What a collection has in hand.
 
+ghost use Rattle.std.specs.Prelude.{◌≡◌, ◌+◌, length, reverse, vec_len, vec_capacity, Some};
+ghost use Rattle.object_layout.specs.Cell.{IsObject};
+ghost use Rattle.object_layout.specs.Chunks.{cell_of, place_in};
+ghost use Rattle.leaf_copy_gc.specs.Survivors.{live_count};
+ghost use Rattle.leaf_copy_gc.specs.Collection.{HavePlaces};
+
 use crate::lists::Survivor;
+use crate::near::Near;
 use alloc_path::Space;
 use object_layout::{Addr, Chunk};
 use std::marker::Model;
@@ -8,7 +15,8 @@ use std::marker::Model;
 /// A collection that goes on: the heap, what was found in it, the new chunks, of which the last is being filled, those
 /// not opened yet, of which the last is opened first, and where what was copied lay and lies.
 ///
-/// Its lists have places for all objects and all chunks that there are, so it takes no memory.
+/// Its lists have places for all objects and all chunks that there are, so a step of it takes no memory. Only to put a
+/// list in order it asks for memory, and does without where there is none.
 #[derive(Drop)]
 pub(crate) struct Collector {
     pub(crate) heap: Space,
@@ -16,16 +24,55 @@ pub(crate) struct Collector {
     pub(crate) laid: Vec<Chunk>,
     pub(crate) spare: Vec<Chunk>,
     pub(crate) moved: Vec<(Addr, Addr)>,
+    // Of the chunk in which the object lies that is read or copied.
+    object: Near,
+    // Of the chunk in which the object lies to which a reference leads.
+    pub(crate) target: Near,
 }
 
 impl Model for Collector {
     ghost use Rattle.std.specs.Prelude.{◌+◌, length, reverse, vec_len, vec_capacity};
     ghost use Rattle.leaf_copy_gc.specs.Survivors.{live_count};
     ghost use Rattle.leaf_copy_gc.specs.Collection.{Collection, HavePlaces};
+    ghost use Rattle.leaf_copy_gc.specs.Near.{Knows};
 
     ghost Value = { Collection };
 
     ghost view = { λ c. record { heap = c.heap; found = c.found.items; laying = record { laid = c.laid.items; spare = reverse c.spare.items }; moved = c.moved.items } };
 
-    ghost invariant = { λ c. HavePlaces (vec_len c.found + live_count c.heap.chunks) (vec_len c.laid + vec_len c.spare + length c.heap.chunks) (vec_capacity c.found) (vec_capacity c.moved) (vec_capacity c.laid) };
+    ghost invariant = { λ c. HavePlaces (vec_len c.found + live_count c.heap.chunks) (vec_len c.laid + vec_len c.spare + length c.heap.chunks) (vec_capacity c.found) (vec_capacity c.moved) (vec_capacity c.laid) × (Knows c.object c.heap.chunks × Knows c.target c.heap.chunks) };
+}
+
+impl Collector {
+    /// A collection of a heap with these lists.
+    pub(crate) fn of(
+        heap: Space,
+        found: Vec<Survivor>,
+        laid: Vec<Chunk>,
+        spare: Vec<Chunk>,
+        moved: Vec<(Addr, Addr)>,
+    ) -> Collector
+        requires { HavePlaces (vec_len found + live_count heap.chunks) (vec_len laid + vec_len spare + length heap.chunks) (vec_capacity found) (vec_capacity moved) (vec_capacity laid) }
+        ensures { result ≡ record { heap = heap; found = found.items; laying = record { laid = laid.items; spare = reverse spare.items }; moved = moved.items } }
+    {
+        let near = Near::of(&heap);
+        Collector {
+            heap,
+            found,
+            laid,
+            spare,
+            moved,
+            object: near,
+            target: near,
+        }
+    }
+
+    /// At which place the chunk of an object stands that is read or copied.
+    pub(crate) fn place_of(&mut self, object: Addr) -> usize
+        requires { IsObject (cell_of self.old.heap.chunks object).mark }
+        ensures same { self.new ≡ self.old }
+        ensures place { place_in self.old.heap.chunks object.chunk ≡ Some result }
+    {
+        self.object.place_of(&self.heap, object.chunk).unwrap()
+    }
 }

@@ -98,6 +98,20 @@ impl Collector {
         self.copy_last(place, survivor);
     }
 
+    // Copies a survivor, whose chunk stands at this place, if it is small.
+    fn copy_if_small(&mut self, place: usize, survivor: Survivor)
+        requires place { place_in self.old.heap.chunks survivor.old.chunk ≡ Some place }
+        requires object { IsObject (cell_of self.old.heap.chunks survivor.old).mark }
+        requires room { is_small self.old.heap.chunks survivor.old ≡ true → HasRoom self.old.laying (size_of (cell_of self.old.heap.chunks survivor.old)) }
+        requires list { length self.old.moved < length self.old.found }
+        ensures { self.new ≡ copied self.old survivor }
+    {
+        let size = size_in(&self.heap, place, survivor.old);
+        if size <= SMALL {
+            self.copy_one(place, size, survivor);
+        }
+    }
+
     // Copies a survivor, if it is small.
     fn copy_small(&mut self, survivor: Survivor)
         requires object { IsObject (cell_of self.old.heap.chunks survivor.old).mark }
@@ -105,11 +119,8 @@ impl Collector {
         requires list { length self.old.moved < length self.old.found }
         ensures { self.new ≡ copied self.old survivor }
     {
-        let place = self.heap.own_place(survivor.old.chunk);
-        let size = size_in(&self.heap, place, survivor.old);
-        if size <= SMALL {
-            self.copy_one(place, size, survivor);
-        }
+        let place = self.place_of(survivor.old);
+        self.copy_if_small(place, survivor);
     }
 
     /// Copies the small survivors in the order in which they stand.

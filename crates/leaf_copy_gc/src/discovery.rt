@@ -35,13 +35,14 @@ fn birth_in(chunk: &Chunk, at: u32) -> Option<Birth>
     }
 }
 
-// The object at an address, if it lies in the heap and bears its birth name still.
-fn live_at(heap: &Space, object: Addr) -> Option<Live>
-    requires { IsTarget heap.now.chunks (Some object) }
+// The object at an address, if its chunk stands at a place of the heap, and it bears its birth name still.
+fn live_at(heap: &Space, place: Option<usize>, object: Addr) -> Option<Live>
+    requires place { place ≡ place_in heap.now.chunks object.chunk }
+    requires target { IsTarget heap.now.chunks (Some object) }
     ensures birth { option_map (λ l. l.birth) result ≡ birth_in (cell_of heap.now.chunks object).mark }
     ensures place { IfSome result (λ l. place_in heap.now.chunks object.chunk ≡ Some l.place) }
 {
-    let place = heap.place_of(object.chunk)?;
+    let place = place?;
     let chunk = heap.chunk_in(place, object);
     let birth = birth_in(chunk, object.offset)?;
     Some(Live { birth, place })
@@ -73,7 +74,8 @@ impl Collector {
         ensures { self.new ≡ visited self.old reference }
     {
         if let Some(address) = reference {
-            if let Some(live) = live_at(&self.heap, address) {
+            let place = self.target.place_of(&self.heap, address.chunk);
+            if let Some(live) = live_at(&self.heap, place, address) {
                 self.heap.forward_in(live.place, address, address);
                 self.found.push_reserved(Survivor {
                     birth: live.birth,
@@ -93,17 +95,27 @@ impl Collector {
         }
     }
 
+    // Follows each reference of an object, whose chunk stands at this place.
+    fn visit_fields(&mut self, place: usize, object: Addr)
+        requires place { place_in self.old.heap.chunks object.chunk ≡ Some place }
+        requires object { IsObject (cell_of self.old.heap.chunks object).mark }
+        requires targets { All (IsTarget self.old.heap.chunks) (cell_of self.old.heap.chunks object).refs }
+        ensures { self.new ≡ fold visited self.old (cell_of self.old.heap.chunks object).refs }
+    {
+        for field in 0..refs_in(&self.heap, place, object) {
+            let reference = ref_in(&self.heap, place, object, field);
+            self.visit(reference);
+        }
+    }
+
     // Follows each reference of an object.
     fn visit_refs(&mut self, object: Addr)
         requires object { IsObject (cell_of self.old.heap.chunks object).mark }
         requires targets { All (IsTarget self.old.heap.chunks) (cell_of self.old.heap.chunks object).refs }
         ensures { self.new ≡ fold visited self.old (cell_of self.old.heap.chunks object).refs }
     {
-        let place = self.heap.own_place(object.chunk);
-        for field in 0..refs_in(&self.heap, place, object) {
-            let reference = ref_in(&self.heap, place, object, field);
-            self.visit(reference);
-        }
+        let place = self.place_of(object);
+        self.visit_fields(place, object);
     }
 
     // Follows the references of all frames.

@@ -9,6 +9,7 @@ mod evacuation;
 mod exchange;
 mod laws;
 mod lists;
+mod near;
 mod redirect;
 mod reserving;
 mod sorting;

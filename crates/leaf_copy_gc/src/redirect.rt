@@ -1,20 +1,35 @@
 // Leads references to where their objects are now.
 
-ghost use Rattle.std.specs.Prelude.{◌≡◌, ◌+◌, ◌≤◌, ◌<◌, length, map, fold, All, IsTrue};
+ghost use Rattle.std.specs.Prelude.{◌≡◌, ◌+◌, ◌≤◌, ◌<◌, length, map, fold, All, IsTrue, Some};
 ghost use Rattle.object_layout.specs.Cell.{IsObject, IsPlace};
-ghost use Rattle.object_layout.specs.Chunks.{cell_of, held_words, small_words};
+ghost use Rattle.object_layout.specs.Chunks.{cell_of, held_words, place_in, small_words};
 ghost use Rattle.object_layout.specs.Place.{cell_at, put_cell, IsObjectAt};
 ghost use Rattle.task_frames.specs.Stack.{frames_of};
 ghost use Rattle.leaf_copy_gc.specs.Survivors.{held_by, with_chunks};
+ghost use Rattle.leaf_copy_gc.specs.Near.{Knows};
 ghost use Rattle.leaf_copy_gc.specs.Search.{IsTarget};
-ghost use Rattle.leaf_copy_gc.specs.Redirected.{followed_at, followed_large, followed_ref, led, led_chunk, led_frame, CanFollow, HasTargets};
+ghost use Rattle.leaf_copy_gc.specs.Redirected.{followed, followed_at, followed_large, followed_ref, led, led_chunk, led_frame, CanFollow, HasTargets};
 
 use crate::collector::Collector;
 use crate::copying::{SMALL, size_at};
 use crate::lists::Survivor;
+use crate::near::Near;
 use alloc_path::Space;
 use object_layout::{Addr, Chunk, forwarded_at, header_at, next_at, ref_at, set_ref};
 use task_frames::Frames;
+
+// Where the object at an address is now, whose chunk stands at this place of the heap, if it has one there.
+fn follow_in(heap: &Space, place: Option<usize>, address: Addr) -> Option<Addr>
+    requires place { place ≡ place_in heap.now.chunks address.chunk }
+    requires target { IsTarget heap.now.chunks (Some address) }
+    ensures value { result ≡ followed heap.now.chunks address }
+    ensures place { IsPlace (Some address) → IsPlace result }
+{
+    match place {
+        None => Some(address),
+        Some(place) => forwarded_at(heap.chunk_in(place, address), address.offset),
+    }
+}
 
 // Where the object of a reference is now.
 fn follow(heap: &Space, reference: Option<Addr>) -> Option<Addr>
@@ -24,21 +39,34 @@ fn follow(heap: &Space, reference: Option<Addr>) -> Option<Addr>
 {
     match reference {
         None => None,
-        Some(address) => match heap.own_chunk(address) {
-            None => reference,
-            Some(chunk) => forwarded_at(chunk, address.offset),
-        },
+        Some(address) => follow_in(heap, heap.place_of(address.chunk), address),
+    }
+}
+
+// The same by what is known of where its chunk stands.
+fn follow_near(heap: &Space, near: &mut Near, reference: Option<Addr>) -> Option<Addr>
+    requires known { Knows near.old heap.now.chunks }
+    requires target { IsTarget heap.now.chunks reference }
+    ensures known { Knows near.new heap.now.chunks }
+    ensures value { result ≡ followed_ref heap.now.chunks reference }
+    ensures place { IsPlace reference → IsPlace result }
+{
+    match reference {
+        None => None,
+        Some(address) => follow_in(heap, near.place_of(heap, address.chunk), address),
     }
 }
 
 // Leads the references of an object of a new chunk.
-fn follow_refs(chunk: &mut Chunk, at: u32, heap: &Space)
+fn follow_refs(chunk: &mut Chunk, at: u32, heap: &Space, near: &mut Near)
+    requires known { Knows near.old heap.now.chunks }
     requires object { IsObjectAt chunk.old.cells at }
     requires targets { All (IsTarget heap.now.chunks) (cell_at chunk.old.cells at).refs }
-    ensures { chunk.new ≡ record chunk.old { cells = put_cell chunk.old.cells at (led (followed_ref heap.now.chunks) (cell_at chunk.old.cells at)) } }
+    ensures known { Knows near.new heap.now.chunks }
+    ensures led { chunk.new ≡ record chunk.old { cells = put_cell chunk.old.cells at (led (followed_ref heap.now.chunks) (cell_at chunk.old.cells at)) } }
 {
     for field in 0..header_at(chunk, at).nrefs {
-        let now = follow(heap, ref_at(chunk, at, field));
+        let now = follow_near(heap, near, ref_at(chunk, at, field));
         set_ref(chunk, at, field, now);
     }
 }
@@ -48,10 +76,11 @@ fn follow_chunk(chunk: &mut Chunk, heap: &Space)
     requires { All (HasTargets heap.now.chunks) chunk.old.cells }
     ensures { chunk.new ≡ led_chunk (followed_ref heap.now.chunks) chunk.old }
 {
+    let mut near = Near::of(heap);
     let used = chunk.used();
     let mut at = 0;
     while at < used {
-        follow_refs(chunk, at, heap);
+        follow_refs(chunk, at, heap, &mut near);
         at = next_at(chunk, at);
     }
 }

@@ -1,7 +1,8 @@
-use Rattle.std.proofs.Common.{◌≡◌, ℕ, List, length, map, fold, reverse, refl, sym, ap, ◌∙◌, subst, arith, Option}
+use Rattle.std.proofs.Common.{◌≡◌, ℕ, List, length, fold, reverse, refl, sym, ap, ◌∙◌, subst, arith, Option, All}
 use Rattle.std.proofs.lemmas.List.{length-map, length-reverse}
 use Rattle.object_layout.specs.declared.word.Addr.{Addr}
 use Rattle.object_layout.specs.Content.{Content}
+use Rattle.object_layout.specs.Graph.{IsClosed, IsSound}
 use Rattle.object_layout.proofs.Distinct.{once_from}
 use Rattle.alloc_path.specs.Heap.{Heap}
 use Rattle.leaf_copy_gc.specs.declared.lists.Survivor.{Survivor}
@@ -9,7 +10,7 @@ use Rattle.leaf_copy_gc.specs.Survivors.{olds, outside, with_chunks}
 use Rattle.leaf_copy_gc.specs.Collection.{Collection}
 use Rattle.leaf_copy_gc.specs.Redirected.{led_chunk}
 use Rattle.leaf_copy_gc.specs.Collected.{laying_of, redirection}
-use Rattle.leaf_copy_gc.specs.Evacuated.{IsEvacuated}
+use Rattle.leaf_copy_gc.specs.Evacuated.{Begins, IsEvacuated}
 use Rattle.leaf_copy_gc.specs.Exchanged.{counted32, named, unit_count, CanName}
 use Rattle.leaf_copy_gc.proofs.Collecting as collecting
 use Rattle.leaf_copy_gc.proofs.Numbers as nums
@@ -26,13 +27,19 @@ evacuate-requires-clause-begins c =
     let news : List Content = c.args.to_chunks.chunks.items in
     let enough = c.requires.enough in
     let count = length-reverse news in
-    record {
+    subst Begins (sym c.of-collector.ensures) (record {
       found = c.requires.reserved.found;
       laid = c.requires.reserved.laid;
       moved = c.requires.reserved.moved;
       new = nums.new_reverse news c.requires.new;
       enough = rw count enough;
-    }
+    })
+
+pub evacuate-requires-clause-closed : goal.evacuate-requires-clause-closed
+evacuate-requires-clause-closed c = subst (λ (z : Collection). IsClosed z.heap.chunks) (sym c.of-collector.ensures) c.requires.closed
+
+pub evacuate-requires-clause-outside : goal.evacuate-requires-clause-outside
+evacuate-requires-clause-outside c = subst (λ (z : Collection). All (IsSound z.heap.chunks) (outside c.args.frames.now c.args.roots.now)) (sym c.of-collector.ensures) c.requires.outside
 
 pub exchange-are_large-requires-clause-apart : goal.exchange-are_large-requires-clause-apart
 exchange-are_large-requires-clause-apart c =
@@ -40,7 +47,7 @@ exchange-are_large-requires-clause-apart c =
     let news : List Content = c.args.to_chunks.chunks.items in
     let b : Collection = record { heap = c.args.heap; found = c.args.to_chunks.found.items; laying = record { laid = c.args.to_chunks.laid.items; spare = reverse news }; moved = c.args.to_chunks.lists.moved.items } in
     let k : Collection = record { heap = c.collector.inside.heap; found = c.collector.inside.found.items; laying = record { laid = c.collector.inside.laid.items; spare = reverse c.collector.inside.spare.items }; moved = c.collector.inside.moved.items } in
-    let e : IsEvacuated b c.args.frames.now c.args.roots.now k c.evacuate.new.frames = subst (λ (z : Collection). IsEvacuated b c.args.frames.now c.args.roots.now z c.evacuate.new.frames) (sym c.collector.view_is) c.evacuate.ensures in
+    let e : IsEvacuated b c.args.frames.now c.args.roots.now k c.evacuate.new.frames = subst (λ (z : Collection). IsEvacuated b c.args.frames.now c.args.roots.now z c.evacuate.new.frames) (sym c.collector.view_is) (subst (λ (y : Collection). IsEvacuated y c.args.frames.now c.args.roots.now c.evacuate.new.self c.evacuate.new.frames) c.of-collector.ensures c.evacuate.ensures) in
     let g : Heap = c.collector.inside.heap in
     let ss : List Survivor = c.collector.inside.found.items in
     let laid : List Content = c.collector.inside.laid.items in
@@ -54,7 +61,7 @@ exchange-are_large-requires-clause-small c =
     let news : List Content = c.args.to_chunks.chunks.items in
     let b : Collection = record { heap = c.args.heap; found = c.args.to_chunks.found.items; laying = record { laid = c.args.to_chunks.laid.items; spare = reverse news }; moved = c.args.to_chunks.lists.moved.items } in
     let k : Collection = record { heap = c.collector.inside.heap; found = c.collector.inside.found.items; laying = record { laid = c.collector.inside.laid.items; spare = reverse c.collector.inside.spare.items }; moved = c.collector.inside.moved.items } in
-    let e : IsEvacuated b c.args.frames.now c.args.roots.now k c.evacuate.new.frames = subst (λ (z : Collection). IsEvacuated b c.args.frames.now c.args.roots.now z c.evacuate.new.frames) (sym c.collector.view_is) c.evacuate.ensures in
+    let e : IsEvacuated b c.args.frames.now c.args.roots.now k c.evacuate.new.frames = subst (λ (z : Collection). IsEvacuated b c.args.frames.now c.args.roots.now z c.evacuate.new.frames) (sym c.collector.view_is) (subst (λ (y : Collection). IsEvacuated y c.args.frames.now c.args.roots.now c.evacuate.new.self c.evacuate.new.frames) c.of-collector.ensures c.evacuate.ensures) in
     let g : Heap = c.collector.inside.heap in
     let ss : List Survivor = c.collector.inside.found.items in
     let laid : List Content = c.collector.inside.laid.items in
@@ -68,7 +75,7 @@ exchange-are_large-requires-clause-back c =
     let news : List Content = c.args.to_chunks.chunks.items in
     let b : Collection = record { heap = c.args.heap; found = c.args.to_chunks.found.items; laying = record { laid = c.args.to_chunks.laid.items; spare = reverse news }; moved = c.args.to_chunks.lists.moved.items } in
     let k : Collection = record { heap = c.collector.inside.heap; found = c.collector.inside.found.items; laying = record { laid = c.collector.inside.laid.items; spare = reverse c.collector.inside.spare.items }; moved = c.collector.inside.moved.items } in
-    let e : IsEvacuated b c.args.frames.now c.args.roots.now k c.evacuate.new.frames = subst (λ (z : Collection). IsEvacuated b c.args.frames.now c.args.roots.now z c.evacuate.new.frames) (sym c.collector.view_is) c.evacuate.ensures in
+    let e : IsEvacuated b c.args.frames.now c.args.roots.now k c.evacuate.new.frames = subst (λ (z : Collection). IsEvacuated b c.args.frames.now c.args.roots.now z c.evacuate.new.frames) (sym c.collector.view_is) (subst (λ (y : Collection). IsEvacuated y c.args.frames.now c.args.roots.now c.evacuate.new.self c.evacuate.new.frames) c.of-collector.ensures c.evacuate.ensures) in
     let g : Heap = c.collector.inside.heap in
     let ss : List Survivor = c.collector.inside.found.items in
     let laid : List Content = c.collector.inside.laid.items in
@@ -85,7 +92,7 @@ exchange-are_large-requires-clause-spare c =
     let news : List Content = c.args.to_chunks.chunks.items in
     let b : Collection = record { heap = c.args.heap; found = c.args.to_chunks.found.items; laying = record { laid = c.args.to_chunks.laid.items; spare = reverse news }; moved = c.args.to_chunks.lists.moved.items } in
     let k : Collection = record { heap = c.collector.inside.heap; found = c.collector.inside.found.items; laying = record { laid = c.collector.inside.laid.items; spare = reverse c.collector.inside.spare.items }; moved = c.collector.inside.moved.items } in
-    let e : IsEvacuated b c.args.frames.now c.args.roots.now k c.evacuate.new.frames = subst (λ (z : Collection). IsEvacuated b c.args.frames.now c.args.roots.now z c.evacuate.new.frames) (sym c.collector.view_is) c.evacuate.ensures in
+    let e : IsEvacuated b c.args.frames.now c.args.roots.now k c.evacuate.new.frames = subst (λ (z : Collection). IsEvacuated b c.args.frames.now c.args.roots.now z c.evacuate.new.frames) (sym c.collector.view_is) (subst (λ (y : Collection). IsEvacuated y c.args.frames.now c.args.roots.now c.evacuate.new.self c.evacuate.new.frames) c.of-collector.ensures c.evacuate.ensures) in
     let g : Heap = c.collector.inside.heap in
     let ss : List Survivor = c.collector.inside.found.items in
     let laid : List Content = c.collector.inside.laid.items in
@@ -104,7 +111,7 @@ give_rest-requires c =
     let news : List Content = c.args.to_chunks.chunks.items in
     let b : Collection = record { heap = c.args.heap; found = c.args.to_chunks.found.items; laying = record { laid = c.args.to_chunks.laid.items; spare = reverse news }; moved = c.args.to_chunks.lists.moved.items } in
     let k : Collection = record { heap = c.collector.inside.heap; found = c.collector.inside.found.items; laying = record { laid = c.collector.inside.laid.items; spare = reverse c.collector.inside.spare.items }; moved = c.collector.inside.moved.items } in
-    let e : IsEvacuated b c.args.frames.now c.args.roots.now k c.evacuate.new.frames = subst (λ (z : Collection). IsEvacuated b c.args.frames.now c.args.roots.now z c.evacuate.new.frames) (sym c.collector.view_is) c.evacuate.ensures in
+    let e : IsEvacuated b c.args.frames.now c.args.roots.now k c.evacuate.new.frames = subst (λ (z : Collection). IsEvacuated b c.args.frames.now c.args.roots.now z c.evacuate.new.frames) (sym c.collector.view_is) (subst (λ (y : Collection). IsEvacuated y c.args.frames.now c.args.roots.now c.evacuate.new.self c.evacuate.new.frames) c.of-collector.ensures c.evacuate.ensures) in
     let g : Heap = c.collector.inside.heap in
     let ss : List Survivor = c.collector.inside.found.items in
     let laid : List Content = c.collector.inside.laid.items in
@@ -127,7 +134,7 @@ name_larges-requires-clause-can c =
     let news : List Content = c.args.to_chunks.chunks.items in
     let b : Collection = record { heap = c.args.heap; found = c.args.to_chunks.found.items; laying = record { laid = c.args.to_chunks.laid.items; spare = reverse news }; moved = c.args.to_chunks.lists.moved.items } in
     let k : Collection = record { heap = c.collector.inside.heap; found = c.collector.inside.found.items; laying = record { laid = c.collector.inside.laid.items; spare = reverse c.collector.inside.spare.items }; moved = c.collector.inside.moved.items } in
-    let e : IsEvacuated b c.args.frames.now c.args.roots.now k c.evacuate.new.frames = subst (λ (z : Collection). IsEvacuated b c.args.frames.now c.args.roots.now z c.evacuate.new.frames) (sym c.collector.view_is) c.evacuate.ensures in
+    let e : IsEvacuated b c.args.frames.now c.args.roots.now k c.evacuate.new.frames = subst (λ (z : Collection). IsEvacuated b c.args.frames.now c.args.roots.now z c.evacuate.new.frames) (sym c.collector.view_is) (subst (λ (y : Collection). IsEvacuated y c.args.frames.now c.args.roots.now c.evacuate.new.self c.evacuate.new.frames) c.of-collector.ensures c.evacuate.ensures) in
     let g : Heap = c.collector.inside.heap in
     let ss : List Survivor = c.collector.inside.found.items in
     let laid : List Content = c.collector.inside.laid.items in
@@ -143,7 +150,7 @@ name_larges-requires-clause-none c =
     let news : List Content = c.args.to_chunks.chunks.items in
     let b : Collection = record { heap = c.args.heap; found = c.args.to_chunks.found.items; laying = record { laid = c.args.to_chunks.laid.items; spare = reverse news }; moved = c.args.to_chunks.lists.moved.items } in
     let k : Collection = record { heap = c.collector.inside.heap; found = c.collector.inside.found.items; laying = record { laid = c.collector.inside.laid.items; spare = reverse c.collector.inside.spare.items }; moved = c.collector.inside.moved.items } in
-    let e : IsEvacuated b c.args.frames.now c.args.roots.now k c.evacuate.new.frames = subst (λ (z : Collection). IsEvacuated b c.args.frames.now c.args.roots.now z c.evacuate.new.frames) (sym c.collector.view_is) c.evacuate.ensures in
+    let e : IsEvacuated b c.args.frames.now c.args.roots.now k c.evacuate.new.frames = subst (λ (z : Collection). IsEvacuated b c.args.frames.now c.args.roots.now z c.evacuate.new.frames) (sym c.collector.view_is) (subst (λ (y : Collection). IsEvacuated y c.args.frames.now c.args.roots.now c.evacuate.new.self c.evacuate.new.frames) c.of-collector.ensures c.evacuate.ensures) in
     let g : Heap = c.collector.inside.heap in
     let ss : List Survivor = c.collector.inside.found.items in
     let laid : List Content = c.collector.inside.laid.items in
@@ -159,7 +166,7 @@ returns-clause-collected c =
     let news : List Content = c.args.to_chunks.chunks.items in
     let b : Collection = record { heap = c.args.heap; found = c.args.to_chunks.found.items; laying = record { laid = c.args.to_chunks.laid.items; spare = reverse news }; moved = c.args.to_chunks.lists.moved.items } in
     let k : Collection = record { heap = c.collector.inside.heap; found = c.collector.inside.found.items; laying = record { laid = c.collector.inside.laid.items; spare = reverse c.collector.inside.spare.items }; moved = c.collector.inside.moved.items } in
-    let e : IsEvacuated b c.args.frames.now c.args.roots.now k c.evacuate.new.frames = subst (λ (z : Collection). IsEvacuated b c.args.frames.now c.args.roots.now z c.evacuate.new.frames) (sym c.collector.view_is) c.evacuate.ensures in
+    let e : IsEvacuated b c.args.frames.now c.args.roots.now k c.evacuate.new.frames = subst (λ (z : Collection). IsEvacuated b c.args.frames.now c.args.roots.now z c.evacuate.new.frames) (sym c.collector.view_is) (subst (λ (y : Collection). IsEvacuated y c.args.frames.now c.args.roots.now c.evacuate.new.self c.evacuate.new.frames) c.of-collector.ensures c.evacuate.ensures) in
     let g : Heap = c.collector.inside.heap in
     let ss : List Survivor = c.collector.inside.found.items in
     let laid : List Content = c.collector.inside.laid.items in
@@ -188,7 +195,7 @@ returns-clause-settled c =
     let news : List Content = c.args.to_chunks.chunks.items in
     let b : Collection = record { heap = c.args.heap; found = c.args.to_chunks.found.items; laying = record { laid = c.args.to_chunks.laid.items; spare = reverse news }; moved = c.args.to_chunks.lists.moved.items } in
     let k : Collection = record { heap = c.collector.inside.heap; found = c.collector.inside.found.items; laying = record { laid = c.collector.inside.laid.items; spare = reverse c.collector.inside.spare.items }; moved = c.collector.inside.moved.items } in
-    let e : IsEvacuated b c.args.frames.now c.args.roots.now k c.evacuate.new.frames = subst (λ (z : Collection). IsEvacuated b c.args.frames.now c.args.roots.now z c.evacuate.new.frames) (sym c.collector.view_is) c.evacuate.ensures in
+    let e : IsEvacuated b c.args.frames.now c.args.roots.now k c.evacuate.new.frames = subst (λ (z : Collection). IsEvacuated b c.args.frames.now c.args.roots.now z c.evacuate.new.frames) (sym c.collector.view_is) (subst (λ (y : Collection). IsEvacuated y c.args.frames.now c.args.roots.now c.evacuate.new.self c.evacuate.new.frames) c.of-collector.ensures c.evacuate.ensures) in
     let g : Heap = c.collector.inside.heap in
     let ss : List Survivor = c.collector.inside.found.items in
     let laid : List Content = c.collector.inside.laid.items in

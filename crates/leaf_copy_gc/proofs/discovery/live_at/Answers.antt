@@ -8,6 +8,6 @@ use Rattle.leaf_copy_gc.proofs.discovery.live_at.Goals as goal
 
 pub returns-in_err-place-clause-birth : goal.returns-in_err-place-clause-birth
 returns-in_err-place-clause-birth c =
-    let out = heaps.none_there c.args.heap.now.chunks c.args.object.chunk (sym c.place_of.ensures ∙ c.in_err-place.was) in
+    let out = heaps.none_there c.args.heap.now.chunks c.args.object.chunk (sym c.requires.place ∙ c.in_err-place.was) in
     let none : c.from_residual.result ≡ None = search rules in
     ap (option_map (λ (l : Live). l.birth)) none ∙ sym (ap (λ (x : Cell). birth_in x.mark) (laws.cell_of-none c.args.heap.now.chunks c.args.object out))

@@ -27,19 +27,20 @@ pub next_at-at-requires : goal.next_at-at-requires
 next_at-at-requires c =
     let f = followed_ref c.args.heap.now.chunks in
     let o : IsCellAt c.args.chunk.now.cells c.loop-at.at = c.loop-at.invariant.begins c.loop-at-test.true in
-    follows.after_object f c.args.chunk.now c.loop-at.chunk c.follow_refs.new.chunk c.loop-at.at o c.loop-at.invariant.chunk c.follow_refs.ensures
+    follows.after_object f c.args.chunk.now c.loop-at.chunk c.follow_refs.new.chunk c.loop-at.at o c.loop-at.invariant.chunk c.follow_refs.ensures.led
 
 pub loop-at-preserved : goal.loop-at-preserved
 loop-at-preserved c =
     let f = followed_ref c.args.heap.now.chunks in
     let o : IsCellAt c.args.chunk.now.cells c.loop-at.at = c.loop-at.invariant.begins c.loop-at-test.true in
-    let size = follows.after_size f c.args.chunk.now c.loop-at.chunk c.follow_refs.new.chunk c.loop-at.at o c.loop-at.invariant.chunk c.follow_refs.ensures in
+    let size = follows.after_size f c.args.chunk.now c.loop-at.chunk c.follow_refs.new.chunk c.loop-at.at o c.loop-at.invariant.chunk c.follow_refs.ensures.led in
     let next : c.next_at-at.result ≡ c.loop-at.at + size_of (cell_at c.args.chunk.now.cells c.loop-at.at) = c.next_at-at.ensures.next ∙ ap (λ n. c.loop-at.at + n) size in
     let ends = place.cell_ends c.args.chunk.now.cells c.loop-at.at o in
     record {
-      chunk = follows.after_is f c.args.chunk.now c.loop-at.chunk c.follow_refs.new.chunk c.loop-at.at o c.loop-at.invariant.chunk c.follow_refs.ensures c.next_at-at.result next;
+      chunk = follows.after_is f c.args.chunk.now c.loop-at.chunk c.follow_refs.new.chunk c.loop-at.at o c.loop-at.invariant.chunk c.follow_refs.ensures.led c.next_at-at.result next;
       within = omega arith;
       begins = λ l. rw next (place.next_cell c.args.chunk.now.cells c.loop-at.at o (omega arith));
+      known = c.follow_refs.ensures.known;
     }
 
 pub returns : goal.returns

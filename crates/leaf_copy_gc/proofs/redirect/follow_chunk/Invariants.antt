@@ -1,5 +1,6 @@
 use Rattle.std.proofs.Common.{◌≡◌, ◌-◌, ◌<◌, ◌≤◌}
 use Rattle.object_layout.specs.Place.{IsCellAt}
+use Rattle.leaf_copy_gc.specs.Near.{Knows}
 use Rattle.leaf_copy_gc.specs.Redirected.{followed_ref}
 use Rattle.leaf_copy_gc.proofs.FollowLemmas.{led_before}
 use Rattle.leaf_copy_gc.proofs.redirect.follow_chunk.Given as goal
@@ -9,6 +10,7 @@ invariant-loop-at l = record {
   chunk : l.chunk ≡ record l.fn.chunk { cells = led_before (followed_ref l.heap.chunks) l.fn.chunk.cells l.at };
   within : l.at ≤ l.used;
   begins : l.at < l.used → IsCellAt l.fn.chunk.cells l.at;
+  known : Knows l.near l.heap.chunks;
 }
 
 abbrev pub decreases-loop-at : goal.decreases-loop-at

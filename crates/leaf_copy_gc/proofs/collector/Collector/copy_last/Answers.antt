@@ -1,9 +1,10 @@
 use Rattle.std.proofs.Common.{◌≡◌, List, ◌∷◌, [], ◌++◌, length, reverse, arith, sym, ap, ◌∙◌}
 use Rattle.std.specs.Vec.{with_items}
-use Rattle.object_layout.specs.Cell.{Moved, with_mark}
+use Rattle.object_layout.specs.Cell.{Cell, Moved, with_mark}
 use Rattle.object_layout.specs.Chunks.{cell_of, put_object}
 use Rattle.object_layout.specs.Content.{Content}
 use Rattle.object_layout.specs.declared.word.Addr.{Addr}
+use Rattle.object_layout.proofs.ChunkLaws as laws
 use Rattle.leaf_copy_gc.specs.Survivors.{with_chunks}
 use Rattle.leaf_copy_gc.specs.Laid.{next_place, placed}
 use Rattle.leaf_copy_gc.specs.Copying.{survivor_cell}
@@ -33,7 +34,11 @@ invariant_of-self c =
     let h : List Content = c.self.inside.heap.chunks in
     let old : Addr = c.args.survivor.old in
     let objects = places.fewer_moved h old c.move_last-address.result in
-    let chunks = puts.length_put h old (with_mark (cell_of h old) (Moved c.move_last-address.result)) in
-    let places_are = c.self.invariant in
+    let gone : Cell = with_mark (cell_of h old) (Moved c.move_last-address.result) in
+    let chunks = puts.length_put h old gone in
+    let places_are = c.self.invariant.0 in
     let room = c.push_reserved.ensures.capacity in
-    rw c.move_last-address.ensures.left (record { found = omega arith; moved = omega arith; laid = omega arith })
+    rw c.move_last-address.ensures.left (
+      record { found = omega arith; moved = omega arith; laid = omega arith },
+      (laws.place_in-put h old gone c.self.inside.object.number ∙ c.self.invariant.1.0, laws.place_in-put h old gone c.self.inside.target.number ∙ c.self.invariant.1.1),
+    )

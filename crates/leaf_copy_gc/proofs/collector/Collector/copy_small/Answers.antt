@@ -1,21 +1,26 @@
-use Rattle.std.proofs.Common.{◌≡◌, ◌<◌, length, sym, ap, ◌∙◌, subst, Some}
-use Rattle.object_layout.specs.Chunks.{place_in, place_of}
-use Rattle.object_layout.proofs.ChunkLaws as laws
-use Rattle.alloc_path.proofs.HeapLemmas as heap
+use Rattle.std.proofs.Common.{◌≡◌, ◌<◌, true, length, sym, ap, ◌∙◌, subst}
+use Rattle.object_layout.specs.Cell.{size_of, IsObject}
+use Rattle.object_layout.specs.Chunks.{cell_of, place_in}
 use Rattle.leaf_copy_gc.specs.Collection.{Collection}
+use Rattle.leaf_copy_gc.specs.Copying.{copied}
+use Rattle.leaf_copy_gc.specs.Laid.{is_small, HasRoom}
 use Rattle.leaf_copy_gc.proofs.collector.Collector.copy_small.Goals as goal
 
-pub own_place-place-requires : goal.own_place-place-requires
-own_place-place-requires c =
-    subst (λ (z : Collection). place_of z.heap.chunks c.args.survivor.old.chunk < length z.heap.chunks) (sym c.self.view_is) (laws.chunk_of_object c.args.self.now.heap.chunks c.args.survivor.old c.requires.object)
+pub copy_if_small-requires-clause-place : goal.copy_if_small-requires-clause-place
+copy_if_small-requires-clause-place c =
+    ap (λ (z : Collection). place_in z.heap.chunks c.args.survivor.old.chunk) c.place_of-place.ensures.same ∙ c.place_of-place.ensures.place
 
-pub size_in-size-requires-clause-place : goal.size_in-size-requires-clause-place
-size_in-size-requires-clause-place c =
-    let own : place_of c.self.inside.heap.chunks c.args.survivor.old.chunk < length c.self.inside.heap.chunks = subst (λ (z : Collection). place_of z.heap.chunks c.args.survivor.old.chunk < length z.heap.chunks) (sym c.self.view_is) (laws.chunk_of_object c.args.self.now.heap.chunks c.args.survivor.old c.requires.object) in
-    rw c.own_place-place.ensures (heap.place_there c.self.inside.heap.chunks c.args.survivor.old.chunk own)
+pub copy_if_small-requires-clause-object : goal.copy_if_small-requires-clause-object
+copy_if_small-requires-clause-object c =
+    subst (λ (z : Collection). IsObject (cell_of z.heap.chunks c.args.survivor.old).mark) (sym c.place_of-place.ensures.same) c.requires.object
 
-pub copy_one-requires-clause-place : goal.copy_one-requires-clause-place
-copy_one-requires-clause-place c =
-    let own = laws.chunk_of_object c.args.self.now.heap.chunks c.args.survivor.old c.requires.object in
-    heap.place_there c.args.self.now.heap.chunks c.args.survivor.old.chunk own
-    ∙ ap Some (sym (c.own_place-place.ensures ∙ ap (λ (z : Collection). place_of z.heap.chunks c.args.survivor.old.chunk) c.self.view_is))
+pub copy_if_small-requires-clause-room : goal.copy_if_small-requires-clause-room
+copy_if_small-requires-clause-room c =
+    subst (λ (z : Collection). is_small z.heap.chunks c.args.survivor.old ≡ true → HasRoom z.laying (size_of (cell_of z.heap.chunks c.args.survivor.old))) (sym c.place_of-place.ensures.same) c.requires.room
+
+pub copy_if_small-requires-clause-list : goal.copy_if_small-requires-clause-list
+copy_if_small-requires-clause-list c =
+    subst (λ (z : Collection). length z.moved < length z.found) (sym c.place_of-place.ensures.same) c.requires.list
+
+pub returns : goal.returns
+returns c = c.copy_if_small.ensures ∙ ap (λ (z : Collection). copied z c.args.survivor) c.place_of-place.ensures.same

@@ -1,4 +1,4 @@
-use Rattle.std.proofs.Common.{◌≡◌, ◌+◌, ◌<◌, ◌≤◌, get_or, List, length, sym, ap, ◌∙◌, subst, arith, fold, map}
+use Rattle.std.proofs.Common.{◌≡◌, ◌+◌, ◌<◌, ◌≤◌, get_or, List, length, sym, ap, ◌∙◌, subst, arith, map}
 use Rattle.object_layout.proofs.Distinct.{distinct_from}
 use Rattle.object_layout.specs.Content.{Content}
 use Rattle.object_layout.specs.Chunks.{cell_of}
@@ -6,7 +6,6 @@ use Rattle.task_frames.specs.Stack.{frames_of}
 use Rattle.leaf_copy_gc.specs.declared.lists.Survivor.{Survivor}
 use Rattle.leaf_copy_gc.specs.Survivors.{as_reference, held_by, live_count, olds, outside, with_chunks}
 use Rattle.leaf_copy_gc.specs.Collection.{Collection}
-use Rattle.leaf_copy_gc.specs.Search.{visited}
 use Rattle.leaf_copy_gc.proofs.Discovered as founds
 use Rattle.leaf_copy_gc.proofs.Discovered.{Going}
 use Rattle.leaf_copy_gc.proofs.Places as places

@@ -1,4 +1,4 @@
-use Rattle.std.proofs.Common.{◌≡◌, ◌+◌, ◌-◌, length}
+use Rattle.std.proofs.Common.{◌+◌, ◌-◌, length}
 use Rattle.leaf_copy_gc.specs.Survivors.{live_count, outside}
 use Rattle.leaf_copy_gc.proofs.Discovered.{Going, Searches}
 use Rattle.leaf_copy_gc.proofs.collector.Collector.discover.Given as goal

@@ -1,4 +1,4 @@
-use Rattle.std.proofs.Common.{List, arith}
+use Rattle.std.proofs.Common.{List, arith, ◌∙◌}
 use Rattle.object_layout.specs.Content.{Content}
 use Rattle.leaf_copy_gc.specs.declared.lists.Survivor.{Survivor}
 use Rattle.leaf_copy_gc.proofs.Places as places
@@ -10,5 +10,8 @@ invariant_of-self c =
     let ss : List Survivor = c.deref.result.now in
     let objects = places.fewer_led h ss in
     let chunks = places.length_led h ss in
-    let places_are = c.self.invariant in
-    rw c.follow_larges.ensures (record { found = omega arith; moved = omega arith; laid = omega arith })
+    let places_are = c.self.invariant.0 in
+    rw c.follow_larges.ensures (
+      record { found = omega arith; moved = omega arith; laid = omega arith },
+      (places.place_led h ss c.self.inside.object.number ∙ c.self.invariant.1.0, places.place_led h ss c.self.inside.target.number ∙ c.self.invariant.1.1),
+    )

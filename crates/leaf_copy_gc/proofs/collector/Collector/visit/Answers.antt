@@ -1,8 +1,9 @@
-use Rattle.std.proofs.Common.{List, arith, subst, sym, ap, option_map}
+use Rattle.std.proofs.Common.{List, arith, subst, sym, ap, ◌∙◌, option_map}
 use Rattle.object_layout.specs.declared.word.Birth.{Birth}
-use Rattle.object_layout.specs.Cell.{Moved, with_mark}
+use Rattle.object_layout.specs.Cell.{Cell, Moved, with_mark}
 use Rattle.object_layout.specs.Content.{Content}
 use Rattle.object_layout.specs.Chunks.{cell_of}
+use Rattle.object_layout.proofs.ChunkLaws as laws
 use Rattle.leaf_copy_gc.specs.Collection.{Collection}
 use Rattle.leaf_copy_gc.specs.Search.{IsTarget}
 use Rattle.leaf_copy_gc.specs.declared.discovery.Live.{Live}
@@ -39,7 +40,14 @@ invariant_of-self c =
     let h : List Content = c.self.inside.heap.chunks in
     let live = founds.visit_live h c.in-Some.address c.in-Some-live_at.live.birth (option_map name c.live_at.result) c.live_at.ensures.birth (ap (option_map name) c.in-Some-live_at.is) in
     let count = puts.count_found h c.in-Some.address c.in-Some.address live in
-    let same = puts.length_put h c.in-Some.address (with_mark (cell_of h c.in-Some.address) (Moved c.in-Some.address)) in
+    let found : Cell = with_mark (cell_of h c.in-Some.address) (Moved c.in-Some.address) in
+    let same = puts.length_put h c.in-Some.address found in
     let len = c.push_reserved.ensures.len in
-    let places = c.self.invariant in
-    rw c.forward_in.ensures (record { found = omega arith; moved = omega arith; laid = omega arith })
+    let places = c.self.invariant.0 in
+    rw c.forward_in.ensures (
+      record { found = omega arith; moved = omega arith; laid = omega arith },
+      (
+        laws.place_in-put h c.in-Some.address found c.self.inside.object.number ∙ c.self.invariant.1.0,
+        laws.place_in-put h c.in-Some.address found c.place_of-place.new.self.number ∙ c.place_of-place.ensures.known,
+      ),
+    )

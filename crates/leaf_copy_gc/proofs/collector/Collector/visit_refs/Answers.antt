@@ -1,56 +1,21 @@
-use Rattle.std.proofs.Common.{◌≡◌, ◌<◌, length, List, Some, Option, slice_get, sym, ap, ◌∙◌, subst, arith}
-use Rattle.object_layout.specs.declared.word.Addr.{Addr}
+use Rattle.std.proofs.Common.{fold, sym, ap, ◌∙◌, subst, All}
 use Rattle.object_layout.specs.Cell.{IsObject}
-use Rattle.object_layout.specs.Chunks.{cell_of, place_in, place_of}
-use Rattle.object_layout.specs.Content.{Content}
+use Rattle.object_layout.specs.Chunks.{cell_of, place_in}
 use Rattle.leaf_copy_gc.specs.Collection.{Collection}
 use Rattle.leaf_copy_gc.specs.Search.{visited, IsTarget}
-use Rattle.object_layout.proofs.ChunkLaws as laws
-use Rattle.alloc_path.proofs.HeapLemmas as heaps
-use Rattle.leaf_copy_gc.proofs.FollowLemmas as follows
-use Rattle.leaf_copy_gc.proofs.FoundLemmas as founds
-use Rattle.leaf_copy_gc.proofs.ListLemmas as lists
 use Rattle.leaf_copy_gc.proofs.collector.Collector.visit_refs.Goals as goal
 
-pub loop-field-preserved : goal.loop-field-preserved
-loop-field-preserved c =
-    let s : Collection = c.loop-field.self in
-    let r : Option Addr = c.ref_in-reference.result in
-    let h : List Content = c.args.self.now.heap.chunks in
-    let heap : c.visit.new.self.heap.chunks ≡ (visited s r).heap.chunks = ap (λ (t : Collection). t.heap.chunks) c.visit.ensures in
-    let now : slice_get (cell_of s.heap.chunks c.args.object).refs c.loop-field.field ≡ Some r =
-    subst (λ (z : Collection). slice_get (cell_of z.heap.chunks c.args.object).refs c.loop-field.field ≡ Some r) c.self-in-loop-field.view_is c.ref_in-reference.ensures in
-    let got : slice_get (cell_of h c.args.object).refs c.loop-field.field ≡ Some r = subst (λ (rs : List (Option Addr)). slice_get rs c.loop-field.field ≡ Some r) c.loop-field.invariant.refs now in
-    record {
-      visited = c.visit.ensures ∙ (ap (λ (t : Collection). visited t r) c.loop-field.invariant.visited ∙ sym (lists.fold_got visited c.args.self.now (cell_of h c.args.object).refs c.loop-field.field r got));
-      place = ap (λ (k : List Content). place_in k c.args.object.chunk) heap ∙ (founds.visited_place s r c.args.object.chunk ∙ c.loop-field.invariant.place);
-      object = subst (λ (k : List Content). IsObject (cell_of k c.args.object).mark) (sym heap) (founds.visited_object s r c.args.object c.loop-field.invariant.object);
-      refs = ap (λ (k : List Content). (cell_of k c.args.object).refs) heap ∙ (founds.visited_refs s r c.args.object ∙ c.loop-field.invariant.refs);
-      targets = founds.visited_all_targets s r c.visit.new.self.heap.chunks heap (cell_of h c.args.object).refs c.loop-field.invariant.targets;
-    }
+pub visit_fields-requires-clause-place : goal.visit_fields-requires-clause-place
+visit_fields-requires-clause-place c =
+    ap (λ (z : Collection). place_in z.heap.chunks c.args.object.chunk) c.place_of-place.ensures.same ∙ c.place_of-place.ensures.place
 
-pub own_place-place-requires : goal.own_place-place-requires
-own_place-place-requires c =
-    subst (λ (z : Collection). place_of z.heap.chunks c.args.object.chunk < length z.heap.chunks) (sym c.self.view_is) (laws.chunk_of_object c.args.self.now.heap.chunks c.args.object c.requires.object)
+pub visit_fields-requires-clause-object : goal.visit_fields-requires-clause-object
+visit_fields-requires-clause-object c =
+    subst (λ (z : Collection). IsObject (cell_of z.heap.chunks c.args.object).mark) (sym c.place_of-place.ensures.same) c.requires.object
 
-pub refs_in-field-end-requires-clause-place : goal.refs_in-field-end-requires-clause-place
-refs_in-field-end-requires-clause-place c =
-    let own : place_of c.self.inside.heap.chunks c.args.object.chunk < length c.self.inside.heap.chunks = subst (λ (z : Collection). place_of z.heap.chunks c.args.object.chunk < length z.heap.chunks) (sym c.self.view_is) (laws.chunk_of_object c.args.self.now.heap.chunks c.args.object c.requires.object) in
-    rw c.own_place-place.ensures (heaps.place_there c.self.inside.heap.chunks c.args.object.chunk own)
+pub visit_fields-requires-clause-targets : goal.visit_fields-requires-clause-targets
+visit_fields-requires-clause-targets c =
+    subst (λ (z : Collection). All (IsTarget z.heap.chunks) (cell_of z.heap.chunks c.args.object).refs) (sym c.place_of-place.ensures.same) c.requires.targets
 
-pub ref_in-reference-requires-clause-place : goal.ref_in-reference-requires-clause-place
-ref_in-reference-requires-clause-place c =
-    let own = laws.chunk_of_object c.args.self.now.heap.chunks c.args.object c.requires.object in
-    ap (λ (z : Collection). place_in z.heap.chunks c.args.object.chunk) c.self-in-loop-field.view_is
-    ∙ (c.loop-field.invariant.place
-    ∙ (heaps.place_there c.args.self.now.heap.chunks c.args.object.chunk own
-    ∙ ap Some (sym (c.own_place-place.ensures ∙ ap (λ (z : Collection). place_of z.heap.chunks c.args.object.chunk) c.self.view_is))))
-
-pub visit-requires : goal.visit-requires
-visit-requires c =
-    let r : Option Addr = c.ref_in-reference.result in
-    let rs : List (Option Addr) = (cell_of c.args.self.now.heap.chunks c.args.object).refs in
-    let now : slice_get (cell_of c.loop-field.self.heap.chunks c.args.object).refs c.loop-field.field ≡ Some r =
-    subst (λ (z : Collection). slice_get (cell_of z.heap.chunks c.args.object).refs c.loop-field.field ≡ Some r) c.self-in-loop-field.view_is c.ref_in-reference.ensures in
-    let got : slice_get rs c.loop-field.field ≡ Some r = subst (λ (xs : List (Option Addr)). slice_get xs c.loop-field.field ≡ Some r) c.loop-field.invariant.refs now in
-    follows.got_all (IsTarget c.loop-field.self.heap.chunks) rs c.loop-field.field r got c.loop-field.invariant.targets
+pub returns : goal.returns
+returns c = c.visit_fields.ensures ∙ ap (λ (z : Collection). fold visited z (cell_of z.heap.chunks c.args.object).refs) c.place_of-place.ensures.same

@@ -2,7 +2,7 @@ use Rattle.std.proofs.Common.{◌≡◌, take, fold, All}
 use Rattle.object_layout.specs.Cell.{IsObject}
 use Rattle.object_layout.specs.Chunks.{cell_of, place_in}
 use Rattle.leaf_copy_gc.specs.Search.{visited, IsTarget}
-use Rattle.leaf_copy_gc.proofs.collector.Collector.visit_refs.Given as goal
+use Rattle.leaf_copy_gc.proofs.collector.Collector.visit_fields.Given as goal
 
 abbrev pub invariant-loop-field : goal.invariant-loop-field
 invariant-loop-field l = record {
