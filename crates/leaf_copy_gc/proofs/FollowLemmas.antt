@@ -102,6 +102,15 @@ module _ (h : List Content) (a : Addr) (o : IsObject (cell_of h a).mark) where
     heap_is : object_of (put_object h a (led_upto (followed_ref h) k (cell_of h a))) a ≡ led_upto (followed_ref h) k (cell_of h a)
     heap_is = laws.object_is (put_object h a (led_upto (followed_ref h) k (cell_of h a))) a heap_object ∙ laws.cell_of-put_same h a (led_upto (followed_ref h) k (cell_of h a)) o
 
+    pub heap_cell : k < length (cell_of (put_object h a (led_upto (followed_ref h) k (cell_of h a))) a).refs
+    heap_cell =
+        let e = ap (λ (c : Cell). length c.refs) (laws.cell_of-put_same h a (led_upto (followed_ref h) k (cell_of h a)) o) in
+        let n = upto.length-upto (followed_ref h) (cell_of h a) k (omega arith) in
+        omega arith
+
+    pub heap_read : (r : Option Addr) → slice_get (cell_of (put_object h a (led_upto (followed_ref h) k (cell_of h a))) a).refs k ≡ Some r → slice_get (object_of (put_object h a (led_upto (followed_ref h) k (cell_of h a))) a).refs k ≡ Some r
+    heap_read r e = ap (λ (c : Cell). slice_get c.refs k) (laws.object_is (put_object h a (led_upto (followed_ref h) k (cell_of h a))) a heap_object) ∙ e
+
     pub heap_field : k < length (object_of (put_object h a (led_upto (followed_ref h) k (cell_of h a))) a).refs
     heap_field = let e = ap (λ (c : Cell). length c.refs) heap_is in let n = upto.length-upto (followed_ref h) (cell_of h a) k (omega arith) in omega arith
 

@@ -2,7 +2,7 @@
 
 ghost use Rattle.std.specs.Prelude.{◌≡◌, ◌<◌, ◌↔◌, [], length, fold, map, option_map, slice_get, All, Contains, IfSome, Some};
 ghost use Rattle.std.specs.List.{IsDistinct};
-ghost use Rattle.object_layout.specs.Cell.{IsObject};
+ghost use Rattle.object_layout.specs.Cell.{IsObject, IsPlace};
 ghost use Rattle.object_layout.specs.Place.{cell_at, IsObjectAt};
 ghost use Rattle.object_layout.specs.Chunks.{cell_of, place_in, same_address};
 ghost use Rattle.leaf_copy_gc.specs.Survivors.{as_reference, held_by, olds, outside, with_chunks, HaveNames, IsSurvivor};
@@ -49,7 +49,7 @@ fn live_at(heap: &Space, place: Option<usize>, object: Addr) -> Option<Live>
 }
 
 // How many references an object has, whose chunk stands at this place.
-fn refs_in(heap: &Space, place: usize, object: Addr) -> u32
+pub(crate) fn refs_in(heap: &Space, place: usize, object: Addr) -> u32
     requires place { place_in heap.now.chunks object.chunk ≡ Some place }
     requires object { IsObject (cell_of heap.now.chunks object).mark }
     ensures { result ≡ length (cell_of heap.now.chunks object).refs }
@@ -58,11 +58,12 @@ fn refs_in(heap: &Space, place: usize, object: Addr) -> u32
 }
 
 // A reference of an object, whose chunk stands at this place.
-fn ref_in(heap: &Space, place: usize, object: Addr, field: u32) -> Option<Addr>
+pub(crate) fn ref_in(heap: &Space, place: usize, object: Addr, field: u32) -> Option<Addr>
     requires place { place_in heap.now.chunks object.chunk ≡ Some place }
     requires object { IsObject (cell_of heap.now.chunks object).mark }
     requires field { field < length (cell_of heap.now.chunks object).refs }
-    ensures { slice_get (cell_of heap.now.chunks object).refs field ≡ Some result }
+    ensures value { slice_get (cell_of heap.now.chunks object).refs field ≡ Some result }
+    ensures place { IsPlace result }
 {
     ref_at(heap.chunk_in(place, object), object.offset, field)
 }

@@ -12,6 +12,7 @@ ghost use Rattle.leaf_copy_gc.specs.Redirected.{followed, followed_at, followed_
 
 use crate::collector::Collector;
 use crate::copying::{SMALL, size_at};
+use crate::discovery::{ref_in, refs_in};
 use crate::lists::Survivor;
 use crate::near::Near;
 use alloc_path::Space;
@@ -100,9 +101,11 @@ fn follow_object(heap: &mut Space, object: Addr)
     requires { HasTargets heap.old.chunks (cell_of heap.old.chunks object) }
     ensures { heap.new ≡ with_chunks heap.old (followed_at heap.old.chunks object) }
 {
-    for field in 0..heap.own_header(object).nrefs {
-        let now = follow(heap, heap.own_ref(object, field));
-        heap.own_set_ref(object, field, now);
+    let place = heap.own_place(object.chunk);
+    let mut near = Near::of(heap);
+    for field in 0..refs_in(heap, place, object) {
+        let now = follow_near(heap, &mut near, ref_in(heap, place, object, field));
+        heap.set_ref_in(place, object, field, now);
     }
 }
 

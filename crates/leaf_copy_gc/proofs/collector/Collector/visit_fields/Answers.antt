@@ -17,7 +17,7 @@ loop-field-preserved c =
     let h : List Content = c.args.self.now.heap.chunks in
     let heap : c.visit.new.self.heap.chunks ≡ (visited s r).heap.chunks = ap (λ (t : Collection). t.heap.chunks) c.visit.ensures in
     let now : slice_get (cell_of s.heap.chunks c.args.object).refs c.loop-field.field ≡ Some r =
-    subst (λ (z : Collection). slice_get (cell_of z.heap.chunks c.args.object).refs c.loop-field.field ≡ Some r) c.self-in-loop-field.view_is c.ref_in-reference.ensures in
+    subst (λ (z : Collection). slice_get (cell_of z.heap.chunks c.args.object).refs c.loop-field.field ≡ Some r) c.self-in-loop-field.view_is c.ref_in-reference.ensures.value in
     let got : slice_get (cell_of h c.args.object).refs c.loop-field.field ≡ Some r = subst (λ (rs : List (Option Addr)). slice_get rs c.loop-field.field ≡ Some r) c.loop-field.invariant.refs now in
     record {
       visited = c.visit.ensures ∙ (ap (λ (t : Collection). visited t r) c.loop-field.invariant.visited ∙ sym (lists.fold_got visited c.args.self.now (cell_of h c.args.object).refs c.loop-field.field r got));
@@ -39,6 +39,6 @@ visit-requires c =
     let r : Option Addr = c.ref_in-reference.result in
     let rs : List (Option Addr) = (cell_of c.args.self.now.heap.chunks c.args.object).refs in
     let now : slice_get (cell_of c.loop-field.self.heap.chunks c.args.object).refs c.loop-field.field ≡ Some r =
-    subst (λ (z : Collection). slice_get (cell_of z.heap.chunks c.args.object).refs c.loop-field.field ≡ Some r) c.self-in-loop-field.view_is c.ref_in-reference.ensures in
+    subst (λ (z : Collection). slice_get (cell_of z.heap.chunks c.args.object).refs c.loop-field.field ≡ Some r) c.self-in-loop-field.view_is c.ref_in-reference.ensures.value in
     let got : slice_get rs c.loop-field.field ≡ Some r = subst (λ (xs : List (Option Addr)). slice_get xs c.loop-field.field ≡ Some r) c.loop-field.invariant.refs now in
     follows.got_all (IsTarget c.loop-field.self.heap.chunks) rs c.loop-field.field r got c.loop-field.invariant.targets
