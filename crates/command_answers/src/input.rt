@@ -8,6 +8,7 @@ ghost use Rattle.command_answers.specs.Input.{limit_of, is_reading, program_in, 
 use all_bytes::{ReadError, read_file};
 use command_line::{CommandLine, FileName};
 use hh_lang::Program;
+use image_check::IMAGE_LIMIT;
 use outside_io::Source;
 use program_reader::{Refused, read_program};
 use std::alloc::{AllocError, Global};
@@ -15,9 +16,6 @@ use trace_input::{TOO_LONG, TRACE_LIMIT};
 
 /// The most bytes of a program's text.
 const PROGRAM_LIMIT: usize = 1048576;
-
-/// The most bytes of an image.
-const IMAGE_LIMIT: usize = 16777216;
 
 /// The program that an input is, or why it is refused.
 pub fn program_in(alloc: Global, input: &[u8]) -> Result<Result<Program, Refused>, AllocError>

@@ -1,15 +1,11 @@
 -- A command without global arguments is added as a subcommand of its shape.
 use Rattle.std.proofs.Common.{◌≡◌, Bool, true, false, not, refl, ap, ◌∙◌}
-use Rattle.std.proofs.lemmas.Bool.{and_parts}
+use Rattle.std.proofs.lemmas.Bool.{and_parts, not-true}
 use Rattle.clap.specs.Words.{App, app_of, with_subcommand}
 use Rattle.clap.specs.declared.builder.command.Command.{Command}
 use Rattle.command_line.specs.Adds.{IsShaped}
 
-turned : (b : Bool) → not b ≡ true → b ≡ false
-turned true e = absurd (cc)
-turned false e = refl
-
 pub shaped : (m : Command) (a : App) → app_of m ≡ a → a.top.is_plain ≡ true → IsShaped a.top m
 shaped m a e plain = λ old new adds.
     let all : (app_of m).top.is_plain ≡ true = ap (λ (b : App). b.top.is_plain) e ∙ plain in
-    adds.shape (turned _ (and_parts _ _ (and_parts _ _ (and_parts _ _ all).1).1).0) ∙ ap (λ (b : App). with_subcommand (app_of old) b.top) e
+    adds.shape (not-true _ (and_parts _ _ (and_parts _ _ (and_parts _ _ all).1).1).0) ∙ ap (λ (b : App). with_subcommand (app_of old) b.top) e

@@ -1,10 +1,9 @@
 -- What tasks, chunks, objects and fields are called in a graph.
 use Rattle.std.specs.Prelude.{ℕ, List, ◌++◌, codes}
 use Rattle.std.specs.Fmt.{decimal}
-use Rattle.image_check.specs.declared.line.State.{State}
-use Rattle.image_check.specs.declared.line.State.TheVariants.{Running, Waiting, Ended}
 use Rattle.image_check.specs.declared.line.Task.{Task}
 use Rattle.image_check.specs.declared.line.Chunk.{Chunk}
+use Rattle.image_check.specs.Line.{state_word}
 use Rattle.heap_graph.specs.declared.held.Held.{Held}
 
 -- a task's cluster has a point in it, for edges that lead into its heap
@@ -29,14 +28,9 @@ object_name a = decimal a
 abbrev pub port_name : ℕ → List ℕ
 port_name k = codes "f" ++ decimal k
 
-abbrev pub state_name : State → List ℕ
-state_name Running = codes "running"
-state_name Waiting = codes "waiting"
-state_name Ended = codes "ended"
-
 -- its number, its state, and the words that its heap holds
 abbrev pub task_title : Task → Held → List ℕ
-task_title t h = codes "task " ++ decimal t.number ++ codes " " ++ state_name t.state ++ codes ", " ++ decimal h.words ++ codes " words"
+task_title t h = codes "task " ++ decimal t.number ++ codes " " ++ state_word t.state ++ codes ", " ++ decimal h.words ++ codes " words"
 
 abbrev pub chunk_title : Chunk → List ℕ
 chunk_title c = codes "chunk " ++ decimal c.number ++ codes " of " ++ decimal c.words ++ codes " words"

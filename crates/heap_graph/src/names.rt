@@ -1,10 +1,10 @@
 // What tasks, chunks, objects and fields are called in a graph.
 
 ghost use Rattle.std.specs.Prelude.{◌≡◌, IfOk, string_bytes};
-ghost use Rattle.heap_graph.specs.Names.{task_name, task_cluster, chunk_name, chunk_cluster, object_name, port_name, state_name, task_title, chunk_title, heap_title};
+ghost use Rattle.heap_graph.specs.Names.{task_name, task_cluster, chunk_name, chunk_cluster, object_name, port_name, task_title, chunk_title, heap_title};
 
 use crate::held::Held;
-use image_check::{Chunk, State, Task};
+use image_check::{Chunk, Task};
 use std::alloc::{AllocError, Global};
 
 pub(crate) fn task_name(alloc: Global, task: u64) -> Result<String, AllocError>
@@ -43,20 +43,10 @@ pub(crate) fn port_name(alloc: Global, place: u64) -> Result<String, AllocError>
     format!(in alloc; "f{place}")
 }
 
-fn state_name(state: State) -> &'static str
-    ensures { result.now ≡ state_name state }
-{
-    match state {
-        State::Running => "running",
-        State::Waiting => "waiting",
-        State::Ended => "ended",
-    }
-}
-
 pub(crate) fn task_title(alloc: Global, task: &Task, held: Held) -> Result<String, AllocError>
     ensures { IfOk result (λ text. string_bytes text ≡ task_title task.now held) }
 {
-    let state = state_name(task.state);
+    let state = task.state.word();
     format!(in alloc; "task {} {state}, {} words", task.number, held.words)
 }
 

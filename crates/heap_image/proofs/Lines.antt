@@ -14,10 +14,10 @@ use Rattle.image_check.specs.declared.line.Chunk.{Chunk}
 use Rattle.image_check.specs.declared.line.Remembered.{Remembered}
 use Rattle.image_check.specs.declared.line.Said.{Said}
 use Rattle.image_check.specs.declared.line.Said.TheVariants.{Title, OfTask, OfChunk, OfRemembered, OfEnd}
-use Rattle.image_check.specs.Line.{said_by, said_by_words, state_named, parent_named, is_rooted, is_chunk_size, is_kind, is_field_count, references_in}
+use Rattle.image_check.specs.Line.{said_by, said_by_words, state_named, state_word, parent_named, is_rooted, is_chunk_size, is_kind, is_field_count, references_in}
 use Rattle.heap_image.specs.declared.picture.Picked.{Picked}
 use Rattle.heap_image.specs.Form.{IsLong, HasFitParent, IsTaskForm, IsChunkForm, IsObjectForm, IsFieldForm}
-use Rattle.heap_image.specs.Text.{state_word, parent_word, kind_word, title_words, task_words, chunk_words, head_words, object_words, field_words, end_words}
+use Rattle.heap_image.specs.Text.{parent_word, kind_word, title_words, task_words, chunk_words, head_words, object_words, field_words, end_words}
 use Rattle.heap_image.specs.Told.{object_told}
 use Rattle.heap_image.proofs.Words.{proper_decimal, proper_signed, short_is_long, short_again, long_again, signed_again, decimal_no_hyphen}
 

@@ -1,6 +1,7 @@
 -- The chunks of a sound picture, as the verifier keeps them.
 use Rattle.std.proofs.Common.{◌≡◌, ◌<◌, ℕ, Bool, true, false, cond, refl, ap, sym, ◌∙◌, arith}
 use Rattle.std.specs.Prelude.{Option, Some, None, ◌==◌}
+use Rattle.std.proofs.lemmas.Option.{same_Some}
 use Rattle.image_check.specs.declared.line.Chunk.{Chunk}
 use Rattle.image_check.specs.Table.{found}
 use Rattle.image_check.specs.Place.{chunk_number}
@@ -10,9 +11,6 @@ use Rattle.heap_image.specs.Picture.{ChunkBefore, LiesIn, IsOwned, IsSoundPictur
 use Rattle.heap_image.proofs.Splits.{same_item}
 use Rattle.heap_image.proofs.Tables.{found_in, found_from}
 use Rattle.heap_image.proofs.States.{chunk_number_of, chunk_itself, chunk_table}
-
-some_is : {A : Type 0} (x y : A) → Some x ≡ Some y → x ≡ y
-some_is x y e = cc
 
 not_nil : (a : ℕ) → 0 < a → (a == 0) ≡ false
 not_nil a h = grind (arith, h)
@@ -40,7 +38,7 @@ module _ (p : Picture) (s : IsSoundPicture p) where
   owned_by a t false None e f h = absurd cc
   owned_by a t false (Some c) e f h =
       let r = found_from chunk_number_of chunk_itself p.chunks (chunk_number a) c f in
-      (r.0, (r.1, above_nil a e, sym r.2), ap (λ (d : Chunk). d.owner) r.3 ∙ some_is c.owner t h)
+      (r.0, (r.1, above_nil a e, sym r.2), ap (λ (d : Chunk). d.owner) r.3 ∙ same_Some c.owner t h)
 
   pub owned_from : (a t : ℕ) → owner_at cs a ≡ Some t → IsOwned p a t
   owned_from a t h = owned_by a t (a == 0) (found cs (chunk_number a)) refl refl h

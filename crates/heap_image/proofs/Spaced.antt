@@ -11,7 +11,8 @@ use Rattle.run_trace.specs.Line.{spaced}
 use Rattle.heap_image.specs.declared.picture.Picked.{Picked}
 use Rattle.image_check.specs.declared.line.Task.{Task}
 use Rattle.image_check.specs.declared.line.State.{State}
-use Rattle.heap_image.specs.Text.{line, kind_word, parent_word, state_word, task_line, object_line, head_words, object_words, reference_text, number_text}
+use Rattle.image_check.specs.Line.{state_word}
+use Rattle.heap_image.specs.Text.{line, kind_word, parent_word, task_line, object_line, head_words, object_words, reference_text, number_text}
 
 -- a word behind a space
 abbrev behind_space : List ℕ → List ℕ

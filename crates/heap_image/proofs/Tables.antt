@@ -1,6 +1,7 @@
 -- What is found in the tables that the verifier makes of a picture's lists.
 use Rattle.std.proofs.Common.{◌≡◌, ℕ, zero, suc, Bool, true, false, List, [], ◌∷◌, ◌++◌, map, refl, ap, sym, ◌∙◌, inl, inr, arith}
 use Rattle.std.specs.Prelude.{Some, None, nat_eq, is_some, slice_get}
+use Rattle.std.proofs.lemmas.Option.{same_Some}
 use Rattle.listed.specs.Members.{In}
 use Rattle.image_check.specs.Table.{found, has, with_entry, with_new}
 use Rattle.image_check.specs.Sets.{is_among, with_item}
@@ -18,18 +19,15 @@ differs x y ne = by (nat_eq x y) refl
 same : (x : ℕ) → nat_eq x x ≡ true
 same x = grind arith
 
-some_is : {A : Type 0} (x y : A) → Some x ≡ Some y → x ≡ y
-some_is x y e = cc
-
 module _ {A B : Type 0} (f : A → B) where
   pub mapped_at : (xs : List A) (i : ℕ) (x : A) → slice_get xs i ≡ Some x → slice_get (map f xs) i ≡ Some (f x)
   mapped_at [] i x e = absurd cc
-  mapped_at (y ∷ ys) zero x e = ap Some (ap f (some_is y x e))
+  mapped_at (y ∷ ys) zero x e = ap Some (ap f (same_Some y x e))
   mapped_at (y ∷ ys) (suc i) x e = mapped_at ys i x e
 
   pub got_mapped : (xs : List A) (i : ℕ) (b : B) → slice_get (map f xs) i ≡ Some b → (x : A) × (slice_get xs i ≡ Some x) × (f x ≡ b)
   got_mapped [] i b e = absurd cc
-  got_mapped (y ∷ ys) zero b e = (y, refl, some_is (f y) b e)
+  got_mapped (y ∷ ys) zero b e = (y, refl, same_Some (f y) b e)
   got_mapped (y ∷ ys) (suc i) b e = got_mapped ys i b e
 
 module _ {X V : Type 0} (key : X → ℕ) (val : X → V) where
@@ -57,7 +55,7 @@ module _ {X V : Type 0} (key : X → ℕ) (val : X → V) where
   found_from (y ∷ ys) n v h = by (nat_eq n (key y)) refl h (found_from ys n v)
     where
       by : (b : Bool) → nat_eq n (key y) ≡ b → found (table (y ∷ ys)) n ≡ Some v → (found (table ys) n ≡ Some v → (x : X) × In ys x × (key x ≡ n) × (val x ≡ v)) → (x : X) × In (y ∷ ys) x × (key x ≡ n) × (val x ≡ v)
-      by true e g again = (y, inl refl, sym (equal n (key y) e), some_is (val y) v (rw e at g))
+      by true e g again = (y, inl refl, sym (equal n (key y) e), same_Some (val y) v (rw e at g))
       by false e g again = let r = again (rw e at g) in (r.0, inr r.1, r.2, r.3)
 
   -- an entry more, under a number that none has

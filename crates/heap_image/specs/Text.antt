@@ -2,21 +2,15 @@
 use Rattle.std.specs.Prelude.{ℕ, ℤ, Bool, true, false, Option, Some, None, List, [], ◌∷◌, ◌++◌, codes, length, map}
 use Rattle.std.specs.List.{flat_map}
 use Rattle.std.specs.Fmt.{decimal, signed_decimal}
-use Rattle.image_check.specs.declared.line.State.{State}
-use Rattle.image_check.specs.declared.line.State.TheVariants.{Running, Waiting, Ended}
 use Rattle.image_check.specs.declared.line.Task.{Task}
 use Rattle.image_check.specs.declared.line.Chunk.{Chunk}
 use Rattle.image_check.specs.declared.line.Remembered.{Remembered}
+use Rattle.image_check.specs.Line.{state_word}
 use Rattle.run_trace.specs.Line.{spaced}
 use Rattle.heap_image.specs.declared.picture.Picked.{Picked}
 use Rattle.heap_image.specs.declared.picture.Picture.{Picture}
 
 -- WORDS
-
-abbrev pub state_word : State → List ℕ
-state_word Running = codes "running"
-state_word Waiting = codes "waiting"
-state_word Ended = codes "ended"
 
 -- a hyphen for none
 abbrev pub parent_word : Option ℕ → List ℕ

@@ -4,22 +4,11 @@ ghost use Rattle.std.specs.Prelude.{◌≡◌, ◌++◌, ◌∷◌, [], length, 
 ghost use Rattle.std.specs.List.{flat_map};
 ghost use Rattle.std.specs.String.{string_bytes};
 ghost use Rattle.run_trace.specs.Line.{spaced};
-ghost use Rattle.heap_image.specs.Text.{state_word, kind_word, title_words, head_words, end_words, reference_text, number_text, line, task_line, chunk_line, object_line, field_line, text_of};
+ghost use Rattle.heap_image.specs.Text.{kind_word, title_words, head_words, end_words, reference_text, number_text, line, task_line, chunk_line, object_line, field_line, text_of};
 
 use crate::picture::{Picked, Picture};
-use image_check::{Chunk, Remembered, State, Task};
+use image_check::{Chunk, Remembered, Task};
 use std::alloc::{AllocError, Global};
-
-// The word for how a task stands.
-fn state_text(state: State) -> &'static str
-    ensures { result.now ≡ state_word state }
-{
-    match state {
-        State::Running => "running",
-        State::Waiting => "waiting",
-        State::Ended => "ended",
-    }
-}
 
 // The word for whether an object is mutable.
 fn kind_text(mutable: bool) -> &'static str
@@ -32,7 +21,7 @@ fn kind_text(mutable: bool) -> &'static str
 fn task_text(alloc: Global, task: &Task) -> Result<String, AllocError>
     ensures { IfOk result (λ text. string_bytes text ≡ task_line task.now) }
 {
-    let state = state_text(task.state);
+    let state = task.state.word();
     match task.parent {
         None => format!(in alloc; "task {} - {state}\n", task.number),
         Some(parent) => format!(in alloc; "task {} {parent} {state}\n", task.number),

@@ -1,6 +1,7 @@
 -- The objects that were read are as many as the lines that say one.
 use Rattle.std.proofs.Common.{◌≡◌, ◌<◌, ◌≤◌, ◌+◌, ℕ, suc, Bool, true, false, List, [], ◌∷◌, length, refl, ap, sym, ◌∙◌, arith, inl, inr, ◌⊎◌}
 use Rattle.std.specs.Prelude.{Option, Some, None, not, nat_eq}
+use Rattle.std.proofs.lemmas.Bool.{not-false}
 use Rattle.text_lines.specs.Lines.{lines_of}
 use Rattle.image_check.specs.declared.line.Said.{Said}
 use Rattle.image_check.specs.declared.line.Said.TheVariants.{Nothing, Wrong, Title, OfTask, OfChunk, OfObject, OfRemembered, OfEnd}
@@ -62,21 +63,17 @@ one_more (e ∷ es) p b n up h =
     let len : length (with_entry es b n) ≡ length es + 1 = rest.0 in
     rw no ((let x : suc (length (with_entry es b n)) ≡ suc (length es) + 1 = omega (arith, len) in x), (later e.0 p (position 3 b 0 0) up h.0, rest.1))
 
-turned : (b : Bool) → not b ≡ false → b ≡ true
-turned true e = refl
-turned false e = absurd (cc)
-
 record Counted (r s : Read) (said : Said) : Type 0 where
   pub count : length s.objects ≡ onto_count said (length r.objects)
   pub before : Before s.objects s.last
 
 moved : (es : Entries) (last : Option Position) (q : Position) → has_wrong_place last (Some q) ≡ false → Before es last → AllBefore es q
 moved es None q e h = rw h tt
-moved es (Some p) q e h = all_later es p q (turned (rises p q) e) h
+moved es (Some p) q e h = all_later es p q (not-false (rises p q) e) h
 
 added : (es : Entries) (last : Option Position) (b n : ℕ) → has_wrong_place last (Some (position 3 b 0 0)) ≡ false → Before es last → (length (with_entry es b n) ≡ length es + 1) × AllBefore (with_entry es b n) (position 3 b 0 0)
 added es None b n e h = absurd (cc)
-added es (Some p) b n e h = one_more es p b n (turned (rises p (position 3 b 0 0)) e) h
+added es (Some p) b n e h = one_more es p b n (not-false (rises p (position 3 b 0 0)) e) h
 
 counted : (r : Read) (s : Said) → is_misplaced r.last s ≡ false → Before r.objects r.last → Counted r (after_line r s) s
 counted r Nothing e h = record { count = refl; before = h }

@@ -1,6 +1,7 @@
 -- Behind lines without a cause each task stands once, behind its parent.
 use Rattle.std.proofs.Common.{◌≡◌, ◌∙◌, ℕ, Bool, true, false, cond, List, [], ◌∷◌, refl, ap, sym, subst}
 use Rattle.std.specs.Prelude.{Option, Some, None, slice_get, not}
+use Rattle.std.proofs.lemmas.Bool.{not-false}
 use Rattle.image_check.specs.declared.line.Task.{Task}
 use Rattle.image_check.specs.declared.line.Said.{Said}
 use Rattle.image_check.specs.declared.line.Said.TheVariants.{Nothing, Wrong, Title, OfTask, OfChunk, OfObject, OfRemembered, OfEnd}
@@ -19,13 +20,9 @@ use Rattle.image_check.proofs.Steps.{formed, cond_none}
 none_yet : AreOrdered []
 none_yet = record { apart = λ i j e f g h s. absurd cc; behind = λ i e p g h. absurd cc }
 
-turned : (b : Bool) → not b ≡ false → b ≡ true
-turned true e = refl
-turned false e = absurd cc
-
 parent_there : (r : Read) (m : Option ℕ) (q : ℕ) → lacks_parent r m ≡ false → m ≡ Some q → has r.tasks q ≡ true
 parent_there r None q e h = absurd cc
-parent_there r (Some p) q e h = let s : p ≡ q = cc in ap (has r.tasks) (sym s) ∙ turned (has r.tasks p) e
+parent_there r (Some p) q e h = let s : p ≡ q = cc in ap (has r.tasks) (sym s) ∙ not-false (has r.tasks p) e
 
 task_by : (r : Read) (t : Task) → AreOrdered r.tasks → lacks_parent r t.parent ≡ false → (b : Bool) → has r.tasks t.number ≡ b → AreOrdered (cond b r.tasks (task_more r.tasks t.number t))
 task_by r t o e true h = o

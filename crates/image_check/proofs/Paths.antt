@@ -1,6 +1,7 @@
 -- Ancestors among tasks each of which stands behind its parent.
 use Rattle.std.proofs.Common.{◌≡◌, ◌<◌, ◌≤◌, ◌+◌, ℕ, zero, suc, Bool, true, false, cond, List, [], ◌∷◌, ◌++◌, length, refl, ap, sym, ◌∙◌, arith, inl, inr, ◌⊎◌, subst, length-append}
 use Rattle.std.specs.Prelude.{Option, Some, None, ◌==◌, ◌||◌, slice_get, nat_eq, is_some}
+use Rattle.std.proofs.lemmas.Option.{same_Some}
 use Rattle.listed.proofs.Members.{got_front, got_back, got_within}
 use Rattle.image_check.specs.declared.line.Task.{Task}
 use Rattle.image_check.specs.declared.tasks.Relation.TheVariants.{Own, Above, Below, Apart}
@@ -23,9 +24,6 @@ pub record AreOrdered (es : Tasks) : Type 0 where
 
 -- LOOKING UP
 
-some_is : {A : Type 0} (x y : A) → Some x ≡ Some y → x ≡ y
-some_is x y e = cc
-
 pub same_number : (n : ℕ) → nat_eq n n ≡ true
 same_number n = grind arith
 
@@ -41,16 +39,16 @@ placed [] t x h = absurd cc
 placed (e ∷ es) t x h = by (nat_eq t e.0) refl h (placed es t x)
   where
     by : (b : Bool) → nat_eq t e.0 ≡ b → (if_found : found (e ∷ es) t ≡ Some x) → (found es t ≡ Some x → IsPlaced es t x) → IsPlaced (e ∷ es) t x
-    by true is g again = record { place = 0; entry = e; got = refl; number = sym (equal t e.0 is); task = some_is e.1 x (rw is at g) }
+    by true is g again = record { place = 0; entry = e; got = refl; number = sym (equal t e.0 is); task = same_Some e.1 x (rw is at g) }
     by false is g again = let p = again (rw is at g) in record { place = suc p.place; entry = p.entry; got = p.got; number = p.number; task = p.task }
 
 pub there : (es : Tasks) (i : ℕ) (e : Entry) → slice_get es i ≡ Some e → (x : Task) × (found es e.0 ≡ Some x)
 there [] i e h = absurd cc
-there (f ∷ es) zero e h = let s : f ≡ e = some_is f e h in by (nat_eq e.0 f.0) refl
+there (f ∷ es) zero e h = let s : f ≡ e = same_Some f e h in by (nat_eq e.0 f.0) refl
   where
     by : (b : Bool) → nat_eq e.0 f.0 ≡ b → (x : Task) × (found (f ∷ es) e.0 ≡ Some x)
     by true is = (f.1, rw is refl)
-    by false is = absurd (let s : f ≡ e = some_is f e h in let g : nat_eq e.0 f.0 ≡ true = rw s (same_number e.0) in cc)
+    by false is = absurd (let s : f ≡ e = same_Some f e h in let g : nat_eq e.0 f.0 ≡ true = rw s (same_number e.0) in cc)
 there (f ∷ es) (suc i) e h = by (nat_eq e.0 f.0) refl (there es i e h)
   where
     by : (b : Bool) → nat_eq e.0 f.0 ≡ b → ((x : Task) × (found es e.0 ≡ Some x)) → (x : Task) × (found (f ∷ es) e.0 ≡ Some x)
@@ -64,7 +62,7 @@ module _ (es : Tasks) (o : AreOrdered es) where
       let x = there es i e h in
       let p = placed es e.0 x.0 x.1 in
       let same : p.place ≡ i = o.apart p.place i p.entry e p.got h p.number in
-      let entry : p.entry ≡ e = some_is p.entry e (sym p.got ∙ ap (slice_get es) same ∙ h) in
+      let entry : p.entry ≡ e = same_Some p.entry e (sym p.got ∙ ap (slice_get es) same ∙ h) in
       x.1 ∙ ap Some (sym p.task ∙ ap (λ (f : Entry). f.1) entry)
 
   parent_at : (i : ℕ) (t a : ℕ) → StandsAt es i t → parent_of es t ≡ Some a → (j : ℕ) × (j < i) × StandsAt es j a

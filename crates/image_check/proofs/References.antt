@@ -2,6 +2,7 @@
 use Rattle.std.proofs.Common.{◌≡◌, ◌+◌, ℕ, Bool, true, false, List, [], ◌∷◌, refl, ap, sym, ◌∙◌}
 use Rattle.std.specs.Prelude.{Option, Some, None, ◌||◌, ◌&&◌, not, if◌then◌else◌}
 use Rattle.std.specs.List.{list_any}
+use Rattle.std.proofs.Math.Bool.{or-false}
 use Rattle.image_check.specs.declared.line.Object.{Object}
 use Rattle.image_check.specs.declared.read.Read.{Read}
 use Rattle.image_check.specs.declared.whole.Whole.{Whole}
@@ -26,10 +27,6 @@ or_or : (a b c : Bool) → ((a || b) || c) ≡ (a || (b || c))
 or_or true b c = refl
 or_or false b c = refl
 
-or_none : (a : Bool) → (a || false) ≡ a
-or_none true = refl
-or_none false = refl
-
 module _ (w : Whole) (r : Read) (t a k : ℕ) (c f : Bool) where
   pub cause_more : (v : ℕ) (vs : List ℕ) (owner : Option ℕ) (relation : Option Relation) → owner ≡ owner_at r.chunks v → relation ≡ relation_to r.tasks t owner → is_astray w r v ≡ false
       → cause_from w r t a (k + 1) (c || is_apart relation) (f || (is_below relation && not (is_noted w a k owner))) vs ≡ cause_from w r t a k c f (v ∷ vs)
@@ -46,4 +43,4 @@ module _ (w : Whole) (r : Read) (t a k : ℕ) (c f : Bool) where
   stray_here v vs s = sym (ap (λ b. by_tests (b || list_any (is_astray w r) vs) (c || list_any (crosses r t) (v ∷ vs)) (f || forgets w r t a k (v ∷ vs))) s)
 
   pub none_left : by_tests false c f ≡ cause_from w r t a k c f []
-  none_left = (λ j. by_tests false (sym (or_none c) j) (sym (or_none f) j))
+  none_left = (λ j. by_tests false (sym (or-false c) j) (sym (or-false f) j))

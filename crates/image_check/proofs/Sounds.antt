@@ -2,6 +2,7 @@
 use Rattle.std.proofs.Common.{◌≡◌, ◌+◌, ℕ, zero, suc, Bool, true, false, cond, List, [], ◌∷◌, refl, ap, sym, ◌∙◌, arith, inl, inr, ◌⊎◌, subst}
 use Rattle.std.specs.Prelude.{Option, Some, None, ◌==◌, ◌&&◌, ◌||◌, not}
 use Rattle.std.specs.List.{list_any}
+use Rattle.std.proofs.lemmas.Bool.{not-false}
 use Rattle.text_lines.specs.Lines.{lines_of}
 use Rattle.image_check.specs.declared.line.Birth.{Birth}
 use Rattle.image_check.specs.declared.line.Object.{Object}
@@ -83,10 +84,6 @@ not_forgotten w r t a m (x ∷ xs) (suc k) v e h =
     ap (λ y. is_forgotten w r t a y (owner_at r.chunks v)) z
     ∙ not_forgotten w r t a (m + 1) xs k v (or_false (is_forgotten w r t a m (owner_at r.chunks x)) (forgets w r t a (m + 1) xs) e).1 h
 
-back : (b : Bool) → not b ≡ false → b ≡ true
-back true e = refl
-back false e = absurd (cc)
-
 -- WHERE IT LEADS
 
 runs_at : (r : Read) (v : ℕ) (m : Option ℕ) → owner_at r.chunks v ≡ m → owner_runs r m ≡ true → IsInRunning r v
@@ -110,7 +107,7 @@ module _ (ls : List (List ℕ)) (r : Read) where
       by (inr h) = inr (inr (runs_at r v (owner_at r.chunks v) refl h))
 
   pub leads_on : (v : ℕ) → is_astray w r v ≡ false → LeadsSomewhere ls r v
-  leads_on v e = leads_by v (either_true (v == 0) (has w.objects v || owner_runs r (owner_at r.chunks v)) (back ((v == 0) || (has w.objects v || owner_runs r (owner_at r.chunks v))) e))
+  leads_on v e = leads_by v (either_true (v == 0) (has w.objects v || owner_runs r (owner_at r.chunks v)) (not-false ((v == 0) || (has w.objects v || owner_runs r (owner_at r.chunks v))) e))
 
   noted_line : (u a k : ℕ) → ((is_among same_field [] (u, a, k) ≡ true) ⊎ IsRemembered ls u a k) → IsRemembered ls u a k
   noted_line u a k (inl e) = absurd (cc)
@@ -122,7 +119,7 @@ module _ (ls : List (List ℕ)) (r : Read) where
       → KeepsToPath ls r a k t u
   keeps_by a k t u true up down e f g c h = inl (equal u t e)
   keeps_by a k t u false true down e f g c h = inr (inl (above r.tasks u t f))
-  keeps_by a k t u false false true e f g c h = inr (inr (above r.tasks t u g, noted_line u a k (field_from nothing_had ls u a k (back (is_among same_field w.fields (u, a, k)) h))))
+  keeps_by a k t u false false true e f g c h = inr (inr (above r.tasks t u g, noted_line u a k (field_from nothing_had ls u a k (not-false (is_among same_field w.fields (u, a, k)) h))))
   keeps_by a k t u false false false e f g c h = absurd (cc)
 
   pub keeps_on : (a k t v u : ℕ) → owner_at r.chunks v ≡ Some u → crosses r t v ≡ false → is_forgotten w r t a k (owner_at r.chunks v) ≡ false → KeepsToPath ls r a k t u

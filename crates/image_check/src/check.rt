@@ -14,8 +14,8 @@ use crate::whole::Whole;
 use std::alloc::{AllocError, Global};
 use text_lines::next_line;
 
-/// The most bytes of a text.
-const IMAGE_LIMIT: usize = 16777216;
+/// The most bytes of an image.
+pub const IMAGE_LIMIT: usize = 16777216;
 
 /// A text of more bytes.
 const TOO_LONG: Fault = Fault {

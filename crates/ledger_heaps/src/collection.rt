@@ -10,7 +10,7 @@ ghost use Rattle.ledger_heaps.specs.Parts.{with_collected};
 
 use crate::names::{kept, kept_small, table_of};
 use crate::placed::{push_list, put_last};
-use crate::sizes::{units_sum, words_at, words_sum};
+use crate::sizes::{CHUNK_WORDS, units_sum, words_at, words_sum};
 use hh_model::{Name, State};
 use listed::Listed;
 use run_ledger::Heap;
@@ -146,7 +146,7 @@ fn lay_all(alloc: Global, machine: &State, names: &[Name]) -> Result<Laid, Alloc
     if chunks.is_empty() {
         return Ok(Laid { chunks, room: 0 });
     }
-    let room = 1024u64.saturating_sub(last) as u32;
+    let room = (CHUNK_WORDS as u64).saturating_sub(last) as u32;
     Ok(Laid { chunks, room })
 }
 
@@ -171,7 +171,7 @@ fn lay(
         push_list(alloc, chunks, name)?;
         return Ok(words);
     }
-    if 1024 < last + words {
+    if (CHUNK_WORDS as u64) < last + words {
         push_list(alloc, chunks, name)?;
         return Ok(words);
     }

@@ -3,6 +3,7 @@
 ghost use Rattle.std.specs.Prelude.{◌≡◌, ◌+◌, ◌<◌, ◌^◌, [], ◌∷◌, ◌++◌, OnOk, OnErr};
 ghost use Rattle.run_ledger.specs.Heaps.{placed, put_last, merged, emptied};
 
+use crate::sizes::CHUNK_WORDS;
 use hh_model::Name;
 use listed::Listed;
 use run_ledger::Heap;
@@ -14,7 +15,7 @@ pub fn place(alloc: Global, heap: &mut Heap, name: Name, words: usize) -> Result
     ensures ok { OnOk result (heap.new ≡ placed heap.old name words) }
     ensures err { OnErr result (heap.new ≡ heap.old) }
 {
-    if words <= 1024 {
+    if words <= CHUNK_WORDS {
         put_last(alloc, &mut heap.chunks, name)?;
         heap.room = heap.room.saturating_sub(words as u32);
     } else {

@@ -6,6 +6,9 @@ ghost use Rattle.run_ledger.specs.Heaps.{words_at, words_sum, units_sum, units, 
 use hh_model::{Name, State};
 use run_ledger::Heap;
 
+/// The words of a chunk that is one unit.
+pub const CHUNK_WORDS: usize = 1024;
+
 /// The words of a name's object, 0 where there is none.
 pub fn words_at(machine: &State, name: Name) -> usize
     ensures value { result ≡ words_at machine.now name }

@@ -7,7 +7,7 @@ use Rattle.std.specs.List.{AllByRecursion, list_all}
 use Rattle.std.proofs.lemmas.List.Elements.{All-from_recursion}
 use Rattle.std.proofs.lemmas.Str.{is_utf8-from_IsUtf8, IsUtf8-from_ascii}
 use Rattle.std.proofs.lemmas.Str.Ascii.{IsAscii-from_all}
-use Rattle.std.proofs.lemmas.Bool.{and_parts, ltb-true}
+use Rattle.std.proofs.lemmas.Bool.{and_parts, ltb-true, and_from}
 use Rattle.hh_lang.specs.Number.{signed_number}
 use Rattle.hh_lang.specs.declared.instr.Instr.TheVariants as does
 use Rattle.run_trace.specs.Line.{spaced}
@@ -31,9 +31,6 @@ use Rattle.made_programs.proofs.Between.{Between, Named, above_of, begun_name_is
 
 three_hold : (a b c : Bool) → a ≡ true → b ≡ true → c ≡ true → (a && (b && c)) ≡ true
 three_hold a b c ea eb ec = rw (ea, eb, ec) refl
-
-both_hold : (a b : Bool) → a ≡ true → b ≡ true → (a && b) ≡ true
-both_hold a b ea eb = rw (ea, eb) refl
 
 -- a proper line's words
 reads : (text : List ℕ) (labels : List Entry) (ws : Lines) → AreProper ws → is_order (head_of_line (spaced ws)) ≡ true → is_instr (sense_of (outline_of text) labels (head_of_line (spaced ws)) (operands_of ws)) ≡ true → is_read (outline_of text) labels (spaced ws) ≡ true
@@ -76,10 +73,10 @@ pub both_read : (text : List ℕ) (labels : List Entry) (ls ms : Lines) → list
 both_read text labels [] ms e f = f
 both_read text labels (l ∷ ls) ms e f =
     let both = and_parts (is_read (outline_of text) labels l) (list_all (is_read (outline_of text) labels) ls) e in
-    both_hold (is_read (outline_of text) labels l) (list_all (is_read (outline_of text) labels) (ls ++ ms)) both.0 (both_read text labels ls ms both.1 f)
+    and_from (is_read (outline_of text) labels l) (list_all (is_read (outline_of text) labels) (ls ++ ms)) both.0 (both_read text labels ls ms both.1 f)
 
 pub one_read : (text : List ℕ) (labels : List Entry) (l : List ℕ) → is_read (outline_of text) labels l ≡ true → list_all (is_read (outline_of text) labels) (l ∷ []) ≡ true
-one_read text labels l e = both_hold (is_read (outline_of text) labels l) true e refl
+one_read text labels l e = and_from (is_read (outline_of text) labels l) true e refl
 
 -- bytes of ASCII are UTF-8
 ascii : (l : List ℕ) → list_all (λ b. nat_lt b 128) l ≡ true → AllByRecursion (λ b. b < 128) l
@@ -96,13 +93,13 @@ is_read_ascii text labels l = list_all (λ b. nat_lt b 128) l && (is_order (head
 as_read : (text : List ℕ) (labels : List Entry) (l : List ℕ) → is_read_ascii text labels l ≡ true → is_read (outline_of text) labels l ≡ true
 as_read text labels l e =
     let both = and_parts (list_all (λ b. nat_lt b 128) l) (is_order (head_of_line l) && is_instr (sense_of (outline_of text) labels (head_of_line l) (operands_of_line l))) e in
-    both_hold (is_utf8 l) (is_order (head_of_line l) && is_instr (sense_of (outline_of text) labels (head_of_line l) (operands_of_line l))) (ascii_utf8 l both.0) both.1
+    and_from (is_utf8 l) (is_order (head_of_line l) && is_instr (sense_of (outline_of text) labels (head_of_line l) (operands_of_line l))) (ascii_utf8 l both.0) both.1
 
 pub all_read : (text : List ℕ) (labels : List Entry) (ls : Lines) → list_all (is_read_ascii text labels) ls ≡ true → list_all (is_read (outline_of text) labels) ls ≡ true
 all_read text labels [] e = refl
 all_read text labels (l ∷ ls) e =
     let both = and_parts (is_read_ascii text labels l) (list_all (is_read_ascii text labels) ls) e in
-    both_hold (is_read (outline_of text) labels l) (list_all (is_read (outline_of text) labels) ls) (as_read text labels l both.0) (all_read text labels ls both.1)
+    and_from (is_read (outline_of text) labels l) (list_all (is_read (outline_of text) labels) ls) (as_read text labels l both.0) (all_read text labels ls both.1)
 
 module _ (text : List ℕ) (labels : List Entry) where
   first_read : (added : ℕ) → added < 1000 → list_all (is_read (outline_of text) labels) (first_rows added) ≡ true

@@ -8,6 +8,7 @@ use Rattle.std.specs.Str.{bytes_eq}
 use Rattle.std.specs.Str.Parse.{IsNumeral, AllDigits, digits_value, starts_with_minus}
 use Rattle.std.proofs.lemmas.Fmt.{decimal_is_IsNumeral, decimal_injective, length-decimal-le}
 use Rattle.std.proofs.lemmas.Slice.Eq.{bytes_eq-Decides}
+use Rattle.std.proofs.Math.Bool.{or-false}
 use Rattle.hh_lang.specs.Number.{is_numeral, fits_i64, signed_number}
 use Rattle.hh_lang.proofs.Tests.{numeral_passes}
 use Rattle.run_trace.proofs.Words.{IsProper, decimal_is_proper}
@@ -84,10 +85,6 @@ same_name j k e = (bytes_eq-Decides (name_of j) (name_of k)).1 (ap name_of e)
 
 -- ONE NAME MORE
 
-or_false : (b : Bool) → (b || false) ≡ b
-or_false true = refl
-or_false false = refl
-
 or_true : (b : Bool) → (b || true) ≡ true
 or_true true = refl
 or_true false = refl
@@ -98,7 +95,7 @@ or_and_or false b c = refl
 
 -- what passes a test among these and one more
 any_more : {X : Type 0} (p : X → Bool) (xs : List X) (x : X) → list_any p (xs ++ x ∷ []) ≡ (list_any p xs || p x)
-any_more p [] x = or_false (p x)
+any_more p [] x = or-false (p x)
 any_more p (y ∷ ys) x = ap (λ b. p y || b) (any_more p ys x) ∙ or_and_or (p y) (list_any p ys) (p x)
 
 pub noted_more : (es : List Entry) (name other : List ℕ) (number : ℕ) → is_noted (es ++ entry_of other number ∷ []) name ≡ (is_noted es name || bytes_eq name other)
@@ -112,7 +109,7 @@ is_other j k ne = grind (arith, ne)
 
 less_or_same : (j k : ℕ) (b : Bool) → (b ≡ true → j ≡ k) → (j ≡ k → b ≡ true) → (nat_lt j k || b) ≡ nat_lt j (suc k)
 less_or_same j k true f g = or_true (nat_lt j k) ∙ sym (is_next j k (f refl))
-less_or_same j k false f g = or_false (nat_lt j k) ∙ is_other j k (λ e. true≢false (sym (g e)))
+less_or_same j k false f g = or-false (nat_lt j k) ∙ is_other j k (λ e. true≢false (sym (g e)))
 
 -- the name of function j is among those of the first k + 1 where it is among the first k, or is the last of them
 pub among_more : (j k : ℕ) → j < 1000 → k < 1000 → (nat_lt j k || bytes_eq (name_of j) (name_of k)) ≡ nat_lt j (suc k)

@@ -1,28 +1,10 @@
 -- Counts as operands, by what `read_u32` answers.
 use Rattle.std.proofs.Common.{◌≡◌, ◌<◌, ◌≤◌, ◌^◌, ℕ, Bool, true, false, List, [], ◌∷◌, cond, length, arith, refl, ap, nat_lt, ◌&&◌}
 use Rattle.std.specs.Prelude.{nat_le, Option, Some, None, SomeIff}
-use Rattle.std.specs.Char.{digit_value}
-use Rattle.std.specs.Str.Parse.{IsNumeral, AllDigits, digits_value}
-use Rattle.std.proofs.lemmas.Bool.{and_parts}
-use Rattle.hh_lang.specs.Number.{are_digits, is_numeral}
+use Rattle.std.specs.Str.Parse.{IsNumeral, digits_value}
+use Rattle.hh_lang.specs.Number.{is_numeral}
+use Rattle.hh_lang.proofs.Tests.{numeral_passes, passed_numeral}
 use Rattle.program_reader.specs.Operands.{field_count}
-
-digits_pass : (ds : List ℕ) → AllDigits 10 ds → are_digits ds ≡ true
-digits_pass [] h = refl
-digits_pass (c ∷ cs) h = let i = digits_pass cs h.1 in let d : digit_value c < 10 = h.0 in grind (arith, i, d)
-
-below_ten : (d : ℕ) → nat_lt d 10 ≡ true → d < 10
-below_ten d e = grind (arith, e)
-
-passed_digits : (ds : List ℕ) → are_digits ds ≡ true → AllDigits 10 ds
-passed_digits [] e = tt
-passed_digits (c ∷ cs) e = let both = and_parts (nat_lt (digit_value c) 10) (are_digits cs) e in (below_ten (digit_value c) both.0, passed_digits cs both.1)
-
-numeral_passes : (ds : List ℕ) → IsNumeral 10 ds → is_numeral ds ≡ true
-numeral_passes ds h = let i = digits_pass ds h.1 in let l : 0 < length ds = h.0 in grind (arith, i, l)
-
-passed_numeral : (ds : List ℕ) → is_numeral ds ≡ true → IsNumeral 10 ds
-passed_numeral ds e = let both = and_parts (nat_lt 0 (length ds)) (are_digits ds) e in (grind (arith, both.0), passed_digits ds both.1)
 
 abbrev pub IsRead : List ℕ → Option ℕ → Type 0
 IsRead w r = SomeIff r (IsNumeral 10 w × (digits_value 10 w < 2 ^ 32)) (digits_value 10 w)

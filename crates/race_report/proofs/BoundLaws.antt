@@ -1,6 +1,7 @@
 -- A bound allows just what all of its strands precede.
 use Rattle.std.proofs.Common.{◌≡◌, ℕ, ◌<◌, ◌≤◌, Bool, true, false, cond, not, ◌||◌, ◌&&◌, ◌==◌, List, [], ◌∷◌, ◌++◌, nat_lt, refl, ap, sym, ◌∙◌, arith, eq-eqb, eqb-true, ne_eqb, inl, inr}
 use Rattle.std.proofs.lemmas.Bool.{cases_lt, cases_eq}
+use Rattle.std.proofs.Math.Bool.{and-false, and-true}
 use Rattle.listed.proofs.Members.{In}
 use Rattle.hh_model.specs.declared.data.Strand.{Strand}
 use Rattle.race_report.specs.declared.data.Access.{Access}
@@ -12,14 +13,6 @@ use Rattle.race_report.specs.Ways.{has_alike}
 use Rattle.race_report.specs.Watch.{bound_for, bound_with, clash, clashes, with_first, with_access}
 use Rattle.race_report.proofs.Compared.{branches}
 use Rattle.race_report.proofs.Clashes.{as_bound}
-
-and_false : (b : Bool) → (b && false) ≡ false
-and_false true = refl
-and_false false = refl
-
-and_true : (b : Bool) → (b && true) ≡ b
-and_true true = refl
-and_true false = refl
 
 -- FIRST STRANDS, AND THE REST BY THE REST
 
@@ -36,7 +29,7 @@ both_less i j k a b lt =
         let f : nat_lt j k ≡ false = search arith in
         let g : (j == k) ≡ false = ne_eqb j k (λ e. omega arith) in
         let z : (nat_lt j k || ((j == k) && b)) ≡ false = ap (λ x. x || ((j == k) && b)) f ∙ ap (λ x. x && b) g in
-        z ∙ sym (ap (λ x. (nat_lt i k || ((i == k) && a)) && x) z ∙ and_false (nat_lt i k || ((i == k) && a)))
+        z ∙ sym (ap (λ x. (nat_lt i k || ((i == k) && a)) && x) z ∙ and-false (nat_lt i k || ((i == k) && a)))
 
     high : j ≤ k → (nat_lt j k || ((j == k) && b)) ≡ ((nat_lt i k || ((i == k) && a)) && (nat_lt j k || ((j == k) && b)))
     high ge =
@@ -79,7 +72,7 @@ heads_apart u v w ne x y = by (u.task == w.task) refl
         let uw : u.task ≡ w.task = eqb-true u.task w.task e in
         let f : (v.task == w.task) ≡ false = ne_eqb v.task w.task (λ vw. ne (uw ∙ sym vw)) in
         ap (λ b. (nat_lt u.joins w.joins || ((u.joins == w.joins) && x)) && (b && (nat_lt v.joins w.joins || ((v.joins == w.joins) && y)))) f
-        ∙ and_false (nat_lt u.joins w.joins || ((u.joins == w.joins) && x))
+        ∙ and-false (nat_lt u.joins w.joins || ((u.joins == w.joins) && x))
 
 -- WITH A LABEL MORE
 
@@ -134,7 +127,7 @@ module _ (s : Bool) (u v : Strand) (us vs : List Strand) (rest : Both us s vs) w
 pub joined_allows : (us : List Strand) (s : Bool) (vs : List Strand) → Both us s vs
 joined_allows [] false vs ws = refl
 joined_allows [] true vs ws = refl
-joined_allows (u ∷ us) s [] ws = sym (and_true (bound_allows (u ∷ us) s ws))
+joined_allows (u ∷ us) s [] ws = sym (and-true (bound_allows (u ∷ us) s ws))
 joined_allows (u ∷ us) s (v ∷ vs) ws =
     let rest = joined_allows us s vs in
     elim (cases_eq u.task v.task) [
@@ -156,7 +149,7 @@ all_before chosen [] label = true
 all_before chosen (u ∷ us) label = (not (chosen u.access) || label_precedes u.label label) && all_before chosen us label
 
 pub all_before_push : (chosen : Access → Bool) (us : List Seen) (x : Seen) (label : List Strand) → all_before chosen (us ++ x ∷ []) label ≡ (all_before chosen us label && (not (chosen x.access) || label_precedes x.label label))
-all_before_push chosen [] x label = and_true (not (chosen x.access) || label_precedes x.label label)
+all_before_push chosen [] x label = and-true (not (chosen x.access) || label_precedes x.label label)
 all_before_push chosen (u ∷ us) x label =
     ap (λ b. (not (chosen u.access) || label_precedes u.label label) && b) (all_before_push chosen us x label) ∙ assoc (not (chosen u.access) || label_precedes u.label label) (all_before chosen us label) _
   where
@@ -172,7 +165,7 @@ means_more chosen b us x M label = by (chosen x.access) ∙ sym (all_before_push
   where
     by : (t : Bool) → allows (bound_with t b x.label) label ≡ (all_before chosen us label && (not t || label_precedes x.label label))
     by true = joined_allows b.label b.strict x.label label ∙ (ap (λ w. w && bound_allows x.label false label) (M label) ∙ ap (λ w. all_before chosen us label && w) (as_bound x.label label))
-    by false = M label ∙ sym (and_true (all_before chosen us label))
+    by false = M label ∙ sym (and-true (all_before chosen us label))
 
 pub record Bounds (o : Open) : Type 0 where
   pub all : Means (λ a. true) o.all o.earlier

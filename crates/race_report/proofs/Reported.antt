@@ -1,12 +1,13 @@
 -- The races that are found are the report.
 use Rattle.std.proofs.Common.{◌≡◌, ℕ, zero, suc, ◌<◌, Bool, true, false, not, ◌||◌, ◌&&◌, Option, Some, None, List, [], ◌∷◌, length, map, slice_get, get_or, Contains, ◌⊎◌, inl, inr, refl, ap, ap₂, sym, subst, ◌∙◌, arith}
-use Rattle.std.proofs.lemmas.Bool.{both_ways}
+use Rattle.std.proofs.lemmas.Bool.{both_ways, false_from_ne_true}
 use Rattle.std.proofs.lemmas.Option.{same_Some}
 use Rattle.std.specs.declared.cmp.Ordering.TheVariants.{Less}
 use Rattle.std.specs.BTreeMap as tree
 use Rattle.std.specs.BTreeMap.{BTreeMap}
 use Rattle.std.proofs.lemmas.Map.Entries.{btree_map_get_place, place_from_lookup}
 use Rattle.std.proofs.lemmas.Map.Keys.{Less-from_sorted}
+use Rattle.std.proofs.Math.Bool.{not-not}
 use Rattle.listed.proofs.Members.{In, in_from_contains, contains_from_in, got_in, got_within}
 use Rattle.hh_lang.specs.Form.{ProgramText}
 use Rattle.hh_model.specs.declared.data.Edge.{Edge}
@@ -64,12 +65,8 @@ key_tells f g e =
     let x : f.index ≡ g.index = ap (λ (k : Key). k.1.1) e in
     λ i. record { name = record { task = t i; count = c i }; is_number = n i; index = x i }
 
-not_not : (b : Bool) → not (not b) ≡ b
-not_not true = refl
-not_not false = refl
-
 race_field : (u v : Access) → race_key (race_of u v) ≡ key_of v.field
-race_field u v = ap (λ b. ((v.field.name.task, v.field.name.count), (kind_key b, v.field.index))) (not_not v.field.is_number)
+race_field u v = ap (λ b. ((v.field.name.task, v.field.name.count), (kind_key b, v.field.index))) (not-not v.field.is_number)
 
 -- RACES BY LABELS AND BY WALKS
 
@@ -155,7 +152,7 @@ module _ (sight : Sight) (p : ProgramText) (limit : ℕ) (ts : List ℕ) where
       let ku : key u.0 ≡ key_of field = ap (λ (x : Access). key_of x.field) u.2 ∙ (ap key_of R.race.field ∙ ap key_of R.of_field) in
       let cl : clash u.0.access v.0.access ≡ true = ap₂ clash u.2 v.2 ∙ clash_from a b R.race.writes R.race.plain in
       let free : label_precedes u.0.label v.0.label ≡ false =
-      unless (label_precedes u.0.label v.0.label) (λ h. R.race.apart (subst (λ (x : Access). Precedes edges x.strand b.strand) u.2 (subst (λ (x : Access). Precedes edges u.0.access.strand x.strand) v.2 ((tells i j u.0 v.0 R.order u.1 v.1).0 h)))) in (
+      false_from_ne_true (label_precedes u.0.label v.0.label) (λ h. R.race.apart (subst (λ (x : Access). Precedes edges x.strand b.strand) u.2 (subst (λ (x : Access). Precedes edges u.0.access.strand x.strand) v.2 ((tells i j u.0 v.0 R.order u.1 v.1).0 h)))) in (
         u.0,
         v.0,
         record {
@@ -169,10 +166,6 @@ module _ (sight : Sight) (p : ProgramText) (limit : ℕ) (ts : List ℕ) where
         u.2,
         v.2,
       )
-    where
-      unless : (b : Bool) → (b ≡ true → ⊥) → b ≡ false
-      unless true h = absurd (h refl)
-      unless false h = refl
 
   pair_from : (q : Key) (u v : Seen) → Pair q ss u v → IsPair edges all v.access.field u.access v.access
   pair_from q u v P =

@@ -11,7 +11,7 @@ ghost use Rattle.run_journal.specs.Book.{Standing, Steady, Agrees};
 
 use hh_lang::Program;
 use hh_model::{Machine, State, Status};
-use ledger_heaps::{fresh, take_of, words_in};
+use ledger_heaps::{CHUNK_WORDS, fresh, take_of, words_in};
 use listed::Listed;
 use run_ledger::{Heap, RunEnd};
 use run_trace::Settings;
@@ -56,8 +56,8 @@ pub(crate) fn units_of(words: usize) -> usize
     ensures value { result ≡ units words }
     ensures fits { result < 2 ^ 55 }
 {
-    let whole = words / 1024;
-    if words % 1024 == 0 { whole } else { whole + 1 }
+    let whole = words / CHUNK_WORDS;
+    if words % CHUNK_WORDS == 0 { whole } else { whole + 1 }
 }
 
 /// How many objects of the heap's snapshot are left to mark.
@@ -282,7 +282,7 @@ impl<'p> Accounts<'p> {
         ensures { result ≡ is_in_need self.now.program self.now.ledger task }
     {
         match words {
-            Some(words) if words <= 1024 => (self.room(task) as usize) < words,
+            Some(words) if words <= CHUNK_WORDS => (self.room(task) as usize) < words,
             Some(words) => self.reserved(task) as usize != units_of(words),
             None => false,
         }

@@ -10,7 +10,7 @@ ghost use Rattle.ledger_heaps.specs.Parts.{with_collected, with_swept};
 ghost use Rattle.run_journal.specs.Book.{Steady, Agrees};
 
 use crate::accounts::{Accounts, units_of};
-use ledger_heaps::{Collected, Swept, collect, fresh, sweep, within};
+use ledger_heaps::{CHUNK_WORDS, Collected, Swept, collect, fresh, sweep, within};
 use listed::Listed;
 use run_ledger::RunEnd;
 use std::alloc::AllocError;
@@ -54,7 +54,7 @@ impl<'p> Accounts<'p> {
         ensures fits { result < 2 ^ 55 }
     {
         match self.asked(task) {
-            Some(words) if 1024 < words => units_of(words),
+            Some(words) if CHUNK_WORDS < words => units_of(words),
             _ => 1,
         }
     }
@@ -64,7 +64,7 @@ impl<'p> Accounts<'p> {
         ensures { result ≡ on_asked (asked self.now.program self.now.ledger.machine task) is_small }
     {
         match self.asked(task) {
-            Some(words) => words <= 1024,
+            Some(words) => words <= CHUNK_WORDS,
             None => false,
         }
     }
@@ -88,7 +88,7 @@ impl<'p> Accounts<'p> {
             let heap = self.heaps.at_mut(task as usize);
             if small {
                 heap.chunks.push(Listed::new(self.alloc))?;
-                heap.room = 1024;
+                heap.room = CHUNK_WORDS as u32;
             } else {
                 heap.reserved = units as u32;
             }

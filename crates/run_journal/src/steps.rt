@@ -10,7 +10,7 @@ ghost use Rattle.run_journal.specs.Book.{Steady, Forks, Joins, ArePaired, left_o
 
 use crate::accounts::Accounts;
 use hh_model::{Machine, Name, State, Status};
-use ledger_heaps::{fresh, join, place, within};
+use ledger_heaps::{CHUNK_WORDS, fresh, join, place, within};
 use listed::Listed;
 use run_ledger::{Heap, RunEnd};
 use std::alloc::{AllocError, Global};
@@ -36,7 +36,7 @@ impl<'p> Accounts<'p> {
         ensures { result ≡ next_large self.now.program self.now.ledger t }
     {
         match words {
-            Some(words) if 1024 < words => Some(Name {
+            Some(words) if CHUNK_WORDS < words => Some(Name {
                 task: t,
                 count: objects_of(&self.machine, t) as u32,
             }),
