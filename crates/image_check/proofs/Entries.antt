@@ -3,7 +3,7 @@ use Rattle.std.proofs.Common.{◌≡◌, ℕ, Bool, true, false, cond, List, [],
 use Rattle.std.specs.Prelude.{Some, nat_eq}
 use Rattle.image_check.specs.Table.{found, with_entry}
 
-itself : (n : ℕ) → nat_eq n n ≡ true
+pub itself : (n : ℕ) → nat_eq n n ≡ true
 itself n = grind arith
 
 beside : (m n k : ℕ) → nat_eq m n ≡ false → nat_eq n k ≡ true → nat_eq m k ≡ false

@@ -2,6 +2,7 @@
 use Rattle.std.proofs.Common.{◌≡◌, ◌++◌, ℕ, suc, Bool, true, false, List, [], ◌∷◌, cond, length, refl, ap, sym, ◌∙◌, arith, inl, inr, ◌⊎◌}
 use Rattle.std.specs.Prelude.{◌==◌, ◌&&◌, ◌||◌, nat_eq, is_some}
 use Rattle.std.specs.List.{list_any}
+use Rattle.std.proofs.lemmas.Bool.{or_cases, or_left, or_right, and_parts}
 use Rattle.image_check.specs.declared.line.Object.{Object}
 use Rattle.image_check.specs.declared.line.Remembered.{Remembered}
 use Rattle.image_check.specs.declared.line.Said.{Said}
@@ -16,24 +17,8 @@ use Rattle.image_check.proofs.Entries.{found_beside}
 
 -- ITEMS
 
-pub either_true : (a b : Bool) → (a || b) ≡ true → (a ≡ true) ⊎ (b ≡ true)
-either_true true b e = inl refl
-either_true false b e = inr e
-
-pub both_true : (a b : Bool) → (a && b) ≡ true → (a ≡ true) × (b ≡ true)
-both_true true b e = (refl, e)
-both_true false b e = absurd (cc)
-
-pub left_true : (a b : Bool) → a ≡ true → (a || b) ≡ true
-left_true true b e = refl
-left_true false b e = absurd (cc)
-
-pub right_true : (a b : Bool) → b ≡ true → (a || b) ≡ true
-right_true true b e = refl
-right_true false b e = e
-
 or_more : (a b c : Bool) → ((b ≡ true) ⊎ (c ≡ true)) → ((a || b) ≡ true) ⊎ (c ≡ true)
-or_more a b c (inl e) = inl (right_true a b e)
+or_more a b c (inl e) = inl (or_right a b e)
 or_more a b c (inr e) = inr e
 
 module _ {K : Type 0} where
@@ -43,23 +28,23 @@ module _ {K : Type 0} where
       last_of : (b : Bool) → (b || false) ≡ true → (false ≡ true) ⊎ (b ≡ true)
       last_of true e = inr refl
       last_of false e = inl e
-  any_last p (x ∷ xs) k e = by (either_true (p x) (list_any p (xs ++ k ∷ [])) e) (λ h. any_last p xs k h)
+  any_last p (x ∷ xs) k e = by (or_cases (p x) (list_any p (xs ++ k ∷ [])) e) (λ h. any_last p xs k h)
     where
       by : ((p x ≡ true) ⊎ (list_any p (xs ++ k ∷ []) ≡ true)) → (list_any p (xs ++ k ∷ []) ≡ true → (list_any p xs ≡ true) ⊎ (p k ≡ true)) → ((p x || list_any p xs) ≡ true) ⊎ (p k ≡ true)
-      by (inl h) again = inl (left_true (p x) (list_any p xs) h)
+      by (inl h) again = inl (or_left (p x) (list_any p xs) h)
       by (inr h) again = or_more (p x) (list_any p xs) (p k) (again h)
 
   any_kept : (p : K → Bool) (ks : List K) (k : K) → list_any p ks ≡ true → list_any p (ks ++ k ∷ []) ≡ true
   any_kept p [] k e = absurd (cc)
-  any_kept p (x ∷ xs) k e = by (either_true (p x) (list_any p xs) e) (λ h. any_kept p xs k h)
+  any_kept p (x ∷ xs) k e = by (or_cases (p x) (list_any p xs) e) (λ h. any_kept p xs k h)
     where
       by : ((p x ≡ true) ⊎ (list_any p xs ≡ true)) → (list_any p xs ≡ true → list_any p (xs ++ k ∷ []) ≡ true) → (p x || list_any p (xs ++ k ∷ [])) ≡ true
-      by (inl h) again = left_true (p x) (list_any p (xs ++ k ∷ [])) h
-      by (inr h) again = right_true (p x) (list_any p (xs ++ k ∷ [])) (again h)
+      by (inl h) again = or_left (p x) (list_any p (xs ++ k ∷ [])) h
+      by (inr h) again = or_right (p x) (list_any p (xs ++ k ∷ [])) (again h)
 
   any_added : (p : K → Bool) (ks : List K) (k : K) → p k ≡ true → list_any p (ks ++ k ∷ []) ≡ true
-  any_added p [] k e = left_true (p k) false e
-  any_added p (x ∷ xs) k e = right_true (p x) (list_any p (xs ++ k ∷ [])) (any_added p xs k e)
+  any_added p [] k e = or_left (p k) false e
+  any_added p (x ∷ xs) k e = or_right (p x) (list_any p (xs ++ k ∷ [])) (any_added p xs k e)
 
   module _ (same : K → K → Bool) (ks : List K) (k x : K) where
     from_by : (b : Bool) → is_among same (cond b ks (ks ++ k ∷ [])) x ≡ true → (is_among same ks x ≡ true) ⊎ (same x k ≡ true)
@@ -93,8 +78,8 @@ field u a k = record { task = u; address = a; place = k }
 
 one_field : (u a k : ℕ) (f : Remembered) → same_field (u, a, k) (f.task, f.address, f.place) ≡ true → OfRemembered f ≡ OfRemembered (field u a k)
 one_field u a k f e =
-    let h = both_true (u == f.task) ((a == f.address) && (k == f.place)) e in
-    let g = both_true (a == f.address) (k == f.place) h.1 in
+    let h = and_parts (u == f.task) ((a == f.address) && (k == f.place)) e in
+    let g = and_parts (a == f.address) (k == f.place) h.1 in
     rw (equal u f.task h.0, equal a f.address g.0, equal k f.place g.1) refl
 
 field_line : (w : Whole) (s : Said) (u a k : ℕ) → is_among same_field (with_line w s).fields (u, a, k) ≡ true → (is_among same_field w.fields (u, a, k) ≡ true) ⊎ (s ≡ OfRemembered (field u a k))

@@ -1,6 +1,6 @@
 -- Behind lines without a cause each task stands once, behind its parent.
-use Rattle.std.proofs.Common.{◌≡◌, ◌∙◌, ℕ, Bool, true, false, cond, List, [], ◌∷◌, refl, ap, sym, subst}
-use Rattle.std.specs.Prelude.{Option, Some, None, slice_get, not}
+use Rattle.std.proofs.Common.{◌≡◌, ◌∙◌, ℕ, Bool, true, false, cond, List, [], ◌∷◌, refl, ap, sym}
+use Rattle.std.specs.Prelude.{Option, Some, None}
 use Rattle.std.proofs.lemmas.Bool.{not-false}
 use Rattle.image_check.specs.declared.line.Task.{Task}
 use Rattle.image_check.specs.declared.line.Said.{Said}
@@ -9,8 +9,7 @@ use Rattle.image_check.specs.declared.read.Read.{Read}
 use Rattle.image_check.specs.declared.whole.Whole.{Whole}
 use Rattle.image_check.specs.declared.cause.Cause.TheVariants.{NoTask}
 use Rattle.image_check.specs.Line.{said_by}
-use Rattle.image_check.specs.Table.{has, with_new}
-use Rattle.image_check.specs.Tasks.{Tasks}
+use Rattle.image_check.specs.Table.{has}
 use Rattle.image_check.specs.Read.{nothing_read, after_line}
 use Rattle.image_check.specs.Fault.{lacks_parent, cause_on, after_lines}
 use Rattle.image_check.specs.Sound.{AreClear, TasksAreRelated}

@@ -1,14 +1,16 @@
 -- Ancestors among tasks each of which stands behind its parent.
-use Rattle.std.proofs.Common.{◌≡◌, ◌<◌, ◌≤◌, ◌+◌, ℕ, zero, suc, Bool, true, false, cond, List, [], ◌∷◌, ◌++◌, length, refl, ap, sym, ◌∙◌, arith, inl, inr, ◌⊎◌, subst, length-append}
-use Rattle.std.specs.Prelude.{Option, Some, None, ◌==◌, ◌||◌, slice_get, nat_eq, is_some}
+use Rattle.std.proofs.Common.{◌≡◌, ◌<◌, ◌≤◌, ◌+◌, ℕ, zero, suc, Bool, true, false, cond, [], ◌∷◌, ◌++◌, length, refl, ap, sym, ◌∙◌, arith, inl, inr, ◌⊎◌, subst, length-append}
+use Rattle.std.specs.Prelude.{Option, Some, None, ◌==◌, slice_get, nat_eq, is_some}
+use Rattle.std.proofs.lemmas.Bool.{or_cases, or_left, or_right}
 use Rattle.std.proofs.lemmas.Option.{same_Some}
 use Rattle.listed.proofs.Members.{got_front, got_back, got_within}
 use Rattle.image_check.specs.declared.line.Task.{Task}
 use Rattle.image_check.specs.declared.tasks.Relation.TheVariants.{Own, Above, Below, Apart}
 use Rattle.image_check.specs.Table.{found, has}
-use Rattle.image_check.specs.Tasks.{Tasks, parent_in, parent_of, there_or_on, meets, is_above, relation_of, LinksLead, IsAncestor, IsRelated}
+use Rattle.image_check.specs.Tasks.{Tasks, parent_in, parent_of, there_or_on, meets, is_above, LinksLead, IsAncestor, IsRelated}
 use Rattle.image_check.specs.Links.{StandsAt}
-use Rattle.image_check.proofs.Members.{either_true, right_true, left_true, equal}
+use Rattle.image_check.proofs.Entries.{itself}
+use Rattle.image_check.proofs.Members.{equal}
 
 abbrev pub Entry : Type 0
 Entry = ℕ × Task
@@ -23,9 +25,6 @@ pub record AreOrdered (es : Tasks) : Type 0 where
   pub behind : (i : ℕ) (e : Entry) (p : ℕ) → slice_get es i ≡ Some e → e.1.parent ≡ Some p → (j : ℕ) × (j < i) × StandsAt es j p
 
 -- LOOKING UP
-
-pub same_number : (n : ℕ) → nat_eq n n ≡ true
-same_number n = grind arith
 
 pub record IsPlaced (es : Tasks) (t : ℕ) (x : Task) : Type 0 where
   pub place : ℕ
@@ -48,7 +47,7 @@ there (f ∷ es) zero e h = let s : f ≡ e = same_Some f e h in by (nat_eq e.0 
   where
     by : (b : Bool) → nat_eq e.0 f.0 ≡ b → (x : Task) × (found (f ∷ es) e.0 ≡ Some x)
     by true is = (f.1, rw is refl)
-    by false is = absurd (let s : f ≡ e = same_Some f e h in let g : nat_eq e.0 f.0 ≡ true = rw s (same_number e.0) in cc)
+    by false is = absurd (let s : f ≡ e = same_Some f e h in let g : nat_eq e.0 f.0 ≡ true = rw s (itself e.0) in cc)
 there (f ∷ es) (suc i) e h = by (nat_eq e.0 f.0) refl (there es i e h)
   where
     by : (b : Bool) → nat_eq e.0 f.0 ≡ b → ((x : Task) × (found es e.0 ≡ Some x)) → (x : Task) × (found (f ∷ es) e.0 ≡ Some x)
@@ -94,8 +93,8 @@ module _ (es : Tasks) (o : AreOrdered es) where
 
   met : (m n t a : ℕ) → n < m → LinksLead n es t a → meets m es a t ≡ true
   met zero n t a lt h = absurd (omega (arith, lt))
-  met (suc m) zero t a lt h = ap (there_or_on a (meets m es a)) h ∙ left_true (a == a) (meets m es a a) (let e : (a == a) ≡ true = grind arith in e)
-  met (suc m) (suc n) t a lt h = ap (there_or_on a (meets m es a)) h.1 ∙ right_true (h.0 == a) (meets m es a h.0) (met m n h.0 a (omega (arith, lt)) h.2)
+  met (suc m) zero t a lt h = ap (there_or_on a (meets m es a)) h ∙ or_left (a == a) (meets m es a a) (let e : (a == a) ≡ true = grind arith in e)
+  met (suc m) (suc n) t a lt h = ap (there_or_on a (meets m es a)) h.1 ∙ or_right (h.0 == a) (meets m es a h.0) (met m n h.0 a (omega (arith, lt)) h.2)
 
   -- an ancestor is met
   pub met_ancestor : (a t : ℕ) → IsAncestor es a t → is_above es a t ≡ true
@@ -171,7 +170,7 @@ module _ (es : Tasks) (n : ℕ) (t : Task) where
 
 one_more : (n : ℕ) (tasks : Tasks) (a t : ℕ) (m : Option ℕ) → parent_of tasks t ≡ m → ((p : ℕ) → meets n tasks a p ≡ true → IsAncestor tasks a p) → there_or_on a (meets n tasks a) m ≡ true → IsAncestor tasks a t
 one_more n tasks a t None e again h = absurd (cc)
-one_more n tasks a t (Some p) e again h = by (either_true (p == a) (meets n tasks a p) h)
+one_more n tasks a t (Some p) e again h = by (or_cases (p == a) (meets n tasks a p) h)
   where
     by : (((p == a) ≡ true) ⊎ (meets n tasks a p ≡ true)) → IsAncestor tasks a t
     by (inl g) = (0, e ∙ ap Some (equal p a g))

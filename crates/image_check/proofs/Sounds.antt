@@ -2,7 +2,7 @@
 use Rattle.std.proofs.Common.{◌≡◌, ◌+◌, ℕ, zero, suc, Bool, true, false, cond, List, [], ◌∷◌, refl, ap, sym, ◌∙◌, arith, inl, inr, ◌⊎◌, subst}
 use Rattle.std.specs.Prelude.{Option, Some, None, ◌==◌, ◌&&◌, ◌||◌, not}
 use Rattle.std.specs.List.{list_any}
-use Rattle.std.proofs.lemmas.Bool.{not-false}
+use Rattle.std.proofs.lemmas.Bool.{not-false, or_cases, or_parts}
 use Rattle.text_lines.specs.Lines.{lines_of}
 use Rattle.image_check.specs.declared.line.Birth.{Birth}
 use Rattle.image_check.specs.declared.line.Object.{Object}
@@ -19,8 +19,8 @@ use Rattle.image_check.specs.Tasks.{Tasks, Chunks, is_above, owner_in, owner_at}
 use Rattle.image_check.specs.Fault.{cause_on, is_last, fault_from, lines_fault, is_astray, relation_to, is_apart, is_below, crosses, forgets, is_forgotten, owner_runs}
 use Rattle.image_check.specs.Sound.{LineSays, ReferenceIs, IsObjectAt, IsRemembered, IsInRunning, LeadsSomewhere, KeepsToPath, IsSoundObject, all_read, HasSoundObjects, HasDistinctBirths, FaultlessIsSound}
 use Rattle.image_check.proofs.Paths.{above}
-use Rattle.image_check.proofs.Steps.{or_false, clear, faultless, IsWell, well, met}
-use Rattle.image_check.proofs.Members.{either_true, equal, item_kept, item_added, field_from, object_from}
+use Rattle.image_check.proofs.Steps.{clear, faultless, IsWell, well, met}
+use Rattle.image_check.proofs.Members.{equal, item_kept, item_added, field_from, object_from}
 
 -- BIRTHS
 
@@ -69,8 +69,8 @@ distinct w r n (l ∷ ls) none (suc i) (suc j) o p lt a b e = distinct w (after_
 
 none_of : (p : ℕ → Bool) (vs : List ℕ) (k v : ℕ) → list_any p vs ≡ false → ReferenceIs vs k v → p v ≡ false
 none_of p [] k v e h = absurd h
-none_of p (x ∷ xs) zero v e h = ap p (sym h) ∙ (or_false (p x) (list_any p xs) e).0
-none_of p (x ∷ xs) (suc k) v e h = none_of p xs k v (or_false (p x) (list_any p xs) e).1 h
+none_of p (x ∷ xs) zero v e h = ap p (sym h) ∙ (or_parts (p x) (list_any p xs) e).0
+none_of p (x ∷ xs) (suc k) v e h = none_of p xs k v (or_parts (p x) (list_any p xs) e).1 h
 
 not_forgotten : (w : Whole) (r : Read) (t a m : ℕ) (vs : List ℕ) (k v : ℕ) → forgets w r t a m vs ≡ false → ReferenceIs vs k v → is_forgotten w r t a (m + k) (owner_at r.chunks v) ≡ false
 not_forgotten w r t a m [] k v e h = absurd h
@@ -78,11 +78,11 @@ not_forgotten w r t a m (x ∷ xs) zero v e h =
     let z : m + 0 ≡ m = omega arith in
     ap (λ y. is_forgotten w r t a y (owner_at r.chunks v)) z
     ∙ ap (λ y. is_forgotten w r t a m (owner_at r.chunks y)) (sym h)
-    ∙ (or_false (is_forgotten w r t a m (owner_at r.chunks x)) (forgets w r t a (m + 1) xs) e).0
+    ∙ (or_parts (is_forgotten w r t a m (owner_at r.chunks x)) (forgets w r t a (m + 1) xs) e).0
 not_forgotten w r t a m (x ∷ xs) (suc k) v e h =
     let z : m + suc k ≡ (m + 1) + k = omega arith in
     ap (λ y. is_forgotten w r t a y (owner_at r.chunks v)) z
-    ∙ not_forgotten w r t a (m + 1) xs k v (or_false (is_forgotten w r t a m (owner_at r.chunks x)) (forgets w r t a (m + 1) xs) e).1 h
+    ∙ not_forgotten w r t a (m + 1) xs k v (or_parts (is_forgotten w r t a m (owner_at r.chunks x)) (forgets w r t a (m + 1) xs) e).1 h
 
 -- WHERE IT LEADS
 
@@ -100,14 +100,14 @@ module _ (ls : List (List ℕ)) (r : Read) where
 
   leads_by : (v : ℕ) → (((v == 0) ≡ true) ⊎ ((has w.objects v || owner_runs r (owner_at r.chunks v)) ≡ true)) → LeadsSomewhere ls r v
   leads_by v (inl e) = inl (equal v 0 e)
-  leads_by v (inr e) = by (either_true (has w.objects v) (owner_runs r (owner_at r.chunks v)) e)
+  leads_by v (inr e) = by (or_cases (has w.objects v) (owner_runs r (owner_at r.chunks v)) e)
     where
       by : ((has w.objects v ≡ true) ⊎ (owner_runs r (owner_at r.chunks v) ≡ true)) → LeadsSomewhere ls r v
       by (inl h) = inr (inl (at_object v (object_from nothing_had ls v h)))
       by (inr h) = inr (inr (runs_at r v (owner_at r.chunks v) refl h))
 
   pub leads_on : (v : ℕ) → is_astray w r v ≡ false → LeadsSomewhere ls r v
-  leads_on v e = leads_by v (either_true (v == 0) (has w.objects v || owner_runs r (owner_at r.chunks v)) (not-false ((v == 0) || (has w.objects v || owner_runs r (owner_at r.chunks v))) e))
+  leads_on v e = leads_by v (or_cases (v == 0) (has w.objects v || owner_runs r (owner_at r.chunks v)) (not-false ((v == 0) || (has w.objects v || owner_runs r (owner_at r.chunks v))) e))
 
   noted_line : (u a k : ℕ) → ((is_among same_field [] (u, a, k) ≡ true) ⊎ IsRemembered ls u a k) → IsRemembered ls u a k
   noted_line u a k (inl e) = absurd (cc)

@@ -1,7 +1,8 @@
 -- A text without a fault, line by line.
 use Rattle.std.proofs.Common.{◌≡◌, ◌<◌, ◌+◌, ℕ, zero, suc, Bool, true, false, List, [], ◌∷◌, cond, refl, ap, sym, ◌∙◌, arith}
-use Rattle.std.specs.Prelude.{length, nat_le, Option, Some, None, ◌&&◌, ◌||◌, not}
+use Rattle.std.specs.Prelude.{length, nat_le, Option, Some, None, ◌&&◌, not}
 use Rattle.std.specs.List.{list_any}
+use Rattle.std.proofs.lemmas.Bool.{or_parts}
 use Rattle.image_check.specs.declared.line.Chunk.{Chunk}
 use Rattle.image_check.specs.declared.line.Object.{Object}
 use Rattle.image_check.specs.declared.line.Said.{Said}
@@ -20,10 +21,6 @@ use Rattle.image_check.specs.Fault.{has_wrong_place, is_misplaced, is_end, break
 use Rattle.image_check.specs.Sound.{LineSays}
 
 -- BOOLEANS
-
-pub or_false : (a b : Bool) → (a || b) ≡ false → (a ≡ false) × (b ≡ false)
-or_false true b e = absurd (cc)
-or_false false b e = (refl, e)
 
 pub cond_none : (b : Bool) (c : Cause) (o : Option Cause) → cond b (Some c) o ≡ None → (b ≡ false) × (o ≡ None)
 cond_none true c o e = absurd (cc)
@@ -47,7 +44,7 @@ clear w r n l ls e = later_none (cause_on w r (is_last ls) (said_by l)) n (fault
 pub formed : (w : Whole) (r : Read) (last : Bool) (s : Said) → cause_on w r last s ≡ None → (is_misplaced r.last s ≡ false) × (cause_by w r s ≡ None)
 formed w r last s e =
     let h = cond_none (breaks_form r last s) Line (cause_by w r s) e in
-    ((or_false (is_misplaced r.last s) (last && not (is_end (last_after r.last (position_of s)))) h.0).0, h.1)
+    ((or_parts (is_misplaced r.last s) (last && not (is_end (last_after r.last (position_of s)))) h.0).0, h.1)
 
 -- AN OBJECT'S LINE
 
