@@ -10,6 +10,7 @@ use Rattle.listed.proofs.Members.{In}
 use Rattle.hh_model.specs.declared.data.Name.{Name}
 use Rattle.run_ledger.specs.Reachable.{is_name}
 use Rattle.run_ledger.specs.Heaps.{name_le, insert_name, by_birth}
+use Rattle.run_ledger.proofs.Held.{insert_cases}
 use Rattle.run_ledger.proofs.Members.{is_name_itself, same_from_is_name}
 use Rattle.run_ledger.proofs.Weights.{birth_weight}
 
@@ -56,17 +57,6 @@ le_both a b h k = below_both a b (below_from a b h) (below_from b a k)
 abbrev Up : List Name → Type 0
 Up [] = Unit {0}
 Up (n ∷ ns) = ((m : Name) → In ns m → name_le n m ≡ true) × Up ns
-
-insert_cases_by : (n m : Name) (ms : List Name) (x : Name) → (In (insert_name n ms) x → (n ≡ x) ⊎ In ms x) → (b : Bool) → In (cond b (n ∷ m ∷ ms) (m ∷ insert_name n ms)) x → (n ≡ x) ⊎ In (m ∷ ms) x
-insert_cases_by n m ms x rest true (inl e) = inl e
-insert_cases_by n m ms x rest true (inr i) = inr i
-insert_cases_by n m ms x rest false (inl e) = inr (inl e)
-insert_cases_by n m ms x rest false (inr i) = elim (rest i) [ inl e ↦ inl e | inr j ↦ inr (inr j) ]
-
-insert_cases : (n : Name) (ms : List Name) (x : Name) → In (insert_name n ms) x → (n ≡ x) ⊎ In ms x
-insert_cases n [] x (inl e) = inl e
-insert_cases n [] x (inr i) = inr i
-insert_cases n (m ∷ ms) x i = insert_cases_by n m ms x (insert_cases n ms x) (name_le n m) i
 
 insert_up_by : (n m : Name) (ms : List Name) → Up (m ∷ ms) → Up (insert_name n ms) → (b : Bool) → name_le n m ≡ b → Up (cond b (n ∷ m ∷ ms) (m ∷ insert_name n ms))
 insert_up_by n m ms up rest true is = (first, up)

@@ -2,12 +2,12 @@
 use Rattle.std.proofs.Common.{◌≡◌, ℕ, zero, suc, ◌+◌, ◌<◌, List, [], ◌∷◌, Option, Some, slice_get, slice_set, refl, ap, sym, ◌∙◌, arith}
 use Rattle.std.proofs.lemmas.List.{set-set}
 use Rattle.listed.proofs.Members.{got_other}
+use Rattle.hh_model.proofs.Lists.{set_got}
 use Rattle.run_ledger.specs.declared.data.Heap.{Heap}
 use Rattle.run_ledger.specs.declared.data.Ledger.{Ledger}
 use Rattle.run_ledger.specs.Heaps.{emptied, heap_of, merged, or_fresh, with_heap_at}
 use Rattle.run_ledger.specs.Steps.{join_heaps}
 use Rattle.ledger_heaps.specs.Accounts.{since_at}
-use Rattle.ledger_heaps.proofs.Lists.{set_again}
 
 set_swap : {A : Type 0} (xs : List A) (i j : ℕ) (x y : A) → (i ≡ j → ⊥) → slice_set (slice_set xs i x) j y ≡ slice_set (slice_set xs j y) i x
 set_swap [] i j x y ne = refl
@@ -48,9 +48,9 @@ module _ (heaps : List Heap) (p a : ℕ) (order : p < a) (hole gap own left righ
   join_undone m l r e f g =
       written m l r
       ∙ (λ i. slice_set (slice_set (slice_set heaps p (e i)) a (f i)) (a + 1) (g i))
-      ∙ ap (λ hs. slice_set (slice_set hs a left) (a + 1) right) (set_again heaps p own own_at)
-      ∙ ap (λ hs. slice_set hs (a + 1) right) (set_again heaps a left at_left)
-      ∙ set_again heaps (a + 1) right right_at
+      ∙ ap (λ hs. slice_set (slice_set hs a left) (a + 1) right) (set_got heaps p own own_at)
+      ∙ ap (λ hs. slice_set hs (a + 1) right) (set_got heaps a left at_left)
+      ∙ set_got heaps (a + 1) right right_at
 
   module _ (l : Ledger) (same : l.heaps ≡ heaps) where
     abbrev to_merged : Heap → Heap

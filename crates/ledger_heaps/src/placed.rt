@@ -26,7 +26,7 @@ pub fn place(alloc: Global, heap: &mut Heap, name: Name, words: usize) -> Result
     Ok(())
 }
 
-#[tactic(auto, using(crate::proofs::Lists::set_again, crate::proofs::Lists::put_last_at))]
+#[tactic(auto, using(hh_model::proofs::Lists::set_got, crate::proofs::Lists::put_last_at))]
 /// Adds a name at the end of the last list; for want of a list, in a list of its own.
 pub fn put_last(
     alloc: Global,
