@@ -2,6 +2,7 @@
 use Rattle.std.proofs.Common.{◌≡◌, ◌≤◌, ◌+◌, ℕ, suc, Bool, true, false, List, [], ◌∷◌, length, refl, ap, sym, ◌∙◌, inl, inr, arith}
 use Rattle.std.specs.Prelude.{Option, Some, None, ◌==◌, ◌&&◌, ◌||◌, not, slice_get, is_some}
 use Rattle.std.specs.List.{list_any}
+use Rattle.std.proofs.lemmas.Bool.{or_left, or_right}
 use Rattle.listed.specs.Members.{In}
 use Rattle.image_check.specs.declared.line.Remembered.{Remembered}
 use Rattle.image_check.specs.declared.read.Read.{Read}
@@ -10,7 +11,6 @@ use Rattle.image_check.specs.Sets.{is_among, same_field}
 use Rattle.image_check.specs.Table.{found, has}
 use Rattle.image_check.specs.Tasks.{is_running, owner_at}
 use Rattle.image_check.specs.Fault.{is_astray, owner_runs, relation_to, is_apart, is_below, crosses, is_noted, is_forgotten, forgets}
-use Rattle.image_check.proofs.Members.{left_true, right_true}
 use Rattle.heap_image.specs.declared.picture.Picked.{Picked}
 use Rattle.heap_image.specs.declared.picture.Picture.{Picture}
 use Rattle.heap_image.specs.Picture.{LeadsSomewhere, IsOwned, IsSoundPicture}
@@ -50,13 +50,13 @@ module _ (p : Picture) (s : IsSoundPicture p) (w : Whole) (all : HasAll p w) (a 
   runs_there v u owned run = ap (owner_runs r) (owner_found p s v u owned) ∙ run
 
   leads : (v : ℕ) → LeadsSomewhere p v → ((v == 0) || (has w.objects v || owner_runs r (owner_at r.chunks v))) ≡ true
-  leads v (inl e) = left_true (v == 0) (has w.objects v || owner_runs r (owner_at r.chunks v)) (let f : (0 == 0) ≡ true = grind arith in ap (λ x. x == 0) e ∙ f)
+  leads v (inl e) = or_left (v == 0) (has w.objects v || owner_runs r (owner_at r.chunks v)) (let f : (0 == 0) ≡ true = grind arith in ap (λ x. x == 0) e ∙ f)
   leads v (inr (inl h)) =
-      right_true (v == 0) (has w.objects v || owner_runs r (owner_at r.chunks v))
-      (left_true (has w.objects v) (owner_runs r (owner_at r.chunks v)) (ap (has w.objects) (sym h.2) ∙ (let j = all.objects h.0 h.1 in ap is_some j.1)))
+      or_right (v == 0) (has w.objects v || owner_runs r (owner_at r.chunks v))
+      (or_left (has w.objects v) (owner_runs r (owner_at r.chunks v)) (ap (has w.objects) (sym h.2) ∙ (let j = all.objects h.0 h.1 in ap is_some j.1)))
   leads v (inr (inr h)) =
-      right_true (v == 0) (has w.objects v || owner_runs r (owner_at r.chunks v))
-      (right_true (has w.objects v) (owner_runs r (owner_at r.chunks v)) (runs_there v h.0 h.1 (running p s h.0 h.2)))
+      or_right (v == 0) (has w.objects v || owner_runs r (owner_at r.chunks v))
+      (or_right (has w.objects v) (owner_runs r (owner_at r.chunks v)) (runs_there v h.0 h.1 (running p s h.0 h.2)))
 
   pub none_astray : (o : Picked) → In p.objects o → list_any (is_astray w r) o.references ≡ false
   none_astray o h = none_of (is_astray w r) o.references (λ v i. ap not (leads v (s.leads o v h i)))

@@ -1,6 +1,7 @@
 -- An object of a sound picture is born once, and lies apart from the one before.
 use Rattle.std.proofs.Common.{◌≡◌, ◌<◌, ◌≤◌, ℕ, Bool, true, false, List, refl, sym, arith}
 use Rattle.std.specs.Prelude.{Option, None, ◌==◌, nat_lt}
+use Rattle.std.proofs.lemmas.Bool.{and_parts}
 use Rattle.listed.specs.Members.{In}
 use Rattle.image_check.specs.declared.line.Birth.{Birth}
 use Rattle.image_check.specs.declared.line.Chunk.{Chunk}
@@ -8,7 +9,7 @@ use Rattle.image_check.specs.declared.read.Extent.{Extent}
 use Rattle.image_check.specs.Place.{chunk_number, offset}
 use Rattle.image_check.specs.Sets.{is_among, same_birth}
 use Rattle.image_check.specs.Fault.{overlaps, is_crowded}
-use Rattle.image_check.proofs.Members.{both_true, equal}
+use Rattle.image_check.proofs.Members.{equal}
 use Rattle.heap_image.specs.declared.picture.Picked.{Picked}
 use Rattle.heap_image.specs.declared.picture.Picture.{Picture}
 use Rattle.heap_image.specs.Picture.{ObjectBefore, end_of, AreApart, IsSoundPicture}
@@ -27,7 +28,7 @@ other_birth : (x y : Birth) → (x ≡ y → ⊥) → same_birth (x.task, x.coun
 other_birth x y ne = by (same_birth (x.task, x.count) (y.task, y.count)) refl
   where
     by : (b : Bool) → same_birth (x.task, x.count) (y.task, y.count) ≡ b → same_birth (x.task, x.count) (y.task, y.count) ≡ false
-    by true e = absurd (let h = both_true (x.task == y.task) (x.count == y.count) e in ne (one_birth x y h.0 h.1))
+    by true e = absurd (let h = and_parts (x.task == y.task) (x.count == y.count) e in ne (one_birth x y h.0 h.1))
     by false e = e
 
 -- PLACES

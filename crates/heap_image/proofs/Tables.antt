@@ -5,6 +5,7 @@ use Rattle.std.proofs.lemmas.Option.{same_Some}
 use Rattle.listed.specs.Members.{In}
 use Rattle.image_check.specs.Table.{found, has, with_entry, with_new}
 use Rattle.image_check.specs.Sets.{is_among, with_item}
+use Rattle.image_check.proofs.Entries.{itself}
 
 equal : (x y : ℕ) → nat_eq x y ≡ true → x ≡ y
 equal x y e = grind (arith, e)
@@ -15,9 +16,6 @@ differs x y ne = by (nat_eq x y) refl
     by : (b : Bool) → nat_eq x y ≡ b → nat_eq x y ≡ false
     by true e = absurd (ne (equal x y e))
     by false e = e
-
-same : (x : ℕ) → nat_eq x x ≡ true
-same x = grind arith
 
 module _ {A B : Type 0} (f : A → B) where
   pub mapped_at : (xs : List A) (i : ℕ) (x : A) → slice_get xs i ≡ Some x → slice_get (map f xs) i ≡ Some (f x)
@@ -43,7 +41,7 @@ module _ {X V : Type 0} (key : X → ℕ) (val : X → V) where
     where
       by : (b : Bool) → nat_eq (key x) (key y) ≡ b → In (y ∷ ys) x → (In ys x → found (table ys) (key x) ≡ Some (val x)) → found (table (y ∷ ys)) (key x) ≡ Some (val x)
       by true e i again = rw e (ap Some (one y (inl refl) (sym (equal (key x) (key y) e))))
-      by false e (inl i) again = absurd (let g : nat_eq (key x) (key y) ≡ true = ap (λ z. nat_eq (key x) (key z)) i ∙ same (key x) in cc)
+      by false e (inl i) again = absurd (let g : nat_eq (key x) (key y) ≡ true = ap (λ z. nat_eq (key x) (key z)) i ∙ itself (key x) in cc)
       by false e (inr i) again = rw e (again i)
 
   pub found_none : (xs : List X) (n : ℕ) → ((y : X) → In xs y → key y ≡ n → ⊥) → found (table xs) n ≡ None
