@@ -2,6 +2,12 @@
 use Rattle.std.proofs.Common.{◌≡◌, ℕ, zero, suc, ◌<◌, Some, List, [], ◌∷◌, ◌++◌, length, slice_get, slice_set, refl, ap, sym, arith}
 use Rattle.hh_model.specs.Step.{last_of, front_of}
 
+-- an item in range is there
+pub got_some : {A : Type 0} (xs : List A) (k : ℕ) → k < length xs → (x : A) × (slice_get xs k ≡ Some x)
+got_some [] k lt = absurd (omega arith)
+got_some (x ∷ xs) zero lt = (x, refl)
+got_some (x ∷ xs) (suc k) lt = got_some xs k (omega arith)
+
 -- what stands there already changes nothing
 pub set_got : {A : Type 0} (xs : List A) (k : ℕ) (x : A) → slice_get xs k ≡ Some x → slice_set xs k x ≡ xs
 set_got [] k x e = refl

@@ -19,6 +19,7 @@ use Rattle.hh_model.specs.Effect.{Effect, Goes, Prints, Calls, Forks, Returns, T
 use Rattle.hh_model.specs.Precedence.{precedes}
 use Rattle.hh_model.specs.Step.{fetched, step, start, run_from, root, stepped, follow, setting, can_step, forked, child, entry_frame, frame_limit, depth_limit, returned_to, last_return, child_ended_by, ended_task, joined_task, resumed, join_of, result_of, back_in, last_of, front_of, is_left, sibling, kept_by, or_same}
 use Rattle.hh_model.specs.NextLaw.{HasNext, AlwaysNext, PacksAreFew}
+use Rattle.hh_model.proofs.Lists.{got_some}
 use Rattle.hh_model.proofs.Closed.{grown_cases, three_cases}
 use Rattle.hh_model.proofs.Steps.{last_in}
 
@@ -26,11 +27,6 @@ use Rattle.hh_model.proofs.Steps.{last_in}
 
 all_at : {A : Type 0} (P : A → Type 0) (xs : List A) (k : ℕ) (x : A) → All P xs → slice_get xs k ≡ Some x → P x
 all_at P xs k x all e = subst P (get_or_from_slice_get xs k x x e) (all k x (slice_get_within xs k x e))
-
-there : {A : Type 0} (xs : List A) (k : ℕ) → k < length xs → (x : A) × (slice_get xs k ≡ Some x)
-there [] k lt = absurd (omega arith)
-there (x ∷ xs) zero lt = (x, refl)
-there (x ∷ xs) (suc k) lt = there xs k (omega arith)
 
 -- behind an instruction that isn't a return there is another one
 behind : (code : List Line) (k : ℕ) (l : Line) → EndsWithReturn code → slice_get code k ≡ Some l → (IsReturn l.instr → ⊥) → (m : Line) × (slice_get code (k + 1) ≡ Some m)
@@ -54,7 +50,7 @@ in_function (Some fun) k l e = (fun, refl)
 module _ (p : ProgramText) (I : IsProgram p) where
   entry_next : (g : ℕ) (f : Frame) → g < length p.functions → HasNext p (entry_frame g f)
   entry_next g f lt =
-      let fun = there p.functions g lt in
+      let fun = got_some p.functions g lt in
       let is : IsFunction (length p.functions) fun.0 = all_at (IsFunction (length p.functions)) p.functions g fun.0 I.each fun.1 in
       let line = first fun.0.code is.ends in
       (line.0, ap (λ o. slice_get (code_of o) 0) fun.1 ∙ line.1)
@@ -79,7 +75,7 @@ module _ (p : ProgramText) (I : IsProgram p) where
 
     jump_next : (to : ℕ) → to < length fun.0.code → HasNext p (record f { next = to })
     jump_next to lt =
-        let next = there fun.0.code to lt in
+        let next = got_some fun.0.code to lt in
         (next.0, ap (λ o. slice_get (code_of o) to) fun.1 ∙ next.1)
 
 -- INSTRUCTIONS

@@ -11,6 +11,7 @@ use Rattle.hh_model.specs.declared.data.State.{State}
 use Rattle.hh_model.specs.Effect.{onward}
 use Rattle.hh_model.specs.Step.{step, run, run_from, start, parents, joined, parent_of, path_in, is_on_path, is_running, is_waiting, is_joined, child, ended_task, result_of, joined_task, resumed}
 use Rattle.hh_model.specs.Tree.{Kept, HasOneRoot, RunsHaveOneRoot, waiting, joins_in}
+use Rattle.hh_model.proofs.Lists.{got_some}
 use Rattle.hh_model.proofs.Closed.{grown_cases}
 use Rattle.hh_model.proofs.Kept.{step_kept, start_kept, run_kept}
 use Rattle.hh_model.proofs.Paths.{path_child, path_itself}
@@ -73,11 +74,6 @@ run_root p limit ts = root_from p ts (start p limit) (start_kept p limit) first
     first zero x e none = refl
     first (suc u) x e none = absurd cc
 
-got_task : (xs : List Task) (j : ℕ) → j < length xs → (y : Task) × (slice_get xs j ≡ Some y)
-got_task [] j lt = absurd (omega (arith, lt))
-got_task (z ∷ zs) zero lt = (z, refl)
-got_task (z ∷ zs) (suc j) lt = got_task zs j (omega (arith, lt))
-
 pub runs_tell : (o : Option Task) → is_running o ≡ true → (x : Task) × (o ≡ Some x) × (is_joined o ≡ false) × (is_waiting o ≡ false)
 runs_tell None h = absurd (false≢true h)
 runs_tell (Some x) h = let r = running_tells x.status h in (x, refl, r.0, r.1)
@@ -92,8 +88,8 @@ module _ (m : State) (K : Kept m) (R : OneRoot m.tasks) where
       path_child (parents m.tasks) K.tree.low 0 u p par ∙ or_right (0 == u) (path_in (parents m.tasks) 0 p) (up p lt (omega (arith, lt, within)))
 
   above_all : (k u : ℕ) → u ≤ k → u < length m.tasks → is_on_path m.tasks 0 u ≡ true
-  above_all zero u le lt = let x = got_task m.tasks u lt in above_by zero u (λ p l w. absurd (omega (arith, l, le))) x.0 x.1 x.0.parent refl
-  above_all (suc k) u le lt = let x = got_task m.tasks u lt in above_by k u (λ p l w. above_all k p (omega (arith, l, le)) w) x.0 x.1 x.0.parent refl
+  above_all zero u le lt = let x = got_some m.tasks u lt in above_by zero u (λ p l w. absurd (omega (arith, l, le))) x.0 x.1 x.0.parent refl
+  above_all (suc k) u le lt = let x = got_some m.tasks u lt in above_by k u (λ p l w. above_all k p (omega (arith, l, le)) w) x.0 x.1 x.0.parent refl
 
   no_parent : (x : Task) → slice_get m.tasks 0 ≡ Some x → (o : Option ℕ) → x.parent ≡ o → x.parent ≡ None
   no_parent x is None e = e

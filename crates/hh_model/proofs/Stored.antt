@@ -17,6 +17,7 @@ use Rattle.hh_model.specs.Effect.{Effect, Setting, effect, made, row_of, object_
 use Rattle.hh_model.specs.Names.{refs_of, task_names, words_asked, words_for}
 use Rattle.hh_model.specs.Step.{setting, fetched, step, follow, root, start, run, run_from, can_step, is_running, asked, asked_line}
 use Rattle.hh_model.specs.Store.{IsStored, NamesAreStored}
+use Rattle.hh_model.proofs.Lists.{got_some}
 use Rattle.hh_model.proofs.Stores.{put_cases, made_cases}
 use Rattle.hh_model.proofs.Carried.{named_from_in, next_name}
 use Rattle.hh_model.proofs.Kept.{Kept, start_kept, step_kept, empty_rows}
@@ -60,16 +61,11 @@ effect_makes s f store Ret h = absurd (false≢true h)
 effect_makes s f store (Out a) h = absurd (false≢true h)
 
 -- the new object has the next name
-made_here : (store : List (List Object)) (t : ℕ) (row : List Object) (o : Object) → slice_get store t ≡ Some row → object_at (slice_set store t (row_of (slice_get store t) ++ o ∷ [])) (next_name t store) ≡ Some o
+pub made_here : (store : List (List Object)) (t : ℕ) (row : List Object) (o : Object) → slice_get store t ≡ Some row → object_at (slice_set store t (row_of (slice_get store t) ++ o ∷ [])) (next_name t store) ≡ Some o
 made_here store t row o e =
     ap (λ w. slice_get (row_of w) (length (row_of (slice_get store t)))) (got_same store t row (row_of (slice_get store t) ++ o ∷ []) e)
     ∙ (ap (slice_get (row_of (slice_get store t) ++ o ∷ [])) (let h : length (row_of (slice_get store t)) ≡ length (row_of (slice_get store t)) + 0 = omega arith in h)
     ∙ got_back (row_of (slice_get store t)) (o ∷ []) 0)
-
-got_some : {A : Type 0} (xs : List A) (k : ℕ) → k < length xs → (x : A) × (slice_get xs k ≡ Some x)
-got_some [] k lt = absurd (omega arith)
-got_some (x ∷ xs) zero lt = (x, refl)
-got_some (x ∷ xs) (suc k) lt = got_some xs k (omega arith)
 
 module _ (p : ProgramText) (m : State) (t : ℕ) (K : Kept m) (rows : length m.store ≡ length m.tasks) where
   next_by : (x : Task) (o : Option Line) → can_step m t ≡ true → slice_get m.tasks t ≡ Some x → fetched p x.top ≡ o → is_some (asked_line m.field_limit x.top o) ≡ true → IsStored (step p m t) (next_name t m.store)

@@ -16,6 +16,7 @@ use Rattle.hh_model.specs.Effect.{Goes, Setting, effect, object_at, put_object, 
 use Rattle.hh_model.specs.Step.{step, run_from, start, setting, can_step, follow}
 use Rattle.hh_model.specs.Store.{IsWriteTo, IsNext, StaysAs}
 use Rattle.hh_model.specs.Winner.{Field, FieldHolds, MayWrite, after, IsCas, expects, brings, Yields, OnlyFromNil, IsUntried, OneWinner}
+use Rattle.hh_model.proofs.Lists.{got_some}
 use Rattle.hh_model.proofs.Stores.{put_cases, made_cases}
 use Rattle.hh_model.proofs.Changes.{WritesField}
 use Rattle.hh_model.proofs.Kept.{Kept, start_kept, run_kept, empty_rows, no_objects}
@@ -235,19 +236,13 @@ module _ (p : ProgramText) (m : State) (t : ℕ) (x : Task) (line : Line) (d o k
 
 -- ALL STEPS
 
--- an item in range is there
-got_at : {A : Type 0} (xs : List A) (k : ℕ) → k < length xs → (x : A) × (slice_get xs k ≡ Some x)
-got_at [] k lt = absurd (omega arith)
-got_at (x ∷ xs) zero lt = (x, refl)
-got_at (x ∷ xs) (suc k) lt = got_at xs k (omega arith)
-
 -- the object of a name that an object has become
 stays_to : (store : List (List Object)) (n : Name) (old new o : Object) → object_at store n ≡ Some new → object_at store n ≡ Some o → StaysAs old new → StaysAs old o
 stays_to store n old new o is is' stays = subst (StaysAs old) (same_Some new o (sym is ∙ is')) stays
 
 -- the field was there before, and the object was mutable if it is now
 stayed_field : (old o : Object) (k : ℕ) (r : Option Name) → StaysAs old o → slice_get o.refs k ≡ Some r → (q : Option Name) × (slice_get old.refs k ≡ Some q)
-stayed_field old o k r stays value = let len : length o.refs ≡ length old.refs = stays.refs in got_at old.refs k (omega (arith, len, got_within o.refs k r value))
+stayed_field old o k r stays value = let len : length o.refs ≡ length old.refs = stays.refs in got_some old.refs k (omega (arith, len, got_within o.refs k r value))
 
 stayed_mutable : (old o : Object) → StaysAs old o → o.mutable ≡ true → old.mutable ≡ true
 stayed_mutable old o stays mutable = by_mutable old.mutable refl
@@ -392,7 +387,7 @@ module _ (p : ProgramText) (limit : ℕ) (ts : List ℕ) (field : Field) (only :
 
   -- what a field holds where a cas on it is taken
   held : (i : ℕ) (c : IsCas p limit ts field i) → (r : Option Name) × (slice_get c.writes.object.refs field.index ≡ Some r)
-  held i c = got_at c.writes.object.refs field.index c.writes.within
+  held i c = got_some c.writes.object.refs field.index c.writes.within
 
   next_is : (i : ℕ) (c : IsCas p limit ts field i) → At (i + 1) ≡ step p (At i) c.t
   next_is i c = ap At (add-one i) ∙ run_next p (start p limit) ts i c.t c.turn.task

@@ -8,7 +8,7 @@ use listed::Listed;
 use std::alloc::{AllocError, Global};
 
 /// A task has at most so many forks above it.
-const DEPTH_LIMIT: u32 = 1000;
+pub const DEPTH_LIMIT: u32 = 1000;
 
 impl State {
     /// A task forks.

@@ -9,7 +9,7 @@ use hh_lang::{IntReg, RefReg};
 use std::alloc::AllocError;
 
 /// A task has at most so many frames.
-const FRAME_LIMIT: usize = 1000;
+pub const FRAME_LIMIT: usize = 1000;
 
 impl State {
     /// Puts another top frame in a task's place.

@@ -18,6 +18,8 @@ mod take;
 
 pub use arithmetic::{calculate, field_counts, field_index, is_same};
 pub use data::{Edge, End, Frame, Name, Object, State, Status, Strand, Task, Trap};
+pub use fork::DEPTH_LIMIT;
+pub use frames::FRAME_LIMIT;
 pub use laws::{
     always_next, ends_are_steps, frozen_reads_go, limit_stays, names_are_on_path, names_are_stored,
     nothing_leaves, objects_stay, one_winner, outputs_grow, own_reads_go, owners_are_walks,
