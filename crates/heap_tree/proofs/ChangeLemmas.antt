@@ -8,7 +8,8 @@ use Rattle.heap_tree.specs.declared.state.State.TheVariants.{Waiting}
 use Rattle.heap_tree.specs.Node.{Node, parent_in, parent_of, set_at, state_of, with_state, child_of, forked}
 use Rattle.heap_tree.specs.Pairs.{ArePaired, sibling}
 use Rattle.heap_tree.specs.Laws.{ForkMakes, ForksMake, PairsStay, StatesChange}
-use Rattle.heap_tree.proofs.ListLemmas.{got_front, got_last, same_view}
+use Rattle.listed.proofs.Members.{got_front, view_step}
+use Rattle.heap_tree.proofs.ListLemmas.{got_last}
 
 -- ---- a change of state
 
@@ -37,7 +38,7 @@ changes_by : (nodes : List Node) (t : ℕ) (s : State) (o : Option Node) → sli
 changes_by nodes t s None e = (refl, (λ u. refl), (λ lt. absurd (got_none nodes t e lt)), (λ u ne. refl))
 changes_by nodes t s (Some n) e = (
   simp length-set,
-  same_view parent_in nodes t n (record n { state = s }) e refl,
+  view_step parent_in nodes t n (record n { state = s }) e refl,
   (λ lt. ap (λ (o : Option Node). option_map (λ (x : Node). x.state) o) (set_same nodes t (record n { state = s }) lt)),
   (λ u ne. ap (λ (o : Option Node). option_map (λ (x : Node). x.state) o) (set_other nodes t u (record n { state = s }) ne)),
 )

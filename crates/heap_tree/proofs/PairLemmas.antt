@@ -6,7 +6,7 @@ use Rattle.heap_tree.specs.declared.state.State.{State}
 use Rattle.heap_tree.specs.declared.links.Entry.{Entry}
 use Rattle.heap_tree.specs.declared.entries.Pair.{Pair}
 use Rattle.heap_tree.specs.Paired.{child_entry, entries_of, root_entry, unpaired, with_child}
-use Rattle.heap_tree.proofs.ListLemmas.{got_front}
+use Rattle.listed.proofs.Members.{got_front}
 
 pub unpaired_length : (ps : List Pair) → length (unpaired ps) ≡ 2 * length ps
 unpaired_length [] = refl

@@ -4,13 +4,15 @@ use Rattle.std.proofs.lemmas.List.{length-set, length-map}
 use Rattle.std.proofs.lemmas.List.{map-set, map-append}
 use Rattle.std.proofs.lemmas.Option.{slice_get-map, slice_get_within, same_Some}
 use Rattle.std.proofs.lemmas.Bool.{false≢true}
+use Rattle.hh_model.specs.Step.{depth_limit}
 use Rattle.heap_tree.specs.declared.state.State.{State}
 use Rattle.heap_tree.specs.declared.state.State.TheVariants.{Ready, Waiting}
 use Rattle.heap_tree.specs.declared.links.Entry.{Entry}
 use Rattle.heap_tree.specs.Walk.{ancestor, IsUpFrom, depth_in, path_in}
 use Rattle.heap_tree.specs.Node.{Node, parent_in, parent_of, state_of, depth_of, is_on_path, set_at, with_state, child_of, forked, IsTree}
 use Rattle.heap_tree.specs.Links.{node_of, parent_kept, depth_kept, jump_kept, parent_at, depth_at, jump_at, next_jump, AreLinked, IsLinked}
-use Rattle.heap_tree.proofs.ListLemmas.{got_front, got_last, got_past, same_view}
+use Rattle.listed.proofs.Members.{got_front, got_past, view_step}
+use Rattle.heap_tree.proofs.ListLemmas.{got_last}
 use Rattle.heap_tree.proofs.WalkLemmas.{depth_in_is, walk_depth, walk_from_path, path_from_walk}
 use Rattle.heap_tree.proofs.GrowLemmas.{linked_one_more}
 
@@ -98,9 +100,9 @@ module _ (es : List Entry) (t : ℕ) (e : Entry) (state : State) (is : slice_get
   pub state_linked : IsLinked es → IsLinked changed
   state_linked linked =
       let len : length changed ≡ length es = length-set es t (record e { state = state }) in
-      let p : ◌≡◌ {A = ℕ → Option ℕ} (parent_at changed) (parent_at es) = λ i u. same_view parent_kept es t e (record e { state = state }) is refl u i in
-      let d : ◌≡◌ {A = ℕ → ℕ} (depth_at changed) (depth_at es) = λ i u. same_view depth_kept es t e (record e { state = state }) is refl u i in
-      let j : ◌≡◌ {A = ℕ → ℕ} (jump_at changed) (jump_at es) = λ i u. same_view jump_kept es t e (record e { state = state }) is refl u i in
+      let p : ◌≡◌ {A = ℕ → Option ℕ} (parent_at changed) (parent_at es) = λ i u. view_step parent_kept es t e (record e { state = state }) is refl u i in
+      let d : ◌≡◌ {A = ℕ → ℕ} (depth_at changed) (depth_at es) = λ i u. view_step depth_kept es t e (record e { state = state }) is refl u i in
+      let j : ◌≡◌ {A = ℕ → ℕ} (jump_at changed) (jump_at es) = λ i u. view_step jump_kept es t e (record e { state = state }) is refl u i in
       record {
         few = rw len linked.few;
         links = subst (λ (w : ℕ × (ℕ → Option ℕ) × (ℕ → ℕ) × (ℕ → ℕ)). AreLinked w.0 w.1 w.2 w.3) (λ i. (sym len i, sym p i, sym d i, sym j i)) linked.links;
@@ -176,8 +178,8 @@ module _ (es : List Entry) (t : ℕ) (e c : Entry) (is : slice_get es t ≡ Some
   pub fork_linked : IsLinked es → length es < 2 ^ 31 → c.parent ≡ Some t → c.depth ≡ depth_at es t + 1 → c.jump ≡ next_jump (depth_at es) (jump_at es) t → IsLinked (waits ++ c ∷ (c ∷ []))
   fork_linked linked few its_par its_dep its_jmp =
       let len : length waits ≡ length es = length-set es t (record e { state = Waiting }) in
-      let d : ◌≡◌ {A = ℕ → ℕ} (depth_at waits) (depth_at es) = λ i u. same_view depth_kept es t e (record e { state = Waiting }) is refl u i in
-      let j : ◌≡◌ {A = ℕ → ℕ} (jump_at waits) (jump_at es) = λ i u. same_view jump_kept es t e (record e { state = Waiting }) is refl u i in
+      let d : ◌≡◌ {A = ℕ → ℕ} (depth_at waits) (depth_at es) = λ i u. view_step depth_kept es t e (record e { state = Waiting }) is refl u i in
+      let j : ◌≡◌ {A = ℕ → ℕ} (jump_at waits) (jump_at es) = λ i u. view_step jump_kept es t e (record e { state = Waiting }) is refl u i in
       let within : t < length es = slice_get_within es t e is in
       let two = two_linked waits t c (state_linked es t e Waiting is linked) (omega arith) (omega arith) its_par
       (its_dep ∙ ap (λ (f : ℕ → ℕ). f t + 1) (sym d))
@@ -246,7 +248,7 @@ module _ (v : List Node) (es : List Entry) (view_is : map node_of es ≡ v) (lin
       let both = subst (λ (w : List Node). (IsTrue (is_on_path w a t) → IsUpFrom (parent_of w) t a) × (IsUpFrom (parent_of w) t a → IsTrue (is_on_path w a t))) view_is (on_path_walks es linked t a) in
       rw is both
 
-  pub fork_shallow : (t : ℕ) (e : Entry) → t < length v → slice_get es t ≡ Some e → depth_of v t < 1000 → e.depth < 1000
+  pub fork_shallow : (t : ℕ) (e : Entry) → t < length v → slice_get es t ≡ Some e → depth_of v t < depth_limit → e.depth < depth_limit
   fork_shallow t e made got lt =
       let same : e.depth ≡ depth_of v t = depth_answer t e made got in
       omega arith

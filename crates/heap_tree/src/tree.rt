@@ -1,6 +1,7 @@
 // The tree: its tasks by number, forks, and paths.
 
 ghost use Rattle.std.specs.Prelude.{◌≡◌, ◌+◌, ◌-◌, ◌*◌, ◌^◌, ℕ, ◌<◌, ◌≤◌, ◌↔◌, ◌∷◌, [], ◌++◌, length, slice_get, slice_set, IfSome, IfOk, OnOk, OnErr, IsTrue, Some, None, true};
+ghost use Rattle.hh_model.specs.Step.{depth_limit};
 ghost use Rattle.heap_tree.specs.Walk.{ancestor, IsUpFrom};
 ghost use Rattle.heap_tree.specs.Node.{root_node, parent_of, state_of, depth_of, is_on_path, with_state, forked, IsTree};
 
@@ -65,7 +66,7 @@ impl Tree {
     /// task waits.
     pub fn fork(&mut self, t: u32) -> Result<(u32, u32), AllocError>
         requires out { state_of self.old t ≡ Some State.Out }
-        requires shallow { depth_of self.old t < 1000 }
+        requires shallow { depth_of self.old t < depth_limit }
         requires few { length self.old < 2 ^ 31 }
         ensures numbers { IfOk result (λ pair. (pair.0 ≡ length self.old) × (pair.1 ≡ length self.old + 1)) }
         ensures ok { OnOk result (self.new ≡ forked self.old t) }

@@ -1,4 +1,5 @@
 use Rattle.std.proofs.Common.{ℕ, ◌+◌, ◌<◌, Some, refl, ap, arith}
+use Rattle.hh_model.specs.Step.{depth_limit}
 use Rattle.heap_tree.specs.declared.links.Entry.{Entry}
 use Rattle.heap_tree.specs.declared.state.State.TheVariants.{Ready, Out}
 use Rattle.heap_tree.proofs.TreeLemmas.{made_from_state, made_entry, fork_shallow, depth_answer, fork_answer}
@@ -8,14 +9,14 @@ pub overflow_add-child : goal.overflow_add-child
 overflow_add-child c =
     let made = made_from_state c.args.self.now c.args.t Out c.requires.out in
     let got = c.entry_at.ensures in
-    let low : c.entry_at.result.depth < 1000 = fork_shallow c.args.self.now c.self.inside.entries c.self.view_is c.self.invariant c.args.t c.entry_at.result made got c.requires.shallow in
+    let low : c.entry_at.result.depth < depth_limit = fork_shallow c.args.self.now c.self.inside.entries c.self.view_is c.self.invariant c.args.t c.entry_at.result made got c.requires.shallow in
     omega arith
 
 pub put_children-requires-clause-shallow : goal.put_children-requires-clause-shallow
 put_children-requires-clause-shallow c =
     let made = made_from_state c.args.self.now c.args.t Out c.requires.out in
     let got = c.entry_at.ensures in
-    let low : c.entry_at.result.depth < 1000 = fork_shallow c.args.self.now c.self.inside.entries c.self.view_is c.self.invariant c.args.t c.entry_at.result made got c.requires.shallow in
+    let low : c.entry_at.result.depth < depth_limit = fork_shallow c.args.self.now c.self.inside.entries c.self.view_is c.self.invariant c.args.t c.entry_at.result made got c.requires.shallow in
     omega arith
 
 pub jump_below-requires-clause-made : goal.jump_below-requires-clause-made
