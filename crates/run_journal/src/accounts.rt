@@ -57,7 +57,11 @@ pub(crate) fn units_of(words: usize) -> usize
     ensures fits { result < 2 ^ 55 }
 {
     let whole = words / CHUNK_WORDS;
-    if words % CHUNK_WORDS == 0 { whole } else { whole + 1 }
+    if words % CHUNK_WORDS == 0 {
+        whole
+    } else {
+        whole + 1
+    }
 }
 
 /// How many objects of the heap's snapshot are left to mark.

@@ -69,7 +69,7 @@ impl<'p> Accounts<'p> {
         }
     }
 
-    #[tactic(auto, using(ledger_heaps::proofs::Lists::set_again))]
+    #[tactic(auto, using(hh_model::proofs::Lists::set_got))]
     /// A chunk is asked for: the run ends where too few are free.
     pub(crate) fn chunk(&mut self, worker: u32, task: u32) -> Result<(), AllocError>
         requires steady { Steady self.old.ledger }
