@@ -13,6 +13,8 @@ use Rattle.run_ledger.specs.Heaps.{end_numbers, heap_of, in_use, left_in, take_o
 use Rattle.run_ledger.specs.Steps.{is_due, is_in_need, most_steps, standing}
 use Rattle.run_ledger.specs.Entries.{counted, held_from, is_fuel, is_held_by, is_out, is_pool_enough, is_ready, kind_refusal, long_at, on_due, on_running, on_waiting, refused_holding, refused_if, refused_unless}
 use Rattle.run_ledger.specs.Accepted.{Allows, AcceptedIsAllowed, IsAt, IsOut, IsUnswept}
+use Rattle.run_ledger.proofs.Cuts.{none_is}
+use Rattle.run_ledger.proofs.Frames.{held_is}
 use Rattle.run_ledger.proofs.Holders.{holding_none, worker_of}
 use Rattle.run_ledger.proofs.Steps.{worker_at}
 
@@ -38,14 +40,6 @@ unless_of b c rest e h = ap (λ v. refused_unless v c rest) e ∙ h
 none_of : {A : Type 0} (o : Option A) → is_some o ≡ false → o ≡ None
 none_of None h = refl
 none_of (Some x) h = absurd (false≢true (sym h))
-
-free_of : {A : Type 0} (o : Option A) → is_none o ≡ true → o ≡ None
-free_of None h = refl
-free_of (Some x) h = absurd (false≢true h)
-
-held_is : (o : Option ℕ) (w : ℕ) → is_held_by o w ≡ true → o ≡ Some w
-held_is None w h = absurd (false≢true h)
-held_is (Some v) w h = ap Some (eqb-true v w h)
 
 is_held : (o : Option ℕ) (w : ℕ) → o ≡ Some w → is_held_by o w ≡ true
 is_held o w e = ap (λ q. is_held_by q w) e ∙ eq-eqb w w refl
@@ -124,7 +118,7 @@ module _ (p : ProgramText) (s : Limits) (l : Ledger) (w : ℕ) where
   allows (Took t) h =
       let a = unless_in (is_ready l t) _ _ h in
       let b = and_parts (is_running (slice_get l.machine.tasks t)) (is_none (heap_of l t).worker) a.0 in
-      (b.0, free_of (heap_of l t).worker b.1, free_in l w a.1)
+      (b.0, none_is (heap_of l t).worker b.1, free_in l w a.1)
   allows (Ran t k) h =
       let a = at_in l w t _ h in
       let le : k ≤ min most_steps (standing s p l t k) = long_in k (min most_steps (standing s p l t k)) a.1 in

@@ -1,8 +1,8 @@
 -- A large object has just the words that the step asks for.
-use Rattle.std.proofs.Common.{◌≡◌, ℕ, zero, suc, pos, ◌+◌, ◌<◌, ◌≤◌, arith, true, false, Option, Some, None, List, [], ◌∷◌, ◌++◌, length, slice_get, slice_set, replicate, refl, ap, sym, ◌∙◌}
+use Rattle.std.proofs.Common.{◌≡◌, ℕ, zero, suc, pos, ◌+◌, ◌<◌, ◌≤◌, arith, true, false, Option, Some, None, List, length, slice_get, replicate, refl, ap, sym, ◌∙◌}
 use Rattle.std.proofs.lemmas.Bool.{false≢true, leb-false}
 use Rattle.std.proofs.lemmas.Option.{same_Some}
-use Rattle.listed.proofs.Members.{got_same, got_back, got_within}
+use Rattle.listed.proofs.Members.{got_within}
 use Rattle.hh_lang.specs.declared.instr.Instr.{Instr}
 use Rattle.hh_lang.specs.declared.instr.Instr.TheVariants.{Set, Mov, Movr, Nil as NilOf, Calc, Same, Jmp, Jz, Newm, Pack, Getr, Geti, Putr, Puti, Cntr, Cnti, Freeze, Cas, Call, Par, Ret, Out}
 use Rattle.hh_lang.specs.declared.program.Line.{Line}
@@ -12,11 +12,13 @@ use Rattle.hh_model.specs.declared.data.Frame.{Frame}
 use Rattle.hh_model.specs.declared.data.Task.{Task}
 use Rattle.hh_model.specs.declared.data.Trap.TheVariants.{Size}
 use Rattle.hh_model.specs.declared.data.State.{State}
-use Rattle.hh_model.specs.Effect.{Effect, Setting, effect, made, row_of, object_at, counts_in, int_in, or_trap}
+use Rattle.hh_model.specs.Effect.{Effect, Setting, effect, made, object_at, counts_in, int_in, or_trap}
 use Rattle.hh_model.specs.Names.{words_asked, words_for}
 use Rattle.hh_model.specs.Step.{setting, fetched, step, follow, can_step, is_running, asked, asked_line}
 use Rattle.hh_model.proofs.Carried.{next_name}
 use Rattle.hh_model.proofs.Closed.{asked_at}
+use Rattle.hh_model.proofs.Lists.{got_some}
+use Rattle.hh_model.proofs.Stored.{made_here}
 use Rattle.hh_model.proofs.Taken.{can_runs, step_taken}
 use Rattle.run_ledger.specs.Heaps.{chunk_words, is_small, words_of, words_at}
 
@@ -72,18 +74,6 @@ effect_just s f store (Call g) w packs h large = none_some h
 effect_just s f store (Par g k) w packs h large = none_some h
 effect_just s f store Ret w packs h large = none_some h
 effect_just s f store (Out a) w packs h large = none_some h
-
--- the new object has the next name
-made_here : (store : List (List Object)) (t : ℕ) (row : List Object) (o : Object) → slice_get store t ≡ Some row → object_at (slice_set store t (row_of (slice_get store t) ++ o ∷ [])) (next_name t store) ≡ Some o
-made_here store t row o e =
-    ap (λ w. slice_get (row_of w) (length (row_of (slice_get store t)))) (got_same store t row (row_of (slice_get store t) ++ o ∷ []) e)
-    ∙ (ap (slice_get (row_of (slice_get store t) ++ o ∷ [])) (let h : length (row_of (slice_get store t)) ≡ length (row_of (slice_get store t)) + 0 = omega arith in h)
-    ∙ got_back (row_of (slice_get store t)) (o ∷ []) 0)
-
-got_some : {A : Type 0} (xs : List A) (k : ℕ) → k < length xs → (x : A) × (slice_get xs k ≡ Some x)
-got_some [] k lt = absurd (omega arith)
-got_some (x ∷ xs) zero lt = (x, refl)
-got_some (x ∷ xs) (suc k) lt = got_some xs k (omega arith)
 
 module _ (p : ProgramText) (small : PacksAreSmall p) (m : State) (t : ℕ) (can : can_step m t ≡ true) (rows : length m.store ≡ length m.tasks) where
   line_by : (x : Task) (o : Option Line) (w : ℕ) → slice_get m.tasks t ≡ Some x → fetched p x.top ≡ o → asked_line m.field_limit x.top o ≡ Some w → is_small w ≡ false → words_at (step p m t) (next_name t m.store) ≡ w

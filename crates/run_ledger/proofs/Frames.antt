@@ -26,7 +26,7 @@ use Rattle.hh_model.specs.Leaves.{LeavesOwner}
 use Rattle.hh_model.proofs.Leaves.{leaves_owner}
 use Rattle.run_ledger.proofs.Booked.{wait_run}
 use Rattle.run_ledger.proofs.Stocks.{with_heap_any}
-use Rattle.run_ledger.proofs.Cuts.{cut_legal}
+use Rattle.run_ledger.proofs.Cuts.{cut_legal, none_is}
 use Rattle.run_ledger.proofs.Holders.{tasks_are_held_once}
 use Rattle.run_ledger.proofs.Journals.{none_unless, out_tells, wait_tells, entry_tells, legal_sound}
 
@@ -68,13 +68,9 @@ left_chunk : (l : Ledger) (t u : ℕ) (next : Option ℕ) (full : Bool) → (u �
 left_chunk l t u next true ne = (same_owner l.machine u, refl)
 left_chunk l t u next false ne = left_heap l t u (with_chunk next) ne
 
-held_is : (o : Option ℕ) (w : ℕ) → is_held_by o w ≡ true → o ≡ Some w
+pub held_is : (o : Option ℕ) (w : ℕ) → is_held_by o w ≡ true → o ≡ Some w
 held_is None w h = absurd (false≢true h)
 held_is (Some v) w h = ap Some (eqb-true v w h)
-
-none_is : (o : Option ℕ) → is_none o ≡ true → o ≡ None
-none_is None h = refl
-none_is (Some v) h = absurd (false≢true h)
 
 module _ (p : ProgramText) (s : Limits) (l : Ledger) (w u v : ℕ) (S : SoundLedger l) (other : v ≡ w → ⊥) (held : (heap_of l u).worker ≡ Some v) (run : is_running (slice_get l.machine.tasks u) ≡ true) where
   -- a task that the worker holds is another one

@@ -4,7 +4,7 @@ use Rattle.std.proofs.lemmas.List.Sums.{sum_by-append, sum_by-cons}
 use Rattle.std.proofs.Common.{◌≡◌, ℕ, ℤ, zero, suc, pos, ◌+◌, ◌-◌, ◌==◌, ◌<◌, ◌≤◌, Bool, true, false, cond, Option, Some, None, List, [], ◌∷◌, ◌++◌, length, slice_get, slice_set, replicate, take, ◌⊎◌, inl, inr, refl, ap, ap₂, sym, subst, ◌∙◌, arith, is_some, nat_lt, sum_by, length-set}
 use Rattle.std.proofs.lemmas.Bool.{false≢true}
 use Rattle.std.proofs.lemmas.Option.{same_Some}
-use Rattle.listed.proofs.Members.{got_same, got_back, got_within}
+use Rattle.listed.proofs.Members.{got_within}
 use Rattle.hh_lang.specs.declared.instr.Instr.{Instr}
 use Rattle.hh_lang.specs.declared.instr.Instr.TheVariants.{Set, Mov, Movr, Nil as NilOf, Calc, Same, Jmp, Jz, Newm, Pack, Getr, Geti, Putr, Puti, Cntr, Cnti, Freeze, Cas, Call, Par, Ret, Out}
 use Rattle.hh_lang.specs.declared.program.Line.{Line}
@@ -26,7 +26,9 @@ use Rattle.hh_model.proofs.Stores.{put_cases, made_cases, in_row}
 use Rattle.hh_model.proofs.Carried.{next_name}
 use Rattle.hh_model.proofs.Kept.{Kept, empty_rows}
 use Rattle.hh_model.proofs.Closed.{asked_at}
+use Rattle.hh_model.proofs.Lists.{got_some}
 use Rattle.hh_model.proofs.Objects.{object_later}
+use Rattle.hh_model.proofs.Stored.{made_here}
 use Rattle.hh_model.proofs.Taken.{can_runs, step_taken, step_none}
 use Rattle.run_ledger.specs.Heaps.{words_of, words_at}
 
@@ -250,17 +252,6 @@ pub record Grown (p : ProgramText) (m : State) (t : ℕ) : Type 0 where
 -- the next name of a task has no object yet
 pub next_unstored : (m : State) (t : ℕ) → IsStored m (next_name t m.store) → ⊥
 next_unstored m t s = let lt : length (row_of (slice_get m.store t)) < length (row_of (slice_get m.store t)) = got_within (row_of (slice_get m.store t)) (length (row_of (slice_get m.store t))) s.0 s.1 in omega arith
-
-made_here : (store : List (List Object)) (t : ℕ) (row : List Object) (o : Object) → slice_get store t ≡ Some row → object_at (slice_set store t (row_of (slice_get store t) ++ o ∷ [])) (next_name t store) ≡ Some o
-made_here store t row o e =
-    ap (λ w. slice_get (row_of w) (length (row_of (slice_get store t)))) (got_same store t row (row_of (slice_get store t) ++ o ∷ []) e)
-    ∙ (ap (slice_get (row_of (slice_get store t) ++ o ∷ [])) (let h : length (row_of (slice_get store t)) ≡ length (row_of (slice_get store t)) + 0 = omega arith in h)
-    ∙ got_back (row_of (slice_get store t)) (o ∷ []) 0)
-
-got_some : {A : Type 0} (xs : List A) (k : ℕ) → k < length xs → (x : A) × (slice_get xs k ≡ Some x)
-got_some [] k lt = absurd (omega arith)
-got_some (x ∷ xs) zero lt = (x, refl)
-got_some (x ∷ xs) (suc k) lt = got_some xs k (omega arith)
 
 module _ (p : ProgramText) (m : State) (t : ℕ) (K : Kept m) (can : can_step m t ≡ true) (t_row : t < length m.store) where
   same_words : (o new : Object) → length new.refs ≡ length o.refs → length new.ints ≡ length o.ints → words_of (Some new) ≡ words_of (Some o)

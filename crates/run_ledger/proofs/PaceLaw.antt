@@ -25,7 +25,7 @@ use Rattle.run_ledger.specs.Journals.{after_all, is_legal, is_legal_from, ledger
 use Rattle.run_ledger.specs.Pace.{fork_of, gives, idle, is_mark_of, is_more_of, is_sweep_of, is_to_mark, is_under_way, is_unmarked, marked_at_once, more_of, noted, or_idle, owed, owed_after, owed_to_marks, pace_after, pace_after_all, pace_at_end, pace_of, pace_opening, previous_by, waits_on, waits_since}
 use Rattle.run_ledger.specs.Cuts.{Paced}
 use Rattle.run_ledger.specs.PaceLaw.{GoesOnMarking, IsLastBy, IsNewest, IsPaceOf, IsPrevious, IsToMark, IsUnderWay, KeepsRules, KeepsThePace, NoneBy, PaceIsOfEntries, PacedKeepsThePace, WaitsOn, fork_by, fork_marked, marked_forks, marked_task}
-use Rattle.run_ledger.proofs.Cuts.{cut_legal}
+use Rattle.run_ledger.proofs.Cuts.{cut_legal, none_is}
 use Rattle.run_ledger.proofs.Journals.{none_unless, none_where}
 use Rattle.run_ledger.proofs.Machine.{heap_machine}
 use Rattle.run_ledger.proofs.Paced.{paced_is_meant}
@@ -317,10 +317,6 @@ from_waits l fork W = ap (λ o. waits_since o fork.joins) W.1 ∙ and_from (wait
 not_false : (v : Bool) → not v ≡ true → v ≡ false
 not_false false h = refl
 not_false true h = absurd (false≢true h)
-
-none_is : {A : Type 0} (o : Option A) → is_none o ≡ true → o ≡ None
-none_is None h = refl
-none_is (Some x) h = absurd (false≢true h)
 
 way_from : (l : Ledger) (fork : Strand) → is_under_way l fork ≡ true → IsUnderWay l fork
 way_from l fork h =
