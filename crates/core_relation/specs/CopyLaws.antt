@@ -6,6 +6,7 @@ use Rattle.core_relation.specs.Begins.{AreRoots}
 use Rattle.std.specs.List.{IsDistinct}
 use Rattle.std.specs.Prelude.{◌≡◌, ℕ, true, Some, None, slice_get, ◌↔◌, List}
 use Rattle.object_layout.specs.declared.word.Addr.{Addr}
+use Rattle.object_layout.specs.Objects.{Located}
 use Rattle.hh_lang.specs.Form.{ProgramText}
 use Rattle.run_trace.specs.Settings.{Limits}
 use Rattle.hh_model.specs.declared.data.Status.TheVariants.{Running}
@@ -17,7 +18,7 @@ use Rattle.run_ledger.specs.Reachable.{is_name}
 use Rattle.hh_model.specs.declared.data.Name.{Name}
 use Rattle.core_relation.specs.Marking.{MarksStand}
 use Rattle.run_ledger.specs.Sound.{SoundLedger}
-use Rattle.core_relation.specs.Value.{Home, Value, Seen, In, objects}
+use Rattle.core_relation.specs.Value.{Home, Value, In, object_name, objects}
 use Rattle.ledger_steps.specs.Accounts.{Rests, rested, AlikeFor}
 use Rattle.task_machine.specs.declared.part.Begun.{Begun}
 use Rattle.core_relation.specs.Stands.{Stands}
@@ -56,4 +57,4 @@ CopiesEnd =
 abbrev pub MarksAreAll : Type 0
 MarksAreAll =
     (v : Value) (l : Ledger) (t : ℕ) (marked : List Addr) → Stands v l → Rests l t → IsDistinct is_name (heap_of l t).snapshot → ((n : Name) → In (heap_of l t).snapshot n → In (held_in (heap_of l t)) n)
-    → MarksStand v l t marked → left_in (heap_of l t) ≡ 0 ↔ ((q : Seen) → In (objects v t) q → In (heap_of l t).snapshot q.name → In marked q.at)
+    → MarksStand v l t marked → left_in (heap_of l t) ≡ 0 ↔ ((q : Located) → In (objects v t) q → In (heap_of l t).snapshot (object_name q) → In marked q.at)

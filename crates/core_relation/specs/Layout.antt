@@ -2,22 +2,23 @@
 use Rattle.std.specs.Prelude.{◌≡◌, ◌⊎◌, ◌&&◌, ◌==◌, ◌+◌, ◌*◌, ◌≤◌, ℕ, zero, suc, Bool, true, false, List, [], ◌∷◌, length, map, filter}
 use Rattle.std.specs.List.{IsDistinct}
 use Rattle.run_ledger.specs.Heaps.{units}
-use Rattle.core_relation.specs.Value.{Seen, Chunk, In, objects_in}
+use Rattle.object_layout.specs.Objects.{Located}
+use Rattle.core_relation.specs.Value.{Chunk, In, objects_in}
 
 -- the words of an object: its header and its name, its references and its numbers
-abbrev pub words : Seen → ℕ
+abbrev pub words : Located → ℕ
 words o = 2 + length o.refs + length o.ints
 
 -- two objects don't overlap: they lie in two chunks, or one ends before the other begins
-abbrev pub AreApart : Seen → Seen → Type 0
+abbrev pub AreApart : Located → Located → Type 0
 AreApart o q = (o.at.chunk ≡ q.at.chunk → ⊥) ⊎ ((o.at.offset + words o ≤ q.at.offset) ⊎ (q.at.offset + words q ≤ o.at.offset))
 
 -- a large chunk holds one object, for which it has just the units, or is empty yet
 abbrev pub HoldsLarge : Chunk → Type 0
-HoldsLarge k = (k.objects ≡ []) ⊎ ((o : Seen) × (k.objects ≡ o ∷ []) × (o.at.offset ≡ 0) × (k.units ≡ units (words o)))
+HoldsLarge k = (k.objects ≡ []) ⊎ ((o : Located) × (k.objects ≡ o ∷ []) × (o.at.offset ≡ 0) × (k.units ≡ units (words o)))
 
 -- the large chunks that hold nothing yet
-abbrev pub has_none : List Seen → Bool
+abbrev pub has_none : List Located → Bool
 has_none [] = true
 has_none (o ∷ os) = false
 
@@ -34,8 +35,8 @@ pub record AreLaidOut (ks : List Chunk) (spare : ℕ) : Type 0 where
   -- no number stands there twice
   pub numbers : IsDistinct (λ a b. a == b) (map (λ k. k.number) ks)
   -- each object lies in its chunk by its own words, and apart from the others
-  pub within : (k : Chunk) (o : Seen) → In ks k → In k.objects o → o.at.offset + words o ≤ 1024 * k.units
-  pub apart : (o q : Seen) → In (objects_in ks) o → In (objects_in ks) q → (o ≡ q) ⊎ AreApart o q
+  pub within : (k : Chunk) (o : Located) → In ks k → In k.objects o → o.at.offset + words o ≤ 1024 * k.units
+  pub apart : (o q : Located) → In (objects_in ks) o → In (objects_in ks) q → (o ≡ q) ⊎ AreApart o q
   pub small : (k : Chunk) → In ks k → k.large ≡ false → k.units ≡ 1
   pub large : (k : Chunk) → In ks k → k.large ≡ true → HoldsLarge k
   pub reserved : map (λ k. k.units) (reserved_chunks ks) ≡ reserved_units spare

@@ -4,30 +4,31 @@ use Rattle.std.specs.List.{IsDistinct}
 use Rattle.object_layout.specs.declared.word.Addr.{Addr}
 use Rattle.object_layout.specs.Chunks.{same_address}
 use Rattle.object_layout.specs.Graph.{IsHeld, Leads}
+use Rattle.object_layout.specs.Objects.{Located}
 use Rattle.hh_model.specs.declared.data.Name.{Name}
 use Rattle.run_ledger.specs.declared.data.Ledger.{Ledger}
 use Rattle.run_ledger.specs.Heaps.{heap_of}
 use Rattle.inner_mark_gc.specs.Marks.{IsMarking, Marks, marked_of}
 use Rattle.inner_mark_gc.specs.Snapshot.{Fork, IsInSnapshot}
-use Rattle.core_relation.specs.Value.{Seen, Value, In, objects}
+use Rattle.core_relation.specs.Value.{Value, In, object_name, objects}
 
 -- the objects at these addresses are marked: as many as the account says, none twice, and each of the snapshot
 pub record MarksStand (v : Value) (l : Ledger) (t : ℕ) (marked : List Addr) : Type 0 where
   pub count : (heap_of l t).marked ≡ Some (length marked)
   pub once : IsDistinct same_address marked
-  pub each : (a : Addr) → In marked a → (q : Seen) × In (objects v t) q × (q.at ≡ a) × In (heap_of l t).snapshot q.name
+  pub each : (a : Addr) → In marked a → (q : Located) × In (objects v t) q × (q.at ≡ a) × In (heap_of l t).snapshot (object_name q)
 
 -- a marking that can go on: from the heap as it was when it began it marks just the objects of these names
 pub record GoesOn (v : Value) (t : ℕ) (names : List Name) (m : Marks) : Type 0 where
   pub fork : Fork
   pub marks : IsMarking fork (v.noted t).kept m
   -- its objects are those that are there now
-  pub there : (o : Seen) → In (objects v t) o → IsHeld fork.heap o.at
-  pub were : (a : Addr) → IsHeld fork.heap a → (o : Seen) × In (objects v t) o × (o.at ≡ a)
+  pub there : (o : Located) → In (objects v t) o → IsHeld fork.heap o.at
+  pub were : (a : Addr) → IsHeld fork.heap a → (o : Located) × In (objects v t) o × (o.at ≡ a)
   -- what was overwritten since then was kept
-  pub overwritten : (o : Seen) (a : Addr) → In (objects v t) o → v.owner a.chunk ≡ Some t → Leads fork.heap o.at a → In o.refs (Some a) ⊎ In (v.noted t).kept a
+  pub overwritten : (o : Located) (a : Addr) → In (objects v t) o → v.owner a.chunk ≡ Some t → Leads fork.heap o.at a → In o.refs (Some a) ⊎ In (v.noted t).kept a
   -- walks through it, also from what was kept, lead to just these names
-  pub snapshot : (o : Seen) → In (objects v t) o → IsInSnapshot fork (v.noted t).kept o.at ↔ In names o.name
+  pub snapshot : (o : Located) → In (objects v t) o → IsInSnapshot fork (v.noted t).kept o.at ↔ In names (object_name o)
   -- each object found stands once, and there is room for all others, and for the chunks
   pub once : IsDistinct same_address m.found
   pub marked : m.marked ≤ length m.found

@@ -2,6 +2,7 @@
 use Rattle.std.specs.Prelude.{◌≡◌, ◌⊎◌, ◌↔◌, ℕ, true, Some, slice_get}
 use Rattle.walks.specs.Reached.{IsReached}
 use Rattle.object_layout.specs.declared.word.Addr.{Addr}
+use Rattle.object_layout.specs.Objects.{Located}
 use Rattle.hh_model.specs.declared.data.Task.{Task}
 use Rattle.hh_model.specs.Step.{is_waiting}
 use Rattle.run_ledger.specs.declared.data.Ledger.{Ledger}
@@ -9,14 +10,14 @@ use Rattle.run_ledger.specs.Heaps.{heap_of}
 use Rattle.run_ledger.specs.Sound.{SoundLedger}
 use Rattle.task_frames.specs.declared.frames.Frame.{Frame}
 use Rattle.ledger_steps.specs.Accounts.{Rests}
-use Rattle.core_relation.specs.Value.{In, Seen, Value, objects}
+use Rattle.core_relation.specs.Value.{In, Value, object_name, objects}
 use Rattle.core_relation.specs.Stands.{Stands}
 use Rattle.core_relation.specs.Begins.{IsAt, IsRoot, LeadsAt}
 use Rattle.core_relation.specs.Since.{Since, kept}
 
 -- walks start at an object that a register or a root names, or that was kept
 abbrev pub StartsNow : Value → Ledger → ℕ → Addr → Type 0
-StartsNow v l t a = (o : Seen) × IsAt (v.homes t) a o × (((f : Frame) × In (v.homes t).frames f × In f.refs (Some a)) ⊎ (IsRoot v l t a ⊎ In (kept v t) a))
+StartsNow v l t a = (o : Located) × IsAt (v.homes t) a o × (((f : Frame) × In (v.homes t).frames f × In f.refs (Some a)) ⊎ (IsRoot v l t a ⊎ In (kept v t) a))
 
 abbrev pub IsReachedNow : Value → Ledger → ℕ → Addr → Type 0
 IsReachedNow v l t a = IsReached (StartsNow v l t) (LeadsAt (v.homes t)) a
@@ -25,4 +26,4 @@ IsReachedNow v l t a = IsReached (StartsNow v l t) (LeadsAt (v.homes t)) a
 abbrev pub SnapshotsAreNow : Type 0
 SnapshotsAreNow =
     (v : Value) (l : Ledger) (t : ℕ) (x : Task) → SoundLedger l → Stands v l → slice_get l.machine.tasks t ≡ Some x → is_waiting (slice_get l.machine.tasks t) ≡ true → Rests l t → Since v l t
-    → (q : Seen) → In (objects v t) q → IsReachedNow v l t q.at ↔ In (heap_of l t).snapshot q.name
+    → (q : Located) → In (objects v t) q → IsReachedNow v l t q.at ↔ In (heap_of l t).snapshot (object_name q)

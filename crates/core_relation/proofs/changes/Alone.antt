@@ -2,6 +2,7 @@
 use Rattle.std.proofs.Common.{◌≡◌, ℕ, false, Some, length, slice_get, inl, inr, refl, ap, sym, subst, ◌∙◌}
 use Rattle.std.proofs.lemmas.Bool.{both_ways}
 use Rattle.object_layout.specs.declared.word.Addr.{Addr}
+use Rattle.object_layout.specs.Objects.{Located}
 use Rattle.hh_model.specs.declared.data.Name.{Name}
 use Rattle.hh_model.specs.Effect.{row_of}
 use Rattle.hh_model.specs.Step.{is_joined, is_waiting, is_on_path}
@@ -9,7 +10,7 @@ use Rattle.run_ledger.specs.declared.data.Heap.{Heap}
 use Rattle.run_ledger.specs.declared.data.Ledger.{Ledger}
 use Rattle.run_ledger.specs.Heaps.{heap_of}
 use Rattle.run_ledger.specs.Sound.{SoundLedger}
-use Rattle.core_relation.specs.Value.{Seen, Home, Value, In, objects, objects_in, sources, Lies}
+use Rattle.core_relation.specs.Value.{Home, Value, In, object_name, objects, objects_in, sources, Lies}
 use Rattle.ledger_steps.specs.Accounts.{own, Rests, StepsAlone}
 use Rattle.core_relation.specs.Layout.{AreLaidOut}
 use Rattle.core_relation.specs.Stands.{Place, HasNames, HomeStands, Stands}
@@ -17,8 +18,8 @@ use Rattle.core_relation.proofs.objects.Carry.{object_kept, task_kept}
 use Rattle.core_relation.proofs.objects.Members.{object_held}
 
 -- a home's objects are those of its task
-pub home_own : (v : Value) (l : Ledger) → SoundLedger l → (t : ℕ) → HomeStands v l t → (o : Seen) → In (objects v t) o → own l o.name ≡ t
-home_own v l S t H o i = (S.owners t o.name (object_held (v.homes t).chunks (heap_of l t) H.names o i)).1
+pub home_own : (v : Value) (l : Ledger) → SoundLedger l → (t : ℕ) → HomeStands v l t → (o : Located) → In (objects v t) o → own l (object_name o) ≡ t
+home_own v l S t H o i = (S.owners t (object_name o) (object_held (v.homes t).chunks (heap_of l t) H.names o i)).1
 
 -- what a home's account says stays with it
 pub home_kept : (v v' : Value) (l l' : Ledger) (t : ℕ) → v'.homes t ≡ v.homes t → ((k : ℕ) → v.owner k ≡ Some t → v'.owner k ≡ Some t) → heap_of l' t ≡ heap_of l t → length (row_of (slice_get l'.machine.store t)) ≡ length (row_of (slice_get l.machine.store t))
@@ -59,12 +60,12 @@ module _ (v : Value) (l l' : Ledger) (t w : ℕ) (S : SoundLedger l) (V : Stands
     homes = λ u r. home_kept v v l l' u refl (λ k e. e) (A.heaps u (other u r)) (A.rows u (other u r)) (A.tree.joins u) (V.homes u (rest u r));
     contents = λ u o r i.
         let c = V.contents u o (rest u r) i in
-        let ne : own l o.name ≡ t → ⊥ = λ e. other u r (sym (home_own v l S u (V.homes u (rest u r)) o i) ∙ e) in
-        (c.0, A.store o.name ne ∙ c.1, object_kept (Place v l) (Place v l') o c.0 (λ n j. place n) c.2);
+        let ne : own l (object_name o) ≡ t → ⊥ = λ e. other u r (sym (home_own v l S u (V.homes u (rest u r)) o i) ∙ e) in
+        (c.0, A.store (object_name o) ne ∙ c.1, object_kept (Place v l) (Place v l') o c.0 (λ n j. place n) c.2);
     tasks = λ u x r is. task_kept (Place v l) (Place v l') (v.homes u) x (λ n j. place n) (V.tasks u x (rest u r) (sym (A.tasks u (other u r)) ∙ is));
     remembered = λ u o x i n r j is at.
-        let ne : own l o.name ≡ t → ⊥ = λ e. other u r (sym (home_own v l S u (V.homes u (rest u r)) o j) ∙ e) in
-        elim (V.remembered u o x i n (rest u r) j (sym (A.store o.name ne) ∙ is) at) [
+        let ne : own l (object_name o) ≡ t → ⊥ = λ e. other u r (sym (home_own v l S u (V.homes u (rest u r)) o j) ∙ e) in
+        elim (V.remembered u o x i n (rest u r) j (sym (A.store (object_name o) ne) ∙ is) at) [
           | inl h ↦ inl (ap (λ k. is_on_path l'.machine.tasks k u) (A.tree.owners n.task) ∙ (A.tree.paths (own l n) u ∙ h))
           | inr s ↦ inr (subst (λ k. In (sources v k) (record { object = o.at; field = i })) (sym (A.tree.owners n.task)) s)
         ];

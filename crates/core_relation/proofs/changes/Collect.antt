@@ -4,6 +4,7 @@ use Rattle.std.proofs.lemmas.Bool.{cases_eq, both_ways}
 use Rattle.std.proofs.lemmas.Option.{same_Some}
 use Rattle.listed.proofs.Members.{got_in}
 use Rattle.object_layout.specs.declared.word.Addr.{Addr}
+use Rattle.object_layout.specs.Objects.{Located}
 use Rattle.hh_model.specs.declared.data.Name.{Name}
 use Rattle.hh_model.specs.declared.data.Object.{Object}
 use Rattle.hh_model.specs.declared.data.Task.{Task}
@@ -17,7 +18,7 @@ use Rattle.run_ledger.specs.declared.data.Ledger.{Ledger}
 use Rattle.run_ledger.specs.Heaps.{heap_of, or_fresh}
 use Rattle.run_ledger.specs.Sound.{SoundLedger, Spares, survivors_at, collecting}
 use Rattle.remembered_set.specs.declared.remembered.Source.{Source}
-use Rattle.core_relation.specs.Value.{Seen, Home, Value, In, objects, objects_in, sources, Lies, led_object, rewritten, rewritten_home}
+use Rattle.core_relation.specs.Value.{Home, Value, In, object_name, objects, objects_in, sources, Lies, led_object, rewritten, rewritten_home}
 use Rattle.core_relation.specs.Reads.{IsRead, FramesAreRead, HoldsRead, TaskIsRead}
 use Rattle.ledger_steps.specs.Accounts.{own, Rests, ChangesHeap}
 use Rattle.core_relation.specs.Stands.{Place, HomeStands, IsSource, Stands}
@@ -102,46 +103,46 @@ module _ (v v' : Value) (l l' : Ledger) (t : ℕ) (x : Task) (f : Addr → Addr)
   ]
 
   -- what stands in another home, before the rewriting
-  was : (u : ℕ) (o : Seen) → (u ≡ t → ⊥) → In (objects v' u) o → (q : Seen) × In (objects v u) q × (rewritten f (sources v t) q ≡ o)
+  was : (u : ℕ) (o : Located) → (u ≡ t → ⊥) → In (objects v' u) o → (q : Located) × In (objects v u) q × (rewritten f (sources v t) q ≡ o)
   was u o ne i = from_mapped (rewritten f (sources v t)) (λ o. refl) (λ o. refl) (v.homes u).chunks o (subst (λ (h : Home). In (objects_in h.chunks) o) (C.others u ne) i)
 
   -- a field of another's object: what it names is no object of t, or it is remembered
-  field : (u : ℕ) (o : Seen) (y : Object) → (u ≡ t → ⊥) → Rests l u → In (objects v u) o → object_at l.machine.store o.name ≡ Some y → (j : ℕ) (n : Name) → slice_get y.refs j ≡ Some (Some n) → Led (Place v l) (Place v' l') f (sources v t) o.at j n
+  field : (u : ℕ) (o : Located) (y : Object) → (u ≡ t → ⊥) → Rests l u → In (objects v u) o → object_at l.machine.store (object_name o) ≡ Some y → (j : ℕ) (n : Name) → slice_get y.refs j ≡ Some (Some n) → Led (Place v l) (Place v' l') f (sources v t) o.at j n
   field u o y ne r i is j n at =
       elim (cases_eq (own l n) t) [
         | inr other ↦ inr (λ a p. still n a other p)
         | inl e ↦ inl (
           elim (V.remembered u o y j n r i is at) [
             | inl h ↦
-                let mine : own l o.name ≡ u = home_own v l S u (V.homes u r) o i in
-                let live : is_joined (slice_get l.machine.tasks u) ≡ false = ap (λ z. is_joined (slice_get l.machine.tasks z)) (sym mine) ∙ own_live l S o.name in
+                let mine : own l (object_name o) ≡ u = home_own v l S u (V.homes u r) o i in
+                let live : is_joined (slice_get l.machine.tasks u) ≡ false = ap (λ z. is_joined (slice_get l.machine.tasks z)) (sym mine) ∙ own_live l S (object_name o) in
                 absurd (ne (sym (leaf_alone l S t u idle live (ap (λ z. is_on_path l.machine.tasks z u) (sym e) ∙ h))))
             | inr s ↦ subst (λ z. In (sources v z) (record { object = o.at; field = j })) e s
           ],
-          λ a p. moved n a e (live_ref l t S survivors spares o.name n y is (is_kept v l u (V.homes u r) o i) (λ e'. absurd (ne (sym (home_own v l S u (V.homes u r) o i) ∙ e'))) (got_in y.refs j (Some n) at)) p,
+          λ a p. moved n a e (live_ref l t S survivors spares (object_name o) n y is (is_kept v l u (V.homes u r) o i) (λ e'. absurd (ne (sym (home_own v l S u (V.homes u r) o i) ∙ e'))) (got_in y.refs j (Some n) at)) p,
         )
       ]
 
-  content : (u : ℕ) (o : Seen) → Rests l' u → In (objects v' u) o → (y : Object) × (object_at l'.machine.store o.name ≡ Some y) × IsRead (Place v' l') o y
+  content : (u : ℕ) (o : Located) → Rests l' u → In (objects v' u) o → (y : Object) × (object_at l'.machine.store (object_name o) ≡ Some y) × IsRead (Place v' l') o y
   content u o r i = elim (cases_eq u t) [
     | inl e ↦
         let q = C.only o (subst (λ z. In (objects v' z) o) e i) in
         let c = V.contents t q.0 B.rests q.1 in
-        subst (λ (z : Seen). (y : Object) × (object_at l'.machine.store z.name ≡ Some y) × IsRead (Place v' l') z y) (sym q.3) (
+        subst (λ (z : Located). (y : Object) × (object_at l'.machine.store (object_name z) ≡ Some y) × IsRead (Place v' l') z y) (sym q.3) (
           c.0,
-          store_same l l' L.machine q.0.name ∙ c.1,
+          store_same l l' L.machine (object_name q.0) ∙ c.1,
           record {
             mutable = c.2.mutable;
             ints = c.2.ints;
-            refs = all_led (Place v l) (Place v' l') f q.0.refs c.0.refs (λ n j a. led_place n a (live_ref l t S survivors spares q.0.name n c.0 c.1 (is_kept v l t (V.homes t B.rests) q.0 q.1) (λ e. q.2) j)) c.2.refs;
+            refs = all_led (Place v l) (Place v' l') f q.0.refs c.0.refs (λ n j a. led_place n a (live_ref l t S survivors spares (object_name q.0) n c.0 c.1 (is_kept v l t (V.homes t B.rests) q.0 q.1) (λ e. q.2) j)) c.2.refs;
           },
         )
     | inr ne ↦
         let q = was u o ne i in
         let c = V.contents u q.0 (rest u r) q.1 in
-        subst (λ (z : Seen). (y : Object) × (object_at l'.machine.store z.name ≡ Some y) × IsRead (Place v' l') z y) q.2 (
+        subst (λ (z : Located). (y : Object) × (object_at l'.machine.store (object_name z) ≡ Some y) × IsRead (Place v' l') z y) q.2 (
           c.0,
-          store_same l l' L.machine q.0.name ∙ c.1,
+          store_same l l' L.machine (object_name q.0) ∙ c.1,
           record {
             mutable = c.2.mutable;
             ints = c.2.ints;
@@ -179,30 +180,30 @@ module _ (v v' : Value) (l l' : Ledger) (t : ℕ) (x : Task) (f : Addr → Addr)
   up n h = ap (λ k. is_on_path l'.machine.tasks k t) (own_same l l' L.machine n) ∙ (path_same l l' L.machine (own l n) t ∙ h)
 
   -- a running task's objects refer up or inside
-  own_up : (o : Seen) (y : Object) (n : Name) → own l o.name ≡ t → object_at l.machine.store o.name ≡ Some y → In y.refs (Some n) → is_on_path l.machine.tasks (own l n) t ≡ true
-  own_up o y n e is i = elim (S.apart.of_object o.name n (refers l.machine.store o.name n y is i)).2 [
+  own_up : (o : Located) (y : Object) (n : Name) → own l (object_name o) ≡ t → object_at l.machine.store (object_name o) ≡ Some y → In y.refs (Some n) → is_on_path l.machine.tasks (own l n) t ≡ true
+  own_up o y n e is i = elim (S.apart.of_object (object_name o) n (refers l.machine.store (object_name o) n y is i)).2 [
     | inl h ↦
         let q : t ≡ own l n = leaf_alone l S t (own l n) idle (own_live l S n) (ap (λ z. is_on_path l.machine.tasks z (own l n)) (sym e) ∙ h) in
         ap (λ z. is_on_path l.machine.tasks z t) (sym q) ∙ path_itself (parents l.machine.tasks) S.kept.tree.low t
     | inr h ↦ ap (is_on_path l.machine.tasks (own l n)) (sym e) ∙ h
   ]
 
-  remember : (u : ℕ) (o : Seen) (y : Object) (i : ℕ) (n : Name) → Rests l' u → In (objects v' u) o → object_at l'.machine.store o.name ≡ Some y → slice_get y.refs i ≡ Some (Some n)
+  remember : (u : ℕ) (o : Located) (y : Object) (i : ℕ) (n : Name) → Rests l' u → In (objects v' u) o → object_at l'.machine.store (object_name o) ≡ Some y → slice_get y.refs i ≡ Some (Some n)
       → (is_on_path l'.machine.tasks (own l' n) u ≡ true) ⊎ In (sources v' (own l' n)) (record { object = o.at; field = i })
   remember u o y i n r j is at =
-      let is' : object_at l.machine.store o.name ≡ Some y = sym (store_same l l' L.machine o.name) ∙ is in
+      let is' : object_at l.machine.store (object_name o) ≡ Some y = sym (store_same l l' L.machine (object_name o)) ∙ is in
       elim (cases_eq u t) [
         | inl e ↦
             let q = C.only o (subst (λ z. In (objects v' z) o) e j) in
-            let mine : own l o.name ≡ t = ap (λ (z : Seen). own l z.name) q.3 ∙ home_own v l S t (V.homes t B.rests) q.0 q.1 in
+            let mine : own l (object_name o) ≡ t = ap (λ (z : Located). own l (object_name z)) q.3 ∙ home_own v l S t (V.homes t B.rests) q.0 q.1 in
             inl (subst (λ z. is_on_path l'.machine.tasks (own l' n) z ≡ true) (sym e) (up n (own_up o y n mine is' (got_in y.refs i (Some n) at))))
         | inr ne ↦
             let q = was u o ne j in
-            let is'' : object_at l.machine.store q.0.name ≡ Some y = ap (λ (z : Seen). object_at l.machine.store z.name) q.2 ∙ is' in
+            let is'' : object_at l.machine.store (object_name q.0) ≡ Some y = ap (λ (z : Located). object_at l.machine.store (object_name z)) q.2 ∙ is' in
             elim (V.remembered u q.0 y i n (rest u r) q.1 is'' at) [
               | inl h ↦ inl (ap (λ k. is_on_path l'.machine.tasks k u) (own_same l l' L.machine n) ∙ (path_same l l' L.machine (own l n) u ∙ h))
               | inr s ↦
-                  inr (subst (λ (z : Seen). In (sources v' (own l' n)) (record { object = z.at; field = i })) q.2
+                  inr (subst (λ (z : Located). In (sources v' (own l' n)) (record { object = z.at; field = i })) q.2
                   (subst (λ k. In (sources v' k) (record { object = q.0.at; field = i })) (sym (own_same l l' L.machine n))
                   (subst (λ ss. In ss (record { object = q.0.at; field = i })) (sym (C.sources (own l n))) s)))
             ]

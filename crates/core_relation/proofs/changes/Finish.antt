@@ -12,7 +12,7 @@ use Rattle.run_ledger.specs.declared.data.Ledger.{Ledger}
 use Rattle.run_ledger.specs.Heaps.{heap_of}
 use Rattle.run_ledger.specs.Sound.{SoundLedger}
 use Rattle.task_frames.specs.declared.frames.Frame.{Frame}
-use Rattle.core_relation.specs.Value.{Value, In, objects_in, Lies}
+use Rattle.core_relation.specs.Value.{Value, In, object_name, objects_in, Lies}
 use Rattle.core_relation.specs.Reads.{Reads, FramesAreRead, HoldsRead, TaskIsRead}
 use Rattle.ledger_steps.specs.Accounts.{Rests}
 use Rattle.core_relation.specs.Layout.{AreLaidOut}
@@ -69,6 +69,6 @@ module _ (v v' : Value) (l l' : Ledger) (t : ℕ) (x : Task) (f : Frame) (fs : L
     home = home_alike v v' l l' t C.chunks C.room C.since C.count (λ k e. C.owner k ∙ e) L.heap L.row (L.alone.tree.joins t) (V.homes t rests);
     contents = λ o i.
         let c = V.contents t o rests (subst (λ ks. In (objects_in ks) o) C.chunks i) in
-        (c.0, L.store o.name ∙ c.1, object_kept (Place v l) (Place v' l') o c.0 (λ n j. place n) c.2);
+        (c.0, L.store (object_name o) ∙ c.1, object_kept (Place v l) (Place v' l') o c.0 (λ n j. place n) c.2);
     task = task;
   })

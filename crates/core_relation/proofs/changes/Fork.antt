@@ -3,6 +3,7 @@ use Rattle.std.proofs.Common.{is_some, ◌≡◌, ℕ, ◌+◌, true, false, Som
 use Rattle.std.proofs.lemmas.Bool.{cases_eq, both_ways}
 use Rattle.std.proofs.lemmas.Option.{same_Some}
 use Rattle.object_layout.specs.declared.word.Addr.{Addr}
+use Rattle.object_layout.specs.Objects.{Located}
 use Rattle.hh_model.specs.declared.data.Name.{Name}
 use Rattle.hh_model.specs.declared.data.Object.{Object}
 use Rattle.hh_model.specs.declared.data.Frame.{Frame as ModelFrame}
@@ -16,7 +17,7 @@ use Rattle.run_ledger.specs.Heaps.{heap_of, fresh}
 use Rattle.run_ledger.specs.Sound.{SoundLedger}
 use Rattle.task_frames.specs.declared.frames.Frame.{Frame}
 use Rattle.remembered_set.specs.declared.remembered.Source.{Source}
-use Rattle.core_relation.specs.Value.{Seen, Home, Value, In, objects, objects_in, sources, Lies}
+use Rattle.core_relation.specs.Value.{Home, Value, In, object_name, objects, objects_in, sources, Lies}
 use Rattle.core_relation.specs.Reads.{FramesAreRead, HoldsRead, TaskIsRead}
 use Rattle.ledger_steps.specs.Accounts.{own, Rests}
 use Rattle.core_relation.specs.Layout.{AreLaidOut}
@@ -61,7 +62,7 @@ module _ (v v' : Value) (l l' : Ledger) (t a b g h : ℕ) (x : Task) (S : SoundL
   ]
 
   -- a new one has no object
-  none_new : (z : ℕ) (o : Seen) → (z ≡ a) ⊎ (z ≡ b) → In (objects v' z) o → ⊥
+  none_new : (z : ℕ) (o : Located) → (z ≡ a) ⊎ (z ≡ b) → In (objects v' z) o → ⊥
   none_new z o (inl e) i = subst (λ (k : Home). In (objects_in k.chunks) o) (ap v'.homes e ∙ C.left) i
   none_new z o (inr e) i = subst (λ (k : Home). In (objects_in k.chunks) o) (ap v'.homes e ∙ C.right) i
 
@@ -103,7 +104,7 @@ module _ (v v' : Value) (l l' : Ledger) (t a b g h : ℕ) (x : Task) (S : SoundL
     place : (n : Name) (c : Addr) → Place v l n c → Place v' l' n c
     place n c p = place_in n c (λ e. unowned c.chunk (own l n) (inl e) p.chunk) (λ e. unowned c.chunk (own l n) (inr e) p.chunk) p
 
-    was : (z : ℕ) (o : Seen) → Rests l' z → In (objects v' z) o → (z ≡ a → ⊥) × (z ≡ b → ⊥) × Rests l z × In (objects v z) o
+    was : (z : ℕ) (o : Located) → Rests l' z → In (objects v' z) o → (z ≡ a → ⊥) × (z ≡ b → ⊥) × Rests l z × In (objects v z) o
     was z o r i =
         let na : z ≡ a → ⊥ = λ e. none_new z o (inl e) i in
         let nb : z ≡ b → ⊥ = λ e. none_new z o (inr e) i in
@@ -118,7 +119,7 @@ module _ (v v' : Value) (l l' : Ledger) (t a b g h : ℕ) (x : Task) (S : SoundL
         record {
           names = record {
             small = ap (λ ks. map names_of (small_chunks ks)) (ap (λ (i : Home). i.chunks) C.home) ∙ (H.names.small ∙ sym (ap (λ (i : Heap). i.chunks) F.heap));
-            large = ap (λ ks. map (λ (o : Seen). o.name) (objects_in (large_chunks ks))) (ap (λ (i : Home). i.chunks) C.home) ∙ (H.names.large ∙ sym (ap (λ (i : Heap). i.large) F.heap));
+            large = ap (λ ks. map object_name (objects_in (large_chunks ks))) (ap (λ (i : Home). i.chunks) C.home) ∙ (H.names.large ∙ sym (ap (λ (i : Heap). i.large) F.heap));
           };
           room = ap (λ (i : Home). i.room) C.home ∙ (H.room ∙ sym (ap (λ (i : Heap). i.room) F.heap));
           since = ap (λ (i : Home). i.since) C.home ∙ (H.since ∙ sym (ap (λ (i : Heap). i.since) F.heap));
@@ -180,11 +181,11 @@ module _ (v v' : Value) (l l' : Ledger) (t a b g h : ℕ) (x : Task) (S : SoundL
       ]
     ]
 
-    remember : (z : ℕ) (o : Seen) (y : Object) (i : ℕ) (n : Name) → Rests l' z → In (objects v' z) o → object_at l'.machine.store o.name ≡ Some y → slice_get y.refs i ≡ Some (Some n)
+    remember : (z : ℕ) (o : Located) (y : Object) (i : ℕ) (n : Name) → Rests l' z → In (objects v' z) o → object_at l'.machine.store (object_name o) ≡ Some y → slice_get y.refs i ≡ Some (Some n)
         → (is_on_path l'.machine.tasks (own l' n) z ≡ true) ⊎ In (sources v' (own l' n)) (record { object = o.at; field = i })
     remember z o y i n r j is at =
         let w = was z o r j in
-        elim (V.remembered z o y i n w.2 w.3 (sym (F.store o.name) ∙ is) at) [
+        elim (V.remembered z o y i n w.2 w.3 (sym (F.store (object_name o)) ∙ is) at) [
           | inl p ↦ inl (ap (λ k. is_on_path l'.machine.tasks k z) (F.owners n.task) ∙ (F.paths (own l n) z w.0 w.1 ∙ p))
           | inr s ↦ inr (subst (λ k. In (sources v' k) (record { object = o.at; field = i })) (sym (F.owners n.task)) (stays (own l n) (record { object = o.at; field = i }) s))
         ]
@@ -255,7 +256,7 @@ module _ (v v' : Value) (l l' : Ledger) (t a b g h : ℕ) (x : Task) (S : SoundL
       contents = λ z o r i.
           let w = was z o r i in
           let k = V.contents z o w.2 w.3 in
-          (k.0, F.store o.name ∙ k.1, object_kept (Place v l) (Place v' l') o k.0 (λ n j. place n) k.2);
+          (k.0, F.store (object_name o) ∙ k.1, object_kept (Place v l) (Place v' l') o k.0 (λ n j. place n) k.2);
       tasks = task;
       remembered = remember;
       sources = source;

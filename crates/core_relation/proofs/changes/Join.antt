@@ -4,6 +4,7 @@ use Rattle.std.proofs.lemmas.Bool.{cases_eq, both_ways, false≢true}
 use Rattle.std.proofs.lemmas.Option.{same_Some}
 use Rattle.listed.proofs.Members.{in_append_left, in_append_right, in_append_cases}
 use Rattle.object_layout.specs.declared.word.Addr.{Addr}
+use Rattle.object_layout.specs.Objects.{Located}
 use Rattle.hh_model.specs.declared.data.Name.{Name}
 use Rattle.hh_model.specs.declared.data.Object.{Object}
 use Rattle.hh_model.specs.declared.data.Frame.{Frame as ModelFrame}
@@ -21,7 +22,7 @@ use Rattle.run_ledger.specs.Heaps.{heap_of, emptied}
 use Rattle.run_ledger.specs.Sound.{SoundLedger}
 use Rattle.task_frames.specs.declared.frames.Frame.{Frame}
 use Rattle.remembered_set.specs.declared.remembered.Source.{Source}
-use Rattle.core_relation.specs.Value.{Seen, Chunk, Home, no_home, Value, In, objects, objects_in, sources, Lies}
+use Rattle.core_relation.specs.Value.{Chunk, Home, no_home, Value, In, object_name, objects, objects_in, sources, Lies}
 use Rattle.core_relation.specs.Reads.{Reads, IsRead, FrameIsRead, FramesAreRead, HoldsRead, TaskIsRead}
 use Rattle.ledger_steps.specs.Accounts.{own, Rests}
 use Rattle.core_relation.specs.Layout.{AreLaidOut}
@@ -158,17 +159,17 @@ module _ (v v' : Value) (l l' : Ledger) (p c d : ℕ) (x : Task) (rl rr : ℤ ×
   lies_in z n a part q = let k = in_chunk (v.homes z).chunks q.0 q.1 in (q.0, in_objects (v'.homes p).chunks k.0 q.0 (chunk_in z k.0 part k.1) k.2, q.2)
 
   -- where an object stood before
-  pub record Was (z : ℕ) (o : Seen) : Type 0 where
+  pub record Was (z : ℕ) (o : Located) : Type 0 where
     pub home : ℕ
     pub rests : Rests l home
     pub there : In (objects v home) o
     pub came : ((z ≡ p) × IsPart home) ⊎ ((home ≡ z) × IsOther z)
 
-  no_object : (z : ℕ) (o : Seen) → IsChild z → In (objects v' z) o → ⊥
+  no_object : (z : ℕ) (o : Located) → IsChild z → In (objects v' z) o → ⊥
   no_object z o (inl e) i = subst (λ (h : Home). In (objects_in h.chunks) o) (ap v'.homes e ∙ H.left) i
   no_object z o (inr e) i = subst (λ (h : Home). In (objects_in h.chunks) o) (ap v'.homes e ∙ H.right) i
 
-  was : (z : ℕ) (o : Seen) → Rests l' z → In (objects v' z) o → Was z o
+  was : (z : ℕ) (o : Located) → Rests l' z → In (objects v' z) o → Was z o
   was z o r i = elim (which z) [
     | inl e ↦
         let k = in_chunk (v'.homes p).chunks o (subst (λ y. In (objects v' y) o) e i) in
@@ -219,7 +220,7 @@ module _ (v v' : Value) (l l' : Ledger) (p c d : ℕ) (x : Task) (rl rr : ℤ ×
 
   -- HOMES
 
-  owned_by : (z : ℕ) (o : Seen) → Rests l z → In (objects v z) o → v.owner o.at.chunk ≡ Some z
+  owned_by : (z : ℕ) (o : Located) → Rests l z → In (objects v z) o → v.owner o.at.chunk ≡ Some z
   owned_by z o r i = let k = in_chunk (v.homes z).chunks o i in ap v.owner ((V.homes z r).inside k.0 o k.1 k.2) ∙ (V.homes z r).owned k.0 k.1
 
   abbrev A : List Chunk
@@ -243,7 +244,7 @@ module _ (v v' : Value) (l l' : Ledger) (p c d : ℕ) (x : Task) (rl rr : ℤ ×
   merged_names : HasNames (v'.homes p).chunks (heap_of l' p)
   merged_names = record {
     small = ap (λ ks. map names_of (small_chunks ks)) H.chunks ∙ (small_both (A ++ B) C both (heap_of l p) both_names (V.homes p T.rests).names ∙ sym (ap (λ (h : Heap). h.chunks) J.heap));
-    large = ap (λ ks. map (λ (o : Seen). o.name) (objects_in (large_chunks ks))) H.chunks ∙ (large_both (A ++ B) C both (heap_of l p) both_names (V.homes p T.rests).names ∙ sym (ap (λ (h : Heap). h.large) J.heap));
+    large = ap (λ ks. map object_name (objects_in (large_chunks ks))) H.chunks ∙ (large_both (A ++ B) C both (heap_of l p) both_names (V.homes p T.rests).names ∙ sym (ap (λ (h : Heap). h.large) J.heap));
   }
 
   merged_home : HomeStands v' l' p
@@ -338,11 +339,11 @@ module _ (v v' : Value) (l l' : Ledger) (p c d : ℕ) (x : Task) (rl rr : ℤ ×
     | inr e ↦ ap (λ z. is_some (slice_get l'.machine.tasks z)) e.0 ∙ ap is_some J.resumed
   ]
 
-  content : (z : ℕ) (o : Seen) → Rests l' z → In (objects v' z) o → (y : Object) × (object_at l'.machine.store o.name ≡ Some y) × IsRead (Place v' l') o y
+  content : (z : ℕ) (o : Located) → Rests l' z → In (objects v' z) o → (y : Object) × (object_at l'.machine.store (object_name o) ≡ Some y) × IsRead (Place v' l') o y
   content z o r i =
       let w = was z o r i in
       let k = V.contents w.home o w.rests w.there in
-      (k.0, store_same o.name ∙ k.1, object_kept (Place v l) (Place v' l') o k.0 (λ n j. place n) k.2)
+      (k.0, store_same (object_name o) ∙ k.1, object_kept (Place v l) (Place v' l') o k.0 (λ n j. place n) k.2)
 
   -- FRAMES
 
@@ -397,7 +398,7 @@ module _ (v v' : Value) (l l' : Ledger) (p c d : ℕ) (x : Task) (rl rr : ℤ ×
   Minds z n s = (is_on_path l'.machine.tasks (own l' n) z ≡ true) ⊎ In (sources v' (own l' n)) s
 
   -- into what was a child's heap
-  into_child : (z : ℕ) (o : Seen) (i : ℕ) (n : Name) (w : Was z o) → own l' n ≡ p → IsChild (own l n)
+  into_child : (z : ℕ) (o : Located) (i : ℕ) (n : Name) (w : Was z o) → own l' n ≡ p → IsChild (own l n)
       → (is_on_path l.machine.tasks (own l n) w.home ≡ true) ⊎ In (sources v (own l n)) (record { object = o.at; field = i }) → Minds z n (record { object = o.at; field = i })
   into_child z o i n w e ch old = subst (λ u. (is_on_path l'.machine.tasks u z ≡ true) ⊎ In (sources v' u) (record { object = o.at; field = i })) (sym e) (by w.came old)
     where
@@ -408,7 +409,7 @@ module _ (v v' : Value) (l l' : Ledger) (p c d : ℕ) (x : Task) (rl rr : ℤ ×
       by (inr m) (inr s) = inr (source_lifts (own l n) (record { object = o.at; field = i }) ch (λ g. m.1.0 (sym m.0 ∙ same_Some w.home p (sym (owned_by w.home o w.rests w.there) ∙ g))) s)
 
   -- into another heap
-  into_other : (z : ℕ) (o : Seen) (i : ℕ) (n : Name) (w : Was z o) → own l' n ≡ own l n → (own l n ≡ c → ⊥) → (own l n ≡ d → ⊥)
+  into_other : (z : ℕ) (o : Located) (i : ℕ) (n : Name) (w : Was z o) → own l' n ≡ own l n → (own l n ≡ c → ⊥) → (own l n ≡ d → ⊥)
       → (is_on_path l.machine.tasks (own l n) w.home ≡ true) ⊎ In (sources v (own l n)) (record { object = o.at; field = i }) → Minds z n (record { object = o.at; field = i })
   into_other z o i n w e nc nd old = subst (λ u. (is_on_path l'.machine.tasks u z ≡ true) ⊎ In (sources v' u) (record { object = o.at; field = i })) (sym e) (by old)
     where
@@ -426,11 +427,11 @@ module _ (v v' : Value) (l l' : Ledger) (p c d : ℕ) (x : Task) (rl rr : ℤ ×
       by (inl h) = inl (J.paths (own l n) z ∙ up w.came h)
       by (inr s) = inr (source_stays (own l n) (record { object = o.at; field = i }) nc nd s)
 
-  remember : (z : ℕ) (o : Seen) (y : Object) (i : ℕ) (n : Name) → Rests l' z → In (objects v' z) o → object_at l'.machine.store o.name ≡ Some y → slice_get y.refs i ≡ Some (Some n)
+  remember : (z : ℕ) (o : Located) (y : Object) (i : ℕ) (n : Name) → Rests l' z → In (objects v' z) o → object_at l'.machine.store (object_name o) ≡ Some y → slice_get y.refs i ≡ Some (Some n)
       → (is_on_path l'.machine.tasks (own l' n) z ≡ true) ⊎ In (sources v' (own l' n)) (record { object = o.at; field = i })
   remember z o y i n r j is at =
       let w = was z o r j in
-      let old = V.remembered w.home o y i n w.rests w.there (sym (store_same o.name) ∙ is) at in
+      let old = V.remembered w.home o y i n w.rests w.there (sym (store_same (object_name o)) ∙ is) at in
       elim (J.owners n.task) [
         | inl m ↦ into_child z o i n w m.0 m.1 old
         | inr m ↦ into_other z o i n w m.0 m.1.0 m.1.1 old

@@ -3,6 +3,7 @@
 use Rattle.std.proofs.Common.{◌≡◌, ℕ, ℤ, ◌+◌, false, Option, List, ◌++◌, map, length, slice_get, ◌⊎◌, inl, inr, refl, ap, ap₂, sym, subst, ◌∙◌}
 use Rattle.std.proofs.lemmas.Bool.{cases_eq, both_ways}
 use Rattle.object_layout.specs.declared.word.Addr.{Addr}
+use Rattle.object_layout.specs.Objects.{Located}
 use Rattle.hh_model.specs.declared.data.Name.{Name}
 use Rattle.hh_model.specs.declared.data.Object.{Object}
 use Rattle.hh_model.specs.declared.data.Task.{Task}
@@ -12,7 +13,7 @@ use Rattle.run_ledger.specs.declared.data.Ledger.{Ledger}
 use Rattle.run_ledger.specs.Heaps.{heap_of, or_fresh, merged, emptied, forked_heap}
 use Rattle.run_ledger.specs.declared.data.Heap.{Heap}
 use Rattle.task_frames.specs.declared.frames.Frame.{Frame}
-use Rattle.core_relation.specs.Value.{Seen, Home, Value, In, objects_in, mapped_chunk, put_at}
+use Rattle.core_relation.specs.Value.{Home, Value, In, objects_in, mapped_chunk, put_at}
 use Rattle.ledger_steps.specs.Accounts.{own, StepsAlone, WritesOne, AlikeFor}
 use Rattle.core_relation.specs.Fits.{with_home}
 use Rattle.ledger_steps.specs.Kinds.{ForksTask, JoinsTasks, CanJoin, StoresOne, StoresNumber, EndsTask}
@@ -243,7 +244,7 @@ module _ (v v' : Value) (u : ℕ) (h : Home) where
   ]
 
   -- a write of an object that isn't in u's home
-  pub writes_with : (t : ℕ) (a : Addr) (f : Seen → Seen) → ((o : Seen) → In (objects_in h.chunks) o → o.at.chunk ≡ a.chunk → ⊥) → WritesAt v v' t a f → WritesAt w w' t a f
+  pub writes_with : (t : ℕ) (a : Addr) (f : Located → Located) → ((o : Located) → In (objects_in h.chunks) o → o.at.chunk ≡ a.chunk → ⊥) → WritesAt v v' t a f → WritesAt w w' t a f
   writes_with t a f none C = record {
     same_name = C.same_name;
     same_at = C.same_at;
@@ -262,7 +263,7 @@ module _ (v v' : Value) (u : ℕ) (h : Home) where
   }
 
   pub stores_with : (l k : Ledger) (t : ℕ) (f : Frame) (fs : List Frame) (a : Addr) (o i : ℕ) (c : Option (ℕ × ℤ)) → (t ≡ u → ⊥) → ((b z : ℕ) → is_on_path k.machine.tasks b z ≡ is_on_path l.machine.tasks b z)
-      → ((q : Seen) → In (objects_in h.chunks) q → q.at.chunk ≡ a.chunk → ⊥) → StoresAt v v' l t f fs a o i c → StoresAt w w' k t f fs a o i c
+      → ((q : Located) → In (objects_in h.chunks) q → q.at.chunk ≡ a.chunk → ⊥) → StoresAt v v' l t f fs a o i c → StoresAt w w' k t f fs a o i c
   stores_with l k t f fs a o i c nt paths none C = record {
     frames = ap (λ (j : Home). j.frames) (off_home v u h t nt) ∙ C.frames;
     goes = ap (λ (j : Home). j.frames) (off_home v' u h t nt) ∙ C.goes;
@@ -274,7 +275,7 @@ module _ (v v' : Value) (u : ℕ) (h : Home) where
     ];
   }
 
-  pub numbers_with : (t : ℕ) (f : Frame) (fs : List Frame) (a : Addr) (o i : ℕ) → (t ≡ u → ⊥) → ((q : Seen) → In (objects_in h.chunks) q → q.at.chunk ≡ a.chunk → ⊥) → StoresNumberAt v v' t f fs a o i → StoresNumberAt w w' t f fs a o i
+  pub numbers_with : (t : ℕ) (f : Frame) (fs : List Frame) (a : Addr) (o i : ℕ) → (t ≡ u → ⊥) → ((q : Located) → In (objects_in h.chunks) q → q.at.chunk ≡ a.chunk → ⊥) → StoresNumberAt v v' t f fs a o i → StoresNumberAt w w' t f fs a o i
   numbers_with t f fs a o i nt none C = record {
     frames = ap (λ (j : Home). j.frames) (off_home v u h t nt) ∙ C.frames;
     goes = ap (λ (j : Home). j.frames) (off_home v' u h t nt) ∙ C.goes;

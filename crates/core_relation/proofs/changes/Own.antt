@@ -3,6 +3,7 @@ use Rattle.std.proofs.Common.{◌≡◌, ℕ, true, false, Option, Some, None, s
 use Rattle.std.proofs.lemmas.Bool.{cases_eq, both_ways}
 use Rattle.listed.proofs.Members.{got_in}
 use Rattle.object_layout.specs.declared.word.Addr.{Addr}
+use Rattle.object_layout.specs.Objects.{Located}
 use Rattle.hh_model.specs.declared.data.Name.{Name}
 use Rattle.hh_model.specs.declared.data.Object.{Object}
 use Rattle.hh_model.specs.declared.data.Task.{Task}
@@ -14,7 +15,7 @@ use Rattle.run_ledger.specs.declared.data.Ledger.{Ledger}
 use Rattle.run_ledger.specs.Heaps.{heap_of}
 use Rattle.run_ledger.specs.Sound.{SoundLedger}
 use Rattle.remembered_set.specs.declared.remembered.Source.{Source}
-use Rattle.core_relation.specs.Value.{Seen, Home, Value, In, objects, objects_in, sources, Lies, shown_at}
+use Rattle.core_relation.specs.Value.{Home, Value, In, object_name, objects, objects_in, sources, Lies, shown_at}
 use Rattle.core_relation.specs.Reads.{IsRead, TaskIsRead}
 use Rattle.ledger_steps.specs.Accounts.{own, Rests, StepsAlone}
 use Rattle.core_relation.specs.Stands.{Place, Gives, HomeStands, IsSource, Stands, IsShown}
@@ -48,13 +49,13 @@ module _ (v v' : Value) (l l' : Ledger) (t : ℕ) (S : SoundLedger l) (S' : Soun
       }
 
   module _ (H : HomeIsRead v' l' t) where
-    was : (u : ℕ) (o : Seen) → (u ≡ t → ⊥) → In (objects v' u) o → In (objects v u) o
+    was : (u : ℕ) (o : Located) → (u ≡ t → ⊥) → In (objects v' u) o → In (objects v u) o
     was u o ne i = subst (λ (h : Home). In (objects_in h.chunks) o) (C.others u ne) i
 
-    store_same : (u : ℕ) (o : Seen) → (u ≡ t → ⊥) → Rests l u → In (objects v u) o → object_at l'.machine.store o.name ≡ object_at l.machine.store o.name
-    store_same u o ne r i = A.store o.name (λ e. ne (sym (home_own v l S u (V.homes u r) o i) ∙ e))
+    store_same : (u : ℕ) (o : Located) → (u ≡ t → ⊥) → Rests l u → In (objects v u) o → object_at l'.machine.store (object_name o) ≡ object_at l.machine.store (object_name o)
+    store_same u o ne r i = A.store (object_name o) (λ e. ne (sym (home_own v l S u (V.homes u r) o i) ∙ e))
 
-    content : (u : ℕ) (o : Seen) → Rests l' u → In (objects v' u) o → (x : Object) × (object_at l'.machine.store o.name ≡ Some x) × IsRead (Place v' l') o x
+    content : (u : ℕ) (o : Located) → Rests l' u → In (objects v' u) o → (x : Object) × (object_at l'.machine.store (object_name o) ≡ Some x) × IsRead (Place v' l') o x
     content u o r i = elim (cases_eq u t) [
       | inl e ↦ H.contents o (subst (λ z. In (objects v' z) o) e i)
       | inr ne ↦
@@ -72,17 +73,17 @@ module _ (v v' : Value) (l l' : Ledger) (t : ℕ) (S : SoundLedger l) (S' : Soun
     idle' = A.tree.waits t ∙ idle
 
     -- a running task's objects refer up or inside
-    own_up : (o : Seen) (y : Object) (n : Name) → In (objects v' t) o → object_at l'.machine.store o.name ≡ Some y → In y.refs (Some n) → is_on_path l'.machine.tasks (own l' n) t ≡ true
+    own_up : (o : Located) (y : Object) (n : Name) → In (objects v' t) o → object_at l'.machine.store (object_name o) ≡ Some y → In y.refs (Some n) → is_on_path l'.machine.tasks (own l' n) t ≡ true
     own_up o y n j is i =
-        let e : own l' o.name ≡ t = home_own v' l' S' t H.home o j in
-        elim (S'.apart.of_object o.name n (refers l'.machine.store o.name n y is i)).2 [
+        let e : own l' (object_name o) ≡ t = home_own v' l' S' t H.home o j in
+        elim (S'.apart.of_object (object_name o) n (refers l'.machine.store (object_name o) n y is i)).2 [
           | inl h ↦
               let q : t ≡ own l' n = leaf_alone l' S' t (own l' n) idle' (own_live l' S' n) (ap (λ z. is_on_path l'.machine.tasks z (own l' n)) (sym e) ∙ h) in
               ap (λ z. is_on_path l'.machine.tasks z t) (sym q) ∙ path_itself (parents l'.machine.tasks) S'.kept.tree.low t
           | inr h ↦ ap (is_on_path l'.machine.tasks (own l' n)) (sym e) ∙ h
         ]
 
-    remember : (u : ℕ) (o : Seen) (x : Object) (i : ℕ) (n : Name) → Rests l' u → In (objects v' u) o → object_at l'.machine.store o.name ≡ Some x → slice_get x.refs i ≡ Some (Some n)
+    remember : (u : ℕ) (o : Located) (x : Object) (i : ℕ) (n : Name) → Rests l' u → In (objects v' u) o → object_at l'.machine.store (object_name o) ≡ Some x → slice_get x.refs i ≡ Some (Some n)
         → (is_on_path l'.machine.tasks (own l' n) u ≡ true) ⊎ In (sources v' (own l' n)) (record { object = o.at; field = i })
     remember u o x i n r j is at = elim (cases_eq u t) [
       | inl e ↦ inl (ap (is_on_path l'.machine.tasks (own l' n)) e ∙ own_up o x n (subst (λ z. In (objects v' z) o) e j) is (got_in x.refs i (Some n) at))
@@ -150,35 +151,35 @@ module _ (v v' : Value) (l l' : Ledger) (t : ℕ) (S : SoundLedger l) (S' : Soun
 
   -- AN ALLOCATION: the map gets one name more
 
-  module _ (o : Seen) (x : Object) (N : Allocates v v' l l' t o x) where
+  module _ (o : Located) (x : Object) (N : Allocates v v' l l' t o x) where
     there : In (objects v' t) o
     there = (N.objects o).1 (inr refl)
 
-    place_new : Place v' l' o.name o.at
+    place_new : Place v' l' (object_name o) o.at
     place_new =
-        let e : own l' o.name ≡ t = home_own v' l' S' t N.home o there in
+        let e : own l' (object_name o) ≡ t = home_own v' l' S' t N.home o there in
         let k = in_chunk (v'.homes t).chunks o there in
         record {
           chunk = ap v'.owner (N.home.inside k.0 o k.1 k.2) ∙ (N.home.owned k.0 k.1 ∙ ap Some (sym e));
-          here = λ r. subst (λ u. Lies (v'.homes u).chunks o.name o.at) (sym e) (o, there, record { name = refl; at = refl });
+          here = λ r. subst (λ u. Lies (v'.homes u).chunks (object_name o) o.at) (sym e) (o, there, record { name = refl; at = refl });
         }
 
-    place_either : (n : Name) (a : Addr) → Place v l n a ⊎ ((o.name ≡ n) × (o.at ≡ a)) → Place v' l' n a
+    place_either : (n : Name) (a : Addr) → Place v l n a ⊎ ((object_name o ≡ n) × (o.at ≡ a)) → Place v' l' n a
     place_either n a (inl p) = place_own n a p
-    place_either n a (inr p) = subst (λ m. Place v' l' m a) p.0 (subst (Place v' l' o.name) p.1 place_new)
+    place_either n a (inr p) = subst (λ m. Place v' l' m a) p.0 (subst (Place v' l' (object_name o)) p.1 place_new)
 
-    old_or_new : (q : Seen) → In (objects v t) q ⊎ (o ≡ q) → (y : Object) × (object_at l'.machine.store q.name ≡ Some y) × IsRead (Place v' l') q y
+    old_or_new : (q : Located) → In (objects v t) q ⊎ (o ≡ q) → (y : Object) × (object_at l'.machine.store (object_name q) ≡ Some y) × IsRead (Place v' l') q y
     old_or_new q (inl i) =
         let c = V.contents t q rests i in
-        (c.0, N.others q.name (λ e. none_some (sym N.new ∙ (ap (object_at l.machine.store) (sym e) ∙ c.1))) ∙ c.1, object_kept (Place v l) (Place v' l') q c.0 (λ n j. place_own n) c.2)
+        (c.0, N.others (object_name q) (λ e. none_some (sym N.new ∙ (ap (object_at l.machine.store) (sym e) ∙ c.1))) ∙ c.1, object_kept (Place v l) (Place v' l') q c.0 (λ n j. place_own n) c.2)
       where
         none_some : {y : Object} → ◌≡◌ {A = Option Object} None (Some y) → ⊥
         none_some e = absurd cc
-    old_or_new q (inr e) = subst (λ (z : Seen). (y : Object) × (object_at l'.machine.store z.name ≡ Some y) × IsRead (Place v' l') z y) e (x, N.is, object_kept (Place v l) (Place v' l') o x (λ n j. place_own n) N.reads)
+    old_or_new q (inr e) = subst (λ (z : Located). (y : Object) × (object_at l'.machine.store (object_name z) ≡ Some y) × IsRead (Place v' l') z y) e (x, N.is, object_kept (Place v l) (Place v' l') o x (λ n j. place_own n) N.reads)
 
     pub allocated : Stands v' l'
     allocated = stepped (record {
       home = N.home;
       contents = λ q i. old_or_new q ((N.objects q).0 i);
-      task = λ y is. task_kept (λ n a. Place v l n a ⊎ ((o.name ≡ n) × (o.at ≡ a))) (Place v' l') (v'.homes t) y (λ n j. place_either n) (N.task y is);
+      task = λ y is. task_kept (λ n a. Place v l n a ⊎ ((object_name o ≡ n) × (o.at ≡ a))) (Place v' l') (v'.homes t) y (λ n j. place_either n) (N.task y is);
     })

@@ -2,6 +2,7 @@
 use Rattle.std.proofs.Common.{is_some, ◌≡◌, ℕ, false, Some, length, slice_get, inl, inr, ap, sym, subst, ◌∙◌}
 use Rattle.std.proofs.lemmas.Bool.{both_ways}
 use Rattle.object_layout.specs.declared.word.Addr.{Addr}
+use Rattle.object_layout.specs.Objects.{Located}
 use Rattle.hh_model.specs.declared.data.Name.{Name}
 use Rattle.hh_model.specs.declared.data.State.{State}
 use Rattle.hh_model.specs.Effect.{row_of}
@@ -9,7 +10,7 @@ use Rattle.hh_model.specs.Step.{is_joined, is_waiting, is_on_path}
 use Rattle.run_ledger.specs.declared.data.Heap.{Heap}
 use Rattle.run_ledger.specs.declared.data.Ledger.{Ledger}
 use Rattle.run_ledger.specs.Heaps.{heap_of}
-use Rattle.core_relation.specs.Value.{Seen, Home, Value, In, objects, objects_in, sources, Lies, shown_at}
+use Rattle.core_relation.specs.Value.{Home, Value, In, object_name, objects, objects_in, sources, Lies, shown_at}
 use Rattle.core_relation.specs.Reads.{TaskIsRead}
 use Rattle.ledger_steps.specs.Accounts.{own, Rests, Takes}
 use Rattle.core_relation.specs.Stands.{Place, Stands}
@@ -35,7 +36,7 @@ module _ (v v' : Value) (l l' : Ledger) (t w : ℕ) (V : Stands v l) (idle : is_
         (subst (λ (h : Home). Lies h.chunks n a) (sym (C.homes (own l n) (other (own l n) r'))) (p.here (rest (own l n) r')));
   }
 
-  was : (u : ℕ) (o : Seen) → Rests l' u → In (objects v' u) o → In (objects v u) o
+  was : (u : ℕ) (o : Located) → Rests l' u → In (objects v' u) o → In (objects v u) o
   was u o r i = subst (λ (h : Home). In (objects_in h.chunks) o) (C.homes u (other u r)) i
 
   pub released : Stands v' l'
@@ -49,12 +50,12 @@ module _ (v v' : Value) (l l' : Ledger) (t w : ℕ) (V : Stands v l) (idle : is_
     homes = λ u r. home_kept v v' l l' u (C.homes u (other u r)) (λ k e. C.owner k ∙ e) (L.heaps u (other u r)) (ap (λ (m : State). length (row_of (slice_get m.store u))) L.machine) (ap (λ (m : State). is_joined (slice_get m.tasks u)) L.machine) (V.homes u (rest u r));
     contents = λ u o r i.
         let c = V.contents u o (rest u r) (was u o r i) in
-        (c.0, store_same l l' L.machine o.name ∙ c.1, object_kept (Place v l) (Place v' l') o c.0 (λ n j. place n) c.2);
+        (c.0, store_same l l' L.machine (object_name o) ∙ c.1, object_kept (Place v l) (Place v' l') o c.0 (λ n j. place n) c.2);
     tasks = λ u x r is.
         subst (λ (h : Home). TaskIsRead (Place v' l') h x) (sym (C.homes u (other u r)))
         (task_kept (Place v l) (Place v' l') (v.homes u) x (λ n j. place n) (V.tasks u x (rest u r) (sym (ap (λ (m : State). slice_get m.tasks u) L.machine) ∙ is)));
     remembered = λ u o x i n r j is at.
-        elim (V.remembered u o x i n (rest u r) (was u o r j) (sym (store_same l l' L.machine o.name) ∙ is) at) [
+        elim (V.remembered u o x i n (rest u r) (was u o r j) (sym (store_same l l' L.machine (object_name o)) ∙ is) at) [
           | inl h ↦ inl (ap (λ k. is_on_path l'.machine.tasks k u) (own_same l l' L.machine n) ∙ (path_same l l' L.machine (own l n) u ∙ h))
           | inr s ↦ inr (subst (λ k. In (sources v' k) (record { object = o.at; field = i })) (sym (own_same l l' L.machine n)) (subst (λ ss. In ss (record { object = o.at; field = i })) (sym (C.sources (own l n))) s))
         ];

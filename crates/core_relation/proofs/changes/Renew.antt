@@ -2,11 +2,12 @@
 use Rattle.std.proofs.Common.{◌≡◌, true, is_some, ℕ, Some, slice_get, inl, inr, ap, sym, subst, ◌∙◌}
 use Rattle.std.proofs.lemmas.Bool.{both_ways}
 use Rattle.object_layout.specs.declared.word.Addr.{Addr}
+use Rattle.object_layout.specs.Objects.{Located}
 use Rattle.hh_model.specs.declared.data.Name.{Name}
 use Rattle.hh_model.specs.declared.data.State.{State}
 use Rattle.hh_model.specs.Step.{is_joined, is_on_path, is_waiting}
 use Rattle.run_ledger.specs.declared.data.Ledger.{Ledger}
-use Rattle.core_relation.specs.Value.{Seen, Value, In, objects, sources, Lies, shown_at}
+use Rattle.core_relation.specs.Value.{Value, In, object_name, objects, sources, Lies, shown_at}
 use Rattle.ledger_steps.specs.Accounts.{own, Rests, SameTasks}
 use Rattle.core_relation.specs.Stands.{Place, Stands}
 use Rattle.core_relation.specs.Changes.{SameObjects}
@@ -27,7 +28,7 @@ module _ (v v' : Value) (l l' : Ledger) (V : Stands v l) (L : SameTasks l l') (C
     here = λ r. subst (λ u. Lies (v'.homes u).chunks n a) (sym (own_same l l' L.machine n)) (lies (own l n) n a (p.here (rest (own l n) (subst (Rests l') (own_same l l' L.machine n) r))));
   }
 
-  was : (u : ℕ) (o : Seen) → In (objects v' u) o → In (objects v u) o
+  was : (u : ℕ) (o : Located) → In (objects v' u) o → In (objects v u) o
   was u o i = subst (λ os. In os o) (C.objects u) i
 
   pub renewed : Stands v' l'
@@ -42,12 +43,12 @@ module _ (v v' : Value) (l l' : Ledger) (V : Stands v l) (L : SameTasks l l') (C
     homes = C.home;
     contents = λ u o r i.
         let c = V.contents u o (rest u r) (was u o i) in
-        (c.0, store_same l l' L.machine o.name ∙ c.1, object_kept (Place v l) (Place v' l') o c.0 (λ n j. place n) c.2);
+        (c.0, store_same l l' L.machine (object_name o) ∙ c.1, object_kept (Place v l) (Place v' l') o c.0 (λ n j. place n) c.2);
     tasks = λ u x r is.
         same_holding (Place v' l') (v.homes u) (v'.homes u) x (C.frames u) (C.result u)
         (task_kept (Place v l) (Place v' l') (v.homes u) x (λ n j. place n) (V.tasks u x (rest u r) (sym (ap (λ (m : State). slice_get m.tasks u) L.machine) ∙ is)));
     remembered = λ u o x i n r j is at.
-        elim (V.remembered u o x i n (rest u r) (was u o j) (sym (store_same l l' L.machine o.name) ∙ is) at) [
+        elim (V.remembered u o x i n (rest u r) (was u o j) (sym (store_same l l' L.machine (object_name o)) ∙ is) at) [
           | inl h ↦ inl (ap (λ k. is_on_path l'.machine.tasks k u) (own_same l l' L.machine n) ∙ (path_same l l' L.machine (own l n) u ∙ h))
           | inr s ↦ inr (subst (λ k. In (sources v' k) (record { object = o.at; field = i })) (sym (own_same l l' L.machine n)) (subst (λ ss. In ss (record { object = o.at; field = i })) (sym (C.sources (own l n))) s))
         ];

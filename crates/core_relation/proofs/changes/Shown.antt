@@ -5,6 +5,7 @@ use Rattle.std.proofs.lemmas.Bool.{cases_eq, both_ways, and_from, and_parts, eq-
 use Rattle.std.proofs.lemmas.Option.{same_Some}
 use Rattle.listed.proofs.Members.{in_from_any}
 use Rattle.object_layout.specs.declared.word.Addr.{Addr}
+use Rattle.object_layout.specs.Objects.{Located}
 use Rattle.hh_model.specs.declared.data.Task.{Task}
 use Rattle.hh_model.specs.Step.{is_joined, is_on_path, is_waiting}
 use Rattle.hh_model.specs.declared.data.Name.{Name}
@@ -15,7 +16,7 @@ use Rattle.run_ledger.specs.declared.data.Ledger.{Ledger}
 use Rattle.run_ledger.specs.Heaps.{heap_of}
 use Rattle.run_ledger.specs.Sound.{SoundLedger}
 use Rattle.remembered_set.specs.declared.remembered.Source.{Source}
-use Rattle.core_relation.specs.Value.{Seen, Chunk, Home, Value, In, objects, objects_in, sources, led, is_source, rewritten_refs, rewritten, is_at, put_at, frozen_chunk, frozen_chunks, chunk_of, seen_at, seen_in, shown_at, as_shown}
+use Rattle.core_relation.specs.Value.{Chunk, Home, Value, In, object_name, objects, objects_in, sources, led, is_source, rewritten_refs, rewritten, is_at, put_at, frozen_chunk, frozen_chunks, chunk_of, seen_at, seen_in, shown_at, as_shown}
 use Rattle.ledger_steps.specs.Accounts.{own, Rests}
 use Rattle.core_relation.specs.Stands.{HomeStands, IsShown, Stands}
 use Rattle.ledger_steps.specs.Kinds.{ForksTask, JoinsTasks, CanJoin}
@@ -25,14 +26,14 @@ use Rattle.core_relation.proofs.objects.Members.{in_map, in_chunk, in_objects}
 use Rattle.core_relation.proofs.objects.Mapped.{from_mapped}
 
 -- which object lies there
-pub at_is : (a : Addr) (o : Seen) → is_at a o ≡ true → o.at ≡ a
+pub at_is : (a : Addr) (o : Located) → is_at a o ≡ true → o.at ≡ a
 at_is a o e =
     let p = and_parts (o.at.chunk == a.chunk) (o.at.offset == a.offset) e in
     let c : o.at.chunk ≡ a.chunk = eqb-true o.at.chunk a.chunk p.0 in
     let f : o.at.offset ≡ a.offset = eqb-true o.at.offset a.offset p.1 in
     λ i. record { chunk = c i; offset = f i }
 
-pub is_at_it : (a : Addr) (o : Seen) → o.at ≡ a → is_at a o ≡ true
+pub is_at_it : (a : Addr) (o : Located) → o.at ≡ a → is_at a o ≡ true
 is_at_it a o e =
     and_from (o.at.chunk == a.chunk) (o.at.offset == a.offset) (eq-eqb o.at.chunk a.chunk (ap (λ (b : Addr). b.chunk) e)) (eq-eqb o.at.offset a.offset (ap (λ (b : Addr). b.offset) e))
 
@@ -62,14 +63,14 @@ none_found (j ∷ js) n off =
     cond-false (j.number == n) (Some (frozen_chunk j)) (chunk_of (frozen_chunks js) n) (false_from_ne_true (j.number == n) (λ e. off j (inl refl) (eqb-true j.number n e)))
     ∙ none_found js n (λ k i. off k (inr i))
 
-module _ (o : Seen) where
-  abbrev Once : List Seen → Type 0
-  Once os = (p : Seen) → In os p → p.at ≡ o.at → p ≡ o
+module _ (o : Located) where
+  abbrev Once : List Located → Type 0
+  Once os = (p : Located) → In os p → p.at ≡ o.at → p ≡ o
 
-  abbrev kept : List Seen → List Seen
+  abbrev kept : List Located → List Located
   kept os = filter (λ p. not p.mutable) os
 
-  none_seen : (os : List Seen) → Once os → o.mutable ≡ true → seen_at (kept os) o.at ≡ None
+  none_seen : (os : List Located) → Once os → o.mutable ≡ true → seen_at (kept os) o.at ≡ None
   none_seen [] once m = refl
   none_seen (p ∷ ps) once m = by (none_seen ps (λ q i. once q (inr i)) m) p.mutable refl
     where
@@ -78,16 +79,16 @@ module _ (o : Seen) where
       by more false e =
           ap (λ z. seen_at z o.at) (cond-true (not p.mutable) (p ∷ kept ps) (kept ps) (ap not e))
           ∙ (cond-false (is_at o.at p) (Some p) (seen_at (kept ps) o.at) (false_from_ne_true (is_at o.at p) (λ h.
-          both_ways p.mutable e (ap (λ (q : Seen). q.mutable) (once p (inl refl) (at_is o.at p h)) ∙ m))) ∙ more)
+          both_ways p.mutable e (ap (λ (q : Located). q.mutable) (once p (inl refl) (at_is o.at p h)) ∙ m))) ∙ more)
 
-  one_seen : (os : List Seen) → Once os → In os o → o.mutable ≡ false → seen_at (kept os) o.at ≡ Some o
+  one_seen : (os : List Located) → Once os → In os o → o.mutable ≡ false → seen_at (kept os) o.at ≡ Some o
   one_seen [] once i m = absurd i
   one_seen (p ∷ ps) once i m = by (λ j. one_seen ps (λ q k. once q (inr k)) j m) p.mutable refl
     where
       by : (In ps o → seen_at (kept ps) o.at ≡ Some o) → (b : Bool) → p.mutable ≡ b → seen_at (cond (not p.mutable) (p ∷ kept ps) (kept ps)) o.at ≡ Some o
       by more true e =
           ap (λ z. seen_at z o.at) (cond-false (not p.mutable) (p ∷ kept ps) (kept ps) (ap not e)) ∙ elim i [
-            | inl f ↦ absurd (both_ways p.mutable (ap (λ (q : Seen). q.mutable) f ∙ m) e)
+            | inl f ↦ absurd (both_ways p.mutable (ap (λ (q : Located). q.mutable) f ∙ m) e)
             | inr j ↦ more j
           ]
       by more false e = ap (λ z. seen_at z o.at) (cond-true (not p.mutable) (p ∷ kept ps) (kept ps) (ap not e)) ∙ here (is_at o.at p) refl
@@ -95,11 +96,11 @@ module _ (o : Seen) where
           here : (b : Bool) → is_at o.at p ≡ b → cond (is_at o.at p) (Some p) (seen_at (kept ps) o.at) ≡ Some o
           here true h = cond-true (is_at o.at p) (Some p) (seen_at (kept ps) o.at) h ∙ ap Some (once p (inl refl) (at_is o.at p h))
           here false h = cond-false (is_at o.at p) (Some p) (seen_at (kept ps) o.at) h ∙ elim i [
-            | inl f ↦ absurd (both_ways (is_at o.at p) h (is_at_it o.at p (ap (λ (q : Seen). q.at) f)))
+            | inl f ↦ absurd (both_ways (is_at o.at p) h (is_at_it o.at p (ap (λ (q : Located). q.at) f)))
             | inr j ↦ more j
           ]
 
-  as_kept : (os : List Seen) → Once os → In os o → seen_at (kept os) o.at ≡ as_shown o
+  as_kept : (os : List Located) → Once os → In os o → seen_at (kept os) o.at ≡ as_shown o
   as_kept os once i = by o.mutable refl
     where
       by : (b : Bool) → o.mutable ≡ b → seen_at (kept os) o.at ≡ as_shown o
@@ -107,7 +108,7 @@ module _ (o : Seen) where
       by false e = one_seen os once i e ∙ sym (cond-false o.mutable None (Some o) e)
 
 -- the level of a home shows each of its objects
-level_shows : (v : Value) (l : Ledger) (t : ℕ) (o : Seen) (below : List (List Chunk)) → HomeStands v l t → In (objects v t) o → shown_at (frozen_chunks (v.homes t).chunks ∷ below) o.at ≡ as_shown o
+level_shows : (v : Value) (l : Ledger) (t : ℕ) (o : Located) (below : List (List Chunk)) → HomeStands v l t → In (objects v t) o → shown_at (frozen_chunks (v.homes t).chunks ∷ below) o.at ≡ as_shown o
 level_shows v l t o below H i =
     let c = in_chunk (v.homes t).chunks o i in
     let at = H.inside c.0 o c.1 c.2 in
@@ -115,7 +116,7 @@ level_shows v l t o below H i =
     ∙ as_kept o c.0.objects (λ p j e. H.once p o (in_objects (v.homes t).chunks c.0 p c.1 j) i e) c.2
 
 -- and no object of another's
-level_passes : (v : Value) (l : Ledger) (t u : ℕ) (o : Seen) (below : List (List Chunk)) → HomeStands v l t → HomeStands v l u → (u ≡ t → ⊥) → In (objects v u) o → shown_at (frozen_chunks (v.homes t).chunks ∷ below) o.at ≡ shown_at below o.at
+level_passes : (v : Value) (l : Ledger) (t u : ℕ) (o : Located) (below : List (List Chunk)) → HomeStands v l t → HomeStands v l u → (u ≡ t → ⊥) → In (objects v u) o → shown_at (frozen_chunks (v.homes t).chunks ∷ below) o.at ≡ shown_at below o.at
 level_passes v l t u o below H K ne i =
     let c = in_chunk (v.homes u).chunks o i in
     ap (λ z. seen_in z o.at (shown_at below o.at)) (none_found (v.homes t).chunks o.at.chunk (λ k j e.
@@ -126,11 +127,11 @@ module _ (v v' : Value) (l l' : Ledger) (t a b g h : ℕ) (x : Task) (V : Stands
     (live : is_joined (slice_get l.machine.tasks t) ≡ false) (F : ForksTask l l' t a b g h x) (C : ForksHome v v' t a b g h)
     (same : (z : ℕ) → (z ≡ a → ⊥) → (z ≡ b → ⊥) → (v'.homes z).view ≡ (v.homes z).view) where
   -- an object of any home was there before, and its task is none of the children
-  none_new : (z : ℕ) (o : Seen) → (z ≡ a) ⊎ (z ≡ b) → In (objects v' z) o → ⊥
+  none_new : (z : ℕ) (o : Located) → (z ≡ a) ⊎ (z ≡ b) → In (objects v' z) o → ⊥
   none_new z o (inl e) i = subst (λ (k : Home). In (objects_in k.chunks) o) (ap v'.homes e ∙ C.left) i
   none_new z o (inr e) i = subst (λ (k : Home). In (objects_in k.chunks) o) (ap v'.homes e ∙ C.right) i
 
-  was : (u : ℕ) (o : Seen) → Rests l' u → In (objects v' u) o → Rests l u × In (objects v u) o
+  was : (u : ℕ) (o : Located) → Rests l' u → In (objects v' u) o → Rests l u × In (objects v u) o
   was u o r i = elim (cases_eq u t) [
     | inl e ↦ (ap (λ k. (heap_of l k).worker) e ∙ rests, subst (λ (k : Home). In (objects_in k.chunks) o) (ap v'.homes e ∙ (C.home ∙ ap (λ (k : Home). record k { frames = advanced (v.homes t).frames }) (sym (ap v.homes e)))) i)
     | inr nt ↦
@@ -183,24 +184,24 @@ module _ (v v' : Value) (l l' : Ledger) (p c d : ℕ) (x : Task) (rl rr : ℤ ×
   ]
 
 -- A WRITE: what is written is mutable, and stays so
-module _ (v v' : Value) (l l' : Ledger) (t : ℕ) (a : Addr) (f : Seen → Seen) (T : AreShown v l) (C : WritesAt v v' t a f)
-    (kind : (o : Seen) → (f o).mutable ≡ o.mutable) (written : (u : ℕ) (o : Seen) → In (objects v u) o → Rests l u → o.at ≡ a → o.mutable ≡ true)
+module _ (v v' : Value) (l l' : Ledger) (t : ℕ) (a : Addr) (f : Located → Located) (T : AreShown v l) (C : WritesAt v v' t a f)
+    (kind : (o : Located) → (f o).mutable ≡ o.mutable) (written : (u : ℕ) (o : Located) → In (objects v u) o → Rests l u → o.at ≡ a → o.mutable ≡ true)
     (same : (z : ℕ) → (v'.homes z).view ≡ (v.homes z).view) (paths : (u z : ℕ) → is_on_path l'.machine.tasks u z ≡ is_on_path l.machine.tasks u z) (rests : (u : ℕ) → Rests l' u → Rests l u) where
-  one_name : (o : Seen) → (put_at a f o).name ≡ o.name
+  one_name : (o : Located) → object_name (put_at a f o) ≡ object_name o
   one_name o = by (is_at a o)
     where
-      by : (b : Bool) → (cond b (f o) o).name ≡ o.name
+      by : (b : Bool) → object_name (cond b (f o) o) ≡ object_name o
       by true = C.same_name o
       by false = refl
 
-  one_at : (o : Seen) → (put_at a f o).at ≡ o.at
+  one_at : (o : Located) → (put_at a f o).at ≡ o.at
   one_at o = by (is_at a o)
     where
       by : (b : Bool) → (cond b (f o) o).at ≡ o.at
       by true = C.same_at o
       by false = refl
 
-  one_shown : (s : Option Seen) (u : ℕ) (q : Seen) → Rests l u → In (objects v u) q → s ≡ as_shown q → s ≡ as_shown (put_at a f q)
+  one_shown : (s : Option Located) (u : ℕ) (q : Located) → Rests l u → In (objects v u) q → s ≡ as_shown q → s ≡ as_shown (put_at a f q)
   one_shown s u q r i e = by (is_at a q) refl
     where
       by : (b : Bool) → is_at a q ≡ b → s ≡ as_shown (put_at a f q)
@@ -212,8 +213,8 @@ module _ (v v' : Value) (l l' : Ledger) (t : ℕ) (a : Addr) (f : Seen → Seen)
   pub write_shown : (z : ℕ) → Rests l z → is_joined (slice_get l.machine.tasks z) ≡ false → IsShown v' l' z
   write_shown z rz lz u o up ne r i =
       let w = from_mapped (put_at a f) one_name one_at (v.homes u).chunks o (subst (λ ks. In (objects_in ks) o) (C.chunks u) i) in
-      let at : o.at ≡ w.0.at = ap (λ (q : Seen). q.at) (sym w.2) ∙ one_at w.0 in
-      ap₂ (λ s b. shown_at s b) (same z) at ∙ subst (λ (q : Seen). shown_at (v.homes z).view w.0.at ≡ as_shown q) w.2
+      let at : o.at ≡ w.0.at = ap (λ (q : Located). q.at) (sym w.2) ∙ one_at w.0 in
+      ap₂ (λ s b. shown_at s b) (same z) at ∙ subst (λ (q : Located). shown_at (v.homes z).view w.0.at ≡ as_shown q) w.2
       (one_shown (shown_at (v.homes z).view w.0.at) u w.0 (rests u r) w.1 (T z rz lz u w.0 (sym (paths u z) ∙ up) ne (rests u r) w.1))
 
 -- A SWEEP: objects only go
@@ -240,7 +241,7 @@ module _ (f : Addr → Addr) (ss : List Source) where
       ap₂ (λ x xs. x ∷ xs) (cond-false (list_any (is_source a i) ss) (led f r) r out) (refs_left a (suc i) rs none)
 
 -- what is remembered is mutable
-pub noted_mutable : (v : Value) (l : Ledger) (t u : ℕ) (o : Seen) (s : Source) → Stands v l → In (objects v u) o → Rests l u → In (sources v t) s → s.object ≡ o.at → o.mutable ≡ true
+pub noted_mutable : (v : Value) (l : Ledger) (t u : ℕ) (o : Located) (s : Source) → Stands v l → In (objects v u) o → Rests l u → In (sources v t) s → s.object ≡ o.at → o.mutable ≡ true
 noted_mutable v l t u o s V i r j e =
     let k = V.sources t s j in
     let q = k.place.here k.rests in
@@ -249,16 +250,16 @@ noted_mutable v l t u o s V i r j e =
     let mine : own l k.name ≡ u = same_Some (own l k.name) u (sym k.place.chunk ∙ (ap (λ (b : Addr). v.owner b.chunk) e ∙ (ap v.owner (H.inside c.0 o c.1 c.2) ∙ H.owned c.0 c.1))) in
     let same : q.0 ≡ o = H.once q.0 o (subst (λ z. In (objects v z) q.0) mine q.1) i (q.2.at ∙ e) in
     let x = V.contents u o r i in
-    let is : k.object ≡ x.0 = same_Some k.object x.0 (sym k.is ∙ (ap (object_at l.machine.store) (sym q.2.name ∙ ap (λ (z : Seen). z.name) same) ∙ x.1)) in
+    let is : k.object ≡ x.0 = same_Some k.object x.0 (sym k.is ∙ (ap (object_at l.machine.store) (sym q.2.name ∙ ap object_name same) ∙ x.1)) in
     x.2.mutable ∙ (ap (λ (z : Object). z.mutable) (sym is) ∙ k.mutable)
 
 module _ (v v' : Value) (l l' : Ledger) (t : ℕ) (names : List Name) (f : Addr → Addr) (S : SoundLedger l) (T : AreShown v l) (C : Moves v v' l l' t names f) (idle : is_waiting (slice_get l.machine.tasks t) ≡ false)
-    (noted : (u : ℕ) (o : Seen) (s : Source) → In (objects v u) o → Rests l u → In (sources v t) s → s.object ≡ o.at → o.mutable ≡ true)
+    (noted : (u : ℕ) (o : Located) (s : Source) → In (objects v u) o → Rests l u → In (sources v t) s → s.object ≡ o.at → o.mutable ≡ true)
     (same : (z : ℕ) → (v'.homes z).view ≡ (v.homes z).view) (paths : (u z : ℕ) → is_on_path l'.machine.tasks u z ≡ is_on_path l.machine.tasks u z) (rests : (u : ℕ) → Rests l' u → Rests l u) where
   abbrev ss : List Source
   ss = sources v t
 
-  one_led : (s : Option Seen) (u : ℕ) (q : Seen) → Rests l u → In (objects v u) q → s ≡ as_shown q → s ≡ as_shown (rewritten f ss q)
+  one_led : (s : Option Located) (u : ℕ) (q : Located) → Rests l u → In (objects v u) q → s ≡ as_shown q → s ≡ as_shown (rewritten f ss q)
   one_led s u q r i e = by q.mutable refl
     where
       by : (b : Bool) → q.mutable ≡ b → s ≡ as_shown (rewritten f ss q)
@@ -272,7 +273,7 @@ module _ (v v' : Value) (l l' : Ledger) (t : ℕ) (names : List Name) (f : Addr 
         | inl e ↦ absurd (ne (leaf_alone l S u z (ap (λ k. is_waiting (slice_get l.machine.tasks k)) e ∙ idle) lz up'))
         | inr nt ↦
             let w = from_mapped (rewritten f ss) (λ q. refl) (λ q. refl) (v.homes u).chunks o (subst (λ (k : Home). In (objects_in k.chunks) o) (C.others u nt) i) in
-            let at : o.at ≡ w.0.at = ap (λ (q : Seen). q.at) (sym w.2) in
-            ap₂ (λ s b. shown_at s b) (same z) at ∙ subst (λ (q : Seen). shown_at (v.homes z).view w.0.at ≡ as_shown q) w.2
+            let at : o.at ≡ w.0.at = ap (λ (q : Located). q.at) (sym w.2) in
+            ap₂ (λ s b. shown_at s b) (same z) at ∙ subst (λ (q : Located). shown_at (v.homes z).view w.0.at ≡ as_shown q) w.2
             (one_led (shown_at (v.homes z).view w.0.at) u w.0 (rests u r) w.1 (T z rz lz u w.0 up' ne (rests u r) w.1))
       ]

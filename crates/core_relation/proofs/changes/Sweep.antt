@@ -3,6 +3,7 @@ use Rattle.std.proofs.Common.{is_some, ◌≡◌, ℕ, true, Option, Some, None,
 use Rattle.core_relation.proofs.changes.Shown.{sweep_shown}
 use Rattle.std.proofs.lemmas.Bool.{cases_eq}
 use Rattle.object_layout.specs.declared.word.Addr.{Addr}
+use Rattle.object_layout.specs.Objects.{Located}
 use Rattle.hh_model.specs.declared.data.Name.{Name}
 use Rattle.hh_model.specs.declared.data.Object.{Object}
 use Rattle.hh_model.specs.declared.data.Task.{Task}
@@ -16,7 +17,7 @@ use Rattle.run_ledger.specs.declared.data.Ledger.{Ledger}
 use Rattle.run_ledger.specs.Heaps.{heap_of, or_fresh}
 use Rattle.run_ledger.specs.Sound.{SoundLedger, Keeps, InHeaps, Spares, snapshot_at}
 use Rattle.remembered_set.specs.declared.remembered.Source.{Source}
-use Rattle.core_relation.specs.Value.{Seen, Home, Value, In, objects, objects_in, sources, Lies}
+use Rattle.core_relation.specs.Value.{Home, Value, In, object_name, objects, objects_in, sources, Lies}
 use Rattle.core_relation.specs.Reads.{TaskIsRead}
 use Rattle.ledger_steps.specs.Accounts.{own, Rests, ChangesHeap}
 use Rattle.core_relation.specs.Stands.{Place, HomeStands, IsSource, Stands}
@@ -36,7 +37,7 @@ pub refers : (store : List (List Object)) (n r : Name) (x : Object) → object_a
 refers store n r x is i = subst (λ o. In (refs_of o) r) (sym is) (named_from_in x.refs r i)
 
 -- an object of a home is kept by the ledger
-pub is_kept : (v : Value) (l : Ledger) (u : ℕ) → HomeStands v l u → (o : Seen) → In (objects v u) o → Keeps l.heaps o.name
+pub is_kept : (v : Value) (l : Ledger) (u : ℕ) → HomeStands v l u → (o : Located) → In (objects v u) o → Keeps l.heaps (object_name o)
 is_kept v l u H o i = (u, object_held (v.homes u).chunks (heap_of l u) H.names o i)
 
 -- with its owner's heap kept to some names, whatever is read of it bears one of them
@@ -79,7 +80,7 @@ module _ (v v' : Value) (l l' : Ledger) (t : ℕ) (names : List Name) (S : Sound
   ]
 
   -- what stays in a home was there, and bears a name of the snapshot if it is in this one
-  was : (u : ℕ) (o : Seen) → In (objects v' u) o → In (objects v u) o × (u ≡ t → In snapshot o.name)
+  was : (u : ℕ) (o : Located) → In (objects v' u) o → In (objects v u) o × (u ≡ t → In snapshot (object_name o))
   was u o i = elim (cases_eq u t) [
     | inl e ↦
         let q = C.only o (subst (λ z. In (objects v' z) o) e i) in
@@ -117,7 +118,7 @@ module _ (v v' : Value) (l l' : Ledger) (t : ℕ) (names : List Name) (S : Sound
     | inr ne ↦ home_kept v v' l l' u (C.others u ne) (λ k. C.owners k u ne) (L.others u ne) (ap (λ (m : State). length (row_of (slice_get m.store u))) L.machine) (ap (λ (m : State). is_joined (slice_get m.tasks u)) L.machine) (V.homes u (rest u r))
   ]
 
-  live_object : (u : ℕ) (o : Seen) → Rests l' u → In (objects v' u) o → Live l t S snapshot spares o.name
+  live_object : (u : ℕ) (o : Located) → Rests l' u → In (objects v' u) o → Live l t S snapshot spares (object_name o)
   live_object u o r i e = let q = was u o i in q.1 (sym (home_own v l S u (V.homes u (rest u r)) o q.0) ∙ e)
 
   task : (u : ℕ) (x : Task) → Rests l' u → slice_get l'.machine.tasks u ≡ Some x → TaskIsRead (Place v' l') (v'.homes u) x
@@ -148,12 +149,12 @@ module _ (v v' : Value) (l l' : Ledger) (t : ℕ) (names : List Name) (S : Sound
         let w = was u o i in
         let c = V.contents u o (rest u r) w.0 in (
           c.0,
-          store_same l l' L.machine o.name ∙ c.1,
-          object_kept (Place v l) (Place v' l') o c.0 (λ n j a. place n a (live_ref l t S snapshot spares o.name n c.0 c.1 (is_kept v l u (V.homes u (rest u r)) o w.0) (live_object u o r i) j)) c.2,
+          store_same l l' L.machine (object_name o) ∙ c.1,
+          object_kept (Place v l) (Place v' l') o c.0 (λ n j a. place n a (live_ref l t S snapshot spares (object_name o) n c.0 c.1 (is_kept v l u (V.homes u (rest u r)) o w.0) (live_object u o r i) j)) c.2,
         );
     tasks = task;
     remembered = λ u o x i n r j is at.
-        elim (V.remembered u o x i n (rest u r) (was u o j).0 (sym (store_same l l' L.machine o.name) ∙ is) at) [
+        elim (V.remembered u o x i n (rest u r) (was u o j).0 (sym (store_same l l' L.machine (object_name o)) ∙ is) at) [
           | inl h ↦ inl (ap (λ k. is_on_path l'.machine.tasks k u) (own_same l l' L.machine n) ∙ (path_same l l' L.machine (own l n) u ∙ h))
           | inr s ↦ inr (subst (λ k. In (sources v' k) (record { object = o.at; field = i })) (sym (own_same l l' L.machine n)) (subst (λ ss. In ss (record { object = o.at; field = i })) (sym (C.sources (own l n))) s))
         ];

@@ -2,12 +2,13 @@
 use Rattle.std.proofs.Common.{◌≡◌, ℕ, ◌==◌, List, map, inl, inr, refl, ap, sym, subst, ◌∙◌, ne_eqb}
 use Rattle.std.proofs.lemmas.Bool.{cases_eq, cond-true, cond-false, eq-eqb}
 use Rattle.object_layout.specs.declared.word.Addr.{Addr}
+use Rattle.object_layout.specs.Objects.{Located}
 use Rattle.hh_model.specs.declared.data.Name.{Name}
 use Rattle.run_ledger.specs.declared.data.Heap.{Heap}
 use Rattle.run_ledger.specs.declared.data.Ledger.{Ledger}
 use Rattle.run_ledger.specs.Heaps.{heap_of}
 use Rattle.remembered_set.specs.declared.remembered.Source.{Source}
-use Rattle.core_relation.specs.Value.{Seen, Home, Value, In, objects_in, sources, led_frame, led_object, rewritten_home}
+use Rattle.core_relation.specs.Value.{Home, Value, In, objects_in, sources, led_frame, led_object, rewritten_home}
 use Rattle.core_relation.specs.Fits.{with_home}
 use Rattle.ledger_steps.specs.Accounts.{StepsAlone, ChangesHeap}
 use Rattle.core_relation.specs.Changes.{KeepsJust, Moves}
@@ -79,7 +80,7 @@ with_both v t u g h ne z = elim (cases_eq z t) [
 
 -- the end of t's collection, where no remembered field lies in u's home
 pub moves_with : (v v' : Value) (l l' k k' : Ledger) (t u : ℕ) (h : Home) → (t ≡ u → ⊥) → StepsAlone l k u → StepsAlone l' k' u → (names : List Name) (f : Addr → Addr)
-    → ((o : Seen) (s : Source) → In (objects_in h.chunks) o → In (sources v t) s → s.object.chunk ≡ o.at.chunk → ⊥)
+    → ((o : Located) (s : Source) → In (objects_in h.chunks) o → In (sources v t) s → s.object.chunk ≡ o.at.chunk → ⊥)
     → Moves v v' l l' t names f → Moves (with_home v u h) (with_home v' u h) k k' t names f
 moves_with v v' l l' k k' t u h apart A A' names f none C =
     let w : Value = with_home v u h in

@@ -4,6 +4,7 @@ use Rattle.std.proofs.Common.{◌≡◌, ℕ, ◌<◌, Bool, true, false, cond, 
 use Rattle.std.proofs.lemmas.Bool.{cases_eq, both_ways, cond-true, cond-false}
 use Rattle.std.proofs.lemmas.Option.{same_Some}
 use Rattle.object_layout.specs.declared.word.Addr.{Addr}
+use Rattle.object_layout.specs.Objects.{Located}
 use Rattle.hh_model.specs.declared.data.Name.{Name}
 use Rattle.hh_model.specs.declared.data.Object.{Object}
 use Rattle.hh_model.specs.declared.data.Task.{Task}
@@ -14,7 +15,7 @@ use Rattle.run_ledger.specs.declared.data.Ledger.{Ledger}
 use Rattle.run_ledger.specs.Heaps.{heap_of}
 use Rattle.run_ledger.specs.Sound.{SoundLedger}
 use Rattle.remembered_set.specs.declared.remembered.Source.{Source}
-use Rattle.core_relation.specs.Value.{Seen, Value, In, objects, objects_in, sources, Lies, is_at, put_at}
+use Rattle.core_relation.specs.Value.{Value, In, object_name, objects, objects_in, sources, Lies, is_at, put_at}
 use Rattle.core_relation.specs.Reads.{IsRead, TaskIsRead}
 use Rattle.ledger_steps.specs.Accounts.{own, Rests, WritesOne}
 use Rattle.core_relation.specs.Layout.{words}
@@ -29,26 +30,26 @@ use Rattle.core_relation.proofs.changes.Shown.{write_shown}
 use Rattle.core_relation.proofs.changes.Giving.{gives_kept}
 use Rattle.ledger_steps.proofs.Rested.{name_cases}
 
-module _ (v v' : Value) (l l' : Ledger) (t : ℕ) (n : Name) (a : Addr) (x x' : Object) (f : Seen → Seen) (S : SoundLedger l) (V : Stands v l)
+module _ (v v' : Value) (l l' : Ledger) (t : ℕ) (n : Name) (a : Addr) (x x' : Object) (f : Located → Located) (S : SoundLedger l) (V : Stands v l)
     (L : WritesOne l l' t n x x') (C : WritesAt v v' t a f) (W : WritesWell v v' l l' t n a x x' f) where
-  abbrev one : Seen → Seen
+  abbrev one : Located → Located
   one o = put_at a f o
 
-  one_name : (o : Seen) → (one o).name ≡ o.name
+  one_name : (o : Located) → object_name (one o) ≡ object_name o
   one_name o = by (is_at a o)
     where
-      by : (b : Bool) → (cond b (f o) o).name ≡ o.name
+      by : (b : Bool) → object_name (cond b (f o) o) ≡ object_name o
       by true = C.same_name o
       by false = refl
 
-  one_at : (o : Seen) → (one o).at ≡ o.at
+  one_at : (o : Located) → (one o).at ≡ o.at
   one_at o = by (is_at a o)
     where
       by : (b : Bool) → (cond b (f o) o).at ≡ o.at
       by true = C.same_at o
       by false = refl
 
-  one_words : (o : Seen) → words (one o) ≡ words o
+  one_words : (o : Located) → words (one o) ≡ words o
   one_words o = by (is_at a o)
     where
       by : (b : Bool) → words (cond b (f o) o) ≡ words o
@@ -70,50 +71,50 @@ module _ (v v' : Value) (l l' : Ledger) (t : ℕ) (n : Name) (a : Addr) (x x' : 
         (lies_mapped one one_name one_at (v.homes (own l m)).chunks m b (p.here (rest (own l m) (subst (Rests l') (owner_same m) r)))));
   }
 
-  was : (u : ℕ) (o : Seen) → In (objects v' u) o → (q : Seen) × In (objects v u) q × (one q ≡ o)
+  was : (u : ℕ) (o : Located) → In (objects v' u) o → (q : Located) × In (objects v u) q × (one q ≡ o)
   was u o i = from_mapped one one_name one_at (v.homes u).chunks o (subst (λ ks. In (objects_in ks) o) (C.chunks u) i)
 
   -- the object that is written is that of the name, and no other is
-  written_is : (u : ℕ) (o : Seen) → Rests l u → In (objects v u) o → o.at ≡ a → o.name ≡ n
+  written_is : (u : ℕ) (o : Located) → Rests l u → In (objects v u) o → o.at ≡ a → object_name o ≡ n
   written_is u o r i e =
       let q : Lies (v.homes (own l n)).chunks n a = W.place.here W.rests in
       let k = in_chunk (v.homes u).chunks o i in
       let mine : v.owner a.chunk ≡ Some u = ap (λ (b : Addr). v.owner b.chunk) (sym e) ∙ (ap v.owner ((V.homes u r).inside k.0 o k.1 k.2) ∙ (V.homes u r).owned k.0 k.1) in
       let same : own l n ≡ u = same_Some (own l n) u (sym W.place.chunk ∙ mine) in
       let p : o ≡ q.0 = (V.homes u r).once o q.0 i (subst (λ z. In (objects v z) q.0) same q.1) (e ∙ sym q.2.at) in
-      ap (λ (z : Seen). z.name) p ∙ q.2.name
+      ap object_name p ∙ q.2.name
 
-  name_is : (u : ℕ) (o : Seen) → Rests l u → In (objects v u) o → o.name ≡ n → o.at ≡ a
+  name_is : (u : ℕ) (o : Located) → Rests l u → In (objects v u) o → object_name o ≡ n → o.at ≡ a
   name_is u o r i e =
       let q : Lies (v.homes (own l n)).chunks n a = W.place.here W.rests in
       let same : own l n ≡ u = sym (ap (own l) e) ∙ home_own v l S u (V.homes u r) o i in
       let p : o ≡ q.0 = (V.homes u r).named o q.0 i (subst (λ z. In (objects v z) q.0) same q.1) (e ∙ sym q.2.name) in
-      ap (λ (z : Seen). z.at) p ∙ q.2.at
+      ap (λ (z : Located). z.at) p ∙ q.2.at
 
   -- an object before the write is the one that is written, or stays as it is
-  abbrev Cases : Seen → Type 0
-  Cases o = ((o.name ≡ n) × (o.at ≡ a) × (one o ≡ f o)) ⊎ ((o.name ≡ n → ⊥) × (one o ≡ o))
+  abbrev Cases : Located → Type 0
+  Cases o = ((object_name o ≡ n) × (o.at ≡ a) × (one o ≡ f o)) ⊎ ((object_name o ≡ n → ⊥) × (one o ≡ o))
 
-  cases : (u : ℕ) (o : Seen) → Rests l u → In (objects v u) o → Cases o
+  cases : (u : ℕ) (o : Located) → Rests l u → In (objects v u) o → Cases o
   cases u o r i = by (is_at a o) refl
     where
       by : (b : Bool) → is_at a o ≡ b → Cases o
       by true e = let at : o.at ≡ a = at_is a o e in inl (written_is u o r i at, at, cond-true (is_at a o) (f o) o e)
       by false e = inr ((λ g. both_ways (is_at a o) e (is_at_it a o (name_is u o r i g))), cond-false (is_at a o) (f o) o e)
 
-  abbrev Content : Seen → Type 0
-  Content o = (y : Object) × (object_at l'.machine.store o.name ≡ Some y) × IsRead (Place v' l') o y
+  abbrev Content : Located → Type 0
+  Content o = (y : Object) × (object_at l'.machine.store (object_name o) ≡ Some y) × IsRead (Place v' l') o y
 
-  content : (u : ℕ) (o : Seen) → Rests l' u → In (objects v' u) o → Content o
+  content : (u : ℕ) (o : Located) → Rests l' u → In (objects v' u) o → Content o
   content u o r i =
       let q = was u o i in
       let c = V.contents u q.0 (rest u r) q.1 in
       subst Content q.2 (elim (cases u q.0 (rest u r) q.1) [
         | inl w ↦
             let same : c.0 ≡ x = same_Some c.0 x (sym c.1 ∙ (ap (object_at l.machine.store) w.0 ∙ L.was)) in
-            let reads : IsRead (Place v l) (one q.0) x' = subst (λ (z : Seen). IsRead (Place v l) z x') (sym w.2) (W.reads q.0 (subst (IsRead (Place v l) q.0) same c.2)) in
+            let reads : IsRead (Place v l) (one q.0) x' = subst (λ (z : Located). IsRead (Place v l) z x') (sym w.2) (W.reads q.0 (subst (IsRead (Place v l) q.0) same c.2)) in
             (x', ap (object_at l'.machine.store) (one_name q.0 ∙ w.0) ∙ L.is, object_kept (Place v l) (Place v' l') (one q.0) x' (λ m j. place m) reads)
-        | inr w ↦ subst Content (sym w.1) (c.0, L.others q.0.name w.0 ∙ c.1, object_kept (Place v l) (Place v' l') q.0 c.0 (λ m j. place m) c.2)
+        | inr w ↦ subst Content (sym w.1) (c.0, L.others (object_name q.0) w.0 ∙ c.1, object_kept (Place v l) (Place v' l') q.0 c.0 (λ m j. place m) c.2)
       ])
 
   task : (u : ℕ) (y : Task) → Rests l' u → slice_get l'.machine.tasks u ≡ Some y → TaskIsRead (Place v' l') (v'.homes u) y
@@ -129,12 +130,12 @@ module _ (v v' : Value) (l l' : Ledger) (t : ℕ) (n : Name) (a : Addr) (x x' : 
   minds u r s (inl h) = inl (ap (λ k. is_on_path l'.machine.tasks k u) (owner_same r) ∙ (L.tree.paths (own l r) u ∙ h))
   minds u r s (inr i) = inr (subst (λ k. In (sources v' k) s) (sym (owner_same r)) i)
 
-  remember : (u : ℕ) (o : Seen) (y : Object) (i : ℕ) (r : Name) → Rests l' u → In (objects v' u) o → object_at l'.machine.store o.name ≡ Some y → slice_get y.refs i ≡ Some (Some r)
+  remember : (u : ℕ) (o : Located) (y : Object) (i : ℕ) (r : Name) → Rests l' u → In (objects v' u) o → object_at l'.machine.store (object_name o) ≡ Some y → slice_get y.refs i ≡ Some (Some r)
       → Minds u r (record { object = o.at; field = i })
   remember u o y i r q j is at =
       let p = was u o j in
-      let e : o.at ≡ p.0.at = ap (λ (z : Seen). z.at) (sym p.2) ∙ one_at p.0 in
-      let is' : object_at l'.machine.store p.0.name ≡ Some y = ap (object_at l'.machine.store) (sym (one_name p.0) ∙ ap (λ (z : Seen). z.name) p.2) ∙ is in
+      let e : o.at ≡ p.0.at = ap (λ (z : Located). z.at) (sym p.2) ∙ one_at p.0 in
+      let is' : object_at l'.machine.store (object_name p.0) ≡ Some y = ap (object_at l'.machine.store) (sym (one_name p.0) ∙ ap object_name p.2) ∙ is in
       subst (λ (b : Addr). Minds u r (record { object = b; field = i })) (sym e) (minds u r (record { object = p.0.at; field = i }) (elim (cases u p.0 (rest u q) p.1) [
         | inl w ↦
             let same : x' ≡ y = same_Some x' y (sym L.is ∙ (ap (object_at l'.machine.store) (sym w.0) ∙ is')) in
@@ -142,7 +143,7 @@ module _ (v v' : Value) (l l' : Ledger) (t : ℕ) (n : Name) (a : Addr) (x x' : 
             subst (λ z. (is_on_path l.machine.tasks (own l r) z ≡ true) ⊎ In (sources v' (own l r)) (record { object = p.0.at; field = i })) mine
             (subst (λ (b : Addr). (is_on_path l.machine.tasks (own l r) (own l n) ≡ true) ⊎ In (sources v' (own l r)) (record { object = b; field = i })) (sym w.1)
             (W.minds i r (ap (λ (z : Object). slice_get z.refs i) same ∙ at)))
-        | inr w ↦ elim (V.remembered u p.0 y i r (rest u q) p.1 (sym (L.others p.0.name w.0) ∙ is') at) [
+        | inr w ↦ elim (V.remembered u p.0 y i r (rest u q) p.1 (sym (L.others (object_name p.0) w.0) ∙ is') at) [
           | inl h ↦ inl h
           | inr s ↦ inr (C.noted (own l r) (record { object = p.0.at; field = i }) s)
         ]
@@ -175,7 +176,7 @@ module _ (v v' : Value) (l l' : Ledger) (t : ℕ) (n : Name) (a : Addr) (x x' : 
         | inr ne ↦ (y, L.others m ne ∙ is, refl, λ q. q)
       ]
 
-  mutable_at : (u : ℕ) (o : Seen) → In (objects v u) o → Rests l u → o.at ≡ a → o.mutable ≡ true
+  mutable_at : (u : ℕ) (o : Located) → In (objects v u) o → Rests l u → o.at ≡ a → o.mutable ≡ true
   mutable_at u o i r e =
       let c = V.contents u o r i in
       let same : c.0 ≡ x = same_Some c.0 x (sym c.1 ∙ (ap (object_at l.machine.store) (written_is u o r i e) ∙ L.was)) in

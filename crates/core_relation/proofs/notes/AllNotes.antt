@@ -3,6 +3,7 @@ use Rattle.std.proofs.Common.{◌≡◌, ◌⊎◌, ℕ, ℤ, Bool, true, false,
 use Rattle.std.specs.Prelude.{◌&&◌, not}
 use Rattle.std.proofs.lemmas.Bool.{both_ways, cases_eq, false≢true}
 use Rattle.object_layout.specs.declared.word.Addr.{Addr}
+use Rattle.object_layout.specs.Objects.{Located}
 use Rattle.hh_model.specs.declared.data.Name.{Name}
 use Rattle.hh_model.specs.declared.data.Object.{Object}
 use Rattle.hh_model.specs.declared.data.State.{State}
@@ -14,7 +15,7 @@ use Rattle.run_ledger.specs.declared.data.Heap.{Heap}
 use Rattle.run_ledger.specs.declared.data.Ledger.{Ledger}
 use Rattle.run_ledger.specs.Heaps.{heap_of, within}
 use Rattle.run_ledger.specs.Sound.{SoundLedger}
-use Rattle.core_relation.specs.Value.{Home, In, Seen, Value, is_at, objects, objects_in, put_at, rewritten, sources}
+use Rattle.core_relation.specs.Value.{Home, In, Value, is_at, object_name, objects, objects_in, put_at, rewritten, sources}
 use Rattle.listed.proofs.Members.{in_append_right}
 use Rattle.task_frames.specs.declared.frames.Frame.{Frame}
 use Rattle.ledger_steps.specs.Accounts.{Rests, StepsAlone, ChangesHeap}
@@ -111,7 +112,7 @@ joins_note v v' l l' p c d x rl rr al ar V J K C N H u = elim (cases_eq u p) [
 sweeps_root : (v v' : Value) (l l' : Ledger) (t : ℕ) → Stands v l → ChangesHeap l l' t → KeepsJust v v' l l' t (heap_of l t).snapshot → (u : ℕ) → (u ≡ t → ⊥) → (b : Addr) → IsRoot v l u b → IsRoot v' l' u b
 sweeps_root v v' l l' t V L C u nt b r = elim (cases_eq r.home t) [
   | inl e ↦
-      let i = C.kept r.object (subst (λ z. In (objects v z) r.object) e r.there) (subst (λ z. In (heap_of l z).snapshot r.object.name) e (root_kept v l V u b r)) in
+      let i = C.kept r.object (subst (λ z. In (objects v z) r.object) e r.there) (subst (λ z. In (heap_of l z).snapshot (object_name r.object)) e (root_kept v l V u b r)) in
       root_by v v' l l' u (noted_by v v' u (C.sources u)) (λ k o. C.owners k u nt o) b r (subst (Rests l') (sym e) (L.worker ∙ subst (Rests l) e r.rests)) r.object (subst (λ z. In (objects v' z) r.object) (sym e) i) refl r.holds
   | inr ne ↦
       root_same v v' l l' u (noted_by v v' u (C.sources u)) (λ k o. C.owners k u nt o) b r (ap (λ (z : Heap). z.worker) (L.others r.home ne) ∙ r.rests) (ap (λ (z : Home). objects_in z.chunks) (C.others r.home ne))
@@ -190,24 +191,24 @@ numbers_root v v' l l' w a i k C rest u b r =
     root_by v v' l l' u (C.noted u) (λ c o. C.owner c ∙ o) b r (rest r.home ∙ r.rests) (one r.object)
     (subst (λ ks. In (objects_in ks) (one r.object)) (sym (C.chunks r.home)) (to_mapped one one_name one_at (v.homes r.home).chunks r.object r.there)) (one_at r.object) (ap (λ rs. slice_get rs r.source.field) (one_refs r.object) ∙ r.holds)
   where
-    one : Seen → Seen
+    one : Located → Located
     one q = put_at a (with_number i k) q
 
-    one_name : (q : Seen) → (put_at a (with_number i k) q).name ≡ q.name
+    one_name : (q : Located) → object_name (put_at a (with_number i k) q) ≡ object_name q
     one_name q = by (is_at a q)
       where
-        by : (b : Bool) → (cond b (with_number i k q) q).name ≡ q.name
+        by : (b : Bool) → object_name (cond b (with_number i k q) q) ≡ object_name q
         by true = refl
         by false = refl
 
-    one_at : (q : Seen) → (put_at a (with_number i k) q).at ≡ q.at
+    one_at : (q : Located) → (put_at a (with_number i k) q).at ≡ q.at
     one_at q = by (is_at a q)
       where
         by : (b : Bool) → (cond b (with_number i k q) q).at ≡ q.at
         by true = refl
         by false = refl
 
-    one_refs : (q : Seen) → (put_at a (with_number i k) q).refs ≡ q.refs
+    one_refs : (q : Located) → (put_at a (with_number i k) q).refs ≡ q.refs
     one_refs q = by (is_at a q)
       where
         by : (b : Bool) → (cond b (with_number i k q) q).refs ≡ q.refs

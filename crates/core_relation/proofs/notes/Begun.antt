@@ -7,7 +7,7 @@ use Rattle.run_ledger.specs.declared.data.Heap.{Heap}
 use Rattle.run_ledger.specs.declared.data.Ledger.{Ledger}
 use Rattle.run_ledger.specs.Heaps.{heap_of}
 use Rattle.run_ledger.specs.Sound.{SoundLedger}
-use Rattle.core_relation.specs.Value.{Home, Value, In, objects_in}
+use Rattle.core_relation.specs.Value.{Home, Value, In, object_name, objects_in}
 use Rattle.ledger_steps.specs.Accounts.{Rests}
 use Rattle.task_machine.specs.declared.part.Begun.{Begun}
 use Rattle.core_relation.specs.Stands.{Stands}
@@ -24,8 +24,8 @@ begins v v' l l' t x b S V is runs rests at_rest R B = record {
   apart = λ k c i j. B.apart k c i (subst (λ (h : Home). In h.chunks c) B.home j);
   survivors = λ o i.
       let r = reached_both v l t x b.roots S V is runs rests at_rest R o (subst (λ (h : Home). In (objects_in h.chunks) o) B.home i) in (
-        (λ w. subst (λ (h : Heap). In h.survivors o.name) (sym B.heap) (r.0 (subst (λ (h : Home). IsReachedAt h b.roots o.at) B.home w))),
-        (λ w. subst (λ (h : Home). IsReachedAt h b.roots o.at) (sym B.home) (r.1 (subst (λ (h : Heap). In h.survivors o.name) B.heap w))),
+        (λ w. subst (λ (h : Heap). In h.survivors (object_name o)) (sym B.heap) (r.0 (subst (λ (h : Home). IsReachedAt h b.roots o.at) B.home w))),
+        (λ w. subst (λ (h : Home). IsReachedAt h b.roots o.at) (sym B.home) (r.1 (subst (λ (h : Heap). In h.survivors (object_name o)) B.heap w))),
       );
 }
 
@@ -37,7 +37,7 @@ begun_stays v v' l l' t b home owner heap B = record {
   apart = λ k c i j. B.apart k c i (subst (λ (h : Home). In h.chunks c) home j);
   survivors = λ o i.
       let r = B.survivors o (subst (λ (h : Home). In (objects_in h.chunks) o) home i) in (
-        (λ w. subst (λ (h : Heap). In h.survivors o.name) (sym heap) (r.0 (subst (λ (h : Home). IsReachedAt h b.roots o.at) home w))),
-        (λ w. subst (λ (h : Home). IsReachedAt h b.roots o.at) (sym home) (r.1 (subst (λ (h : Heap). In h.survivors o.name) heap w))),
+        (λ w. subst (λ (h : Heap). In h.survivors (object_name o)) (sym heap) (r.0 (subst (λ (h : Home). IsReachedAt h b.roots o.at) home w))),
+        (λ w. subst (λ (h : Home). IsReachedAt h b.roots o.at) (sym home) (r.1 (subst (λ (h : Heap). In h.survivors (object_name o)) heap w))),
       );
 }

@@ -4,13 +4,14 @@ use Rattle.std.specs.List.{AllByRecursion, IsDistinct}
 use Rattle.std.proofs.lemmas.Bool.{both_ways, and_from, eq-eqb}
 use Rattle.object_layout.specs.declared.word.Addr.{Addr}
 use Rattle.object_layout.specs.Chunks.{same_address}
+use Rattle.object_layout.specs.Objects.{Located}
 use Rattle.hh_model.specs.declared.data.Name.{Name}
 use Rattle.run_ledger.specs.declared.data.Ledger.{Ledger}
 use Rattle.run_ledger.specs.Heaps.{held_in, heap_of, marked_in}
 use Rattle.run_ledger.specs.Reachable.{is_name}
 use Rattle.run_ledger.proofs.Members.{same_from_is_name, is_name_itself}
 use Rattle.ledger_steps.specs.Accounts.{Rests}
-use Rattle.core_relation.specs.Value.{Seen, Value, In, objects}
+use Rattle.core_relation.specs.Value.{Value, In, object_name, objects}
 use Rattle.core_relation.specs.Stands.{Stands}
 use Rattle.core_relation.specs.CopyLaws.{MarksAreAll}
 use Rattle.core_relation.proofs.objects.Members.{held_object}
@@ -86,11 +87,11 @@ all_of xs ys o f le n i = elim (is_in n xs) [
 
 module _ (v : Value) (l : Ledger) (t : ℕ) (V : Stands v l) (rests : Rests l t) where
   abbrev Each : List Addr → Type 0
-  Each bs = (a : Addr) → In bs a → (q : Seen) × In (objects v t) q × (q.at ≡ a) × In (heap_of l t).snapshot q.name
+  Each bs = (a : Addr) → In bs a → (q : Located) × In (objects v t) q × (q.at ≡ a) × In (heap_of l t).snapshot (object_name q)
 
   names : (bs : List Addr) → Each bs → List Name
   names [] each = []
-  names (a ∷ bs) each = (each a (inl refl)).0.name ∷ names bs (λ b i. each b (inr i))
+  names (a ∷ bs) each = object_name (each a (inl refl)).0 ∷ names bs (λ b i. each b (inr i))
 
   as_many : (bs : List Addr) (each : Each bs) → length (names bs each) ≡ length bs
   unfolding names
@@ -98,7 +99,7 @@ module _ (v : Value) (l : Ledger) (t : ℕ) (V : Stands v l) (rests : Rests l t)
   as_many (a ∷ bs) each = ap suc (as_many bs (λ b i. each b (inr i)))
 
   -- each of these names is that of a marked object
-  named_by : (bs : List Addr) (each : Each bs) (n : Name) → In (names bs each) n → (q : Seen) × In (objects v t) q × (q.name ≡ n) × In bs q.at × In (heap_of l t).snapshot n
+  named_by : (bs : List Addr) (each : Each bs) (n : Name) → In (names bs each) n → (q : Located) × In (objects v t) q × (object_name q ≡ n) × In bs q.at × In (heap_of l t).snapshot n
   unfolding names
   named_by [] each n i = absurd i
   named_by (a ∷ bs) each n (inl e) =
@@ -107,10 +108,10 @@ module _ (v : Value) (l : Ledger) (t : ℕ) (V : Stands v l) (rests : Rests l t)
   named_by (a ∷ bs) each n (inr i) = let r = named_by bs (λ b j. each b (inr j)) n i in (r.0, r.1, r.2, inr r.3, r.4)
 
   -- and the other way round
-  name_in : (bs : List Addr) (each : Each bs) (q : Seen) → In (objects v t) q → In bs q.at → In (names bs each) q.name
+  name_in : (bs : List Addr) (each : Each bs) (q : Located) → In (objects v t) q → In bs q.at → In (names bs each) (object_name q)
   unfolding names
   name_in [] each q i j = absurd j
-  name_in (a ∷ bs) each q i (inl e) = let r = each a (inl refl) in inl (ap (λ (o : Seen). o.name) ((V.homes t rests).once r.0 q r.1 i (r.2 ∙ e)))
+  name_in (a ∷ bs) each q i (inl e) = let r = each a (inl refl) in inl (ap object_name ((V.homes t rests).once r.0 q r.1 i (r.2 ∙ e)))
   name_in (a ∷ bs) each q i (inr j) = inr (name_in bs (λ b k. each b (inr k)) q i j)
 
   same_is : (a b : Addr) → a ≡ b → same_address a b ≡ true
@@ -127,14 +128,14 @@ module _ (v : Value) (l : Ledger) (t : ℕ) (V : Stands v l) (rests : Rests l t)
   once_marked (a ∷ bs) each d = (
     (λ i.
         let q = each a (inl refl) in
-        let r = named_by bs (λ b j. each b (inr j)) q.0.name i in
+        let r = named_by bs (λ b j. each b (inr j)) (object_name q.0) i in
         let same : r.0 ≡ q.0 = (V.homes t rests).named r.0 q.0 r.1 q.1 r.2 in
-        not_again a bs d.0 (subst (In bs) (ap (λ (o : Seen). o.at) same ∙ q.2) r.3)),
+        not_again a bs d.0 (subst (In bs) (ap (λ (o : Located). o.at) same ∙ q.2) r.3)),
     once_marked bs (λ b j. each b (inr j)) d.1,
   )
 
 -- marked are no more than the snapshot has
-pub few_marked : (v : Value) (l : Ledger) (t : ℕ) (marked : List Addr) → Stands v l → Rests l t → ((a : Addr) → In marked a → (q : Seen) × In (objects v t) q × (q.at ≡ a) × In (heap_of l t).snapshot q.name) → IsDistinct same_address marked
+pub few_marked : (v : Value) (l : Ledger) (t : ℕ) (marked : List Addr) → Stands v l → Rests l t → ((a : Addr) → In marked a → (q : Located) × In (objects v t) q × (q.at ≡ a) × In (heap_of l t).snapshot (object_name q)) → IsDistinct same_address marked
     → length marked ≤ length (heap_of l t).snapshot
 few_marked v l t marked V rests each once =
     let ns = names v l t V rests marked each in
@@ -143,8 +144,8 @@ few_marked v l t marked V rests each once =
     omega (arith, le, as_many)
 
 -- and no fewer, where each object of it is marked
-pub all_marked : (v : Value) (l : Ledger) (t : ℕ) (marked : List Addr) → Stands v l → Rests l t → ((a : Addr) → In marked a → (q : Seen) × In (objects v t) q × (q.at ≡ a) × In (heap_of l t).snapshot q.name)
-    → IsDistinct is_name (heap_of l t).snapshot → ((n : Name) → In (heap_of l t).snapshot n → In (held_in (heap_of l t)) n) → ((q : Seen) → In (objects v t) q → In (heap_of l t).snapshot q.name → In marked q.at) → length (heap_of l t).snapshot ≤ length marked
+pub all_marked : (v : Value) (l : Ledger) (t : ℕ) (marked : List Addr) → Stands v l → Rests l t → ((a : Addr) → In marked a → (q : Located) × In (objects v t) q × (q.at ≡ a) × In (heap_of l t).snapshot (object_name q))
+    → IsDistinct is_name (heap_of l t).snapshot → ((n : Name) → In (heap_of l t).snapshot n → In (held_in (heap_of l t)) n) → ((q : Located) → In (objects v t) q → In (heap_of l t).snapshot (object_name q) → In marked q.at) → length (heap_of l t).snapshot ≤ length marked
 all_marked v l t marked V rests each distinct held every =
     let ns = names v l t V rests marked each in
     let as_many : length ns ≡ length marked = as_many v l t V rests marked each in
@@ -162,8 +163,8 @@ marks_are_all v l t marked V rests distinct held M =
     let all : ((n : Name) → In ns n → In (heap_of l t).snapshot n) = λ n i. (named_by v l t V rests marked M.each n i).4 in (
       (λ none q i j.
           let le : length (heap_of l t).snapshot ≤ length ns = (let z : length (heap_of l t).snapshot - marked_in (heap_of l t) ≡ 0 = none in omega (arith, z, count, as_many)) in
-          let r = named_by v l t V rests marked M.each q.name (all_of ns (heap_of l t).snapshot once all le q.name j) in
-          subst (λ (o : Seen). In marked o.at) ((V.homes t rests).named r.0 q r.1 i r.2) r.3),
+          let r = named_by v l t V rests marked M.each (object_name q) (all_of ns (heap_of l t).snapshot once all le (object_name q) j) in
+          subst (λ (o : Located). In marked o.at) ((V.homes t rests).named r.0 q r.1 i r.2) r.3),
       (λ every.
           let le : length (heap_of l t).snapshot ≤ length ns = no_more (heap_of l t).snapshot ns (once_names (heap_of l t).snapshot distinct) (λ n i.
           let o = held_object (v.homes t).chunks (heap_of l t) (V.homes t rests).names n (held n i) in

@@ -5,6 +5,7 @@ use Rattle.std.specs.Prelude.{◌&&◌, not}
 use Rattle.std.proofs.lemmas.Bool.{both_ways}
 use Rattle.std.proofs.lemmas.Option.{same_Some}
 use Rattle.object_layout.specs.declared.word.Addr.{Addr}
+use Rattle.object_layout.specs.Objects.{Located}
 use Rattle.hh_model.specs.declared.data.Name.{Name}
 use Rattle.hh_model.specs.declared.data.Object.{Object}
 use Rattle.hh_model.specs.declared.data.Task.{Task}
@@ -21,7 +22,7 @@ use Rattle.inner_mark_gc.specs.Marks.{Marks}
 use Rattle.listed.proofs.Members.{in_append_right}
 use Rattle.task_frames.specs.declared.frames.Frame.{Frame}
 use Rattle.remembered_set.specs.declared.remembered.Source.{Source}
-use Rattle.core_relation.specs.Value.{Chunk, Seen, Home, Value, In, objects, objects_in, sources, led, is_source, rewritten, rewritten_refs, rewritten_home, is_at, mapped_chunk, put_at}
+use Rattle.core_relation.specs.Value.{Chunk, Home, Value, In, object_name, objects, objects_in, sources, led, is_source, rewritten, rewritten_refs, rewritten_home, is_at, mapped_chunk, put_at}
 use Rattle.ledger_steps.specs.Accounts.{own, Rests}
 use Rattle.core_relation.specs.Stands.{Place, Stands}
 use Rattle.core_relation.specs.Begins.{IsReachedAt, AreRoots}
@@ -40,7 +41,7 @@ use Rattle.core_relation.proofs.changes.Store as store
 -- WHAT IS MARKED stays so, where its objects do
 
 pub marks_carry : (v v' : Value) (l l' : Ledger) (t : ℕ) (o o' : Option Marks) → o' ≡ o → (heap_of l' t).marked ≡ (heap_of l t).marked
-    → ((q : Seen) → In (objects v t) q → In (heap_of l t).snapshot q.name → (z : Seen) × In (objects v' t) z × (z.at ≡ q.at) × In (heap_of l' t).snapshot z.name)
+    → ((q : Located) → In (objects v t) q → In (heap_of l t).snapshot (object_name q) → (z : Located) × In (objects v' t) z × (z.at ≡ q.at) × In (heap_of l' t).snapshot (object_name z))
     → ((m : Marks) → GoesOn v t (heap_of l t).snapshot m → GoesOn v' t (heap_of l' t).snapshot m) → MarkedBy v l t o → MarkedBy v' l' t o'
 marks_carry v v' l l' t o o' same account stay further M = subst (MarkedBy v' l' t) (sym same) (by o M)
   where
@@ -73,8 +74,8 @@ module _ (v v' : Value) (l l' : Ledger) (t : ℕ) (N : SameNotes v v' l l' t) wh
     snapshot = λ q i.
         let z = S.were q i in
         let r = H.snapshot z.0 z.1 in (
-          (λ w. subst (λ ns. In ns q.name) (sym N.snapshot) (subst (In (heap_of l t).snapshot) (sym z.3) (r.0 (subst (IsReachedAt H.home H.roots) z.2 w)))),
-          (λ w. subst (IsReachedAt H.home H.roots) (sym z.2) (r.1 (subst (In (heap_of l t).snapshot) z.3 (subst (λ ns. In ns q.name) N.snapshot w)))),
+          (λ w. subst (λ ns. In ns (object_name q)) (sym N.snapshot) (subst (In (heap_of l t).snapshot) (sym z.3) (r.0 (subst (IsReachedAt H.home H.roots) z.2 w)))),
+          (λ w. subst (IsReachedAt H.home H.roots) (sym z.2) (r.1 (subst (In (heap_of l t).snapshot) z.3 (subst (λ ns. In ns (object_name q)) N.snapshot w)))),
         );
     overwritten = λ o q b i j e k c.
         let z = S.were q j in
@@ -86,7 +87,7 @@ module _ (v v' : Value) (l l' : Ledger) (t : ℕ) (N : SameNotes v v' l l' t) wh
     each = λ b j.
         let r = H.each b (subst (λ bs. In bs b) N.kept j) in
         let z = S.there r.0 r.1 in
-        (z.0, z.1, z.2 ∙ r.2, subst (λ ns. In ns z.0.name) (sym N.snapshot) (subst (In (heap_of l t).snapshot) (sym z.3) r.3));
+        (z.0, z.1, z.2 ∙ r.2, subst (λ ns. In ns (object_name z.0)) (sym N.snapshot) (subst (In (heap_of l t).snapshot) (sym z.3) r.3));
   }
 
   keeps_same : NotedAt v l t → (v'.noted t).keeps ≡ (is_waiting (slice_get l'.machine.tasks t) && not (heap_of l' t).swept)
@@ -104,11 +105,11 @@ module _ (v v' : Value) (l l' : Ledger) (t : ℕ) (N : SameNotes v v' l l' t) wh
   pub notes_stay : (v'.noted t).marked ≡ (v.noted t).marked → (heap_of l' t).marked ≡ (heap_of l t).marked → StaysWhole v v' t → NotedAt v l t → NotedAt v' l' t
   notes_stay marked account S H = notes_with S (λ e.
       marks_carry v v' l l' t (v.noted t).marked (v'.noted t).marked marked account
-      (λ q i j. let z = S.there q i in (z.0, z.1, z.2, subst (λ ns. In ns z.0.name) (sym N.snapshot) (subst (In (heap_of l t).snapshot) (sym z.3) j))) (still_goes S) (H.marks (sym N.keeps ∙ e))) H
+      (λ q i j. let z = S.there q i in (z.0, z.1, z.2, subst (λ ns. In ns (object_name z.0)) (sym N.snapshot) (subst (In (heap_of l t).snapshot) (sym z.3) j))) (still_goes S) (H.marks (sym N.keeps ∙ e))) H
 
 pub same_whole : (v v' : Value) (t : ℕ) → objects v' t ≡ objects v t → length (v'.homes t).chunks ≡ length (v.homes t).chunks → StaysWhole v v' t
 same_whole v v' t e chunks = record {
-  count = ap (λ (os : List Seen). length os) e;
+  count = ap (λ (os : List Located). length os) e;
   chunks = chunks;
   there = λ o i. (o, subst (λ os. In os o) (sym e) i, refl, refl);
   were = λ q i. (q, subst (λ os. In os q) e i, refl, refl, λ b c j. j);
@@ -135,9 +136,9 @@ moves_whole v v' l l' u t names f ne M =
           let z = from_mapped (rewritten f (sources v u)) (λ o. refl) (λ o. refl) (v.homes t).chunks q (subst (λ (h : Home). In (objects_in h.chunks) q) e i) in (
             z.0,
             z.1,
-            ap (λ (o : Seen). o.at) (sym z.2),
-            ap (λ (o : Seen). o.name) (sym z.2),
-            λ b c j. subst (λ (o : Seen). In o.refs (Some b)) z.2 (rewritten_keeps f (sources v u) z.0.at 0 z.0.refs b (M.same b t ne c) j),
+            ap (λ (o : Located). o.at) (sym z.2),
+            ap object_name (sym z.2),
+            λ b c j. subst (λ (o : Located). In o.refs (Some b)) z.2 (rewritten_keeps f (sources v u) z.0.at 0 z.0.refs b (M.same b t ne c) j),
           );
     }
 
@@ -151,30 +152,30 @@ numbers_whole v v' w a i k t C = record {
       let z = from_mapped one one_name one_at (v.homes t).chunks q (subst (λ ks. In (objects_in ks) q) (C.chunks t) j) in (
         z.0,
         z.1,
-        ap (λ (o : Seen). o.at) (sym z.2) ∙ one_at z.0,
-        ap (λ (o : Seen). o.name) (sym z.2) ∙ one_name z.0,
-        λ b c r. subst (λ (o : Seen). In o.refs (Some b)) z.2 (subst (λ rs. In rs (Some b)) (sym (one_refs z.0)) r),
+        ap (λ (o : Located). o.at) (sym z.2) ∙ one_at z.0,
+        ap object_name (sym z.2) ∙ one_name z.0,
+        λ b c r. subst (λ (o : Located). In o.refs (Some b)) z.2 (subst (λ rs. In rs (Some b)) (sym (one_refs z.0)) r),
       );
 }
   where
-    one : Seen → Seen
+    one : Located → Located
     one q = put_at a (with_number i k) q
 
-    one_name : (q : Seen) → (put_at a (with_number i k) q).name ≡ q.name
+    one_name : (q : Located) → object_name (put_at a (with_number i k) q) ≡ object_name q
     one_name q = by (is_at a q)
       where
-        by : (b : Bool) → (cond b (with_number i k q) q).name ≡ q.name
+        by : (b : Bool) → object_name (cond b (with_number i k q) q) ≡ object_name q
         by true = refl
         by false = refl
 
-    one_at : (q : Seen) → (put_at a (with_number i k) q).at ≡ q.at
+    one_at : (q : Located) → (put_at a (with_number i k) q).at ≡ q.at
     one_at q = by (is_at a q)
       where
         by : (b : Bool) → (cond b (with_number i k q) q).at ≡ q.at
         by true = refl
         by false = refl
 
-    one_refs : (q : Seen) → (put_at a (with_number i k) q).refs ≡ q.refs
+    one_refs : (q : Located) → (put_at a (with_number i k) q).refs ≡ q.refs
     one_refs q = by (is_at a q)
       where
         by : (b : Bool) → (cond b (with_number i k q) q).refs ≡ q.refs
@@ -182,17 +183,17 @@ numbers_whole v v' w a i k t C = record {
         by false = refl
 
 -- in any store each object stays where it lies
-pub writes_stay : (v v' : Value) (w : ℕ) (a : Addr) (f : Seen → Seen) (t : ℕ) → WritesAt v v' w a f → (q : Seen) → In (objects v t) q → (z : Seen) × In (objects v' t) z × (z.at ≡ q.at) × (z.name ≡ q.name)
+pub writes_stay : (v v' : Value) (w : ℕ) (a : Addr) (f : Located → Located) (t : ℕ) → WritesAt v v' w a f → (q : Located) → In (objects v t) q → (z : Located) × In (objects v' t) z × (z.at ≡ q.at) × (object_name z ≡ object_name q)
 writes_stay v v' w a f t C q j = (put_at a f q, subst (λ ks. In (objects_in ks) (put_at a f q)) (sym (C.chunks t)) (to_mapped (put_at a f) one_name one_at (v.homes t).chunks q j), one_at q, one_name q)
   where
-    one_name : (o : Seen) → (put_at a f o).name ≡ o.name
+    one_name : (o : Located) → object_name (put_at a f o) ≡ object_name o
     one_name o = by (is_at a o)
       where
-        by : (b : Bool) → (cond b (f o) o).name ≡ o.name
+        by : (b : Bool) → object_name (cond b (f o) o) ≡ object_name o
         by true = C.same_name o
         by false = refl
 
-    one_at : (o : Seen) → (put_at a f o).at ≡ o.at
+    one_at : (o : Located) → (put_at a f o).at ≡ o.at
     one_at o = by (is_at a o)
       where
         by : (b : Bool) → (cond b (f o) o).at ≡ o.at
@@ -231,33 +232,33 @@ module _ (v v' : Value) (l l' : Ledger) (t : ℕ) (x : Task) (n : Name) (y : Obj
   apart : u ≡ t → ⊥
   apart e = both_ways (is_waiting (slice_get l.machine.tasks u)) (ap (λ z. is_waiting (slice_get l.machine.tasks z)) e ∙ (ap is_waiting L.task ∙ ap (λ s. is_waiting (Some (record x { status = s }))) L.runs)) wait
 
-  of_snapshot : (z : ℕ) (q : Seen) (b : Addr) → v.owner a.chunk ≡ Some z → In (objects v z) q → q.at ≡ a → slice_get q.refs i ≡ Some (Some b) → v.owner b.chunk ≡ Some u → (k : Seen) × In (objects v u) k × (k.at ≡ b) × In (heap_of l u).snapshot k.name
+  of_snapshot : (z : ℕ) (q : Located) (b : Addr) → v.owner a.chunk ≡ Some z → In (objects v z) q → q.at ≡ a → slice_get q.refs i ≡ Some (Some b) → v.owner b.chunk ≡ Some u → (k : Located) × In (objects v u) k × (k.at ≡ b) × In (heap_of l u).snapshot (object_name k)
   of_snapshot z q b oz j e g ob =
       let mine : own l n ≡ z = same_Some (own l n) z (sym place.chunk ∙ oz) in
       let p = place.here rests_n in
       let j' : In (objects v (own l n)) q = subst (λ k. In (objects v k) q) (sym mine) j in
       let same : q ≡ p.0 = (V.homes (own l n) rests_n).once q p.0 j' p.1 (e ∙ sym p.2.at) in
       let c = V.contents (own l n) q rests_n j' in
-      let is : c.0 ≡ y = same_Some c.0 y (sym c.1 ∙ (ap (object_at l.machine.store) (ap (λ (k : Seen). k.name) same ∙ p.2.name) ∙ L.writes.was)) in
+      let is : c.0 ≡ y = same_Some c.0 y (sym c.1 ∙ (ap (object_at l.machine.store) (ap object_name same ∙ p.2.name) ∙ L.writes.was)) in
       let r = name_at (Place v l) q.refs c.0.refs i b c.2.refs g in
       let theirs : own l r.0 ≡ u = same_Some (own l r.0) u (sym r.2.chunk ∙ ob) in
       let k = r.2.here (subst (Rests l) (sym theirs) (L.waits u wait)) in
       let k' : In (objects v u) k.0 = subst (λ m. In (objects v m) k.0) theirs k.1 in
-      let held : In (names_of (heap_at l u)) k.0.name = object_held (v.homes u).chunks (heap_of l u) (V.homes u (L.waits u wait)).names k.0 k' in
+      let held : In (names_of (heap_at l u)) (object_name k.0) = object_held (v.homes u).chunks (heap_of l u) (V.homes u (L.waits u wait)).names k.0 k' in
       let P = (S.waits u wait).of_object n r.0 ((S.waits u wait).of_task t x n L.task holds) (refers l.machine.store n r.0 y L.writes.was (subst (λ (m : Object). In m.refs (Some r.0)) is (got_in c.0.refs i (Some r.0) r.1))) in
-      (k.0, k', k.2.at, subst (λ ns. In ns k.0.name) (snapshot_is (slice_get l.heaps u)) (subst (In (snapshot_at (slice_get l.heaps u))) (sym k.2.name) (P.1 (subst (InHeaps l.heaps u) k.2.name held))))
+      (k.0, k', k.2.at, subst (λ ns. In ns (object_name k.0)) (snapshot_is (slice_get l.heaps u)) (subst (In (snapshot_at (slice_get l.heaps u))) (sym k.2.name) (P.1 (subst (InHeaps l.heaps u) k.2.name held))))
 
-  abbrev one : Seen → Seen
+  abbrev one : Located → Located
   one q = put_at a (with_field i (register f w)) q
 
-  one_name : (q : Seen) → (one q).name ≡ q.name
+  one_name : (q : Located) → object_name (one q) ≡ object_name q
   one_name q = by (is_at a q)
     where
-      by : (b : Bool) → (cond b (with_field i (register f w) q) q).name ≡ q.name
+      by : (b : Bool) → object_name (cond b (with_field i (register f w) q) q) ≡ object_name q
       by true = refl
       by false = refl
 
-  one_at : (q : Seen) → (one q).at ≡ q.at
+  one_at : (q : Located) → (one q).at ≡ q.at
   one_at q = by (is_at a q)
     where
       by : (b : Bool) → (cond b (with_field i (register f w) q) q).at ≡ q.at
@@ -267,16 +268,16 @@ module _ (v v' : Value) (l l' : Ledger) (t : ℕ) (x : Task) (n : Name) (y : Obj
   -- a marking can go on
   store_goes : Since v' l' u → Keeps v v' u a i → (m : Marks) → GoesOn v u (heap_of l u).snapshot m → GoesOn v' u (heap_of l' u).snapshot m
   store_goes H' K m G =
-      let back : (q : Seen) → In (objects v' u) q → (o : Seen) × In (objects v u) o × (one o ≡ q) = λ q j. from_mapped one one_name one_at (v.homes u).chunks q (subst (λ ks. In (objects_in ks) q) (C.writes.chunks u) j) in
+      let back : (q : Located) → In (objects v' u) q → (o : Located) × In (objects v u) o × (one o ≡ q) = λ q j. from_mapped one one_name one_at (v.homes u).chunks q (subst (λ ks. In (objects_in ks) q) (C.writes.chunks u) j) in
       let same : (heap_of l' u).snapshot ≡ (heap_of l u).snapshot = ap (λ (g : Heap). g.snapshot) (L.writes.heaps u) in
       subst (λ ns. GoesOn v' u ns m) (sym same)
       (goes_on v v' u (heap_of l u).snapshot m K.more K.grows (λ o j. writes_stay v v' t a _ u C.writes o j)
       (λ q j. let o = back q j in (
         o.0,
         o.1,
-        ap (λ (z : Seen). z.at) (sym o.2) ∙ one_at o.0,
-        ap (λ (z : Seen). z.name) (sym o.2) ∙ one_name o.0,
-        λ b c r. subst (λ (z : Seen). In z.refs (Some b) ⊎ In (kept v' u) b) o.2 (write_stays v v' l u i a (register f w) V (L.waits u wait) K o.0 b o.1 r c),
+        ap (λ (z : Located). z.at) (sym o.2) ∙ one_at o.0,
+        ap object_name (sym o.2) ∙ one_name o.0,
+        λ b c r. subst (λ (z : Located). In z.refs (Some b) ⊎ In (kept v' u) b) o.2 (write_stays v v' l u i a (register f w) V (L.waits u wait) K o.0 b o.1 r c),
       ))
       (λ k g. sym (C.writes.owner k) ∙ g) (ap (λ ks. length (objects_in ks)) (C.writes.chunks u) ∙ count_mapped one one_name one_at (v.homes u).chunks) (ap (λ (ks : List Chunk). length ks) (C.writes.chunks u) ∙ length_map (mapped_chunk one) (v.homes u).chunks)
       (λ b j.
@@ -284,8 +285,8 @@ module _ (v v' : Value) (l l' : Ledger) (t : ℕ) (x : Task) (n : Name) (y : Obj
       let o = back q.0 q.1 in (
         o.0,
         o.1,
-        sym (one_at o.0) ∙ (ap (λ (z : Seen). z.at) o.2 ∙ q.2),
-        subst (In (heap_of l u).snapshot) (ap (λ (z : Seen). z.name) (sym o.2) ∙ one_name o.0) (subst (λ ns. In ns q.0.name) same q.3),
+        sym (one_at o.0) ∙ (ap (λ (z : Located). z.at) o.2 ∙ q.2),
+        subst (In (heap_of l u).snapshot) (ap object_name (sym o.2) ∙ one_name o.0) (subst (λ ns. In ns (object_name q.0)) same q.3),
       ))
       G)
 
@@ -295,6 +296,6 @@ module _ (v v' : Value) (l l' : Ledger) (t : ℕ) (x : Task) (n : Name) (y : Obj
     since = λ e. since_write v v' l l' u t i n y _ a (register f w) V (L.waits u wait) (C.writes.frames u apart) (H.since (sym keeps ∙ e)) L.writes C.writes K of_snapshot;
     marks = λ e.
         marks_carry v v' l l' u (v.noted u).marked (v'.noted u).marked K.marked (ap (λ (z : Heap). z.marked) (L.writes.heaps u))
-        (λ q j m. let z = writes_stay v v' t a _ u C.writes q j in (z.0, z.1, z.2, subst (λ (g : Heap). In g.snapshot z.0.name) (sym (L.writes.heaps u)) (subst (In (heap_of l u).snapshot) (sym z.3) m)))
+        (λ q j m. let z = writes_stay v v' t a _ u C.writes q j in (z.0, z.1, z.2, subst (λ (g : Heap). In g.snapshot (object_name z.0)) (sym (L.writes.heaps u)) (subst (In (heap_of l u).snapshot) (sym z.3) m)))
         (store_goes (since_write v v' l l' u t i n y _ a (register f w) V (L.waits u wait) (C.writes.frames u apart) (H.since (sym keeps ∙ e)) L.writes C.writes K of_snapshot) K) (H.marks (sym keeps ∙ e));
   }

@@ -4,12 +4,13 @@ use Rattle.std.specs.List.{list_any}
 use Rattle.std.proofs.lemmas.Bool.{both_ways}
 use Rattle.std.proofs.lemmas.Option.{same_Some}
 use Rattle.object_layout.specs.declared.word.Addr.{Addr}
+use Rattle.object_layout.specs.Objects.{Located}
 use Rattle.hh_model.specs.Step.{is_waiting}
 use Rattle.run_ledger.specs.declared.data.Ledger.{Ledger}
 use Rattle.run_ledger.specs.Heaps.{heap_of}
 use Rattle.task_frames.specs.declared.frames.Frame.{Frame}
 use Rattle.remembered_set.specs.declared.remembered.Source.{Source}
-use Rattle.core_relation.specs.Value.{Seen, Value, In, objects, sources, led, is_source, rewritten_refs}
+use Rattle.core_relation.specs.Value.{Value, In, object_name, objects, sources, led, is_source, rewritten_refs}
 use Rattle.ledger_steps.specs.Accounts.{own, Rests}
 use Rattle.core_relation.specs.Stands.{Stands}
 use Rattle.core_relation.specs.Begins.{IsRoot}
@@ -19,7 +20,7 @@ use Rattle.core_relation.proofs.objects.Members.{in_chunk}
 -- THE HOME OF A ROOT
 
 -- an object lies in a chunk of its home's task
-pub lies_in : (v : Value) (l : Ledger) → Stands v l → (z : ℕ) (q : Seen) → Rests l z → In (objects v z) q → v.owner q.at.chunk ≡ Some z
+pub lies_in : (v : Value) (l : Ledger) → Stands v l → (z : ℕ) (q : Located) → Rests l z → In (objects v z) q → v.owner q.at.chunk ≡ Some z
 lies_in v l V z q r i =
     let k = in_chunk (v.homes z).chunks q i in
     ap v.owner ((V.homes z r).inside k.0 q k.1 k.2) ∙ (V.homes z r).owned k.0 k.1
@@ -37,19 +38,19 @@ pub root_apart : (v : Value) (l : Ledger) → Stands v l → (t : ℕ) → is_wa
 root_apart v l V t idle u b r e = both_ways (is_waiting (slice_get l.machine.tasks t)) idle (ap (λ z. is_waiting (slice_get l.machine.tasks z)) (sym e) ∙ root_waits v l V u b r)
 
 -- and its snapshot has the object
-pub root_kept : (v : Value) (l : Ledger) → Stands v l → (u : ℕ) (b : Addr) → (r : IsRoot v l u b) → In (heap_of l r.home).snapshot r.object.name
+pub root_kept : (v : Value) (l : Ledger) → Stands v l → (u : ℕ) (b : Addr) → (r : IsRoot v l u b) → In (heap_of l r.home).snapshot (object_name r.object)
 root_kept v l V u b r =
     let s = V.sources u r.source r.noted in
     let own_home = root_owner v l V u b r in
     let p = s.place.here s.rests in
     let p' : In (objects v r.home) p.0 = subst (λ z. In (objects v z) p.0) own_home p.1 in
     let same : r.object ≡ p.0 = (V.homes r.home r.rests).once r.object p.0 r.there p' (r.at ∙ sym p.2.at) in
-    let name : s.name ≡ r.object.name = sym p.2.name ∙ ap (λ (o : Seen). o.name) (sym same) in
+    let name : s.name ≡ object_name r.object = sym p.2.name ∙ ap object_name (sym same) in
     subst (In (heap_of l r.home).snapshot) name (subst (λ z. In (heap_of l z).snapshot s.name) own_home s.kept)
 
 -- A ROOT STAYS where its object does, with the field
 module _ (v v' : Value) (l l' : Ledger) (u : ℕ) (noted : (s : Source) → In (sources v u) s → In (sources v' u) s) (into : (k : ℕ) → v.owner k ≡ Some u → v'.owner k ≡ Some u) where
-  pub root_by : (b : Addr) (r : IsRoot v l u b) → Rests l' r.home → (q : Seen) → In (objects v' r.home) q → q.at ≡ r.object.at → slice_get q.refs r.source.field ≡ Some (Some b) → IsRoot v' l' u b
+  pub root_by : (b : Addr) (r : IsRoot v l u b) → Rests l' r.home → (q : Located) → In (objects v' r.home) q → q.at ≡ r.object.at → slice_get q.refs r.source.field ≡ Some (Some b) → IsRoot v' l' u b
   root_by b r rests q i at holds = record { source = r.source; home = r.home; object = q; rests = rests; noted = noted r.source r.noted; there = i; at = at ∙ r.at; holds = holds; into = into b.chunk r.into }
 
   pub root_same : (b : Addr) (r : IsRoot v l u b) → Rests l' r.home → objects v' r.home ≡ objects v r.home → IsRoot v' l' u b

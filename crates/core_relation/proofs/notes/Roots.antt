@@ -5,6 +5,7 @@ use Rattle.std.proofs.lemmas.Option.{same_Some}
 use Rattle.listed.proofs.Members.{in_from_contains, contains_from_in, in_append_left, in_append_right, in_append_cases, in_kept, in_from_kept, in_flat, got_in}
 use Rattle.walks.specs.Reached.{IsWalk}
 use Rattle.object_layout.specs.declared.word.Addr.{Addr}
+use Rattle.object_layout.specs.Objects.{Located}
 use Rattle.hh_model.specs.declared.data.Name.{Name}
 use Rattle.hh_model.specs.declared.data.Frame.{Frame as ModelFrame}
 use Rattle.hh_model.specs.declared.data.Status.TheVariants.{Running}
@@ -20,7 +21,7 @@ use Rattle.run_ledger.proofs.Reached.{reached_root, reached_more, reached_is_wal
 use Rattle.run_ledger.specs.Sound.{SoundLedger}
 use Rattle.run_ledger.proofs.Sound.{in_held, held_keeps}
 use Rattle.task_frames.specs.declared.frames.Frame.{Frame}
-use Rattle.core_relation.specs.Value.{Seen, Home, Value, In, objects, sources}
+use Rattle.core_relation.specs.Value.{Home, Value, In, object_name, objects, sources}
 use Rattle.core_relation.specs.Reads.{AllRead, FramesAreRead, HoldsRead}
 use Rattle.ledger_steps.specs.Accounts.{own, Rests}
 use Rattle.core_relation.specs.Stands.{Place, Stands}
@@ -97,31 +98,31 @@ module _ (v : Value) (l : Ledger) (t : ℕ) (x : Task) (roots : List Addr) (S : 
   registers_are : frames_of (slice_get l.machine.tasks t) ≡ x.top ∷ x.below
   registers_are = ap frames_of is
 
-  owned : (u : ℕ) (o : Seen) → Rests l u → In (objects v u) o → v.owner o.at.chunk ≡ Some u
+  owned : (u : ℕ) (o : Located) → Rests l u → In (objects v u) o → v.owner o.at.chunk ≡ Some u
   owned u o r i = let k = in_chunk (v.homes u).chunks o i in ap v.owner ((V.homes u r).inside k.0 o k.1 k.2) ∙ (V.homes u r).owned k.0 k.1
 
   -- what lies at an address that stands for a name bears it
-  bears : (u : ℕ) (o : Seen) (n : Name) (a : Addr) → Rests l u → In (objects v u) o → o.at ≡ a → Place v l n a → (o.name ≡ n) × (own l n ≡ u)
+  bears : (u : ℕ) (o : Located) (n : Name) (a : Addr) → Rests l u → In (objects v u) o → o.at ≡ a → Place v l n a → (object_name o ≡ n) × (own l n ≡ u)
   bears u o n a r i e p =
       let mine : own l n ≡ u = same_Some (own l n) u (sym p.chunk ∙ (ap (λ (b : Addr). v.owner b.chunk) (sym e) ∙ owned u o r i)) in
       let q = p.here (subst (Rests l) (sym mine) r) in
       let same : o ≡ q.0 = (V.homes u r).once o q.0 i (subst (λ z. In (objects v z) q.0) mine q.1) (e ∙ sym q.2.at) in
-      (ap (λ (z : Seen). z.name) same ∙ q.2.name, mine)
+      (ap object_name same ∙ q.2.name, mine)
 
   -- and an address that stands for its name is where it lies
-  lies_at : (o : Seen) (n : Name) (a : Addr) → In (objects v t) o → o.name ≡ n → Place v l n a → a ≡ o.at
+  lies_at : (o : Located) (n : Name) (a : Addr) → In (objects v t) o → object_name o ≡ n → Place v l n a → a ≡ o.at
   lies_at o n a i e p =
       let mine : own l n ≡ t = sym (ap (own l) e) ∙ home_own v l S t (V.homes t rests) o i in
       let q = p.here (subst (Rests l) (sym mine) rests) in
       let same : o ≡ q.0 = (V.homes t rests).named o q.0 i (subst (λ z. In (objects v z) q.0) mine q.1) (e ∙ sym q.2.name) in
-      sym q.2.at ∙ ap (λ (z : Seen). z.at) (sym same)
+      sym q.2.at ∙ ap (λ (z : Located). z.at) (sym same)
 
-  is_name_held : (o : Seen) → In (objects v t) o → In names o.name
+  is_name_held : (o : Located) → In (objects v t) o → In names (object_name o)
   is_name_held o i = object_held h.chunks (heap_of l t) (V.homes t rests).names o i
 
   -- FROM ADDRESSES TO NAMES
 
-  root_name : (o : Seen) (a : Addr) → In (objects v t) o → o.at ≡ a → In roots a → In (roots_of l t) o.name
+  root_name : (o : Located) (a : Addr) → In (objects v t) o → o.at ≡ a → In roots a → In (roots_of l t) (object_name o)
   root_name o a i e j =
       let k = (R a).0 j in
       let c = V.contents k.home k.object k.rests k.there in
@@ -129,35 +130,35 @@ module _ (v : Value) (l : Ledger) (t : ℕ) (x : Task) (roots : List Addr) (S : 
       let m = bears t o f.0 a rests i e f.2 in
       let s = V.sources t k.source k.noted in
       let b = bears k.home k.object s.name k.source.object k.rests k.there k.at s.place in
-      let up : is_above l.machine.tasks (own l k.object.name) t ≡ true =
+      let up : is_above l.machine.tasks (own l (object_name k.object)) t ≡ true =
       subst (λ z. is_above l.machine.tasks (own l z) t ≡ true) (sym b.0) (and_from (is_on_path l.machine.tasks (own l s.name) t) (not (own l s.name == t)) s.above (ap not (ne_eqb (own l s.name) t s.below))) in
-      let held_q : In (held l) k.object.name = in_held l k.object.name (is_kept v l k.home (V.homes k.home k.rests) k.object k.there) in
+      let held_q : In (held l) (object_name k.object) = in_held l (object_name k.object) (is_kept v l k.home (V.homes k.home k.rests) k.object k.there) in
       subst (In (roots_of l t)) (sym m.0)
       (in_append_right (registers (frames_of (slice_get l.machine.tasks t))) _ f.0
-      (in_flat (refs_at l.machine.store) _ k.object.name f.0
-      (in_kept (λ n. is_above l.machine.tasks (own l n) t) (held l) k.object.name held_q up)
-      (refers l.machine.store k.object.name f.0 c.0 c.1 (got_in c.0.refs k.source.field (Some f.0) f.1))))
+      (in_flat (refs_at l.machine.store) _ (object_name k.object) f.0
+      (in_kept (λ n. is_above l.machine.tasks (own l n) t) (held l) (object_name k.object) held_q up)
+      (refers l.machine.store (object_name k.object) f.0 c.0 c.1 (got_in c.0.refs k.source.field (Some f.0) f.1))))
 
-  register_name : (o : Seen) (a : Addr) (f : Frame) → In (objects v t) o → o.at ≡ a → In h.frames f → In f.refs (Some a) → In (roots_of l t) o.name
+  register_name : (o : Located) (a : Addr) (f : Frame) → In (objects v t) o → o.at ≡ a → In h.frames f → In f.refs (Some a) → In (roots_of l t) (object_name o)
   register_name o a f i e j k =
       let q = frame_name (Place v l) h.frames (x.top ∷ x.below) f a frames j k in
       let m = bears t o q.0 a rests i e q.2 in
       subst (In (roots_of l t)) (sym m.0) (in_append_left (registers (frames_of (slice_get l.machine.tasks t))) _ q.0 (subst (λ fs. In (registers fs) q.0) (sym registers_are) q.1))
 
-  start_name : (o : Seen) (a : Addr) → In (objects v t) o → o.at ≡ a → ((f : Frame) × In h.frames f × In f.refs (Some a)) ⊎ In roots a → In (roots_of l t) o.name
+  start_name : (o : Located) (a : Addr) → In (objects v t) o → o.at ≡ a → ((f : Frame) × In h.frames f × In f.refs (Some a)) ⊎ In roots a → In (roots_of l t) (object_name o)
   start_name o a i e (inl f) = register_name o a f.0 i e f.1 f.2
   start_name o a i e (inr j) = root_name o a i e j
 
-  to_names : (k : ℕ) (o : Seen) (a : Addr) → In (objects v t) o → o.at ≡ a → IsWalk (StartsAt h roots) (LeadsAt h) k a → In (within l t) o.name
-  to_names zero o a i e w = reached_root l.machine.store names (roots_of l t) o.name (is_name_held o i) (start_name o a i e w.2)
+  to_names : (k : ℕ) (o : Located) (a : Addr) → In (objects v t) o → o.at ≡ a → IsWalk (StartsAt h roots) (LeadsAt h) k a → In (within l t) (object_name o)
+  to_names zero o a i e w = reached_root l.machine.store names (roots_of l t) (object_name o) (is_name_held o i) (start_name o a i e w.2)
   to_names (suc k) o a i e w =
       let d = w.2 in
       let c = V.contents t d.0 rests d.2.0 in
       let j = index_of d.0.refs (Some a) d.3 in
       let f = name_at (Place v l) d.0.refs c.0.refs j.0 a c.2.refs j.1 in
       let m = bears t o f.0 a rests i e f.2 in
-      reached_more l.machine.store names (roots_of l t) d.0.name o.name (to_names k d.0 w.0 d.2.0 d.2.1 w.1)
-      (subst (In (refs_at l.machine.store d.0.name)) (sym m.0) (refers l.machine.store d.0.name f.0 c.0 c.1 (got_in c.0.refs j.0 (Some f.0) f.1))) (is_name_held o i)
+      reached_more l.machine.store names (roots_of l t) (object_name d.0) (object_name o) (to_names k d.0 w.0 d.2.0 d.2.1 w.1)
+      (subst (In (refs_at l.machine.store (object_name d.0))) (sym m.0) (refers l.machine.store (object_name d.0) f.0 c.0 c.1 (got_in c.0.refs j.0 (Some f.0) f.1))) (is_name_held o i)
 
   -- FROM NAMES TO ADDRESSES
 
@@ -181,18 +182,18 @@ module _ (v : Value) (l : Ledger) (t : ℕ) (x : Task) (roots : List Addr) (S : 
   abbrev Start : Addr → Type 0
   Start a = ((f : Frame) × In h.frames f × In f.refs (Some a)) ⊎ In roots a
 
-  start_address : (o : Seen) → In (objects v t) o → In (roots_of l t) o.name → Start o.at
-  start_address o i j = elim (in_append_cases (registers (frames_of (slice_get l.machine.tasks t))) _ o.name j) [
+  start_address : (o : Located) → In (objects v t) o → In (roots_of l t) (object_name o) → Start o.at
+  start_address o i j = elim (in_append_cases (registers (frames_of (slice_get l.machine.tasks t))) _ (object_name o) j) [
     | inl r ↦
-        let q = frame_address (Place v l) h.frames (x.top ∷ x.below) o.name frames (subst (λ fs. In (registers fs) o.name) registers_are r) in
-        inl (q.0, q.2, subst (λ (a : Addr). In q.0.refs (Some a)) (lies_at o o.name q.1 i refl q.4) q.3)
+        let q = frame_address (Place v l) h.frames (x.top ∷ x.below) (object_name o) frames (subst (λ fs. In (registers fs) (object_name o)) registers_are r) in
+        inl (q.0, q.2, subst (λ (a : Addr). In q.0.refs (Some a)) (lies_at o (object_name o) q.1 i refl q.4) q.3)
     | inr r ↦
-        let q = from_flat (refs_at l.machine.store) _ o.name r in
+        let q = from_flat (refs_at l.machine.store) _ (object_name o) r in
         let k = in_from_kept (λ n. is_above l.machine.tasks (own l n) t) (held l) q.0 q.1 in
         inr (noted o i q.0 k.0 k.1 q.2)
   ]
     where
-      noted : (o : Seen) → In (objects v t) o → (m : Name) → In (held l) m → is_above l.machine.tasks (own l m) t ≡ true → In (refs_at l.machine.store m) o.name → In roots o.at
+      noted : (o : Located) → In (objects v t) o → (m : Name) → In (held l) m → is_above l.machine.tasks (own l m) t ≡ true → In (refs_at l.machine.store m) (object_name o) → In roots o.at
       noted o i m held_m up r =
           let k = held_keeps l m held_m in
           let mine : own l m ≡ k.0 = (S.owners k.0 m k.1).1 in
@@ -200,12 +201,12 @@ module _ (v : Value) (l : Ledger) (t : ℕ) (x : Task) (roots : List Addr) (S : 
           let ru : Rests l k.0 = subst (Rests l) mine ab.0 in
           let q = held_object (v.homes k.0).chunks (heap_of l k.0) (V.homes k.0 ru).names m k.1 in
           let c = V.contents k.0 q.0 ru q.1 in
-          let j = index_of c.0.refs (Some o.name) (in_from_named c.0.refs o.name (subst (λ z. In (refs_of z) o.name) (ap (object_at l.machine.store) (sym q.2) ∙ c.1) r)) in
-          let b = address_at (Place v l) q.0.refs c.0.refs j.0 o.name c.2.refs j.1 in
-          let at : b.0 ≡ o.at = lies_at o o.name b.0 i refl b.2 in
-          let own_o : own l o.name ≡ t = home_own v l S t (V.homes t rests) o i in
-          elim (V.remembered k.0 q.0 c.0 j.0 o.name ru q.1 c.1 j.1) [
-            | inl d ↦ absurd (ab.1 (ap (λ z. is_on_path l.machine.tasks z (own l m)) (sym own_o) ∙ (ap (is_on_path l.machine.tasks (own l o.name)) mine ∙ d)))
+          let j = index_of c.0.refs (Some (object_name o)) (in_from_named c.0.refs (object_name o) (subst (λ z. In (refs_of z) (object_name o)) (ap (object_at l.machine.store) (sym q.2) ∙ c.1) r)) in
+          let b = address_at (Place v l) q.0.refs c.0.refs j.0 (object_name o) c.2.refs j.1 in
+          let at : b.0 ≡ o.at = lies_at o (object_name o) b.0 i refl b.2 in
+          let own_o : own l (object_name o) ≡ t = home_own v l S t (V.homes t rests) o i in
+          elim (V.remembered k.0 q.0 c.0 j.0 (object_name o) ru q.1 c.1 j.1) [
+            | inl d ↦ absurd (ab.1 (ap (λ z. is_on_path l.machine.tasks z (own l m)) (sym own_o) ∙ (ap (is_on_path l.machine.tasks (own l (object_name o))) mine ∙ d)))
             | inr s ↦ (R o.at).1 (record {
               source = record { object = q.0.at; field = j.0 };
               home = k.0;
@@ -219,17 +220,17 @@ module _ (v : Value) (l : Ledger) (t : ℕ) (x : Task) (roots : List Addr) (S : 
             })
           ]
 
-  to_addresses : (k : ℕ) (n : Name) (o : Seen) → In (objects v t) o → o.name ≡ n → IsWalk (StartsWithin names (roots_of l t)) (LeadsWithin l.machine.store names) k n → IsReachedAt h roots o.at
+  to_addresses : (k : ℕ) (n : Name) (o : Located) → In (objects v t) o → object_name o ≡ n → IsWalk (StartsWithin names (roots_of l t)) (LeadsWithin l.machine.store names) k n → IsReachedAt h roots o.at
   to_addresses zero n o i e w = (zero, (o, (i, refl), start_address o i (subst (In (roots_of l t)) (sym e) (in_from_contains (roots_of l t) n w.1))))
   to_addresses (suc k) n o i e w =
       let m = held_within k w.0 w.1 in
       let q = held_object h.chunks (heap_of l t) (V.homes t rests).names w.0 m in
       let more = to_addresses k w.0 q.0 q.1 q.2 w.1 in
       let c = V.contents t q.0 rests q.1 in
-      let r : In (refs_at l.machine.store q.0.name) o.name = subst (λ z. In (refs_at l.machine.store z) o.name) (sym q.2) (subst (In (refs_at l.machine.store w.0)) (sym e) (in_from_contains (refs_at l.machine.store w.0) n w.2.1)) in
-      let j = index_of c.0.refs (Some o.name) (in_from_named c.0.refs o.name (subst (λ z. In (refs_of z) o.name) c.1 r)) in
-      let b = address_at (Place v l) q.0.refs c.0.refs j.0 o.name c.2.refs j.1 in
-      let there : In q.0.refs (Some o.at) = subst (λ (a : Addr). In q.0.refs (Some a)) (lies_at o o.name b.0 i refl b.2) (got_in q.0.refs j.0 (Some b.0) b.1) in
+      let r : In (refs_at l.machine.store (object_name q.0)) (object_name o) = subst (λ z. In (refs_at l.machine.store z) (object_name o)) (sym q.2) (subst (In (refs_at l.machine.store w.0)) (sym e) (in_from_contains (refs_at l.machine.store w.0) n w.2.1)) in
+      let j = index_of c.0.refs (Some (object_name o)) (in_from_named c.0.refs (object_name o) (subst (λ z. In (refs_of z) (object_name o)) c.1 r)) in
+      let b = address_at (Place v l) q.0.refs c.0.refs j.0 (object_name o) c.2.refs j.1 in
+      let there : In q.0.refs (Some o.at) = subst (λ (a : Addr). In q.0.refs (Some a)) (lies_at o (object_name o) b.0 i refl b.2) (got_in q.0.refs j.0 (Some b.0) b.1) in
       (suc more.0, (q.0.at, more.1, (q.0, o, (q.1, refl), there, (i, refl))))
     where
       held_within : (k : ℕ) (m : Name) → IsWalk (StartsWithin names (roots_of l t)) (LeadsWithin l.machine.store names) k m → In names m
@@ -237,8 +238,8 @@ module _ (v : Value) (l : Ledger) (t : ℕ) (x : Task) (roots : List Addr) (S : 
       held_within (suc k) m w = in_from_contains names m w.2.0
 
   -- an object is reached by addresses just where its name is reached within the heap
-  pub reached_both : (o : Seen) → In (objects v t) o → IsReachedAt h roots o.at ↔ In (within l t) o.name
+  pub reached_both : (o : Located) → In (objects v t) o → IsReachedAt h roots o.at ↔ In (within l t) (object_name o)
   reached_both o i = (
     (λ w. to_names w.0 o o.at i refl w.1),
-    (λ j. let w = (reached_is_walks l.machine.store names (roots_of l t) o.name).0 (contains_from_in (within l t) o.name j) in to_addresses w.0 o.name o i refl w.1),
+    (λ j. let w = (reached_is_walks l.machine.store names (roots_of l t) (object_name o)).0 (contains_from_in (within l t) (object_name o) j) in to_addresses w.0 (object_name o) o i refl w.1),
   )

@@ -3,6 +3,7 @@ use Rattle.std.proofs.Common.{◌≡◌, ℕ, Bool, true, false, cond, Option, S
 use Rattle.std.proofs.lemmas.Bool.{cases_eq, cond-true, cond-false}
 use Rattle.listed.proofs.Members.{got_in, got_other, in_append_left}
 use Rattle.object_layout.specs.declared.word.Addr.{Addr}
+use Rattle.object_layout.specs.Objects.{Located}
 use Rattle.hh_model.specs.declared.data.Name.{Name}
 use Rattle.hh_model.specs.declared.data.Object.{Object}
 use Rattle.hh_model.specs.declared.data.Status.TheVariants.{Running}
@@ -12,7 +13,7 @@ use Rattle.run_ledger.specs.declared.data.Heap.{Heap}
 use Rattle.run_ledger.specs.declared.data.Ledger.{Ledger}
 use Rattle.run_ledger.specs.Heaps.{heap_of, within}
 use Rattle.run_ledger.specs.Sound.{SoundLedger}
-use Rattle.core_relation.specs.Value.{Seen, Home, Value, In, objects, objects_in, is_at, put_at}
+use Rattle.core_relation.specs.Value.{Home, Value, In, object_name, objects, objects_in, is_at, put_at}
 use Rattle.ledger_steps.specs.Accounts.{Rests, WritesOne}
 use Rattle.core_relation.specs.Stands.{Stands}
 use Rattle.core_relation.specs.Begins.{IsReachedAt, IsRoot, AreRoots}
@@ -28,7 +29,7 @@ use Rattle.core_relation.proofs.changes.Write.{at_is}
 pub since_fork : (v v' : Value) (l l' : Ledger) (t a b g h : ℕ) (x : Task) (roots : List Addr) → SoundLedger l → Stands v l → x.status ≡ Running → Rests l t → ((u : ℕ) → is_waiting (slice_get l.machine.tasks u) ≡ true → Rests l u)
     → (F : ForksTask l l' t a b g h x) → ForksHome v v' t a b g h → AreRoots v l t roots → ((n : Name) → In (within l t) n ↔ In F.names n) → kept v' t ≡ [] → Since v' l' t
 since_fork v v' l l' t a b g h x roots S V runs rests at_rest F C R same none =
-    let back : (q : Seen) → In (objects v' t) q → In (objects v t) q = λ q i. subst (λ (y : Home). In (objects_in y.chunks) q) C.home i in
+    let back : (q : Located) → In (objects v' t) q → In (objects v t) q = λ q i. subst (λ (y : Home). In (objects_in y.chunks) q) C.home i in
     let idle : is_waiting (slice_get l.machine.tasks t) ≡ false = ap is_waiting F.task ∙ ap (λ s. is_waiting (Some (record x { status = s }))) runs in
     record {
       home = v.homes t;
@@ -45,17 +46,17 @@ since_fork v v' l l' t a b g h x roots S V runs rests at_rest F C R same none =
       were = λ q i. (q, back q i, refl, refl);
       snapshot = λ q i.
           let r = reached_both v l t x roots S V F.task runs rests at_rest R q (back q i) in (
-            (λ w. subst (λ (y : Heap). In y.snapshot q.name) (sym F.heap) ((same q.name).0 (r.0 w))),
-            (λ k. r.1 ((same q.name).1 (subst (λ (y : Heap). In y.snapshot q.name) F.heap k))),
+            (λ w. subst (λ (y : Heap). In y.snapshot (object_name q)) (sym F.heap) ((same (object_name q)).0 (r.0 w))),
+            (λ k. r.1 ((same (object_name q)).1 (subst (λ (y : Heap). In y.snapshot (object_name q)) F.heap k))),
           );
-      overwritten = λ o q c i j e k w. inl (subst (λ (z : Seen). In z.refs (Some c)) ((V.homes t rests).once o q i (back q j) (sym e)) k);
+      overwritten = λ o q c i j e k w. inl (subst (λ (z : Located). In z.refs (Some c)) ((V.homes t rests).once o q i (back q j) (sym e)) k);
       each = λ c i. absurd (subst (λ cs. In cs c) none i);
     }
 
 -- A WRITE, of any object, of t's heap or another
 module _ (v v' : Value) (l : Ledger) (t i : ℕ) (a : Addr) (value : Option Addr) (V : Stands v l) (rests : Rests l t) (K : Keeps v v' t a i) where
   -- a reference stays in the object, or was in the field that is written
-  pub write_stays : (q : Seen) (b : Addr) → In (objects v t) q → In q.refs (Some b) → v.owner b.chunk ≡ Some t → In (put_at a (with_field i value) q).refs (Some b) ⊎ In (kept v' t) b
+  pub write_stays : (q : Located) (b : Addr) → In (objects v t) q → In q.refs (Some b) → v.owner b.chunk ≡ Some t → In (put_at a (with_field i value) q).refs (Some b) ⊎ In (kept v' t) b
   write_stays q b j k o = by (is_at a q) refl
     where
       at : (r : ℕ) → slice_get q.refs r ≡ Some (Some b) → is_at a q ≡ true → In (slice_set q.refs i value) (Some b) ⊎ In (kept v' t) b
@@ -65,43 +66,43 @@ module _ (v v' : Value) (l : Ledger) (t i : ℕ) (a : Addr) (value : Option Addr
       ]
 
       by : (z : Bool) → is_at a q ≡ z → In (put_at a (with_field i value) q).refs (Some b) ⊎ In (kept v' t) b
-      by false e = inl (subst (λ (s : Seen). In s.refs (Some b)) (sym (cond-false (is_at a q) (with_field i value q) q e)) k)
+      by false e = inl (subst (λ (s : Located). In s.refs (Some b)) (sym (cond-false (is_at a q) (with_field i value q) q e)) k)
       by true e =
           let r = index_of q.refs (Some b) k in
-          subst (λ (s : Seen). In s.refs (Some b) ⊎ In (kept v' t) b) (sym (cond-true (is_at a q) (with_field i value q) q e)) (at r.0 r.1 e)
+          subst (λ (s : Located). In s.refs (Some b) ⊎ In (kept v' t) b) (sym (cond-true (is_at a q) (with_field i value q) q e)) (at r.0 r.1 e)
 
 module _ (v v' : Value) (l l' : Ledger) (t w i : ℕ) (n : Name) (y y' : Object) (a : Addr) (value : Option Addr) (V : Stands v l) (rests : Rests l t) (frames : (v'.homes t).frames ≡ (v.homes t).frames) (H : Since v l t) (L : WritesOne l l' w n y y') (C : WritesAt v v' w a (with_field i value)) (K : Keeps v v' t a i)
-    (of_snapshot : (u : ℕ) (q : Seen) (b : Addr) → v.owner a.chunk ≡ Some u → In (objects v u) q → q.at ≡ a → slice_get q.refs i ≡ Some (Some b) → v.owner b.chunk ≡ Some t → (o : Seen) × In (objects v t) o × (o.at ≡ b) × In (heap_of l t).snapshot o.name) where
-  abbrev one : Seen → Seen
+    (of_snapshot : (u : ℕ) (q : Located) (b : Addr) → v.owner a.chunk ≡ Some u → In (objects v u) q → q.at ≡ a → slice_get q.refs i ≡ Some (Some b) → v.owner b.chunk ≡ Some t → (o : Located) × In (objects v t) o × (o.at ≡ b) × In (heap_of l t).snapshot (object_name o)) where
+  abbrev one : Located → Located
   one q = put_at a (with_field i value) q
 
-  one_name : (q : Seen) → (one q).name ≡ q.name
+  one_name : (q : Located) → object_name (one q) ≡ object_name q
   one_name q = by (is_at a q)
     where
-      by : (b : Bool) → (cond b (with_field i value q) q).name ≡ q.name
+      by : (b : Bool) → object_name (cond b (with_field i value q) q) ≡ object_name q
       by true = refl
       by false = refl
 
-  one_at : (q : Seen) → (one q).at ≡ q.at
+  one_at : (q : Located) → (one q).at ≡ q.at
   one_at q = by (is_at a q)
     where
       by : (b : Bool) → (cond b (with_field i value q) q).at ≡ q.at
       by true = refl
       by false = refl
 
-  was : (q' : Seen) → In (objects v' t) q' → (q : Seen) × In (objects v t) q × (one q ≡ q')
+  was : (q' : Located) → In (objects v' t) q' → (q : Located) × In (objects v t) q × (one q ≡ q')
   was q' j = from_mapped one one_name one_at (v.homes t).chunks q' (subst (λ ks. In (objects_in ks) q') (C.chunks t) j)
 
-  then_ : (u : ℕ) (q : Seen) → In (objects v u) q → In (objects v' u) (one q)
+  then_ : (u : ℕ) (q : Located) → In (objects v u) q → In (objects v' u) (one q)
   then_ u q j = subst (λ ks. In (objects_in ks) (one q)) (sym (C.chunks u)) (to_mapped one one_name one_at (v.homes u).chunks q j)
 
-  now : (q : Seen) → In (objects v t) q → In (objects v' t) (one q)
+  now : (q : Located) → In (objects v t) q → In (objects v' t) (one q)
   now = then_ t
 
   same_snapshot : (m : Name) → In (heap_of l t).snapshot m → In (heap_of l' t).snapshot m
   same_snapshot m k = subst (λ (z : Heap). In z.snapshot m) (sym (L.heaps t)) k
 
-  stays : (q : Seen) (b : Addr) → In (objects v t) q → In q.refs (Some b) → v.owner b.chunk ≡ Some t → In (one q).refs (Some b) ⊎ In (kept v' t) b
+  stays : (q : Located) (b : Addr) → In (objects v t) q → In q.refs (Some b) → v.owner b.chunk ≡ Some t → In (one q).refs (Some b) ⊎ In (kept v' t) b
   stays = write_stays v v' l t i a value V rests K
 
   kept_on : (b : Addr) → In (kept v t) b → In (kept v' t) b
@@ -116,12 +117,12 @@ module _ (v v' : Value) (l l' : Ledger) (t w i : ℕ) (n : Name) (y y' : Object)
           inl (root_by v v' l l' t (C.noted t) (λ k o. C.owner k ∙ o) b r (ap (λ (y : Heap). y.worker) (L.heaps r.home) ∙ r.rests) (one r.object) (then_ r.home r.object r.there) (one_at r.object) e)
 
       by : (z : Bool) → is_at a r.object ≡ z → IsRoot v' l' t b ⊎ In (kept v' t) b
-      by false e = goes_on (ap (λ (s : Seen). slice_get s.refs r.source.field) (cond-false (is_at a r.object) (with_field i value r.object) r.object e) ∙ r.holds)
+      by false e = goes_on (ap (λ (s : Located). slice_get s.refs r.source.field) (cond-false (is_at a r.object) (with_field i value r.object) r.object e) ∙ r.holds)
       by true e = elim (cases_eq r.source.field i) [
         | inl f ↦
             let at : r.object.at ≡ a = at_is a r.object e in
             inr (K.old r.home r.object b (ap (λ (y : Addr). v.owner y.chunk) (sym at) ∙ lies_in v l V r.home r.object r.rests r.there) r.there at (ap (slice_get r.object.refs) (sym f) ∙ r.holds) r.into)
-        | inr ne ↦ goes_on (ap (λ (s : Seen). slice_get s.refs r.source.field) (cond-true (is_at a r.object) (with_field i value r.object) r.object e) ∙ (got_other r.object.refs i r.source.field value ne ∙ r.holds))
+        | inr ne ↦ goes_on (ap (λ (s : Located). slice_get s.refs r.source.field) (cond-true (is_at a r.object) (with_field i value r.object) r.object e) ∙ (got_other r.object.refs i r.source.field value ne ∙ r.holds))
       ]
 
   pub since_write : Since v' l' t
@@ -131,24 +132,24 @@ module _ (v v' : Value) (l l' : Ledger) (t w i : ℕ) (n : Name) (y y' : Object)
     registers = λ f j. let g = H.registers f j in (g.0, subst (λ fs. In fs g.0) (sym frames) g.1, g.2);
     rooted = λ b j. elim (H.rooted b j) [ inl r ↦ root_then b r | inr k ↦ inr (kept_on b k) ];
     there = λ o j. (let r = H.there o j in (one r.0, now r.0 r.1, one_at r.0 ∙ r.2, one_name r.0 ∙ r.3));
-    were = λ q' j. (let p = was q' j in let r = H.were p.0 p.1 in (r.0, r.1, sym (ap (λ (z : Seen). z.at) p.2) ∙ (one_at p.0 ∙ r.2), sym (ap (λ (z : Seen). z.name) p.2) ∙ (one_name p.0 ∙ r.3)));
+    were = λ q' j. (let p = was q' j in let r = H.were p.0 p.1 in (r.0, r.1, sym (ap (λ (z : Located). z.at) p.2) ∙ (one_at p.0 ∙ r.2), sym (ap object_name p.2) ∙ (one_name p.0 ∙ r.3)));
     snapshot = λ q' j.
         let p = was q' j in
-        let at : p.0.at ≡ q'.at = sym (one_at p.0) ∙ ap (λ (z : Seen). z.at) p.2 in
-        let name : p.0.name ≡ q'.name = sym (one_name p.0) ∙ ap (λ (z : Seen). z.name) p.2 in
+        let at : p.0.at ≡ q'.at = sym (one_at p.0) ∙ ap (λ (z : Located). z.at) p.2 in
+        let name : object_name p.0 ≡ object_name q' = sym (one_name p.0) ∙ ap object_name p.2 in
         let r = H.snapshot p.0 p.1 in (
-          (λ z. same_snapshot q'.name (subst (In (heap_of l t).snapshot) name (r.0 (subst (IsReachedAt H.home H.roots) (sym at) z)))),
-          (λ z. subst (IsReachedAt H.home H.roots) at (r.1 (subst (λ (s : Heap). In s.snapshot p.0.name) (L.heaps t) (subst (In (heap_of l' t).snapshot) (sym name) z)))),
+          (λ z. same_snapshot (object_name q') (subst (In (heap_of l t).snapshot) name (r.0 (subst (IsReachedAt H.home H.roots) (sym at) z)))),
+          (λ z. subst (IsReachedAt H.home H.roots) at (r.1 (subst (λ (s : Heap). In s.snapshot (object_name p.0)) (L.heaps t) (subst (In (heap_of l' t).snapshot) (sym name) z)))),
         );
     overwritten = λ o q' b j k e z c.
         let p = was q' k in
         let mine : v.owner b.chunk ≡ Some t = sym (C.owner b.chunk) ∙ c in
-        elim (H.overwritten o p.0 b j p.1 (sym (one_at p.0) ∙ (ap (λ (s : Seen). s.at) p.2 ∙ e)) z mine) [
-          | inl r ↦ subst (λ (s : Seen). In s.refs (Some b) ⊎ In (kept v' t) b) p.2 (stays p.0 b p.1 r mine)
+        elim (H.overwritten o p.0 b j p.1 (sym (one_at p.0) ∙ (ap (λ (s : Located). s.at) p.2 ∙ e)) z mine) [
+          | inl r ↦ subst (λ (s : Located). In s.refs (Some b) ⊎ In (kept v' t) b) p.2 (stays p.0 b p.1 r mine)
           | inr r ↦ inr (kept_on b r)
         ];
     each = λ b j. each b (elim (K.only b j) [ inl old ↦ H.each b old | inr new ↦ of_snapshot new.0 new.1 b new.6 new.2 new.3 new.4 new.5 ]);
   }
     where
-      each : (b : Addr) → (q : Seen) × In (objects v t) q × (q.at ≡ b) × In (heap_of l t).snapshot q.name → (q : Seen) × In (objects v' t) q × (q.at ≡ b) × In (heap_of l' t).snapshot q.name
-      each b r = (one r.0, now r.0 r.1, one_at r.0 ∙ r.2, same_snapshot (one r.0).name (subst (In (heap_of l t).snapshot) (sym (one_name r.0)) r.3))
+      each : (b : Addr) → (q : Located) × In (objects v t) q × (q.at ≡ b) × In (heap_of l t).snapshot (object_name q) → (q : Located) × In (objects v' t) q × (q.at ≡ b) × In (heap_of l' t).snapshot (object_name q)
+      each b r = (one r.0, now r.0 r.1, one_at r.0 ∙ r.2, same_snapshot (object_name (one r.0)) (subst (In (heap_of l t).snapshot) (sym (one_name r.0)) r.3))

@@ -4,6 +4,7 @@ use Rattle.std.proofs.lemmas.Option.{same_Some}
 use Rattle.listed.proofs.Members.{got_in}
 use Rattle.walks.proofs.Reached.{reached_more, reached_start, reached_within}
 use Rattle.object_layout.specs.declared.word.Addr.{Addr}
+use Rattle.object_layout.specs.Objects.{Located}
 use Rattle.hh_model.specs.declared.data.Name.{Name}
 use Rattle.hh_model.specs.declared.data.Status.{Status}
 use Rattle.hh_model.specs.declared.data.Status.TheVariants.{Running, Waiting, Ended, Joined}
@@ -15,7 +16,7 @@ use Rattle.run_ledger.specs.Heaps.{heap_at, heap_of}
 use Rattle.run_ledger.specs.Sound.{InHeaps, Keeps, SoundLedger, Spares, names_of, snapshot_at}
 use Rattle.task_frames.specs.declared.frames.Frame.{Frame}
 use Rattle.ledger_steps.specs.Accounts.{Rests, own}
-use Rattle.core_relation.specs.Value.{In, Seen, Value, objects}
+use Rattle.core_relation.specs.Value.{In, Value, object_name, objects}
 use Rattle.core_relation.specs.Reads.{FramesAreRead, HoldsRead}
 use Rattle.core_relation.specs.Stands.{Place, Stands}
 use Rattle.core_relation.specs.Begins.{IsReachedAt, IsRoot, LeadsAt, StartsAt}
@@ -64,7 +65,7 @@ module _ (v : Value) (l : Ledger) (t : ℕ) (x : Task) (S : SoundLedger l) (V : 
   spares = S.waits t wait
 
   abbrev Kept : Addr → Type 0
-  Kept a = (q : Seen) → In (objects v t) q → q.at ≡ a → In snapshot q.name
+  Kept a = (q : Located) → In (objects v t) q → q.at ≡ a → In snapshot (object_name q)
 
   -- the object at the address of a live name is of the snapshot
   live_here : (n : Name) (a : Addr) → Live n → Place v l n a → Kept a
@@ -72,16 +73,16 @@ module _ (v : Value) (l : Ledger) (t : ℕ) (x : Task) (S : SoundLedger l) (V : 
       let mine : own l n ≡ t = same_Some (own l n) t (sym p.chunk ∙ (ap (λ (b : Addr). v.owner b.chunk) (sym e) ∙ lies_in v l V t q rests i)) in
       let o = p.here (subst (Rests l) (sym mine) rests) in
       let same : q ≡ o.0 = (V.homes t rests).once q o.0 i (subst (λ z. In (objects v z) o.0) mine o.1) (e ∙ sym o.2.at) in
-      let name : n ≡ q.name = sym o.2.name ∙ ap (λ (z : Seen). z.name) (sym same) in
-      let held : In (names_of (heap_at l t)) q.name = object_held (v.homes t).chunks (heap_of l t) (V.homes t rests).names q i in
-      subst (λ ns. In ns q.name) (snapshot_is (slice_get l.heaps t)) (subst (In (snapshot_at (slice_get l.heaps t))) name (k.1 (subst (InHeaps l.heaps t) (sym name) held)))
+      let name : n ≡ object_name q = sym o.2.name ∙ ap object_name (sym same) in
+      let held : In (names_of (heap_at l t)) (object_name q) = object_held (v.homes t).chunks (heap_of l t) (V.homes t rests).names q i in
+      subst (λ ns. In ns (object_name q)) (snapshot_is (slice_get l.heaps t)) (subst (In (snapshot_at (slice_get l.heaps t))) name (k.1 (subst (InHeaps l.heaps t) (sym name) held)))
 
   -- a reference of an object of a live name
-  leads_live : (z : ℕ) → Rests l z → (o : Seen) → In (objects v z) o → Live o.name → (i : ℕ) (a : Addr) → slice_get o.refs i ≡ Some (Some a) → Kept a
+  leads_live : (z : ℕ) → Rests l z → (o : Located) → In (objects v z) o → Live (object_name o) → (i : ℕ) (a : Addr) → slice_get o.refs i ≡ Some (Some a) → Kept a
   leads_live z r o j k i a e =
       let c = V.contents z o r j in
       let n = name_at (Place v l) o.refs c.0.refs i a c.2.refs e in
-      live_here n.0 a (spares.of_object o.name n.0 k (refers l.machine.store o.name n.0 c.0 c.1 (got_in c.0.refs i (Some n.0) n.1))) n.2
+      live_here n.0 a (spares.of_object (object_name o) n.0 k (refers l.machine.store (object_name o) n.0 c.0 c.1 (got_in c.0.refs i (Some n.0) n.1))) n.2
 
   -- a register of the task
   waits_holds : (st : Status) → waits st ≡ true → HoldsRead (Place v l) (v.homes t) x st → FramesAreRead (Place v l) (v.homes t).frames (x.top ∷ x.below)
@@ -109,15 +110,15 @@ module _ (v : Value) (l : Ledger) (t : ℕ) (x : Task) (S : SoundLedger l) (V : 
   root_live a r =
       let s = V.sources t r.source r.noted in
       let owner : own l s.name ≡ r.home = root_owner v l V t a r in
-      let mine : own l r.object.name ≡ r.home = home_own v l S r.home (V.homes r.home r.rests) r.object r.there in
-      let other : InHeaps l.heaps t r.object.name → ⊥ = λ h. s.below (owner ∙ (sym mine ∙ (S.owners t r.object.name h).1)) in
+      let mine : own l (object_name r.object) ≡ r.home = home_own v l S r.home (V.homes r.home r.rests) r.object r.there in
+      let other : InHeaps l.heaps t (object_name r.object) → ⊥ = λ h. s.below (owner ∙ (sym mine ∙ (S.owners t (object_name r.object) h).1)) in
       leads_live r.home r.rests r.object r.there (is_kept v l r.home (V.homes r.home r.rests) r.object r.there, λ h. absurd (other h)) r.source.field a r.holds
 
   kept_live : (a : Addr) → In (kept v t) a → Kept a
   kept_live a k q i e =
       let o = H.each a k in
       let same : q ≡ o.0 = (V.homes t rests).once q o.0 i o.1 (e ∙ sym o.2) in
-      subst (In snapshot) (ap (λ (z : Seen). z.name) (sym same)) o.3
+      subst (In snapshot) (ap object_name (sym same)) o.3
 
   start_live : (a : Addr) → StartsNow v l t a → Kept a
   start_live a s = elim s.2 [
@@ -131,9 +132,9 @@ module _ (v : Value) (l : Ledger) (t : ℕ) (x : Task) (S : SoundLedger l) (V : 
   more_live : (b a : Addr) → Kept b → LeadsAt (v.homes t) b a → Kept a
   more_live b a k d =
       let i = index_of d.0.refs (Some a) d.3 in
-      leads_live t rests d.0 d.2.0 (is_kept v l t (V.homes t rests) d.0 d.2.0, λ h. subst (λ ns. In ns d.0.name) (sym (snapshot_is (slice_get l.heaps t))) (k d.0 d.2.0 d.2.1)) i.0 a i.1
+      leads_live t rests d.0 d.2.0 (is_kept v l t (V.homes t rests) d.0 d.2.0, λ h. subst (λ ns. In ns (object_name d.0)) (sym (snapshot_is (slice_get l.heaps t))) (k d.0 d.2.0 d.2.1)) i.0 a i.1
 
-  pub snapshot_now : (q : Seen) → In (objects v t) q → IsReachedNow v l t q.at ↔ In (heap_of l t).snapshot q.name
+  pub snapshot_now : (q : Located) → In (objects v t) q → IsReachedNow v l t q.at ↔ In (heap_of l t).snapshot (object_name q)
   snapshot_now q i = (
     (λ w. reached_within (StartsNow v l t) (LeadsAt (v.homes t)) Kept start_live more_live q.at w q i refl),
     (λ n. from_then q.at ((H.snapshot q i).1 n)),

@@ -3,9 +3,10 @@ use Rattle.std.proofs.Common.{◌≡◌, ◌⊎◌, ◌&&◌, ◌==◌, ◌+◌,
 use Rattle.std.specs.List.{AllByRecursion, IsDistinct}
 use Rattle.listed.proofs.Members.{in_append_cases}
 use Rattle.object_layout.specs.declared.word.Addr.{Addr}
+use Rattle.object_layout.specs.Objects.{Located}
 use Rattle.run_ledger.specs.Heaps.{units}
 use Rattle.remembered_set.specs.declared.remembered.Source.{Source}
-use Rattle.core_relation.specs.Value.{Seen, Chunk, In, objects_in, mapped_chunk, rewritten, rewritten_refs}
+use Rattle.core_relation.specs.Value.{Chunk, In, objects_in, mapped_chunk, rewritten, rewritten_refs}
 use Rattle.core_relation.specs.Layout.{words, AreApart, HoldsLarge, has_none, reserved_chunks, AreLaidOut}
 use Rattle.core_relation.proofs.objects.Members.{in_chunk, in_objects, map_in}
 
@@ -30,7 +31,7 @@ none_laid = record {
 
 -- EACH OBJECT CHANGED, but for its address and its words
 
-module _ (one : Seen → Seen) (same_at : (o : Seen) → (one o).at ≡ o.at) (same_words : (o : Seen) → words (one o) ≡ words o) where
+module _ (one : Located → Located) (same_at : (o : Located) → (one o).at ≡ o.at) (same_words : (o : Located) → words (one o) ≡ words o) where
   abbrev chunk : Chunk → Chunk
   chunk k = mapped_chunk one k
 
@@ -38,7 +39,7 @@ module _ (one : Seen → Seen) (same_at : (o : Seen) → (one o).at ≡ o.at) (s
   numbers_mapped [] = refl
   numbers_mapped (k ∷ ks) = ap (λ ns. k.number ∷ ns) (numbers_mapped ks)
 
-  none_mapped : (os : List Seen) → has_none (map one os) ≡ has_none os
+  none_mapped : (os : List Located) → has_none (map one os) ≡ has_none os
   none_mapped [] = refl
   none_mapped (o ∷ os) = refl
 
@@ -51,28 +52,28 @@ module _ (one : Seen → Seen) (same_at : (o : Seen) → (one o).at ≡ o.at) (s
       by true e = ap (λ ns. k.units ∷ ns) e
       by false e = e
 
-  apart_mapped : (o q : Seen) → AreApart o q → AreApart (one o) (one q)
+  apart_mapped : (o q : Located) → AreApart o q → AreApart (one o) (one q)
   apart_mapped o q (inl ne) = inl (λ e. ne (ap (λ (a : Addr). a.chunk) (sym (same_at o)) ∙ (e ∙ ap (λ (a : Addr). a.chunk) (same_at q))))
   apart_mapped o q (inr (inl le)) = inr (inl (subst (λ n. n ≤ (one q).at.offset) (sym (end o)) (subst (λ n. o.at.offset + words o ≤ n) (sym (begin q)) le)))
     where
-      begin : (o : Seen) → (one o).at.offset ≡ o.at.offset
+      begin : (o : Located) → (one o).at.offset ≡ o.at.offset
       begin o = ap (λ (a : Addr). a.offset) (same_at o)
 
-      end : (o : Seen) → (one o).at.offset + words (one o) ≡ o.at.offset + words o
+      end : (o : Located) → (one o).at.offset + words (one o) ≡ o.at.offset + words o
       end o = ap₂ (λ i j. i + j) (begin o) (same_words o)
   apart_mapped o q (inr (inr le)) = inr (inr (subst (λ n. n ≤ (one o).at.offset) (sym (end q)) (subst (λ n. q.at.offset + words q ≤ n) (sym (begin o)) le)))
     where
-      begin : (o : Seen) → (one o).at.offset ≡ o.at.offset
+      begin : (o : Located) → (one o).at.offset ≡ o.at.offset
       begin o = ap (λ (a : Addr). a.offset) (same_at o)
 
-      end : (o : Seen) → (one o).at.offset + words (one o) ≡ o.at.offset + words o
+      end : (o : Located) → (one o).at.offset + words (one o) ≡ o.at.offset + words o
       end o = ap₂ (λ i j. i + j) (begin o) (same_words o)
 
   large_mapped : (k : Chunk) → HoldsLarge k → HoldsLarge (chunk k)
   large_mapped k (inl e) = inl (ap (map one) e)
   large_mapped k (inr h) = inr (one h.0, ap (map one) h.1, ap (λ (a : Addr). a.offset) (same_at h.0) ∙ h.2, h.3 ∙ ap units (sym (same_words h.0)))
 
-  from : (ks : List Chunk) (o : Seen) → In (objects_in (map chunk ks)) o → (q : Seen) × In (objects_in ks) q × (one q ≡ o)
+  from : (ks : List Chunk) (o : Located) → In (objects_in (map chunk ks)) o → (q : Located) × In (objects_in ks) q × (one q ≡ o)
   from ks o i =
       let c = in_chunk (map chunk ks) o i in
       let k = map_in chunk ks c.0 c.1 in
@@ -86,7 +87,7 @@ module _ (one : Seen → Seen) (same_at : (o : Seen) → (one o).at ≡ o.at) (s
         let q = map_in chunk ks k i in
         let r = map_in one q.0.objects o (subst (λ (c : Chunk). In c.objects o) (sym q.2) j) in
         let le : r.0.at.offset + words r.0 ≤ 1024 * q.0.units = L.within q.0 r.0 q.1 r.1 in
-        let same : o.at.offset + words o ≡ r.0.at.offset + words r.0 = ap (λ (z : Seen). z.at.offset + words z) (sym r.2) ∙ ap₂ (λ a b. a + b) (ap (λ (a : Addr). a.offset) (same_at r.0)) (same_words r.0) in
+        let same : o.at.offset + words o ≡ r.0.at.offset + words r.0 = ap (λ (z : Located). z.at.offset + words z) (sym r.2) ∙ ap₂ (λ a b. a + b) (ap (λ (a : Addr). a.offset) (same_at r.0)) (same_words r.0) in
         let size : k.units ≡ q.0.units = ap (λ (c : Chunk). c.units) (sym q.2) in
         subst (λ a. a ≤ 1024 * k.units) (sym same) (subst (λ u. r.0.at.offset + words r.0 ≤ 1024 * u) (sym size) le);
     apart = λ o q i j.
@@ -94,7 +95,7 @@ module _ (one : Seen → Seen) (same_at : (o : Seen) → (one o).at ≡ o.at) (s
         let b = from ks q j in
         elim (L.apart a.0 b.0 a.1 b.1) [
           | inl e ↦ inl (sym a.2 ∙ (ap one e ∙ b.2))
-          | inr d ↦ inr (subst (λ (z : Seen). AreApart z q) a.2 (subst (λ (z : Seen). AreApart (one a.0) z) b.2 (apart_mapped a.0 b.0 d)))
+          | inr d ↦ inr (subst (λ (z : Located). AreApart z q) a.2 (subst (λ (z : Located). AreApart (one a.0) z) b.2 (apart_mapped a.0 b.0 d)))
         ];
     small = λ k i e. (let q = map_in chunk ks k i in ap (λ (c : Chunk). c.units) (sym q.2) ∙ L.small q.0 q.1 (ap (λ (c : Chunk). c.large) q.2 ∙ e));
     large = λ k i e. (let q = map_in chunk ks k i in subst HoldsLarge q.2 (large_mapped q.0 (L.large q.0 q.1 (ap (λ (c : Chunk). c.large) q.2 ∙ e))));
@@ -106,7 +107,7 @@ refs_led : (f : Addr → Addr) (ss : List Source) (a : Addr) (i : ℕ) (rs : Lis
 refs_led f ss a i [] = refl
 refs_led f ss a i (r ∷ rs) = ap suc (refs_led f ss a (suc i) rs)
 
-pub rewritten_words : (f : Addr → Addr) (ss : List Source) (o : Seen) → words (rewritten f ss o) ≡ words o
+pub rewritten_words : (f : Addr → Addr) (ss : List Source) (o : Located) → words (rewritten f ss o) ≡ words o
 rewritten_words f ss o = ap (λ n. 2 + n + length o.ints) (refs_led f ss o.at 0 o.refs)
 
 -- TWO HEAPS TOGETHER
@@ -137,20 +138,20 @@ reserved_both (j ∷ js) ks = by (j.large && has_none j.objects) (reserved_both 
     by false e = e
 
 module _ (js ks : List Chunk) (n : ℕ) (L : AreLaidOut js 0) (R : AreLaidOut ks n) (apart : (j k : Chunk) → In js j → In ks k → j.number ≡ k.number → ⊥)
-    (inside_j : (k : Chunk) (o : Seen) → In js k → In k.objects o → o.at.chunk ≡ k.number) (inside_k : (k : Chunk) (o : Seen) → In ks k → In k.objects o → o.at.chunk ≡ k.number) where
+    (inside_j : (k : Chunk) (o : Located) → In js k → In k.objects o → o.at.chunk ≡ k.number) (inside_k : (k : Chunk) (o : Located) → In ks k → In k.objects o → o.at.chunk ≡ k.number) where
   -- objects of both lie in two chunks
-  across : (o q : Seen) → In (objects_in js) o → In (objects_in ks) q → o.at.chunk ≡ q.at.chunk → ⊥
+  across : (o q : Located) → In (objects_in js) o → In (objects_in ks) q → o.at.chunk ≡ q.at.chunk → ⊥
   across o q i j e =
       let a = in_chunk js o i in
       let b = in_chunk ks q j in
       apart a.0 b.0 a.1 b.1 (sym (inside_j a.0 o a.1 a.2) ∙ (e ∙ inside_k b.0 q b.1 b.2))
 
-  objects_cases : (o : Seen) → In (objects_in (js ++ ks)) o → In (objects_in js) o ⊎ In (objects_in ks) o
+  objects_cases : (o : Located) → In (objects_in (js ++ ks)) o → In (objects_in js) o ⊎ In (objects_in ks) o
   objects_cases o i =
       let c = in_chunk (js ++ ks) o i in
       elim (in_append_cases js ks c.0 c.1) [ inl a ↦ inl (in_objects js c.0 o a c.2) | inr a ↦ inr (in_objects ks c.0 o a c.2) ]
 
-  apart_both : (o q : Seen) → In (objects_in js) o ⊎ In (objects_in ks) o → In (objects_in js) q ⊎ In (objects_in ks) q → (o ≡ q) ⊎ AreApart o q
+  apart_both : (o q : Located) → In (objects_in js) o ⊎ In (objects_in ks) o → In (objects_in js) q ⊎ In (objects_in ks) q → (o ≡ q) ⊎ AreApart o q
   apart_both o q (inl i) (inl j) = L.apart o q i j
   apart_both o q (inl i) (inr j) = inr (inl (across o q i j))
   apart_both o q (inr i) (inl j) = inr (inl (λ e. across q o j i (sym e)))

@@ -1,13 +1,14 @@
 -- A home whose objects are changed, but for their names and addresses.
 use Rattle.std.proofs.Common.{suc, ◌≡◌, ℕ, Bool, true, false, not, cond, Some, List, [], ◌∷◌, ◌++◌, map, length, slice_get, refl, ap, ap₂, sym, subst, ◌∙◌}
 use Rattle.object_layout.specs.declared.word.Addr.{Addr}
+use Rattle.object_layout.specs.Objects.{Located}
 use Rattle.hh_model.specs.declared.data.Name.{Name}
 use Rattle.hh_model.specs.Effect.{row_of}
 use Rattle.hh_model.specs.Step.{is_joined}
 use Rattle.run_ledger.specs.declared.data.Heap.{Heap}
 use Rattle.run_ledger.specs.declared.data.Ledger.{Ledger}
 use Rattle.run_ledger.specs.Heaps.{heap_of}
-use Rattle.core_relation.specs.Value.{Seen, Chunk, Home, Value, In, objects_in, Lies, mapped_chunk, mapped_home}
+use Rattle.core_relation.specs.Value.{Chunk, Home, Value, In, object_name, objects_in, Lies, mapped_chunk, mapped_home}
 use Rattle.core_relation.specs.Layout.{words, AreLaidOut}
 use Rattle.core_relation.specs.Stands.{names_of, small_chunks, large_chunks, HasNames, HomeStands}
 use Rattle.core_relation.proofs.objects.LaidOut.{laid_mapped}
@@ -17,11 +18,11 @@ pub length_map : {A B : Type 0} (f : A → B) (xs : List A) → length (map f xs
 length_map f [] = refl
 length_map f (x ∷ xs) = ap suc (length_map f xs)
 
-module _ (one : Seen → Seen) (same_name : (o : Seen) → (one o).name ≡ o.name) (same_at : (o : Seen) → (one o).at ≡ o.at) where
+module _ (one : Located → Located) (same_name : (o : Located) → object_name (one o) ≡ object_name o) (same_at : (o : Located) → (one o).at ≡ o.at) where
   abbrev chunk : Chunk → Chunk
   chunk k = mapped_chunk one k
 
-  map_append : (xs ys : List Seen) → map one (xs ++ ys) ≡ map one xs ++ map one ys
+  map_append : (xs ys : List Located) → map one (xs ++ ys) ≡ map one xs ++ map one ys
   map_append [] ys = refl
   map_append (x ∷ xs) ys = ap (λ zs. one x ∷ zs) (map_append xs ys)
 
@@ -29,7 +30,7 @@ module _ (one : Seen → Seen) (same_name : (o : Seen) → (one o).name ≡ o.na
   objects_mapped [] = refl
   objects_mapped (k ∷ ks) = ap (λ zs. map one k.objects ++ zs) (objects_mapped ks) ∙ sym (map_append k.objects (objects_in ks))
 
-  names_same : (os : List Seen) → map (λ (o : Seen). o.name) (map one os) ≡ map (λ o. o.name) os
+  names_same : (os : List Located) → map object_name (map one os) ≡ map object_name os
   names_same [] = refl
   names_same (o ∷ os) = ap₂ (λ n ns. n ∷ ns) (same_name o) (names_same os)
 
@@ -52,16 +53,16 @@ module _ (one : Seen → Seen) (same_name : (o : Seen) → (one o).name ≡ o.na
   pub names_mapped : (ks : List Chunk) (h : Heap) → HasNames ks h → HasNames (map chunk ks) h
   names_mapped ks h N = record {
     small = small_same ks ∙ N.small;
-    large = ap (λ zs. map (λ (o : Seen). o.name) (objects_in zs)) (large_same ks) ∙ (ap (λ zs. map (λ (o : Seen). o.name) zs) (objects_mapped (large_chunks ks)) ∙ (names_same (objects_in (large_chunks ks)) ∙ N.large));
+    large = ap (λ zs. map object_name (objects_in zs)) (large_same ks) ∙ (ap (λ zs. map object_name zs) (objects_mapped (large_chunks ks)) ∙ (names_same (objects_in (large_chunks ks)) ∙ N.large));
   }
 
   pub count_mapped : (ks : List Chunk) → length (objects_in (map chunk ks)) ≡ length (objects_in ks)
-  count_mapped ks = ap (λ (os : List Seen). length os) (objects_mapped ks) ∙ length_map one (objects_in ks)
+  count_mapped ks = ap (λ (os : List Located). length os) (objects_mapped ks) ∙ length_map one (objects_in ks)
 
-  pub from_mapped : (ks : List Chunk) (o : Seen) → In (objects_in (map chunk ks)) o → (q : Seen) × In (objects_in ks) q × (one q ≡ o)
+  pub from_mapped : (ks : List Chunk) (o : Located) → In (objects_in (map chunk ks)) o → (q : Located) × In (objects_in ks) q × (one q ≡ o)
   from_mapped ks o i = map_in one (objects_in ks) o (subst (λ zs. In zs o) (objects_mapped ks) i)
 
-  pub to_mapped : (ks : List Chunk) (o : Seen) → In (objects_in ks) o → In (objects_in (map chunk ks)) (one o)
+  pub to_mapped : (ks : List Chunk) (o : Located) → In (objects_in ks) o → In (objects_in (map chunk ks)) (one o)
   to_mapped ks o i = subst (λ zs. In zs (one o)) (sym (objects_mapped ks)) (in_map one (objects_in ks) o i)
 
   pub lies_mapped : (ks : List Chunk) (n : Name) (a : Addr) → Lies ks n a → Lies (map chunk ks) n a
@@ -69,7 +70,7 @@ module _ (one : Seen → Seen) (same_name : (o : Seen) → (one o).name ≡ o.na
 
   pub home_mapped_by : (v v' : Value) (l l' : Ledger) (t : ℕ) → (v'.homes t).chunks ≡ map chunk (v.homes t).chunks → (v'.homes t).room ≡ (v.homes t).room → (v'.homes t).since ≡ (v.homes t).since → (v'.homes t).count ≡ (v.homes t).count
       → ((k : ℕ) → v.owner k ≡ Some t → v'.owner k ≡ Some t) → heap_of l' t ≡ heap_of l t → length (row_of (slice_get l'.machine.store t)) ≡ length (row_of (slice_get l.machine.store t))
-      → is_joined (slice_get l'.machine.tasks t) ≡ is_joined (slice_get l.machine.tasks t) → ((o : Seen) → words (one o) ≡ words o) → HomeStands v l t → HomeStands v' l' t
+      → is_joined (slice_get l'.machine.tasks t) ≡ is_joined (slice_get l.machine.tasks t) → ((o : Located) → words (one o) ≡ words o) → HomeStands v l t → HomeStands v' l' t
   home_mapped_by v v' l l' t ec eo es en ow el er ej same_words H = record {
     names = subst (λ ks. HasNames ks (heap_of l' t)) (sym ec) (subst (HasNames (map chunk (v.homes t).chunks)) (sym el) (names_mapped (v.homes t).chunks (heap_of l t) H.names));
     room = eo ∙ (H.room ∙ sym (ap (λ (h : Heap). h.room) el));
@@ -80,21 +81,21 @@ module _ (one : Seen → Seen) (same_name : (o : Seen) → (one o).name ≡ o.na
     inside = λ k o i j.
         let q = map_in chunk (v.homes t).chunks k (subst (λ ks. In ks k) ec i) in
         let p = map_in one q.0.objects o (subst (λ (c : Chunk). In c.objects o) (sym q.2) j) in
-        ap (λ (c : Seen). c.at.chunk) (sym p.2) ∙ (ap (λ (c : Addr). c.chunk) (same_at p.0) ∙ H.inside q.0 p.0 q.1 p.1 ∙ ap (λ (c : Chunk). c.number) q.2);
+        ap (λ (c : Located). c.at.chunk) (sym p.2) ∙ (ap (λ (c : Addr). c.chunk) (same_at p.0) ∙ H.inside q.0 p.0 q.1 p.1 ∙ ap (λ (c : Chunk). c.number) q.2);
     once = λ o p i j e.
         let a = from_mapped (v.homes t).chunks o (subst (λ ks. In (objects_in ks) o) ec i) in
         let b = from_mapped (v.homes t).chunks p (subst (λ ks. In (objects_in ks) p) ec j) in
-        let same : a.0 ≡ b.0 = H.once a.0 b.0 a.1 b.1 (sym (same_at a.0) ∙ (ap (λ (c : Seen). c.at) a.2 ∙ (e ∙ (ap (λ (c : Seen). c.at) (sym b.2) ∙ same_at b.0)))) in
+        let same : a.0 ≡ b.0 = H.once a.0 b.0 a.1 b.1 (sym (same_at a.0) ∙ (ap (λ (c : Located). c.at) a.2 ∙ (e ∙ (ap (λ (c : Located). c.at) (sym b.2) ∙ same_at b.0)))) in
         sym a.2 ∙ (ap one same ∙ b.2);
     named = λ o p i j e.
         let a = from_mapped (v.homes t).chunks o (subst (λ ks. In (objects_in ks) o) ec i) in
         let b = from_mapped (v.homes t).chunks p (subst (λ ks. In (objects_in ks) p) ec j) in
-        let same : a.0 ≡ b.0 = H.named a.0 b.0 a.1 b.1 (sym (same_name a.0) ∙ (ap (λ (c : Seen). c.name) a.2 ∙ (e ∙ (ap (λ (c : Seen). c.name) (sym b.2) ∙ same_name b.0)))) in
+        let same : a.0 ≡ b.0 = H.named a.0 b.0 a.1 b.1 (sym (same_name a.0) ∙ (ap object_name a.2 ∙ (e ∙ (ap object_name (sym b.2) ∙ same_name b.0)))) in
         sym a.2 ∙ (ap one same ∙ b.2);
     laid = subst (λ ks. AreLaidOut ks (heap_of l' t).reserved) (sym ec) (subst (λ (h : Heap). AreLaidOut (map chunk (v.homes t).chunks) h.reserved) (sym el) (laid_mapped one same_at same_words (v.homes t).chunks (heap_of l t).reserved H.laid));
   }
 
   pub home_mapped : (v v' : Value) (l l' : Ledger) (t : ℕ) → v'.homes t ≡ mapped_home one (v.homes t) → ((k : ℕ) → v.owner k ≡ Some t → v'.owner k ≡ Some t) → heap_of l' t ≡ heap_of l t → slice_get l'.machine.store t ≡ slice_get l.machine.store t
-      → is_joined (slice_get l'.machine.tasks t) ≡ is_joined (slice_get l.machine.tasks t) → ((o : Seen) → words (one o) ≡ words o) → HomeStands v l t → HomeStands v' l' t
+      → is_joined (slice_get l'.machine.tasks t) ≡ is_joined (slice_get l.machine.tasks t) → ((o : Located) → words (one o) ≡ words o) → HomeStands v l t → HomeStands v' l' t
   home_mapped v v' l l' t eh ow el er ej same_words H =
       home_mapped_by v v' l l' t (ap (λ (h : Home). h.chunks) eh) (ap (λ (h : Home). h.room) eh) (ap (λ (h : Home). h.since) eh) (ap (λ (h : Home). h.count) eh) ow el (ap (λ r. length (row_of r)) er) ej same_words H

@@ -3,6 +3,7 @@ use Rattle.std.proofs.Common.{◌≡◌, ℕ, true, false, Some, slice_get, ◌�
 use Rattle.std.proofs.lemmas.Bool.{cases_eq, both_ways}
 use Rattle.std.proofs.lemmas.Option.{same_Some}
 use Rattle.object_layout.specs.declared.word.Addr.{Addr}
+use Rattle.object_layout.specs.Objects.{Located}
 use Rattle.hh_model.specs.declared.data.Name.{Name}
 use Rattle.hh_model.specs.declared.data.Object.{Object}
 use Rattle.hh_model.specs.declared.data.Task.{Task}
@@ -13,7 +14,7 @@ use Rattle.run_ledger.specs.declared.data.Ledger.{Ledger}
 use Rattle.run_ledger.specs.Heaps.{heap_of}
 use Rattle.run_ledger.specs.Sound.{SoundLedger}
 use Rattle.remembered_set.specs.declared.remembered.Source.{Source}
-use Rattle.core_relation.specs.Value.{Seen, Home, Value, In, objects, objects_in, sources, Lies, shown_at}
+use Rattle.core_relation.specs.Value.{Home, Value, In, object_name, objects, objects_in, sources, Lies, shown_at}
 use Rattle.core_relation.specs.Reads.{IsRead, TaskIsRead}
 use Rattle.ledger_steps.specs.Accounts.{own, Rests, StepsAlone}
 use Rattle.core_relation.specs.Stands.{Gives, Place, HomeStands, IsSource, Stands, IsShown}
@@ -80,10 +81,10 @@ module _ (v v1 v2 : Value) (l l1 l2 : Ledger) (t u : ℕ) (apart : t ≡ u → �
   not_t a (inl h) e = apart (sym (leaf_alone l2 S2 u t (sym (A2.tree.waits u) ∙ idle_u) (sym (A2.tree.joins t) ∙ live_t) (ap (is_on_path l2.machine.tasks u) (sym e) ∙ h)))
   not_t a (inr h) e = apart (leaf_alone l2 S2 t u (sym (A2.tree.waits t) ∙ idle_t) (sym (A2.tree.joins u) ∙ live_u) (ap (λ z. is_on_path l2.machine.tasks z u) (sym e) ∙ h))
 
-  from1 : (z : ℕ) (o : Seen) → (z ≡ u → ⊥) → In (objects v z) o → In (objects v1 z) o
+  from1 : (z : ℕ) (o : Located) → (z ≡ u → ⊥) → In (objects v z) o → In (objects v1 z) o
   from1 z o ne i = subst (λ (h : Home). In (objects_in h.chunks) o) (C1.homes z ne) i
 
-  from2 : (z : ℕ) (o : Seen) → (z ≡ t → ⊥) → In (objects v z) o → In (objects v2 z) o
+  from2 : (z : ℕ) (o : Located) → (z ≡ t → ⊥) → In (objects v z) o → In (objects v2 z) o
   from2 z o ne i = subst (λ (h : Home). In (objects_in h.chunks) o) (C2.homes z ne) i
 
   home : (z : ℕ) → Rests l z → HomeStands v l z
@@ -94,44 +95,44 @@ module _ (v v1 v2 : Value) (l l1 l2 : Ledger) (t u : ℕ) (apart : t ≡ u → �
     | inr ne ↦ home_kept v1 v l1 l z (C1.homes z ne) (λ k g. C1.owner k ∙ g) (A1.heaps z ne) (A1.rows z ne) (A1.tree.joins z) (V1.homes z (rest1 z ne r))
   ]
 
-  owner1 : (z : ℕ) (o : Seen) → (z ≡ u → ⊥) → Rests l z → In (objects v z) o → own l1 o.name ≡ z
+  owner1 : (z : ℕ) (o : Located) → (z ≡ u → ⊥) → Rests l z → In (objects v z) o → own l1 (object_name o) ≡ z
   owner1 z o ne r i = home_own v1 l1 S1 z (V1.homes z (rest1 z ne r)) o (from1 z o ne i)
 
-  owner2 : (z : ℕ) (o : Seen) → (z ≡ t → ⊥) → Rests l z → In (objects v z) o → own l2 o.name ≡ z
+  owner2 : (z : ℕ) (o : Located) → (z ≡ t → ⊥) → Rests l z → In (objects v z) o → own l2 (object_name o) ≡ z
   owner2 z o ne r i = home_own v2 l2 S2 z (V2.homes z (rest2 z ne r)) o (from2 z o ne i)
 
   -- the object of a name that isn't u's, and of one that isn't t's
-  object1 : (z : ℕ) (o : Seen) → (z ≡ u → ⊥) → Rests l z → In (objects v z) o → object_at l.machine.store o.name ≡ object_at l1.machine.store o.name
-  object1 z o ne r i = A1.store o.name (λ e. ne (sym (owner1 z o ne r i) ∙ e))
+  object1 : (z : ℕ) (o : Located) → (z ≡ u → ⊥) → Rests l z → In (objects v z) o → object_at l.machine.store (object_name o) ≡ object_at l1.machine.store (object_name o)
+  object1 z o ne r i = A1.store (object_name o) (λ e. ne (sym (owner1 z o ne r i) ∙ e))
 
-  object2 : (z : ℕ) (o : Seen) → (z ≡ t → ⊥) → Rests l z → In (objects v z) o → object_at l.machine.store o.name ≡ object_at l2.machine.store o.name
-  object2 z o ne r i = A2.store o.name (λ e. ne (sym (owner2 z o ne r i) ∙ e))
+  object2 : (z : ℕ) (o : Located) → (z ≡ t → ⊥) → Rests l z → In (objects v z) o → object_at l.machine.store (object_name o) ≡ object_at l2.machine.store (object_name o)
+  object2 z o ne r i = A2.store (object_name o) (λ e. ne (sym (owner2 z o ne r i) ∙ e))
 
-  abbrev Content : Seen → Type 0
-  Content o = (x : Object) × (object_at l.machine.store o.name ≡ Some x) × IsRead (Place v l) o x
+  abbrev Content : Located → Type 0
+  Content o = (x : Object) × (object_at l.machine.store (object_name o) ≡ Some x) × IsRead (Place v l) o x
 
-  content : (z : ℕ) (o : Seen) → Rests l z → In (objects v z) o → Content o
+  content : (z : ℕ) (o : Located) → Rests l z → In (objects v z) o → Content o
   content z o r i = elim (cases_eq z u) [
     | inl e ↦
         let ne : z ≡ t → ⊥ = λ f. apart (sym f ∙ e) in
         let c = V2.contents z o (rest2 z ne r) (from2 z o ne i) in
-        let mine : own l2 o.name ≡ u = owner2 z o ne r i ∙ e in (
+        let mine : own l2 (object_name o) ≡ u = owner2 z o ne r i ∙ e in (
           c.0,
           object2 z o ne r i ∙ c.1,
           object_kept (Place v2 l2) (Place v l) o c.0
               (λ n j a. place2 n a (λ f. not_t (own l2 n) (subst (λ k. (is_on_path l2.machine.tasks k (own l2 n) ≡ true) ⊎ (is_on_path l2.machine.tasks (own l2 n) k ≡ true)) mine
-              (S2.apart.of_object o.name n (refers l2.machine.store o.name n c.0 c.1 j)).2) (sym (own2 n) ∙ f))) c.2,
+              (S2.apart.of_object (object_name o) n (refers l2.machine.store (object_name o) n c.0 c.1 j)).2) (sym (own2 n) ∙ f))) c.2,
         )
     | inr nu ↦
         let c = V1.contents z o (rest1 z nu r) (from1 z o nu i) in
         elim (cases_eq z t) [
           | inl e ↦
-              let mine : own l1 o.name ≡ t = owner1 z o nu r i ∙ e in (
+              let mine : own l1 (object_name o) ≡ t = owner1 z o nu r i ∙ e in (
                 c.0,
                 object1 z o nu r i ∙ c.1,
                 object_kept (Place v1 l1) (Place v l) o c.0
                     (λ n j a. place1 n a (λ f. not_u (own l1 n) (subst (λ k. (is_on_path l1.machine.tasks k (own l1 n) ≡ true) ⊎ (is_on_path l1.machine.tasks (own l1 n) k ≡ true)) mine
-                    (S1.apart.of_object o.name n (refers l1.machine.store o.name n c.0 c.1 j)).2) (sym (own1 n) ∙ f))) c.2,
+                    (S1.apart.of_object (object_name o) n (refers l1.machine.store (object_name o) n c.0 c.1 j)).2) (sym (own1 n) ∙ f))) c.2,
               )
           | inr nt ↦
               let d = V2.contents z o (rest2 z nt r) (from2 z o nt i) in
@@ -165,7 +166,7 @@ module _ (v v1 v2 : Value) (l l1 l2 : Ledger) (t u : ℕ) (apart : t ≡ u → �
         ]
   ]
 
-  remember : (z : ℕ) (o : Seen) (x : Object) (i : ℕ) (n : Name) → Rests l z → In (objects v z) o → object_at l.machine.store o.name ≡ Some x → slice_get x.refs i ≡ Some (Some n)
+  remember : (z : ℕ) (o : Located) (x : Object) (i : ℕ) (n : Name) → Rests l z → In (objects v z) o → object_at l.machine.store (object_name o) ≡ Some x → slice_get x.refs i ≡ Some (Some n)
       → (is_on_path l.machine.tasks (own l n) z ≡ true) ⊎ In (sources v (own l n)) (record { object = o.at; field = i })
   remember z o x i n r j is at = elim (cases_eq z u) [
     | inl e ↦

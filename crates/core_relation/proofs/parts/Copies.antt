@@ -13,7 +13,7 @@ use Rattle.run_ledger.specs.declared.data.Heap.{Heap}
 use Rattle.run_ledger.specs.declared.data.Ledger.{Ledger}
 use Rattle.run_ledger.specs.Heaps.{heap_of, or_fresh, let_go, collected, with_heap}
 use Rattle.run_ledger.specs.Sound.{SoundLedger}
-use Rattle.core_relation.specs.Value.{Seen, Home, Value, In, objects_in, sources, led_object, led_frame, rewritten_home}
+use Rattle.core_relation.specs.Value.{Home, Value, In, object_name, objects_in, sources, led_object, led_frame, rewritten_home}
 use Rattle.core_relation.specs.Layout.{AreLaidOut}
 use Rattle.core_relation.specs.Stands.{names_of, small_chunks, large_chunks, HasNames, HomeStands, Stands}
 use Rattle.core_relation.specs.Fits.{Part, FitsAt, with_home, ahead}
@@ -63,8 +63,8 @@ copy_stays p s t h h' f v v' l l' owner heap same F C =
         named = C.copy.named;
         laid = subst (λ (z : Heap). AreLaidOut h'.chunks z.reserved) (sym e) C.copy.laid;
         owned = λ c i. owner c.number (C.copy.owned c i);
-        kept = λ o i j. C.copy.kept o i (subst (λ (z : Heap). In z.survivors o.name) e j);
-        only = λ o i. (let r = C.copy.only o i in (r.0, r.1, subst (λ (z : Heap). In z.survivors r.0.name) (sym e) r.2, r.3));
+        kept = λ o i j. C.copy.kept o i (subst (λ (z : Heap). In z.survivors (object_name o)) e j);
+        only = λ o i. (let r = C.copy.only o i in (r.0, r.1, subst (λ (z : Heap). In z.survivors (object_name r.0)) (sym e) r.2, r.3));
         frames = C.copy.frames;
         view = C.copy.view;
         same = C.copy.same;
@@ -123,7 +123,7 @@ module _ (p : ProgramText) (s : Limits) (t : ℕ) (h h' : Home) (f : Addr → Ad
   home = record {
     names = record {
       small = ap (λ (z : Home). map names_of (small_chunks z.chunks)) new_home ∙ (C.copy.names.small ∙ (ap (λ (z : Heap). z.chunks) (sym heap') ∙ sym (rested_view (λ z. z.chunks) (λ z. refl) l' t)));
-      large = ap (λ (z : Home). map (λ (o : Seen). o.name) (objects_in (large_chunks z.chunks))) new_home ∙ (C.copy.names.large ∙ (ap (λ (z : Heap). z.large) (sym heap') ∙ sym (rested_view (λ z. z.large) (λ z. refl) l' t)));
+      large = ap (λ (z : Home). map object_name (objects_in (large_chunks z.chunks))) new_home ∙ (C.copy.names.large ∙ (ap (λ (z : Heap). z.large) (sym heap') ∙ sym (rested_view (λ z. z.large) (λ z. refl) l' t)));
     };
     room = ap (λ (z : Home). z.room) new_home ∙ (C.copy.room ∙ (ap (λ (z : Heap). z.room) (sym heap') ∙ sym (rested_view (λ z. z.room) (λ z. refl) l' t)));
     since = ap (λ (z : Home). z.since) new_home ∙ (C.copy.since ∙ (ap (λ (z : Heap). z.since) (sym heap') ∙ sym (rested_view (λ z. z.since) (λ z. refl) l' t)));
@@ -140,10 +140,10 @@ module _ (p : ProgramText) (s : Limits) (t : ℕ) (h h' : Home) (f : Addr → Ad
   pub moves : Moves V V' lt lt' t (heap_of lt t).survivors f
   moves = record {
     home = home;
-    kept = λ o i j. subst (λ (z : Home). In (objects_in z.chunks) (led_object f o)) (sym new_home) (C.copy.kept o (subst (λ (z : Home). In (objects_in z.chunks) o) old_home i) (subst (λ ns. In ns o.name) survivors j));
+    kept = λ o i j. subst (λ (z : Home). In (objects_in z.chunks) (led_object f o)) (sym new_home) (C.copy.kept o (subst (λ (z : Home). In (objects_in z.chunks) o) old_home i) (subst (λ ns. In ns (object_name o)) survivors j));
     only = λ o i.
         let r = C.copy.only o (subst (λ (z : Home). In (objects_in z.chunks) o) new_home i) in
-        (r.0, subst (λ (z : Home). In (objects_in z.chunks) r.0) (sym old_home) r.1, subst (λ ns. In ns r.0.name) (sym survivors) r.2, r.3);
+        (r.0, subst (λ (z : Home). In (objects_in z.chunks) r.0) (sym old_home) r.1, subst (λ ns. In ns (object_name r.0)) (sym survivors) r.2, r.3);
     frames = ap (λ (z : Home). z.frames) new_home ∙ (C.copy.frames ∙ ap (λ (z : Home). map (led_frame f) z.frames) (sym old_home));
     view = ap (λ (z : Home). z.view) new_home ∙ (C.copy.view ∙ ap (λ (z : Home). z.view) (sym old_home));
     others = λ u nu. off_home v' t h' u nu ∙ (E.others u nu ∙ ap (rewritten_home f (sources v t)) (sym (off_home v t h u nu)));

@@ -3,6 +3,7 @@ use Rattle.std.proofs.Common.{◌≡◌, ℕ, true, false, Some, slice_get, refl
 use Rattle.std.proofs.lemmas.Bool.{both_ways}
 use Rattle.std.proofs.lemmas.Option.{same_Some}
 use Rattle.object_layout.specs.declared.word.Addr.{Addr}
+use Rattle.object_layout.specs.Objects.{Located}
 use Rattle.hh_model.specs.declared.data.Task.{Task}
 use Rattle.hh_model.specs.declared.data.State.{State}
 use Rattle.hh_model.specs.Step.{is_waiting, is_joined}
@@ -11,7 +12,7 @@ use Rattle.run_ledger.specs.declared.data.Ledger.{Ledger}
 use Rattle.run_ledger.specs.Heaps.{heap_of}
 use Rattle.run_ledger.specs.Sound.{SoundLedger}
 use Rattle.remembered_set.specs.declared.remembered.Source.{Source}
-use Rattle.core_relation.specs.Value.{Seen, Home, Value, In, objects, objects_in, sources}
+use Rattle.core_relation.specs.Value.{Home, Value, In, objects, objects_in, sources}
 use Rattle.ledger_steps.specs.Accounts.{own, Rests, StepsAlone, ChangesHeap}
 use Rattle.core_relation.specs.Stands.{Stands}
 use Rattle.core_relation.specs.Fits.{with_home}
@@ -61,7 +62,7 @@ module _ (v v' : Value) (lt lt' k k' K K' : Ledger) (t u w : ℕ) (g g' h : Home
       (record { homes = λ z ne. with_both v t u g h E.apart z ∙ off_home (with_home v u h) t g z ne; owner = λ i. refl; sources = λ z. refl })
       idle_t E.idle live_t E.live
 
-  none : (o : Seen) (s : Source) → In (objects_in h.chunks) o → In (sources v t) s → s.object.chunk ≡ o.at.chunk → ⊥
+  none : (o : Located) (s : Source) → In (objects_in h.chunks) o → In (sources v t) s → s.object.chunk ≡ o.at.chunk → ⊥
   none o s i j e =
       let q = before.sources t s j in
       let H = before.homes u E.rests in

@@ -3,6 +3,7 @@ use Rattle.std.proofs.Common.{◌≡◌, ℕ, ℤ, false, Option, Some, List, sl
 use Rattle.std.proofs.lemmas.Bool.{cases_eq}
 use Rattle.std.proofs.lemmas.Option.{same_Some}
 use Rattle.object_layout.specs.declared.word.Addr.{Addr}
+use Rattle.object_layout.specs.Objects.{Located}
 use Rattle.hh_lang.specs.Form.{ProgramText}
 use Rattle.run_trace.specs.Settings.{Limits}
 use Rattle.hh_model.specs.declared.data.Name.{Name}
@@ -18,7 +19,7 @@ use Rattle.run_ledger.specs.Heaps.{heap_of, or_fresh, let_go}
 use Rattle.run_ledger.specs.Steps.{task_steps}
 use Rattle.run_ledger.specs.Sound.{collecting}
 use Rattle.task_frames.specs.declared.frames.Frame.{Frame}
-use Rattle.core_relation.specs.Value.{Seen, Home, Value, In, objects, objects_in}
+use Rattle.core_relation.specs.Value.{Home, Value, In, objects, objects_in}
 use Rattle.ledger_steps.specs.Accounts.{own, Rests, ArePrivate, rested, StepsAlone, AlikeFor, Knows}
 use Rattle.core_relation.specs.Stands.{Stands}
 use Rattle.core_relation.specs.Fits.{Part, FitsAt, ahead, with_home}
@@ -129,7 +130,7 @@ module _ (p : ProgramText) (s : Limits) (q r : Part) (v : Value) (l l' : Ledger)
         off (leaf_alone lq BB.sound_t r.task q.task (sym (BB.steps_t.tree.waits r.task) ∙ BB.idle_u) live
         (ap (λ k. is_on_path lq.machine.tasks k q.task) (sym e) ∙ (BB.sound_t.apart.of_task q.task z n is holds).1))
 
-    none_there : (a : Addr) → v.owner a.chunk ≡ Some (own lq n) → (o : Seen) → In (objects_in r.home.chunks) o → o.at.chunk ≡ a.chunk → ⊥
+    none_there : (a : Addr) → v.owner a.chunk ≡ Some (own lq n) → (o : Located) → In (objects_in r.home.chunks) o → o.at.chunk ≡ a.chunk → ⊥
     none_there a owns o i e =
         let rests_r : Rests both r.task = rested_worker (task_steps p lq r.task r.fresh) r.task in
         let H = before.homes r.task rests_r in

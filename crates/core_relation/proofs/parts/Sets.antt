@@ -3,6 +3,7 @@ use Rattle.std.proofs.Common.{is_some, ◌≡◌, ℕ, ℤ, false, Some, List, �
 use Rattle.std.proofs.lemmas.Option.{same_Some}
 use Rattle.listed.proofs.Members.{got_same}
 use Rattle.object_layout.specs.declared.word.Addr.{Addr}
+use Rattle.object_layout.specs.Objects.{Located}
 use Rattle.hh_lang.specs.Form.{ProgramText}
 use Rattle.run_trace.specs.Settings.{Limits}
 use Rattle.hh_model.specs.declared.data.Name.{Name}
@@ -22,7 +23,7 @@ use Rattle.ledger_steps.specs.Last.{stepped_by}
 use Rattle.ledger_steps.proofs.Ahead.{with_machine, with_off}
 use Rattle.ledger_steps.proofs.Last.{rest_heaps}
 use Rattle.ledger_steps.proofs.Rested.{rested_worker, rested_sound}
-use Rattle.core_relation.specs.Value.{Seen, Home, Value, In, objects, objects_in, Lies}
+use Rattle.core_relation.specs.Value.{Home, Value, In, object_name, objects, objects_in, Lies}
 use Rattle.core_relation.specs.Reads.{IsRead, FrameIsRead, FramesAreRead, HoldsRead, TaskIsRead}
 use Rattle.core_relation.specs.Stands.{Place}
 use Rattle.core_relation.specs.Fits.{FitsAt, with_home, part_for}
@@ -137,10 +138,10 @@ module _ (p : ProgramText) (s : Limits) (t k : ℕ) (h : Home) (v : Value) (l l'
       subst (HoldsRead (Place vt lt) (vt'.homes t) z') (sym runs)
       (subst (λ gs. FramesAreRead (Place vt lt) gs (top ∷ x.below)) (sym (ap (λ (z : Home). z.frames) (at_home v t g))) (reads read_then.0, read_then.1))
 
-  content : (o : Seen) → In (objects vt' t) o → (y : Object) × (object_at lt'.machine.store o.name ≡ Some y) × IsRead (Place vt' lt') o y
+  content : (o : Located) → In (objects vt' t) o → (y : Object) × (object_at lt'.machine.store (object_name o) ≡ Some y) × IsRead (Place vt' lt') o y
   content o i =
       let q = F.stands.contents t o rests (subst (λ ks. In (objects_in ks) o) chunks_same i) in
-      (q.0, store_same o.name ∙ q.1, object_kept (Place vt lt) (Place vt' lt') o q.0 (λ n j. place n) q.2)
+      (q.0, store_same (object_name o) ∙ q.1, object_kept (Place vt lt) (Place vt' lt') o q.0 (λ n j. place n) q.2)
 
   pub frames_step : StepsTo v l' t h g
   frames_step = (

@@ -7,9 +7,10 @@ use Rattle.run_ledger.specs.Journals.{opening}
 use Rattle.std.proofs.lemmas.Bool.{false≢true}
 use Rattle.std.proofs.lemmas.Option.{same_Some}
 use Rattle.object_layout.specs.declared.word.Addr.{Addr}
+use Rattle.object_layout.specs.Objects.{Located}
 use Rattle.hh_model.specs.declared.data.Name.{Name}
 use Rattle.hh_model.specs.declared.data.Task.{Task}
-use Rattle.core_relation.specs.Value.{Seen, In, objects}
+use Rattle.core_relation.specs.Value.{In, objects}
 use Rattle.core_relation.specs.Reads.{AllRead, TaskIsRead}
 use Rattle.ledger_steps.specs.Accounts.{Rests}
 use Rattle.core_relation.specs.Stands.{Place, HomeStands, Stands}
@@ -42,7 +43,7 @@ first_stands p s = record {
   gives = λ t u r j up ne w ru. absurd (none_waits u w);
 }
   where
-    empty : (t : ℕ) (o : Seen) → In (objects (first p) t) o → ⊥
+    empty : (t : ℕ) (o : Located) → In (objects (first p) t) o → ⊥
     empty zero o i = i
     empty (suc t) o i = i
 
