@@ -11,6 +11,7 @@ use Rattle.object_layout.specs.Cell.{Born, Cell, IsObject, marked_object, size_o
 use Rattle.object_layout.specs.Chunks.{cell_of, put_object, with_cell}
 use Rattle.object_layout.specs.Content.{Content}
 use Rattle.object_layout.proofs.ChunkLaws as laws
+use Rattle.object_layout.specs.Objects.{Located, with_fields}
 use Rattle.chunk_pool.specs.Chunks.{Chunks, owner_of}
 use Rattle.alloc_path.specs.Heap.{Heap, room_of}
 use Rattle.alloc_path.specs.FieldLaws.{with_ref_of}
@@ -20,7 +21,7 @@ use Rattle.alloc_path.proofs.Counting.{writes_keep_counts}
 use Rattle.remembered_set.specs.declared.remembered.Source.{Source}
 use Rattle.remembered_set.specs.Moved.{held_by, new_reference, redirected, written}
 use Rattle.leaf_copy_gc.specs.Redirected.{new_address}
-use Rattle.core_relation.specs.Value.{Chunk, In, Seen, led, mapped_chunk, mapped_home, objects_in, put_at, rewritten_home}
+use Rattle.core_relation.specs.Value.{Chunk, In, led, mapped_chunk, mapped_home, objects_in, put_at, rewritten_home}
 use Rattle.core_relation.proofs.objects.Members.{in_chunk, map_in}
 use Rattle.core_relation.specs.Value.{is_at}
 use Rattle.core_relation.proofs.changes.Write.{at_is}
@@ -33,8 +34,7 @@ use Rattle.shared_value.specs.RestingHeaps.{refs_for, refs_in, refs_of_rest, wit
 use Rattle.shared_value.specs.Measured.{AreMeasured}
 use Rattle.shared_value.specs.Stands.{HeapForm}
 use Rattle.shared_value.specs.World.{flat, home_by, home_in, home_of, rest_at}
-use Rattle.shared_value.proofs.CellsChanged.{with_fields}
-use Rattle.shared_value.proofs.CellsRead.{seen_cell, seen_object}
+use Rattle.shared_value.proofs.CellsRead.{numbered, seen_object}
 use Rattle.shared_value.proofs.FieldsLedTogether.{AreOnce, home_each, home_stays, home_together, lead_at, lead_off, lead_one, none_home, set_itself}
 use Rattle.shared_value.proofs.UnitsMeasured.{measured_written}
 use Rattle.shared_value.proofs.ObjectRewritten.{chunks_put, form_written}
@@ -85,7 +85,7 @@ room_written h a d mark size = by h.current
     by None = refl
     by (Some i) = ap₂ (λ n m. n - m) (K.shape i).size (K.shape i).used
 
-at_itself : (a : Addr) (o : Seen) → o.at ≡ a → is_at a o ≡ true
+at_itself : (a : Addr) (o : Located) → o.at ≡ a → is_at a o ≡ true
 at_itself a o e = ap₂ (λ x y. x && y) (eq-eqb o.at.chunk a.chunk (ap (λ (z : Addr). z.chunk) e)) (eq-eqb o.at.offset a.offset (ap (λ (z : Addr). z.offset) e))
 
 addr_cases : (a b : Addr) → (a ≡ b) ⊎ (a ≡ b → ⊥)
@@ -146,7 +146,7 @@ module _ (ms : List (Addr × Addr)) where
         ∙ (ap (λ o. slice_index_or (refs_of_rest o s.object) s.field None) T.is ∙ ap (λ m. slice_index_or (marked_object m c).refs s.field None) T.born)
 
     -- the source's object, as it is read
-    at_source : (u : ℕ) → Good u → (o : Seen) → In (objects_in (home_in (rest_at H.homes u)).chunks) o → o.at ≡ s.object → (u ≡ T.home) × (o.refs ≡ c.refs) × (o.mutable ≡ c.mutable) × (o.ints ≡ c.ints)
+    at_source : (u : ℕ) → Good u → (o : Located) → In (objects_in (home_in (rest_at H.homes u)).chunks) o → o.at ≡ s.object → (u ≡ T.home) × (o.refs ≡ c.refs) × (o.mutable ≡ c.mutable) × (o.ints ≡ c.ints)
     at_source u good o i e = by (rest_at H.homes u) refl i
       where
         by : (q : Option Rest) → rest_at H.homes u ≡ q → In (objects_in (home_in q).chunks) o → (u ≡ T.home) × (o.refs ≡ c.refs) × (o.mutable ≡ c.mutable) × (o.ints ≡ c.ints)
@@ -155,19 +155,19 @@ module _ (ms : List (Addr × Addr)) where
             let i' : In (objects_in (chunks_of x.heap.chunks)) o = subst (λ cs. In (objects_in cs) o) (home_chunks x) j in
             let ch = in_chunk (chunks_of x.heap.chunks) o i' in
             let k = map_in chunk_of x.heap.chunks ch.0 ch.1 in
-            let number : k.0.number ≡ s.object.chunk = sym (ap (λ (z : Seen). z.at.chunk) (seen_cell k.0.cells k.0.number 0 o (subst (λ (z : Chunk). In z.objects o) (sym k.2) ch.2)).is) ∙ ap (λ (z : Addr). z.chunk) e in
+            let number : k.0.number ≡ s.object.chunk = sym (numbered k.0.number 0 k.0.cells o (subst (λ (z : Chunk). In z.objects o) (sym k.2) ch.2)) ∙ ap (λ (z : Addr). z.chunk) e in
             let same : u ≡ T.home = same_Some u T.home (sym (F.owned u x good h k.0 k.1) ∙ (ap (owner_of H.pool) number ∙ T.owner)) in
             let rest : x ≡ T.rest = same_Some x T.rest (sym h ∙ (ap (rest_at H.homes) same ∙ T.is)) in
             let y = seen_object x.heap.chunks o (F.form u x h).shaped.apart i' in
             let cell : cell_of x.heap.chunks o.at ≡ c = ap₂ (λ (z : Rest) (b : Addr). cell_of z.heap.chunks b) rest e in
-            (same, ap (λ (z : Seen). z.refs) y.is ∙ ap (λ (z : Cell). z.refs) cell, ap (λ (z : Seen). z.mutable) y.is ∙ ap (λ (z : Cell). z.mutable) cell, ap (λ (z : Seen). z.ints) y.is ∙ ap (λ (z : Cell). z.ints) cell)
+            (same, ap (λ (z : Located). z.refs) y.is ∙ ap (λ (z : Cell). z.refs) cell, ap (λ (z : Located). z.mutable) y.is ∙ ap (λ (z : Cell). z.mutable) cell, ap (λ (z : Located). z.ints) y.is ∙ ap (λ (z : Cell). z.ints) cell)
 
     -- an object elsewhere stays
-    elsewhere : (o : Seen) → (o.at ≡ s.object → ⊥) → lead_one f s o ≡ o
+    elsewhere : (o : Located) → (o.at ≡ s.object → ⊥) → lead_one f s o ≡ o
     elsewhere o ne = ap (λ rs. record o { refs = rs }) (lead_off f s o.at 0 o.refs (λ k e q. ne (sym e)))
 
     -- the source's object is led
-    led_there : (o : Seen) (x : Option Addr) → o.at ≡ s.object → o.refs ≡ c.refs → led f (held_by refs_in H s) ≡ x → lead_one f s o ≡ record o { refs = slice_set c.refs s.field x }
+    led_there : (o : Located) (x : Option Addr) → o.at ≡ s.object → o.refs ≡ c.refs → led f (held_by refs_in H s) ≡ x → lead_one f s o ≡ record o { refs = slice_set c.refs s.field x }
     led_there o x e same is =
         ap (λ rs. record o { refs = rs })
         (lead_at f s o.at 0 s.field o.refs (sym e) (let z : s.field ≡ 0 + s.field = omega arith in z)
@@ -190,10 +190,10 @@ module _ (ms : List (Addr × Addr)) where
       there = λ x y. y;
     }
       where
-        same_refs : (o : Seen) → o.refs ≡ c.refs → record o { refs = slice_set c.refs s.field (held_by refs_in H s) } ≡ o
+        same_refs : (o : Located) → o.refs ≡ c.refs → record o { refs = slice_set c.refs s.field (held_by refs_in H s) } ≡ o
         same_refs o e = ap (λ rs. record o { refs = rs }) (set_itself c.refs s.field (held_by refs_in H s) (sym held_is) ∙ sym e)
 
-        by : (u : ℕ) → Good u → (o : Seen) → In (objects_in (home_in (rest_at H.homes u)).chunks) o → (v : Bool) → is_at s.object o ≡ v → lead_one f s o ≡ o
+        by : (u : ℕ) → Good u → (o : Located) → In (objects_in (home_in (rest_at H.homes u)).chunks) o → (v : Bool) → is_at s.object o ≡ v → lead_one f s o ≡ o
         by u good o i true e =
             let at : o.at ≡ s.object = at_is s.object o e in
             let q = at_source u good o i at in
@@ -247,7 +247,7 @@ module _ (ms : List (Addr × Addr)) where
         | inr ne ↦ F.owned u q good (sym (rest_off H.homes T.home u (Some r') ne) ∙ e) k i
       ]
 
-      one_is : (o : Seen) → In (objects_in (home_in (rest_at H.homes T.home)).chunks) o → put_at s.object (with_fields d) o ≡ lead_one f s o
+      one_is : (o : Located) → In (objects_in (home_in (rest_at H.homes T.home)).chunks) o → put_at s.object (with_fields d) o ≡ lead_one f s o
       one_is o i = by (is_at s.object o) refl
         where
           by : (v : Bool) → is_at s.object o ≡ v → cond v (with_fields d o) o ≡ lead_one f s o

@@ -4,8 +4,9 @@ use Rattle.std.specs.Prelude.{slice_index_or, slice_set}
 use Rattle.std.specs.List.{list_any}
 use Rattle.std.proofs.lemmas.Bool.{eqb-true, false≢true}
 use Rattle.object_layout.specs.declared.word.Addr.{Addr}
+use Rattle.object_layout.specs.Objects.{Located}
 use Rattle.remembered_set.specs.declared.remembered.Source.{Source}
-use Rattle.core_relation.specs.Value.{Chunk, Home, In, Seen, is_source, led, mapped_chunk, mapped_home, objects_in, rewritten, rewritten_home, rewritten_refs}
+use Rattle.core_relation.specs.Value.{Chunk, Home, In, is_source, led, mapped_chunk, mapped_home, objects_in, rewritten, rewritten_home, rewritten_refs}
 use Rattle.core_relation.proofs.objects.Members.{in_chunk, in_objects}
 
 -- ---- ONE SOURCE AFTER ANOTHER
@@ -15,7 +16,7 @@ abbrev pub lead_refs : (Addr → Addr) → Source → Addr → ℕ → List (Opt
 lead_refs f s a i [] = []
 lead_refs f s a i (r ∷ rs) = cond (is_source a i s) (led f r) r ∷ lead_refs f s a (suc i) rs
 
-abbrev pub lead_one : (Addr → Addr) → Source → Seen → Seen
+abbrev pub lead_one : (Addr → Addr) → Source → Located → Located
 lead_one f s o = record o { refs = lead_refs f s o.at 0 o.refs }
 
 -- led one after another is led together, where no source stands twice
@@ -44,7 +45,7 @@ refs_together f s ss a i (r ∷ rs) once = ap₂ (λ x xs. x ∷ xs) (by (is_sou
     by false true e q = refl
     by false false e q = refl
 
-pub one_together : (f : Addr → Addr) (s : Source) (ss : List Source) (o : Seen) → list_any (is_source s.object s.field) ss ≡ false → rewritten f ss (lead_one f s o) ≡ rewritten f (s ∷ ss) o
+pub one_together : (f : Addr → Addr) (s : Source) (ss : List Source) (o : Located) → list_any (is_source s.object s.field) ss ≡ false → rewritten f ss (lead_one f s o) ≡ rewritten f (s ∷ ss) o
 one_together f s ss o once = ap (λ rs. record o { refs = rs }) (refs_together f s ss o.at 0 o.refs once)
 
 none_rewritten : (f : Addr → Addr) (a : Addr) (i : ℕ) (rs : List (Option Addr)) → rewritten_refs f [] a i rs ≡ rs
@@ -52,36 +53,36 @@ none_rewritten f a i [] = refl
 none_rewritten f a i (r ∷ rs) = ap (λ xs. r ∷ xs) (none_rewritten f a (suc i) rs)
 
 -- homes
-objects_each : (one two : Seen → Seen) (os : List Seen) → ((o : Seen) → In os o → one o ≡ two o) → map one os ≡ map two os
+objects_each : (one two : Located → Located) (os : List Located) → ((o : Located) → In os o → one o ≡ two o) → map one os ≡ map two os
 objects_each one two [] h = refl
 objects_each one two (o ∷ os) h = ap₂ (λ x xs. x ∷ xs) (h o (inl refl)) (objects_each one two os (λ q i. h q (inr i)))
 
-chunks_each : (one two : Seen → Seen) (ks : List Chunk) → ((o : Seen) → In (objects_in ks) o → one o ≡ two o) → map (mapped_chunk one) ks ≡ map (mapped_chunk two) ks
+chunks_each : (one two : Located → Located) (ks : List Chunk) → ((o : Located) → In (objects_in ks) o → one o ≡ two o) → map (mapped_chunk one) ks ≡ map (mapped_chunk two) ks
 chunks_each one two [] h = refl
 chunks_each one two (k ∷ ks) h =
     ap₂ (λ x xs. record k { objects = x } ∷ xs) (objects_each one two k.objects (λ o i. h o (in_objects (k ∷ ks) k o (inl refl) i)))
     (chunks_each one two ks (λ o i. let c = in_chunk ks o i in h o (in_objects (k ∷ ks) c.0 o (inr c.1) c.2)))
 
-pub home_each : (one two : Seen → Seen) (h : Home) → ((o : Seen) → In (objects_in h.chunks) o → one o ≡ two o) → mapped_home one h ≡ mapped_home two h
+pub home_each : (one two : Located → Located) (h : Home) → ((o : Located) → In (objects_in h.chunks) o → one o ≡ two o) → mapped_home one h ≡ mapped_home two h
 home_each one two h e = ap (λ ks. record h { chunks = ks }) (chunks_each one two h.chunks e)
 
-objects_same : (os : List Seen) → map (λ (o : Seen). o) os ≡ os
+objects_same : (os : List Located) → map (λ (o : Located). o) os ≡ os
 objects_same [] = refl
 objects_same (o ∷ os) = ap (λ xs. o ∷ xs) (objects_same os)
 
-chunks_none : (ks : List Chunk) → map (mapped_chunk (λ (o : Seen). o)) ks ≡ ks
+chunks_none : (ks : List Chunk) → map (mapped_chunk (λ (o : Located). o)) ks ≡ ks
 chunks_none [] = refl
 chunks_none (k ∷ ks) = ap₂ (λ x xs. record k { objects = x } ∷ xs) (objects_same k.objects) (chunks_none ks)
 
 -- where no object changes
-pub home_stays : (one : Seen → Seen) (h : Home) → ((o : Seen) → In (objects_in h.chunks) o → one o ≡ o) → mapped_home one h ≡ h
+pub home_stays : (one : Located → Located) (h : Home) → ((o : Located) → In (objects_in h.chunks) o → one o ≡ o) → mapped_home one h ≡ h
 home_stays one h e = home_each one (λ o. o) h e ∙ ap (λ ks. record h { chunks = ks }) (chunks_none h.chunks)
 
-objects_twice : (one two : Seen → Seen) (os : List Seen) → map one (map two os) ≡ map (λ o. one (two o)) os
+objects_twice : (one two : Located → Located) (os : List Located) → map one (map two os) ≡ map (λ o. one (two o)) os
 objects_twice one two [] = refl
 objects_twice one two (o ∷ os) = ap (λ xs. one (two o) ∷ xs) (objects_twice one two os)
 
-chunks_twice : (one two : Seen → Seen) (ks : List Chunk) → map (mapped_chunk one) (map (mapped_chunk two) ks) ≡ map (mapped_chunk (λ o. one (two o))) ks
+chunks_twice : (one two : Located → Located) (ks : List Chunk) → map (mapped_chunk one) (map (mapped_chunk two) ks) ≡ map (mapped_chunk (λ o. one (two o))) ks
 chunks_twice one two [] = refl
 chunks_twice one two (k ∷ ks) = ap₂ (λ x xs. record k { objects = x } ∷ xs) (objects_twice one two k.objects) (chunks_twice one two ks)
 

@@ -11,6 +11,7 @@ use Rattle.run_ledger.specs.Heaps.{heap_of, let_go, small_in, take_of, words_of,
 use Rattle.run_ledger.specs.Entries.{is_pool_enough}
 use Rattle.object_layout.specs.declared.word.Addr.{Addr}
 use Rattle.object_layout.specs.Chunks.{small_words}
+use Rattle.object_layout.specs.Objects.{Located}
 use Rattle.chunk_pool.specs.Chunks.{units_in_use}
 use Rattle.alloc_path.specs.Heap.{counted}
 use Rattle.ledger_steps.specs.Accounts.{aside, rested}
@@ -20,7 +21,7 @@ use Rattle.core_relation.specs.Layout.{AreLaidOut}
 use Rattle.core_relation.specs.Fits.{with_home}
 use Rattle.core_relation.specs.Reads.{AllRead}
 use Rattle.core_relation.specs.Stands.{HomeStands, Stands, names_of, small_chunks}
-use Rattle.core_relation.specs.Value.{Home, In, Seen, Value, objects_in}
+use Rattle.core_relation.specs.Value.{Home, In, Value, object_name, objects_in}
 use Rattle.core_relation.proofs.objects.Members.{in_map, in_objects}
 use Rattle.core_relation.proofs.changes.With.{at_home}
 use Rattle.task_machine.specs.declared.part.Private.{Private}
@@ -73,10 +74,10 @@ module _ (w : World) (k : ℕ) (p : Private) (I : IsWorld w) (F : Fits w k (reco
   store_is : L.machine.store ≡ l.machine.store
   store_is = ap (λ (m : State). m.store) (with_machine (aside l) t let_go)
 
-  words_same : (o : Seen) → In (objects_in h.chunks) o → SameWords l.machine o
+  words_same : (o : Located) → In (objects_in h.chunks) o → SameWords l.machine o
   words_same o i =
       let c = W.contents t o at_rest (subst (λ (z : Home). In (objects_in z.chunks) o) (sym here) i) in
-      ap (λ s. words_of (object_at s o.name)) (sym store_is)
+      ap (λ s. words_of (object_at s (object_name o))) (sym store_is)
       ∙ (ap words_of c.1 ∙ ap₂ (λ a b. 2 + a + b) (sym (refs_long _ o.refs c.0.refs c.2.refs)) (ap length (sym c.2.ints)))
 
   chunks_are : (heap_of l t).chunks ≡ small_lists p.heap.chunks

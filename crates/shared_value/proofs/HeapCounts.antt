@@ -6,26 +6,24 @@ use Rattle.run_ledger.specs.declared.data.Heap.{Heap as Account}
 use Rattle.object_layout.specs.Cell.{Born, Cell, Hole, Mark, Moved, size_of}
 use Rattle.object_layout.specs.Chunks.{chunk_at}
 use Rattle.object_layout.specs.Content.{Content}
+use Rattle.object_layout.specs.Objects.{Located, located_by, objects_from}
 use Rattle.alloc_path.specs.Heap.{Heap, IsReserved, room_of}
 use Rattle.core_relation.specs.Layout.{has_none, reserved_chunks, reserved_units}
 use Rattle.core_relation.specs.Stands.{HasNames, large_chunks, names_of, small_chunks}
-use Rattle.core_relation.specs.Value.{Chunk, In, Seen, objects_in}
+use Rattle.core_relation.specs.Value.{Chunk, In, object_name, objects_in}
 use Rattle.task_machine.specs.Accounts.{AreReserved, IsCounted, large_names, named_by, names_in, small_lists}
 use Rattle.task_machine.specs.Place.{name_of}
-use Rattle.shared_value.specs.Objects.{chunk_of, chunks_of, objects_from, seen_by}
+use Rattle.shared_value.specs.Objects.{chunk_of, chunks_of}
 use Rattle.shared_value.specs.Stands.{HeapForm}
 
 -- ---- NAMES
 
-abbrev name_in : Seen → Name
-name_in o = o.name
-
-names_by : (number at : ℕ) (c : Cell) (m : Mark) (os : List Seen) (ns : List Name) → map name_in os ≡ ns → map name_in (seen_by number at c m os) ≡ named_by m ns
+names_by : (number at : ℕ) (c : Cell) (m : Mark) (os : List Located) (ns : List Name) → map object_name os ≡ ns → map object_name (located_by number at c m os) ≡ named_by m ns
 names_by number at c (Born b) os ns e = ap (λ xs. name_of b ∷ xs) e
 names_by number at c (Moved to) os ns e = e
 names_by number at c Hole os ns e = e
 
-names_are : (cs : List Cell) (number base : ℕ) → map name_in (objects_from number base cs) ≡ names_in cs
+names_are : (cs : List Cell) (number base : ℕ) → map object_name (objects_from number base cs) ≡ names_in cs
 names_are [] number base = refl
 names_are (c ∷ cs) number base = names_by number base c c.mark (objects_from number (base + size_of c) cs) (names_in cs) (names_are cs number (base + size_of c))
 
@@ -37,15 +35,15 @@ small_names (k ∷ ks) = by (k.size == 1024) (small_names ks)
     by true e = ap₂ (λ x xs. x ∷ xs) (names_are k.cells k.number 0) e
     by false e = e
 
-names_of_both : (os qs : List Seen) (ns ms : List Name) → map name_in os ≡ ns → map name_in qs ≡ ms → map name_in (os ++ qs) ≡ ns ++ ms
+names_of_both : (os qs : List Located) (ns ms : List Name) → map object_name os ≡ ns → map object_name qs ≡ ms → map object_name (os ++ qs) ≡ ns ++ ms
 names_of_both [] qs ns ms a b = b ∙ ap (λ xs. xs ++ ms) a
-names_of_both (o ∷ os) qs ns ms a b = ap (λ xs. o.name ∷ xs) (names_of_both os qs (map name_in os) ms refl b) ∙ ap (λ xs. xs ++ ms) a
+names_of_both (o ∷ os) qs ns ms a b = ap (λ xs. object_name o ∷ xs) (names_of_both os qs (map object_name os) ms refl b) ∙ ap (λ xs. xs ++ ms) a
 
-pub large_are : (ks : List Content) → map name_in (objects_in (large_chunks (chunks_of ks))) ≡ large_names ks
+pub large_are : (ks : List Content) → map object_name (objects_in (large_chunks (chunks_of ks))) ≡ large_names ks
 large_are [] = refl
 large_are (k ∷ ks) = by (k.size == 1024) (large_are ks)
   where
-    by : (b : Bool) → map name_in (objects_in (large_chunks (chunks_of ks))) ≡ large_names ks → map name_in (objects_in (cond (not b) (chunk_of k ∷ large_chunks (chunks_of ks)) (large_chunks (chunks_of ks)))) ≡ cond b (large_names ks) (names_in k.cells ++ large_names ks)
+    by : (b : Bool) → map object_name (objects_in (large_chunks (chunks_of ks))) ≡ large_names ks → map object_name (objects_in (cond (not b) (chunk_of k ∷ large_chunks (chunks_of ks)) (large_chunks (chunks_of ks)))) ≡ cond b (large_names ks) (names_in k.cells ++ large_names ks)
     by true e = e
     by false e = names_of_both (objects_from k.number 0 k.cells) (objects_in (large_chunks (chunks_of ks))) (names_in k.cells) (large_names ks) (names_are k.cells k.number 0) e
 
@@ -85,7 +83,7 @@ in_units (suc n) u (inr i) = absurd i
 pub spare_tells : (k : Content) → is_spare (chunk_of k) ≡ true → ((k.size ≡ 1024 → ⊥) × ((chunk_of k).objects ≡ []))
 spare_tells k h = by (k.size == 1024) refl (chunk_of k).objects refl h
   where
-    by : (b : Bool) → (k.size == 1024) ≡ b → (os : List Seen) → (chunk_of k).objects ≡ os → (not b && has_none os) ≡ true → ((k.size ≡ 1024 → ⊥) × ((chunk_of k).objects ≡ []))
+    by : (b : Bool) → (k.size == 1024) ≡ b → (os : List Located) → (chunk_of k).objects ≡ os → (not b && has_none os) ≡ true → ((k.size ≡ 1024 → ⊥) × ((chunk_of k).objects ≡ []))
     by true q os e g = absurd (false≢true g)
     by false q [] e g = ((λ s. false≢true (sym q ∙ ap (λ n. n == 1024) s)), e)
     by false q (o ∷ os) e g = absurd (false≢true g)

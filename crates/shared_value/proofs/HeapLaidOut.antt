@@ -8,43 +8,44 @@ use Rattle.object_layout.specs.Cell.{Born, Cell, Hole, Mark, Moved, size_of}
 use Rattle.object_layout.specs.Chunks.{chunk_at}
 use Rattle.object_layout.specs.Content.{Content}
 use Rattle.object_layout.specs.Place.{words_in}
+use Rattle.object_layout.specs.Objects.{Located, located, located_by, objects_from}
 use Rattle.alloc_path.specs.Heap.{AreApart as HaveNumbersApart, Heap, IsReserved}
-use Rattle.core_relation.specs.Value.{Chunk, In, Seen, objects_in}
+use Rattle.core_relation.specs.Value.{Chunk, In, objects_in}
 use Rattle.core_relation.specs.Layout.{AreApart, AreLaidOut, HoldsLarge, has_none, reserved_chunks, reserved_units, words}
 use Rattle.core_relation.proofs.objects.Members.{in_chunk, map_in}
 use Rattle.task_machine.specs.Accounts.{AreReserved}
-use Rattle.shared_value.specs.Objects.{chunk_of, chunks_of, objects_from, seen, seen_by}
-use Rattle.shared_value.proofs.CellsRead.{fresh_off, seen_cell}
+use Rattle.shared_value.specs.Objects.{chunk_of, chunks_of}
+use Rattle.shared_value.proofs.CellsRead.{fresh_off, numbered}
 use Rattle.shared_value.proofs.HeapCounts.{is_spare, spare_tells}
 use Rattle.shared_value.proofs.PlacedForm.{Formed}
 
 -- ---- THE OBJECTS OF ONE CHUNK
 
-pub record Between (low high : ℕ) (o : Seen) : Type 0 where
+pub record Between (low high : ℕ) (o : Located) : Type 0 where
   pub begins : low ≤ o.at.offset
   pub ends : o.at.offset + words o ≤ high
 
-between : (cs : List Cell) (number base : ℕ) (o : Seen) → In (objects_from number base cs) o → Between base (base + words_in cs) o
+between : (cs : List Cell) (number base : ℕ) (o : Located) → In (objects_from number base cs) o → Between base (base + words_in cs) o
 between [] number base o i = absurd i
 between (c ∷ cs) number base o i = by c.mark i (between cs number (base + size_of c) o)
   where
     behind : Between (base + size_of c) (base + size_of c + words_in cs) o → Between base (base + (size_of c + words_in cs)) o
     behind b = record { begins = let x = b.begins in omega (arith, x); ends = let x = b.ends in omega (arith, x) }
 
-    by : (m : Mark) → In (seen_by number base c m (objects_from number (base + size_of c) cs)) o → (In (objects_from number (base + size_of c) cs) o → Between (base + size_of c) (base + size_of c + words_in cs) o) → Between base (base + (size_of c + words_in cs)) o
+    by : (m : Mark) → In (located_by number base c m (objects_from number (base + size_of c) cs)) o → (In (objects_from number (base + size_of c) cs) o → Between (base + size_of c) (base + size_of c + words_in cs) o) → Between base (base + (size_of c + words_in cs)) o
     by (Born b) (inl e) go = subst (Between base (base + (size_of c + words_in cs))) e (record { begins = omega arith; ends = omega arith })
     by (Born b) (inr j) go = behind (go j)
     by (Moved to) j go = behind (go j)
     by Hole j go = behind (go j)
 
-apart_here : (cs : List Cell) (number base : ℕ) (o q : Seen) → In (objects_from number base cs) o → In (objects_from number base cs) q → (o ≡ q) ⊎ AreApart o q
+apart_here : (cs : List Cell) (number base : ℕ) (o q : Located) → In (objects_from number base cs) o → In (objects_from number base cs) q → (o ≡ q) ⊎ AreApart o q
 apart_here [] number base o q i j = absurd i
 apart_here (c ∷ cs) number base o q i j = by c.mark i j (apart_here cs number (base + size_of c) o q)
   where
-    ahead : (b : Birth) (x y : Seen) → seen number base b c ≡ x → In (objects_from number (base + size_of c) cs) y → x.at.offset + words x ≤ y.at.offset
-    ahead b x y e k = subst (λ (z : Seen). z.at.offset + words z ≤ y.at.offset) e (let g = (between cs number (base + size_of c) y k).begins in omega (arith, g))
+    ahead : (b : Birth) (x y : Located) → located number base b c ≡ x → In (objects_from number (base + size_of c) cs) y → x.at.offset + words x ≤ y.at.offset
+    ahead b x y e k = subst (λ (z : Located). z.at.offset + words z ≤ y.at.offset) e (let g = (between cs number (base + size_of c) y k).begins in omega (arith, g))
 
-    by : (m : Mark) → In (seen_by number base c m (objects_from number (base + size_of c) cs)) o → In (seen_by number base c m (objects_from number (base + size_of c) cs)) q
+    by : (m : Mark) → In (located_by number base c m (objects_from number (base + size_of c) cs)) o → In (located_by number base c m (objects_from number (base + size_of c) cs)) q
         → (In (objects_from number (base + size_of c) cs) o → In (objects_from number (base + size_of c) cs) q → (o ≡ q) ⊎ AreApart o q) → (o ≡ q) ⊎ AreApart o q
     by (Born b) (inl e) (inl f) go = inl (sym e ∙ f)
     by (Born b) (inl e) (inr y) go = inr (inr (inl (ahead b o q e y)))
@@ -81,11 +82,10 @@ place_there [] k i = absurd i
 place_there (y ∷ ys) k (inl e) = (0, omega arith, e)
 place_there (y ∷ ys) k (inr j) = let r = place_there ys k j in let lt = r.1 in (suc r.0, omega (arith, lt), r.2)
 
-pub inside_from : (ks : List Content) (k : Chunk) (o : Seen) → In (chunks_of ks) k → In k.objects o → o.at.chunk ≡ k.number
+pub inside_from : (ks : List Content) (k : Chunk) (o : Located) → In (chunks_of ks) k → In k.objects o → o.at.chunk ≡ k.number
 inside_from ks k o i j =
     let c = content_of ks k i in
-    let f = seen_cell c.0.cells c.0.number 0 o (subst (λ (z : Chunk). In z.objects o) (sym c.2) j) in
-    ap (λ (z : Seen). z.at.chunk) f.is ∙ ap (λ (z : Chunk). z.number) c.2
+    numbered c.0.number 0 c.0.cells o (subst (λ (z : Chunk). In z.objects o) (sym c.2) j) ∙ ap (λ (z : Chunk). z.number) c.2
 
 -- ---- THE RESERVED CHUNK
 
@@ -141,7 +141,7 @@ module _ (h : Heap) (F : Formed h) where
   abbrev ks : List Content
   ks = h.chunks
 
-  apart_from : (o q : Seen) → In (objects_in (chunks_of ks)) o → In (objects_in (chunks_of ks)) q → (o ≡ q) ⊎ AreApart o q
+  apart_from : (o q : Located) → In (objects_in (chunks_of ks)) o → In (objects_in (chunks_of ks)) q → (o ≡ q) ⊎ AreApart o q
   apart_from o q i j =
       let a = in_chunk (chunks_of ks) o i in
       let b = in_chunk (chunks_of ks) q j in
@@ -154,7 +154,7 @@ module _ (h : Heap) (F : Formed h) where
         | inr ne ↦ inr (inl (λ e. ne (ap (λ (z : Chunk). z.number) c.2 ∙ (sym (inside_from ks a.0 o a.1 a.2) ∙ (e ∙ (inside_from ks b.0 q b.1 b.2 ∙ ap (λ (z : Chunk). z.number) (sym d.2)))))))
       ]
 
-  within_from : (k : Chunk) (o : Seen) → In (chunks_of ks) k → In k.objects o → o.at.offset + words o ≤ 1024 * k.units
+  within_from : (k : Chunk) (o : Located) → In (chunks_of ks) k → In k.objects o → o.at.offset + words o ≤ 1024 * k.units
   within_from k o i j =
       let c = content_of ks k i in
       let p = place_there ks c.0 c.1 in

@@ -8,36 +8,37 @@ use Rattle.run_ledger.specs.Heaps.{heap_of, small_in, words_at, words_in, words_
 use Rattle.object_layout.specs.Cell.{Born, Cell, Hole, Mark, Moved, moved_to, size_of}
 use Rattle.object_layout.specs.Chunks.{held_in, held_size, held_words}
 use Rattle.object_layout.specs.Content.{Content}
+use Rattle.object_layout.specs.Objects.{Located, located, located_by, objects_from}
 use Rattle.alloc_path.specs.Heap.{AreTidy}
 use Rattle.ledger_steps.specs.Accounts.{Rests}
 use Rattle.core_relation.specs.Stands.{HomeStands, Stands, large_chunks, names_of, small_chunks}
-use Rattle.core_relation.specs.Value.{Chunk, In, Seen, Value, objects, objects_in}
+use Rattle.core_relation.specs.Value.{Chunk, In, Value, object_name, objects, objects_in}
 use Rattle.core_relation.proofs.objects.Members.{in_map, in_objects}
 use Rattle.task_machine.specs.Accounts.{large_names, named_by, names_in, small_lists}
 use Rattle.task_machine.specs.Place.{name_of}
-use Rattle.shared_value.specs.Objects.{chunk_of, chunks_of, objects_from, seen, seen_by}
+use Rattle.shared_value.specs.Objects.{chunk_of, chunks_of}
 use Rattle.shared_value.proofs.CellsRead.{behind}
 use Rattle.shared_value.proofs.HeapCounts.{large_are, small_names}
 use Rattle.shared_value.proofs.FreeChunks.{refs_long}
 use Rattle.shared_value.proofs.SmallWords.{SameWords}
 
 module _ (m : State) where
-  cells : (cs : List Cell) (number base : ℕ) → All (λ c. moved_to c.mark ≡ None) cs → ((o : Seen) → In (objects_from number base cs) o → SameWords m o) → words_sum m (names_in cs) ≡ held_in cs
+  cells : (cs : List Cell) (number base : ℕ) → All (λ c. moved_to c.mark ≡ None) cs → ((o : Located) → In (objects_from number base cs) o → SameWords m o) → words_sum m (names_in cs) ≡ held_in cs
   cells [] number base tidy same = refl
   cells (c ∷ cs) number base tidy same =
       by c.mark refl same (tidy 0 c (omega arith))
       (cells cs number (base + size_of c) (λ i d lt. tidy (suc i) d (omega (arith, lt))) (λ o i. same o (behind number base c c.mark (objects_from number (base + size_of c) cs) o i)))
     where
-      by : (k : Mark) → c.mark ≡ k → ((o : Seen) → In (seen_by number base c k (objects_from number (base + size_of c) cs)) o → SameWords m o) → moved_to k ≡ None → words_sum m (names_in cs) ≡ held_in cs
+      by : (k : Mark) → c.mark ≡ k → ((o : Located) → In (located_by number base c k (objects_from number (base + size_of c) cs)) o → SameWords m o) → moved_to k ≡ None → words_sum m (names_in cs) ≡ held_in cs
           → words_sum m (named_by k (names_in cs)) ≡ held_size k (size_of c) + held_in cs
       by (Born b) e same t go =
-          let own : words_at m (name_of b) ≡ size_of c = same (seen number base b c) (inl refl) ∙ omega arith in
+          let own : words_at m (name_of b) ≡ size_of c = same (located number base b c) (inl refl) ∙ omega arith in
           sum_by-cons (words_at m) (name_of b) (names_in cs) ∙ ap₂ (λ x y. x + y) own go
       by (Moved to) e same t go = absurd cc
       by Hole e same t go = omega (arith, go)
 
   -- of small chunks and of large ones
-  pub all_counted : (ks : List Content) → AreTidy ks → ((k : Content) (o : Seen) → In ks k → In (chunk_of k).objects o → SameWords m o)
+  pub all_counted : (ks : List Content) → AreTidy ks → ((k : Content) (o : Located) → In ks k → In (chunk_of k).objects o → SameWords m o)
       → words_sum m (flat_map (λ ns. ns) (small_lists ks)) + words_sum m (large_names ks) ≡ held_words ks
   all_counted [] tidy same = refl
   all_counted (k ∷ ks) tidy same =
@@ -60,7 +61,7 @@ module _ (v : Value) (l : Ledger) (t : ℕ) (ks : List Content) (V : Stands v l)
   H = V.homes t rests
 
   -- each object has as many words as the machine's of its name
-  pub words_same : (o : Seen) → In (objects v t) o → SameWords l.machine o
+  pub words_same : (o : Located) → In (objects v t) o → SameWords l.machine o
   words_same o i =
       let c = V.contents t o rests i in
       ap words_of c.1 ∙ ap₂ (λ a b. 2 + a + b) (sym (refs_long _ o.refs c.0.refs c.2.refs)) (ap length (sym c.2.ints))
@@ -69,7 +70,7 @@ module _ (v : Value) (l : Ledger) (t : ℕ) (ks : List Content) (V : Stands v l)
   small_are = sym (small_names ks) ∙ (ap (λ (cs : List Chunk). map names_of (small_chunks cs)) (sym here) ∙ H.names.small)
 
   pub large_ones : large_names ks ≡ (heap_of l t).large
-  large_ones = sym (large_are ks) ∙ (ap (λ (cs : List Chunk). map (λ (o : Seen). o.name) (objects_in (large_chunks cs))) (sym here) ∙ H.names.large)
+  large_ones = sym (large_are ks) ∙ (ap (λ (cs : List Chunk). map object_name (objects_in (large_chunks cs))) (sym here) ∙ H.names.large)
 
   -- ITS WORDS are those of the names that it holds
   pub words_are : AreTidy ks → words_in l.machine (heap_of l t) ≡ held_words ks

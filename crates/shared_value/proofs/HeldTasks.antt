@@ -11,11 +11,12 @@ use Rattle.run_ledger.specs.declared.data.Ledger.{Ledger}
 use Rattle.run_ledger.specs.Heaps.{heap_of}
 use Rattle.run_ledger.specs.Sound.{SoundLedger}
 use Rattle.object_layout.specs.declared.word.Addr.{Addr}
+use Rattle.object_layout.specs.Objects.{Located}
 use Rattle.ledger_steps.specs.Accounts.{Rests, own}
 use Rattle.ledger_steps.proofs.Rested.{rested_worker}
 use Rattle.ledger_steps.specs.Accounts.{StepsAlone}
 use Rattle.task_machine.specs.declared.part.Begun.{Begun}
-use Rattle.core_relation.specs.Value.{Home, In, Lies, Seen, Value, objects, objects_in, shown_at}
+use Rattle.core_relation.specs.Value.{Home, In, Lies, Value, objects, objects_in, shown_at}
 use Rattle.core_relation.specs.Reads.{TaskIsRead}
 use Rattle.core_relation.specs.Stands.{Place, Stands}
 use Rattle.core_relation.specs.Begins.{IsReachedAt}
@@ -42,10 +43,10 @@ module _ (v : Value) (hs : ℕ → Home) (l : Ledger) (same : (u : ℕ) → Rest
   place : (n : Name) (a : Addr) → Place v l n a → Place v' l n a
   place n a p = record { chunk = p.chunk; here = λ r. subst (λ (h : Home). Lies h.chunks n a) (sym (same (own l n) r)) (p.here r) }
 
-  was : (u : ℕ) (o : Seen) → Rests l u → In (objects v' u) o → In (objects v u) o
+  was : (u : ℕ) (o : Located) → Rests l u → In (objects v' u) o → In (objects v u) o
   was u o r i = subst (λ (h : Home). In (objects_in h.chunks) o) (same u r) i
 
-  is : (u : ℕ) (o : Seen) → Rests l u → In (objects v u) o → In (objects v' u) o
+  is : (u : ℕ) (o : Located) → Rests l u → In (objects v u) o → In (objects v' u) o
   is u o r i = subst (λ (h : Home). In (objects_in h.chunks) o) (sym (same u r)) i
 
   pub stands_held : Stands v l → Stands v' l

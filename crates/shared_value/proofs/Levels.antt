@@ -10,23 +10,24 @@ use Rattle.object_layout.specs.declared.word.Birth.{Birth}
 use Rattle.object_layout.specs.Cell.{Born, Cell, Hole, Mark, Moved, size_of}
 use Rattle.object_layout.specs.Content.{Content}
 use Rattle.object_layout.specs.Piece.{Frozen, frozen_at, frozen_from, frozen_of, lasts}
+use Rattle.object_layout.specs.Objects.{Located, located, located_by, objects_from}
 use Rattle.alloc_path.specs.View.{Level, level_of, nearest, piece_in}
 use Rattle.alloc_path.specs.View.{seen_at as view_at, seen_in as view_in}
-use Rattle.core_relation.specs.Value.{Chunk, Seen, chunk_of as chunk_among, frozen_chunk, frozen_chunks, is_at, seen_at, seen_in, shown_at}
-use Rattle.shared_value.specs.Objects.{birth_in, chunk_of, chunks_of, levels_of, objects_from, seen, seen_by, shown, shown_chunk}
+use Rattle.core_relation.specs.Value.{Chunk, chunk_of as chunk_among, frozen_chunk, frozen_chunks, is_at, seen_at, seen_in, shown_at}
+use Rattle.shared_value.specs.Objects.{birth_in, chunk_of, chunks_of, levels_of, shown, shown_chunk}
 
 -- ---- THE LEVEL OF A HEAP
 
-abbrev kept : List Seen → List Seen
+abbrev kept : List Located → List Located
 kept os = filter (λ o. not o.mutable) os
 
-module _ (n at : ℕ) (c : Cell) (fs : List (ℕ × Cell)) (os : List Seen) (more : map (shown n) fs ≡ kept os) where
-  born : (b : Birth) → c.mark ≡ Born b → (x : Bool) → c.mutable ≡ x → map (shown n) (cond (not x) ((at, c) ∷ fs) fs) ≡ kept (seen n at b c ∷ os)
-  born b e true m = more ∙ sym (cond-false (not c.mutable) (seen n at b c ∷ kept os) (kept os) (ap not m))
+module _ (n at : ℕ) (c : Cell) (fs : List (ℕ × Cell)) (os : List Located) (more : map (shown n) fs ≡ kept os) where
+  born : (b : Birth) → c.mark ≡ Born b → (x : Bool) → c.mutable ≡ x → map (shown n) (cond (not x) ((at, c) ∷ fs) fs) ≡ kept (located n at b c ∷ os)
+  born b e true m = more ∙ sym (cond-false (not c.mutable) (located n at b c ∷ kept os) (kept os) (ap not m))
   born b e false m =
-      ap₂ (λ (y : Seen) ys. y ∷ ys) (ap (λ k. seen n at (birth_in k) c) e) more ∙ sym (cond-true (not c.mutable) (seen n at b c ∷ kept os) (kept os) (ap not m))
+      ap₂ (λ (y : Located) ys. y ∷ ys) (ap (λ k. located n at (birth_in k) c) e) more ∙ sym (cond-true (not c.mutable) (located n at b c ∷ kept os) (kept os) (ap not m))
 
-  one_more : (k : Mark) → c.mark ≡ k → map (shown n) (cond (lasts k c.mutable) ((at, c) ∷ fs) fs) ≡ kept (seen_by n at c k os)
+  one_more : (k : Mark) → c.mark ≡ k → map (shown n) (cond (lasts k c.mutable) ((at, c) ∷ fs) fs) ≡ kept (located_by n at c k os)
   one_more (Born b) e = born b e c.mutable refl
   one_more (Moved to) e = more
   one_more Hole e = more
@@ -59,16 +60,16 @@ number_found n (g ∷ gs) f e = by (g.number == n) refl e (number_found n gs f)
     by false q h more = more h
 
 -- an object of a view, at an address
-abbrev pub shown_there : Addr → Cell → Seen
+abbrev pub shown_there : Addr → Cell → Located
 shown_there a c = shown a.chunk (a.offset, c)
 
-module _ (n : ℕ) (a : Addr) (e : n ≡ a.chunk) (o : ℕ × Cell) (seen_then : Option Seen) (then_ : Option Cell) (more : seen_then ≡ option_map (shown_there a) then_) where
+module _ (n : ℕ) (a : Addr) (e : n ≡ a.chunk) (o : ℕ × Cell) (seen_then : Option Located) (then_ : Option Cell) (more : seen_then ≡ option_map (shown_there a) then_) where
   same_chunk : (x b : Bool) → x ≡ true → cond (x && b) (Some (shown n o)) seen_then ≡ cond b (Some (shown n o)) seen_then
   same_chunk true b q = refl
   same_chunk false b q = absurd (false≢true q)
 
   one_found : (b : Bool) → (o.0 == a.offset) ≡ b → cond b (Some (shown n o)) seen_then ≡ option_map (shown_there a) (cond b (Some o.1) then_)
-  one_found true q = ap₂ (λ m k. Some (seen m k (birth_in o.1.mark) o.1)) e (eqb-true o.0 a.offset q)
+  one_found true q = ap₂ (λ m k. Some (located m k (birth_in o.1.mark) o.1)) e (eqb-true o.0 a.offset q)
   one_found false q = more
 
 object_found : (n : ℕ) (a : Addr) (os : List (ℕ × Cell)) → n ≡ a.chunk → seen_at (map (shown n) os) a ≡ option_map (shown_there a) (frozen_at os a.offset)

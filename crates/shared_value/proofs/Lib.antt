@@ -21,7 +21,6 @@ pub mod CellsRead
 pub mod Levels
 pub mod PartFitsMachine
 pub mod OutlineKept
-pub mod CellsChanged
 pub mod NextStepAsks
 pub mod CollectionUnderWay
 pub mod FreeChunks

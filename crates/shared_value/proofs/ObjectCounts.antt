@@ -1,23 +1,20 @@
 -- The objects that are read of chunks: their names, and how many there are.
 use Rattle.std.proofs.Common.{◌≡◌, ℕ, ◌+◌, ◌++◌, arith, None, List, [], ◌∷◌, All, length, length-append, refl}
 use Rattle.std.proofs.lemmas.List.Elements.{All-head, All-tail}
-use Rattle.hh_model.specs.declared.data.Name.{Name}
 use Rattle.object_layout.specs.Cell.{Born, Cell, Hole, Mark, Moved, moved_to, size_of}
 use Rattle.object_layout.specs.Chunks.{held_size, object_count, one_each, sum_in}
 use Rattle.object_layout.specs.Content.{Content}
+use Rattle.object_layout.specs.Objects.{located_by, objects_from}
 use Rattle.alloc_path.specs.Heap.{AreTidy, IsTidy}
-use Rattle.core_relation.specs.Value.{Seen, objects_in}
-use Rattle.shared_value.specs.Objects.{chunk_of, chunks_of, objects_from, seen_by}
-
-abbrev pub name_in : Seen → Name
-name_in o = o.name
+use Rattle.core_relation.specs.Value.{objects_in}
+use Rattle.shared_value.specs.Objects.{chunk_of, chunks_of}
 
 -- AS MANY OBJECTS are counted as are read
 cells_counted : (cs : List Cell) (number at : ℕ) → All (λ c. moved_to c.mark ≡ None) cs → sum_in one_each cs ≡ length (objects_from number at cs)
 cells_counted [] number at t = refl
 cells_counted (c ∷ cs) number at t = by c.mark (All-head (λ (d : Cell). moved_to d.mark ≡ None) c cs t) (cells_counted cs number (at + size_of c) (All-tail (λ (d : Cell). moved_to d.mark ≡ None) c cs t))
   where
-    by : (m : Mark) → moved_to m ≡ None → sum_in one_each cs ≡ length (objects_from number (at + size_of c) cs) → held_size m 1 + sum_in one_each cs ≡ length (seen_by number at c m (objects_from number (at + size_of c) cs))
+    by : (m : Mark) → moved_to m ≡ None → sum_in one_each cs ≡ length (objects_from number (at + size_of c) cs) → held_size m 1 + sum_in one_each cs ≡ length (located_by number at c m (objects_from number (at + size_of c) cs))
     by (Born b) e go = omega (arith, go)
     by (Moved to) e go = absurd cc
     by Hole e go = omega (arith, go)

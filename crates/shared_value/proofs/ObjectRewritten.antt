@@ -1,6 +1,6 @@
 -- An object of a heap is written: what is read of the heap then, and that it keeps its form.
 use Rattle.std.proofs.Common.{◌≡◌, ℕ, ◌+◌, ◌-◌, ◌*◌, ◌/◌, ◌<◌, ◌≤◌, ◌==◌, arith, Bool, true, false, cond, Option, Some, None, List, [], ◌∷◌, All, length, map, inl, inr, refl, ap, ap₂, sym, subst, ◌∙◌, eq-eqb}
-use Rattle.std.proofs.lemmas.Bool.{eqb-true, false≢true}
+use Rattle.std.proofs.lemmas.Bool.{cond-true, eqb-true, false≢true}
 use Rattle.std.proofs.lemmas.List.{length-map}
 use Rattle.std.proofs.lemmas.List.Elements.{All-cons, All-head, All-nil, All-tail}
 use Rattle.object_layout.specs.declared.word.Addr.{Addr}
@@ -8,25 +8,26 @@ use Rattle.object_layout.specs.Cell.{Born, Cell, Hole, Mark, Moved, moved_to, si
 use Rattle.object_layout.specs.Chunks.{cell_of, chunk_at, put_object, with_cell}
 use Rattle.object_layout.specs.Content.{Content}
 use Rattle.object_layout.specs.Place.{cell_at, words_in}
+use Rattle.object_layout.specs.Objects.{Located, changed_at, located_by, objects_from, objects_of, with_fields}
 use Rattle.object_layout.proofs.ChunkLaws.{length-put}
+use Rattle.object_layout.proofs.ObjectChanges.{put_changes_one}
 use Rattle.alloc_path.specs.Heap.{AreApart, Heap, IsTidy, room_at, room_of, units}
-use Rattle.core_relation.specs.Value.{Chunk, In, Seen, is_at, mapped_chunk, objects_in, put_at}
+use Rattle.core_relation.specs.Value.{Chunk, In, is_at, mapped_chunk, objects_in, put_at}
 use Rattle.core_relation.proofs.objects.Members.{in_chunk, in_map, map_in, in_objects}
 use Rattle.core_relation.proofs.changes.Write.{at_is}
 use Rattle.task_machine.specs.Accounts.{IsLastLarge, IsLastSmall}
 use Rattle.task_machine.specs.Outline.{outline_of_cell, outline_of_chunk}
 use Rattle.task_machine.proofs.Outlines.{outline_at, written_outline}
 use Rattle.task_machine.proofs.Written.{shape_written}
-use Rattle.shared_value.specs.Objects.{AreNear, chunk_of, chunks_of, objects_from, seen_by}
+use Rattle.shared_value.specs.Objects.{AreNear, chunk_of, chunks_of}
 use Rattle.shared_value.specs.Stands.{HeapForm}
-use Rattle.shared_value.proofs.CellsChanged.{objects_put, with_fields}
-use Rattle.shared_value.proofs.CellsRead.{fresh_off}
+use Rattle.shared_value.proofs.CellsRead.{fresh_off, numbered}
 use Rattle.shared_value.proofs.OutlineKept.{outline_size}
 
 -- ---- WHAT IS READ
 
 -- objects that lie elsewhere stay
-pub elsewhere : (a : Addr) (f : Seen → Seen) (os : List Seen) → ((o : Seen) → In os o → o.at ≡ a → ⊥) → map (put_at a f) os ≡ os
+pub elsewhere : (a : Addr) (f : Located → Located) (os : List Located) → ((o : Located) → In os o → o.at ≡ a → ⊥) → map (put_at a f) os ≡ os
 elsewhere a f [] h = refl
 elsewhere a f (o ∷ os) h = ap₂ (λ x xs. x ∷ xs) (by (is_at a o) refl) (elsewhere a f os (λ q i. h q (inr i)))
   where
@@ -35,14 +36,14 @@ elsewhere a f (o ∷ os) h = ap₂ (λ x xs. x ∷ xs) (by (is_at a o) refl) (el
     by false e = refl
 
 -- and those of other chunks, whole
-pub chunks_elsewhere : (a : Addr) (f : Seen → Seen) (ks : List Chunk) → ((o : Seen) → In (objects_in ks) o → o.at ≡ a → ⊥) → map (mapped_chunk (put_at a f)) ks ≡ ks
+pub chunks_elsewhere : (a : Addr) (f : Located → Located) (ks : List Chunk) → ((o : Located) → In (objects_in ks) o → o.at ≡ a → ⊥) → map (mapped_chunk (put_at a f)) ks ≡ ks
 chunks_elsewhere a f [] h = refl
 chunks_elsewhere a f (k ∷ ks) h =
     ap₂ (λ x xs. record k { objects = x } ∷ xs) (elsewhere a f k.objects (λ o i. h o (in_objects (k ∷ ks) k o (inl refl) i)))
     (chunks_elsewhere a f ks (λ o i. let c = in_chunk ks o i in h o (in_objects (k ∷ ks) c.0 o (inr c.1) c.2)))
 
 -- two changes that are the same at the object
-pub put_same : (a : Addr) (f g : Seen → Seen) (os : List Seen) → ((o : Seen) → In os o → o.at ≡ a → f o ≡ g o) → map (put_at a f) os ≡ map (put_at a g) os
+pub put_same : (a : Addr) (f g : Located → Located) (os : List Located) → ((o : Located) → In os o → o.at ≡ a → f o ≡ g o) → map (put_at a f) os ≡ map (put_at a g) os
 put_same a f g [] h = refl
 put_same a f g (o ∷ os) h = ap₂ (λ x xs. x ∷ xs) (by (is_at a o) refl) (put_same a f g os (λ q i. h q (inr i)))
   where
@@ -50,24 +51,25 @@ put_same a f g (o ∷ os) h = ap₂ (λ x xs. x ∷ xs) (by (is_at a o) refl) (p
     by true e = h o (inl refl) (at_is a o e)
     by false e = refl
 
-pub chunks_same : (a : Addr) (f g : Seen → Seen) (ks : List Chunk) → ((o : Seen) → In (objects_in ks) o → o.at ≡ a → f o ≡ g o) → map (mapped_chunk (put_at a f)) ks ≡ map (mapped_chunk (put_at a g)) ks
+pub chunks_same : (a : Addr) (f g : Located → Located) (ks : List Chunk) → ((o : Located) → In (objects_in ks) o → o.at ≡ a → f o ≡ g o) → map (mapped_chunk (put_at a f)) ks ≡ map (mapped_chunk (put_at a g)) ks
 chunks_same a f g [] h = refl
 chunks_same a f g (k ∷ ks) h =
     ap₂ (λ x xs. record k { objects = x } ∷ xs) (put_same a f g k.objects (λ o i. h o (in_objects (k ∷ ks) k o (inl refl) i)))
     (chunks_same a f g ks (λ o i. let c = in_chunk ks o i in h o (in_objects (k ∷ ks) c.0 o (inr c.1) c.2)))
 
--- the objects of a chunk bear its number
-number_by : (number at : ℕ) (c : Cell) (m : Mark) (os : List Seen) → ((o : Seen) → In os o → o.at.chunk ≡ number) → (o : Seen) → In (seen_by number at c m os) o → o.at.chunk ≡ number
-number_by number at c (Born b) os h o (inl e) = ap (λ (z : Seen). z.at.chunk) (sym e)
-number_by number at c (Born b) os h o (inr i) = h o i
-number_by number at c (Moved to) os h o i = h o i
-number_by number at c Hole os h o i = h o i
-
-numbered : (number base : ℕ) (cs : List Cell) (o : Seen) → In (objects_from number base cs) o → o.at.chunk ≡ number
-numbered number base [] o i = absurd i
-numbered number base (c ∷ cs) o i = number_by number base c c.mark (objects_from number (base + size_of c) cs) (numbered number (base + size_of c) cs) o i
-
 -- A CELL OF THE SAME MARK AND SIZE is put: the object there has its fields
+objects_put : (k : Content) (a : Addr) (d : Cell) → (k.number == a.chunk) ≡ true → (cell_at k.cells a.offset).mark ≡ d.mark → size_of (cell_at k.cells a.offset) ≡ size_of d
+    → objects_of (with_cell k a.offset d) ≡ map (put_at a (with_fields d)) (objects_of k)
+objects_put k a d e em es =
+    let cell : cell_of (k ∷ []) a ≡ cell_at k.cells a.offset = cond-true (k.number == a.chunk) (cell_at k.cells a.offset) (cell_of [] a) e in
+    let put : put_object (k ∷ []) a d ≡ with_cell k a.offset d ∷ [] = cond-true (k.number == a.chunk) (with_cell k a.offset d ∷ []) (k ∷ []) e in
+    let all : objects_of (with_cell k a.offset d) ∷ [] ≡ map (changed_at a d) (objects_of k) ∷ [] =
+    ap (map objects_of) (sym put) ∙ put_changes_one (k ∷ []) a d (refl, tt) (ap (λ (c : Cell). c.mark) cell ∙ em) (ap size_of cell ∙ es) in
+    first_is (objects_of (with_cell k a.offset d)) (map (changed_at a d) (objects_of k)) all
+  where
+    first_is : (os qs : List Located) → os ∷ [] ≡ qs ∷ [] → os ≡ qs
+    first_is os qs q = cc
+
 pub chunks_put : (ks : List Content) (a : Addr) (d : Cell) → AreApart ks → (cell_of ks a).mark ≡ d.mark → size_of (cell_of ks a) ≡ size_of d → chunks_of (put_object ks a d) ≡ map (mapped_chunk (put_at a (with_fields d))) (chunks_of ks)
 chunks_put [] a d A em es = refl
 chunks_put (k ∷ ks) a d A em es = by (k.number == a.chunk) refl em es (chunks_put ks a d A.1)
@@ -78,7 +80,7 @@ chunks_put (k ∷ ks) a d A em es = by (k.number == a.chunk) refl em es (chunks_
     by true e m z go =
         let n : k.number ≡ a.chunk = eqb-true k.number a.chunk e in
         ap₂ (λ x xs. record (chunk_of k) { objects = x } ∷ xs)
-        (objects_put k.cells k.number 0 a.offset a d (ap₂ (λ x y. let r : Addr = record { chunk = x; offset = y } in r) (sym n) (let q : a.offset ≡ 0 + a.offset = omega arith in q)) m z)
+        (objects_put k a d e m z)
         (sym (chunks_elsewhere a (with_fields d) (chunks_of ks) (λ o i at.
         let c = in_chunk (chunks_of ks) o i in
         let j = map_in chunk_of ks c.0 c.1 in
@@ -124,8 +126,8 @@ none_too number base base' (c ∷ cs) (d ∷ ds) e h =
     by c.mark d.mark (same_mark c d (let q : outline_of_cell c ≡ outline_of_cell d = cc in q)) h
     (none_too number (base + size_of c) (base' + size_of d) cs ds (let q : map outline_of_cell cs ≡ map outline_of_cell ds = cc in q))
   where
-    by : (m n : Mark) → m ≡ n → seen_by number base c m (objects_from number (base + size_of c) cs) ≡ []
-        → (objects_from number (base + size_of c) cs ≡ [] → objects_from number (base' + size_of d) ds ≡ []) → seen_by number base' d n (objects_from number (base' + size_of d) ds) ≡ []
+    by : (m n : Mark) → m ≡ n → located_by number base c m (objects_from number (base + size_of c) cs) ≡ []
+        → (objects_from number (base + size_of c) cs ≡ [] → objects_from number (base' + size_of d) ds ≡ []) → located_by number base' d n (objects_from number (base' + size_of d) ds) ≡ []
     by (Born b) n q g go = absurd cc
     by (Moved to) (Born b) q g go = absurd cc
     by (Moved to) (Moved z) q g go = go g
@@ -176,9 +178,9 @@ module _ (h : Heap) (a : Addr) (d : Cell) (form : HeapForm h) (mark : d.mark ≡
       let c = in_chunk (map (mapped_chunk (put_at a (with_fields d))) (chunks_of h.chunks)) o j in
       let k = map_in (mapped_chunk (put_at a (with_fields d))) (chunks_of h.chunks) c.0 c.1 in
       let q = map_in (put_at a (with_fields d)) k.0.objects o (subst (λ (z : Chunk). In z.objects o) (sym k.2) c.2) in
-      subst (λ (z : Addr). z.offset < 1024) (by q.0 (is_at a q.0) ∙ ap (λ (z : Seen). z.at) q.2) (form.near q.0 (in_objects (chunks_of h.chunks) k.0 q.0 k.1 q.1))
+      subst (λ (z : Addr). z.offset < 1024) (by q.0 (is_at a q.0) ∙ ap (λ (z : Located). z.at) q.2) (form.near q.0 (in_objects (chunks_of h.chunks) k.0 q.0 k.1 q.1))
     where
-      by : (q : Seen) (b : Bool) → q.at ≡ (cond b (with_fields d q) q).at
+      by : (q : Located) (b : Bool) → q.at ≡ (cond b (with_fields d q) q).at
       by q true = refl
       by q false = refl
 

@@ -34,6 +34,7 @@ use Rattle.object_layout.specs.declared.word.Birth.{Birth}
 use Rattle.object_layout.specs.Cell.{Born, Cell}
 use Rattle.object_layout.specs.Chunks.{cell_of, place_in, place_of}
 use Rattle.object_layout.specs.Content.{Content}
+use Rattle.object_layout.specs.Objects.{Located, located}
 use Rattle.alloc_path.specs.View.{seen_at}
 use Rattle.task_frames.specs.declared.frames.Frame.{Frame}
 use Rattle.ledger_steps.specs.Accounts.{Rests, own}
@@ -43,7 +44,7 @@ use Rattle.ledger_steps.proofs.Ahead.{with_machine}
 use Rattle.ledger_steps.proofs.Rested.{rested_worker}
 use Rattle.ledger_steps.proofs.Known.{legal_knows}
 use Rattle.ledger_steps.proofs.Tree.{leaf_alone}
-use Rattle.core_relation.specs.Value.{Chunk, Home, In, Lies, Seen, Value, as_shown, objects, objects_in, shown_at}
+use Rattle.core_relation.specs.Value.{Chunk, Home, In, Lies, Value, as_shown, object_name, objects, objects_in, shown_at}
 use Rattle.core_relation.specs.Reads.{AllRead, FrameIsRead, FramesAreRead, HoldsRead, IsRead, Reads, TaskIsRead}
 use Rattle.core_relation.specs.Stands.{HomeStands, Place, Stands}
 use Rattle.core_relation.specs.Fits.{FitsAt as FitsValue, ahead, with_home}
@@ -58,7 +59,7 @@ use Rattle.core_relation.proofs.parts.Quiet.{aside_is}
 use Rattle.task_machine.specs.declared.part.Private.{Private}
 use Rattle.task_machine.specs.Place.{AreAt, FrameStands, FramesStand, IsAt, birth_of, name_of}
 use Rattle.task_machine.specs.Fits.{FitsNow as FitsMachine, HeapStands, IsOwn, IsRun, IsShownBy, StackStands}
-use Rattle.shared_value.specs.Objects.{chunk_of, seen}
+use Rattle.shared_value.specs.Objects.{chunk_of}
 use Rattle.shared_value.specs.World.{World, accounts, frames_of, rest_at, value_of, home_in, home_by}
 use Rattle.shared_value.specs.declared.task_at_rest.Rest.{Rest}
 use Rattle.shared_value.specs.declared.task_at_rest.Work.{Work}
@@ -73,36 +74,36 @@ use Rattle.shared_value.proofs.StepAccounts.{After, after_all, hold_same}
 
 -- ---- LOOKING NAMES UP
 
-pub record IsFound (os : List Seen) (n : Name) (a : Addr) : Type 0 where
-  pub object : Seen
+pub record IsFound (os : List Located) (n : Name) (a : Addr) : Type 0 where
+  pub object : Located
   pub there : In os object
-  pub name : object.name ≡ n
+  pub name : object_name object ≡ n
   pub at : object.at ≡ a
 
-pub found_is : (os : List Seen) (n : Name) (a : Addr) → find_at os n ≡ Some a → IsFound os n a
+pub found_is : (os : List Located) (n : Name) (a : Addr) → find_at os n ≡ Some a → IsFound os n a
 found_is [] n a e = absurd cc
-found_is (o ∷ os) n a e = by (is_name o.name n) refl e (found_is os n a)
+found_is (o ∷ os) n a e = by (is_name (object_name o) n) refl e (found_is os n a)
   where
-    by : (b : Bool) → is_name o.name n ≡ b → cond b (Some o.at) (find_at os n) ≡ Some a → (find_at os n ≡ Some a → IsFound os n a) → IsFound (o ∷ os) n a
-    by true q h go = record { object = o; there = inl refl; name = same_from_is_name o.name n q; at = same_Some o.at a h }
+    by : (b : Bool) → is_name (object_name o) n ≡ b → cond b (Some o.at) (find_at os n) ≡ Some a → (find_at os n ≡ Some a → IsFound os n a) → IsFound (o ∷ os) n a
+    by true q h go = record { object = o; there = inl refl; name = same_from_is_name (object_name o) n q; at = same_Some o.at a h }
     by false q h go = let f = go h in record { object = f.object; there = inr f.there; name = f.name; at = f.at }
 
-found_some : (os : List Seen) (o : Seen) → In os o → (q : Seen) × In os q × (q.name ≡ o.name) × (find_at os o.name ≡ Some q.at)
+found_some : (os : List Located) (o : Located) → In os o → (q : Located) × In os q × (object_name q ≡ object_name o) × (find_at os (object_name o) ≡ Some q.at)
 found_some [] o i = absurd i
-found_some (y ∷ os) o i = by (is_name y.name o.name) refl i (found_some os o)
+found_some (y ∷ os) o i = by (is_name (object_name y) (object_name o)) refl i (found_some os o)
   where
-    by : (b : Bool) → is_name y.name o.name ≡ b → (y ≡ o) ⊎ In os o → (In os o → (q : Seen) × In os q × (q.name ≡ o.name) × (find_at os o.name ≡ Some q.at))
-        → (q : Seen) × In (y ∷ os) q × (q.name ≡ o.name) × (cond b (Some y.at) (find_at os o.name) ≡ Some q.at)
-    by true e j go = (y, inl refl, same_from_is_name y.name o.name e, refl)
-    by false e (inl q) go = absurd (false≢true (sym e ∙ (ap (λ (z : Seen). is_name y.name z.name) (sym q) ∙ is_name_itself y.name)))
+    by : (b : Bool) → is_name (object_name y) (object_name o) ≡ b → (y ≡ o) ⊎ In os o → (In os o → (q : Located) × In os q × (object_name q ≡ object_name o) × (find_at os (object_name o) ≡ Some q.at))
+        → (q : Located) × In (y ∷ os) q × (object_name q ≡ object_name o) × (cond b (Some y.at) (find_at os (object_name o)) ≡ Some q.at)
+    by true e j go = (y, inl refl, same_from_is_name (object_name y) (object_name o) e, refl)
+    by false e (inl q) go = absurd (false≢true (sym e ∙ (ap (λ (z : Located). is_name (object_name y) (object_name z)) (sym q) ∙ is_name_itself (object_name y))))
     by false e (inr j) go = let r = go j in (r.0, inr r.1, r.2, r.3)
 
 -- where a name lies it is found
-found_at : (ks : List Chunk) (n : Name) (a : Addr) → ((o q : Seen) → In (objects_in ks) o → In (objects_in ks) q → o.name ≡ q.name → o ≡ q) → Lies ks n a → find_at (objects_in ks) n ≡ Some a
+found_at : (ks : List Chunk) (n : Name) (a : Addr) → ((o q : Located) → In (objects_in ks) o → In (objects_in ks) q → object_name o ≡ object_name q → o ≡ q) → Lies ks n a → find_at (objects_in ks) n ≡ Some a
 found_at ks n a named y =
     let f = found_some (objects_in ks) y.0 y.1 in
     let same : f.0 ≡ y.0 = named f.0 y.0 f.1 y.1 f.2 in
-    ap (find_at (objects_in ks)) (sym y.2.name) ∙ (f.3 ∙ ap Some (ap (λ (z : Seen). z.at) same ∙ y.2.at))
+    ap (find_at (objects_in ks)) (sym y.2.name) ∙ (f.3 ∙ ap Some (ap (λ (z : Located). z.at) same ∙ y.2.at))
 
 pub placed_in : (ks : List Content) (number i : ℕ) → place_in ks number ≡ Some i → (k : Content) × In ks k × (k.number ≡ number)
 placed_in ks number i e = at ks (lt (nat_lt (place_of ks number) (length ks)) refl e)
@@ -158,7 +159,7 @@ limit_from p (t ∷ ts) m K = limit_from p ts (step p m t) (step_kept p m t K) �
 
 -- ---- THE LINK
 
-rest_near : (o : Option Rest) → ((r : Rest) → o ≡ Some r → HeapForm r.heap) → (q : Seen) → In (objects_in (home_in o).chunks) q → q.at.offset < 1024
+rest_near : (o : Option Rest) → ((r : Rest) → o ≡ Some r → HeapForm r.heap) → (q : Located) → In (objects_in (home_in o).chunks) q → q.at.offset < 1024
 rest_near None h q i = absurd i
 rest_near (Some r) h q i = by r.work i
   where
@@ -293,13 +294,13 @@ module _ (w : World) (k : ℕ) (p : Private) (I : IsWorld w) (F : Fits w k p) (o
       by false q (Some u) r g = absurd cc
       by false q None r g = ((λ z. false≢true (sym q ∙ eq-eqb (own l n) t z)), r, g)
 
-  named_here : (o q : Seen) → In (objects_in h.chunks) o → In (objects_in h.chunks) q → o.name ≡ q.name → o ≡ q
+  named_here : (o q : Located) → In (objects_in h.chunks) o → In (objects_in h.chunks) q → object_name o ≡ object_name q → o ≡ q
   named_here o q i j e = (W.homes t at_rest).named o q (subst (λ (z : Home). In (objects_in z.chunks) o) (sym here) i) (subst (λ (z : Home). In (objects_in z.chunks) q) (sym here) j) e
 
   home_off : (a : ℕ) → (a ≡ t → ⊥) → Rests l a → HomeStands v' L a
   home_off a ne r = W.homes a (rests_then a ne r)
 
-  pub named_off : (a : ℕ) → (a ≡ t → ⊥) → Rests l a → (o q : Seen) → In (objects v a) o → In (objects v a) q → o.name ≡ q.name → o ≡ q
+  pub named_off : (a : ℕ) → (a ≡ t → ⊥) → Rests l a → (o q : Located) → In (objects v a) o → In (objects v a) q → object_name o ≡ object_name q → o ≡ q
   named_off a ne r o q i j e = (home_off a ne r).named o q (subst (λ (z : Home). In (objects_in z.chunks) o) (sym (off a ne)) i) (subst (λ (z : Home). In (objects_in z.chunks) q) (sym (off a ne)) j) e
 
   -- a name of the path lies where the map has it
@@ -327,11 +328,11 @@ module _ (w : World) (k : ℕ) (p : Private) (I : IsWorld w) (F : Fits w k p) (o
   stack = record { top = frame_stands place p.frames.top A.task.top frames_at.0; below = frames_stand place p.frames.below A.task.below frames_at.1 }
 
   -- OBJECTS
-  in_here : (o : Seen) → In (objects_in h.chunks) o → In (objects v' t) o
+  in_here : (o : Located) → In (objects_in h.chunks) o → In (objects v' t) o
   in_here o i = subst (λ (z : Home). In (objects_in z.chunks) o) (sym here) i
 
   -- a reference of an own object goes up or inside
-  refs_up : (o : Seen) (x : Object) → In (objects v' t) o → object_at L.machine.store o.name ≡ Some x → (n : Name) → In x.refs (Some n) → is_on_path L.machine.tasks (own L n) t ≡ true
+  refs_up : (o : Located) (x : Object) → In (objects v' t) o → object_at L.machine.store (object_name o) ≡ Some x → (n : Name) → In x.refs (Some n) → is_on_path L.machine.tasks (own L n) t ≡ true
   refs_up o x i e n j =
       let at = index_of x.refs (Some n) j in
       elim (W.remembered t o x at.0 n at_rest i e at.1) [
@@ -344,23 +345,23 @@ module _ (w : World) (k : ℕ) (p : Private) (I : IsWorld w) (F : Fits w k p) (o
             absurd (both_ways (is_waiting (slice_get L.machine.tasks t)) idle (ap (λ z. is_waiting (slice_get L.machine.tasks z)) (sym same) ∙ S.waits))
       ]
 
-  object_is : (o : Seen) → In (objects_in h.chunks) o → (x : Object) × (object_at L.machine.store o.name ≡ Some x) × IsRead (At place) o x
+  object_is : (o : Located) → In (objects_in h.chunks) o → (x : Object) × (object_at L.machine.store (object_name o) ≡ Some x) × IsRead (At place) o x
   object_is o i =
       let c = W.contents t o at_rest (in_here o i) in
       (c.0, c.1, object_kept (Place v' L) (At place) o c.0 (λ n j a P. place_is n a (refs_up o c.0 (in_here o i) c.1 n j) P) c.2)
 
-  own_here : (o : Seen) → In (objects_in h.chunks) o → own L o.name ≡ t
+  own_here : (o : Located) → In (objects_in h.chunks) o → own L (object_name o) ≡ t
   own_here o i = home_own v' L sound t (W.homes t at_rest) o (in_here o i)
 
   cell_is_own : (a : Addr) (b : Birth) → (cell_of p.heap.chunks a).mark ≡ Born b → IsOwn place (owner_of L.machine.tasks) t L.machine.store (name_of b) a (cell_of p.heap.chunks a)
   cell_is_own a b e =
-      let o : Seen = seen a.chunk a.offset b (cell_of p.heap.chunks a) in
+      let o : Located = located a.chunk a.offset b (cell_of p.heap.chunks a) in
       let i : In (objects_in h.chunks) o = object_seen p.heap.chunks a b e in
       let x = object_is o i in
-      let owned : own L o.name ≡ t = own_here o i in
+      let owned : own L (object_name o) ≡ t = own_here o i in
       record {
         owned = owned;
-        placed = place_own (name_of b) (sym (own_same o.name) ∙ owned) ∙ found_at h.chunks (name_of b) a named_here (o, i, record { name = refl; at = refl });
+        placed = place_own (name_of b) (sym (own_same (object_name o)) ∙ owned) ∙ found_at h.chunks (name_of b) a named_here (o, i, record { name = refl; at = refl });
         object = x.0;
         is = x.1;
         stands = record { mutable = x.2.mutable; refs = are_at place (cell_of p.heap.chunks a).refs x.0.refs x.2.refs; ints = x.2.ints };
@@ -370,11 +371,10 @@ module _ (w : World) (k : ℕ) (p : Private) (I : IsWorld w) (F : Fits w k p) (o
   born_there n a e q =
       let f = found_is (objects_in h.chunks) n a (sym (place_own n (sym (own_same n) ∙ e)) ∙ q) in
       let y = seen_object p.heap.chunks f.object F.form.shaped.apart f.there in
-      let name : name_of y.birth ≡ n = ap (λ (z : Seen). z.name) (sym y.is) ∙ f.name in
-      ap (λ z. (cell_of p.heap.chunks z).mark) (sym f.at) ∙ (y.mark ∙ ap (λ m. Born (birth_of m)) name)
+      ap (λ z. (cell_of p.heap.chunks z).mark) (sym f.at) ∙ (y.mark ∙ ap (λ m. Born (birth_of m)) f.name)
 
   -- where the map has a name, its chunk is its owner's
-  pub above_chunk : (n : Name) (a : Addr) → (own l n ≡ t → ⊥) → (r : Rests l (own l n)) → (o : Seen) → In (objects v (own l n)) o → o.at ≡ a → v.owner a.chunk ≡ Some (own l n)
+  pub above_chunk : (n : Name) (a : Addr) → (own l n ≡ t → ⊥) → (r : Rests l (own l n)) → (o : Located) → In (objects v (own l n)) o → o.at ≡ a → v.owner a.chunk ≡ Some (own l n)
   above_chunk n a ne r o i q =
       let H = home_off (own l n) ne r in
       let c = in_chunk (v'.homes (own l n)).chunks o (subst (λ (z : Home). In (objects_in z.chunks) o) (sym (off (own l n) ne)) i) in
@@ -391,7 +391,7 @@ module _ (w : World) (k : ℕ) (p : Private) (I : IsWorld w) (F : Fits w k p) (o
       let i = subst (λ (z : Home). In (objects_in z.chunks) f.object) (sym (off (own l n) x.0)) f.there in
       let j = subst (λ (z : Home). In (objects_in z.chunks) g.object) (sym (off (own l n) x.0)) (subst (λ u. In (objects v u) g.object) same g.there) in
       let o : f.object ≡ g.object = H.once f.object g.object i j (f.at ∙ sym g.at) in
-      sym f.name ∙ (ap (λ (z : Seen). z.name) o ∙ g.name)
+      sym f.name ∙ (ap object_name o ∙ g.name)
 
   apart : (n : Name) (a : Addr) → above n ≡ Some a → place_in p.heap.chunks a.chunk ≡ None
   apart n a e = by (place_in p.heap.chunks a.chunk) refl
@@ -438,7 +438,7 @@ module _ (w : World) (k : ℕ) (p : Private) (I : IsWorld w) (F : Fits w k p) (o
     found : IsFound (objects v u) n a
     found = found_is (objects v u) n a tells.2
 
-    abbrev q : Seen
+    abbrev q : Located
     q = found.object
 
     in_then : In (objects v' u) q
@@ -455,7 +455,7 @@ module _ (w : World) (k : ℕ) (p : Private) (I : IsWorld w) (F : Fits w k p) (o
         sym (shown_found p.view a)
         ∙ (ap (λ (z : Home). shown_at z.view a) (sym here) ∙ (ap (shown_at (v'.homes t).view) (sym found.at) ∙ W.views t at_rest live u q above_now tells.0 rest_then in_then))
 
-    read : (x : Object) × (object_at L.machine.store q.name ≡ Some x) × IsRead (Place v' L) q x
+    read : (x : Object) × (object_at L.machine.store (object_name q) ≡ Some x) × IsRead (Place v' L) q x
     read = W.contents u q rest_then in_then
 
     -- an immutable object refers only up, so to what others own
@@ -485,9 +485,9 @@ module _ (w : World) (k : ℕ) (p : Private) (I : IsWorld w) (F : Fits w k p) (o
         let refs : AreAt above read.0.refs q.refs = are_at above q.refs read.0.refs (object_kept (Place v' L) (At above) q read.0 (λ k j b P. ref_placed m k j b P) read.2).refs in (
           ap (λ (z : Object). z.mutable) (sym e) ∙ (sym read.2.mutable ∙ m),
           record {
-            mutable = ap (λ (z : Seen). z.mutable) is ∙ (read.2.mutable ∙ ap (λ (z : Object). z.mutable) e);
-            refs = subst (λ (z : Object). AreAt above z.refs c.refs) e (subst (λ (z : Seen). AreAt above read.0.refs z.refs) (sym is) refs);
-            ints = ap (λ (z : Seen). z.ints) is ∙ (read.2.ints ∙ ap (λ (z : Object). z.ints) e);
+            mutable = ap (λ (z : Located). z.mutable) is ∙ (read.2.mutable ∙ ap (λ (z : Object). z.mutable) e);
+            refs = subst (λ (z : Object). AreAt above z.refs c.refs) e (subst (λ (z : Located). AreAt above read.0.refs z.refs) (sym is) refs);
+            ints = ap (λ (z : Located). z.ints) is ∙ (read.2.ints ∙ ap (λ (z : Object). z.ints) e);
           },
         )
 

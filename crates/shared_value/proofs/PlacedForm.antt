@@ -9,6 +9,8 @@ use Rattle.object_layout.specs.Cell.{Born, Cell, moved_to, size_of}
 use Rattle.object_layout.specs.Chunks.{chunk_at, held_words, no_chunk, object_count, place_in, push_object, small_words}
 use Rattle.object_layout.specs.Content.{Content}
 use Rattle.object_layout.specs.Place.{words_in}
+use Rattle.object_layout.specs.Objects.{located, located_by, objects_from}
+use Rattle.object_layout.proofs.ObjectChanges.{appended_is_last}
 use Rattle.object_layout.proofs.PlaceLemmas.{words_in-push}
 use Rattle.alloc_path.specs.Heap.{AreTidy, Heap, IsKept, IsTidy, counted, place_for, placed_at, units}
 use Rattle.alloc_path.proofs.HeapLemmas as heap
@@ -17,8 +19,7 @@ use Rattle.alloc_path.proofs.Settled.{settled_placed}
 use Rattle.core_relation.specs.Layout.{HoldsLarge}
 use Rattle.task_machine.specs.Fits.{IsShaped}
 use Rattle.task_machine.proofs.Placed.{shape_placed}
-use Rattle.shared_value.specs.Objects.{chunk_of, objects_from, seen, seen_by}
-use Rattle.shared_value.proofs.CellsRead.{objects_appended}
+use Rattle.shared_value.specs.Objects.{chunk_of}
 
 -- a chunk: a large one holds nothing, or one object that has just its units
 pub record IsFormed (k : Content) : Type 0 where
@@ -97,11 +98,8 @@ module _ (h : Heap) (F : Formed h) (i : ℕ) (c : Cell) (b : Birth) (born : c.ma
       subst IsTidy there (All-get_or IsTidy pushed i no_chunk (omega (arith, inside, as_long)) S.tidy)
 
   -- it stands behind the others
-  objects_then : (chunk_of fuller).objects ≡ (chunk_of K).objects ++ seen K.number (words_in K.cells) b c ∷ []
-  objects_then =
-      objects_appended K.cells K.number 0 c
-      ∙ (ap (λ n. (chunk_of K).objects ++ seen_by K.number n c c.mark []) (let e : 0 + words_in K.cells ≡ words_in K.cells = omega arith in e)
-      ∙ ap (λ m. (chunk_of K).objects ++ seen_by K.number (words_in K.cells) c m []) born)
+  objects_then : (chunk_of fuller).objects ≡ (chunk_of K).objects ++ located K.number (words_in K.cells) b c ∷ []
+  objects_then = appended_is_last K c b born
 
   -- a large one is alone, and has just the units of its chunk
   large_then : (K.size ≡ 1024 → ⊥) → HoldsLarge (chunk_of fuller)
@@ -111,8 +109,8 @@ module _ (h : Heap) (F : Formed h) (i : ℕ) (c : Cell) (b : Birth) (born : c.ma
         let none : K.cells ≡ [] = (heap.reserved_in h _ _ _ _ _ _ _ keeps i f.0).1.1 in
         let size : K.size ≡ 1024 * units (size_of c) = f.1 in
         inr (
-          seen K.number 0 b c,
-          ap (λ cs. objects_from K.number 0 (cs ++ c ∷ [])) none ∙ ap (λ m. seen_by K.number 0 c m []) born,
+          located K.number 0 b c,
+          ap (λ cs. objects_from K.number 0 (cs ++ c ∷ [])) none ∙ ap (λ m. located_by K.number 0 c m []) born,
           refl,
           omega (arith, size),
         )
@@ -144,7 +142,7 @@ module _ (h : Heap) (F : Formed h) (i : ℕ) (c : Cell) (b : Birth) (born : c.ma
   spare_then j lt big empty = elim (cases_eq j i) [
     | inl e ↦
         let at : chunk_at pushed j ≡ fuller = ap (chunk_at pushed) e ∙ there in
-        absurd (not_empty (chunk_of K).objects (seen K.number (words_in K.cells) b c) (sym objects_then ∙ (ap (λ (k : Content). (chunk_of k).objects) (sym at) ∙ empty)))
+        absurd (not_empty (chunk_of K).objects (located K.number (words_in K.cells) b c) (sym objects_then ∙ (ap (λ (k : Content). (chunk_of k).objects) (sym at) ∙ empty)))
     | inr ne ↦
         reserved_still j ne
         (F.spare j (omega (arith, lt, as_long)) (λ z. big (size_same j ∙ z)) (ap (λ (k : Content). (chunk_of k).objects) (sym (other j ne)) ∙ empty))

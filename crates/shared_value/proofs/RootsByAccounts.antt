@@ -4,6 +4,7 @@ use Rattle.run_ledger.specs.declared.data.Ledger.{Ledger}
 use Rattle.object_layout.specs.declared.word.Addr.{Addr}
 use Rattle.object_layout.specs.Cell.{Born, Cell, marked_object}
 use Rattle.object_layout.specs.Chunks.{cell_of, object_of}
+use Rattle.object_layout.specs.Objects.{Located}
 use Rattle.remembered_set.specs.declared.remembered.Source.{Source}
 use Rattle.remembered_set.specs.Moved.{AreFields}
 use Rattle.write_barrier.specs.declared.sets.SetOf.{SetOf}
@@ -12,7 +13,7 @@ use Rattle.ledger_steps.proofs.Rested.{rested_worker}
 use Rattle.core_relation.specs.Begins.{AreRoots}
 use Rattle.core_relation.specs.Fits.{with_home}
 use Rattle.core_relation.specs.Stands.{Stands}
-use Rattle.core_relation.specs.Value.{Home, In, Seen, Value, objects, objects_in, sources}
+use Rattle.core_relation.specs.Value.{Home, In, Value, objects, objects_in, sources}
 use Rattle.core_relation.proofs.objects.Members.{in_chunk}
 use Rattle.core_relation.proofs.changes.With.{at_home, off_home}
 use Rattle.task_machine.specs.declared.part.Private.{Private}
@@ -44,23 +45,23 @@ object_refs : (c : Cell) {b : _} → c.mark ≡ Born b → (marked_object c.mark
 object_refs c e = ap (λ m. (marked_object m c).refs) e
 
 -- an object of a resting heap, as it is read there
-pub record RestObject (w : World) (u : ℕ) (o : Seen) : Type 0 where
+pub record RestObject (w : World) (u : ℕ) (o : Located) : Type 0 where
   pub rest : Rest
   pub is : rest_at w.homes u ≡ Some rest
   pub refs : refs_of_rest (rest_at w.homes u) o.at ≡ o.refs
 
-pub rest_object : (w : World) (u : ℕ) → IsWorld w → (o : Seen) → In (objects_in (home_in (rest_at w.homes u)).chunks) o → RestObject w u o
+pub rest_object : (w : World) (u : ℕ) → IsWorld w → (o : Located) → In (objects_in (home_in (rest_at w.homes u)).chunks) o → RestObject w u o
 rest_object w u I o i = by (rest_at w.homes u) refl i
   where
     by : (q : Option Rest) → rest_at w.homes u ≡ q → In (objects_in (home_in q).chunks) o → RestObject w u o
     by None e j = absurd j
     by (Some r) e j =
         let y = seen_object r.heap.chunks o (I.heaps u r e).shaped.apart (subst (λ cs. In (objects_in cs) o) (home_chunks r) j) in
-        let refs : (object_of r.heap.chunks o.at).refs ≡ o.refs = object_refs (cell_of r.heap.chunks o.at) y.mark ∙ sym (ap (λ (z : Seen). z.refs) y.is) in
+        let refs : (object_of r.heap.chunks o.at).refs ≡ o.refs = object_refs (cell_of r.heap.chunks o.at) y.mark ∙ sym (ap (λ (z : Located). z.refs) y.is) in
         record { rest = r; is = e; refs = ap (λ z. refs_of_rest z o.at) e ∙ refs }
 
 -- an object of a home at rest, as it is read in the value
-pub read_at_rest : (w : World) (u : ℕ) → IsWorld w → (o : Seen) → In (objects_in (home_in (rest_at w.homes u)).chunks) o → (value_of w).owner o.at.chunk ≡ Some u → refs_in (heaps_of w) o.at ≡ o.refs
+pub read_at_rest : (w : World) (u : ℕ) → IsWorld w → (o : Located) → In (objects_in (home_in (rest_at w.homes u)).chunks) o → (value_of w).owner o.at.chunk ≡ Some u → refs_in (heaps_of w) o.at ≡ o.refs
 read_at_rest w u I o i owner = ap (λ q. refs_for w.homes q o.at) owner ∙ (rest_object w u I o i).refs
 
 -- ---- A PART WITHOUT FRESH STEPS, before the run's end
@@ -96,7 +97,7 @@ module _ (w : World) (k : ℕ) (p : Private) (I : IsWorld w) (F : Fits w k (reco
   sources_are = noted_sources (slice_get w.sets t)
 
   -- the objects of other homes are read in the value
-  read : (u : ℕ) → (u ≡ t → ⊥) → Rests L u → (o : Seen) → In (objects v' u) o → refs_in (heaps_of w) o.at ≡ o.refs
+  read : (u : ℕ) → (u ≡ t → ⊥) → Rests L u → (o : Located) → In (objects v' u) o → refs_in (heaps_of w) o.at ≡ o.refs
   read u ne r o i =
       let c = in_chunk (v'.homes u).chunks o i in
       read_at_rest w u I o (subst (λ (z : Home). In (objects_in z.chunks) o) (off_home v t (home_of_part P) u ne) i) (ap v'.owner ((W.homes u r).inside c.0 o c.1 c.2) ∙ (W.homes u r).owned c.0 c.1)
@@ -110,5 +111,5 @@ module _ (w : World) (k : ℕ) (p : Private) (I : IsWorld w) (F : Fits w k (reco
   are_roots = held.are_roots v' L t W at_rest p.heap.chunks here ss sources_are (heaps_of w) read
 
   -- and each is an object of the heap
-  pub root_here : (a : Addr) → In (roots_of w p) a → (q : Seen) × In (objects_in (chunks_of p.heap.chunks)) q × (q.at ≡ a)
+  pub root_here : (a : Addr) → In (roots_of w p) a → (q : Located) × In (objects_in (chunks_of p.heap.chunks)) q × (q.at ≡ a)
   root_here = held.root_here v' L t W at_rest p.heap.chunks here ss sources_are (heaps_of w) read

@@ -12,12 +12,13 @@ use Rattle.run_ledger.specs.declared.data.Ledger.{Ledger}
 use Rattle.object_layout.specs.declared.word.Addr.{Addr}
 use Rattle.object_layout.specs.Chunks.{has_chunk, place_in}
 use Rattle.object_layout.specs.Content.{Content}
+use Rattle.object_layout.specs.Objects.{Located}
 use Rattle.remembered_set.specs.declared.remembered.Source.{Source}
 use Rattle.remembered_set.specs.Moved.{AreFields, held_by, into, targets_of}
 use Rattle.ledger_steps.specs.Accounts.{Rests, own}
 use Rattle.core_relation.specs.Begins.{AreRoots, IsRoot}
 use Rattle.core_relation.specs.Stands.{IsSource, Place, Stands}
-use Rattle.core_relation.specs.Value.{Chunk, In, Lies, Seen, Value, objects, objects_in, sources}
+use Rattle.core_relation.specs.Value.{Chunk, In, Lies, Value, objects, objects_in, sources}
 use Rattle.core_relation.proofs.objects.Members.{in_chunk, in_map, map_in}
 use Rattle.core_relation.proofs.notes.Roots.{name_at}
 use Rattle.shared_value.specs.declared.heaps.Heaps.{Heaps}
@@ -88,9 +89,9 @@ has_it ks k number i q = by (place_in ks number) refl
 -- ---- A VALUE THAT STANDS, and a heap at rest with these chunks and remembered fields; heaps by whose words the objects of all other
 -- heaps are read
 module _ (v : Value) (l : Ledger) (t : ℕ) (W : Stands v l) (at_rest : Rests l t) (ks : List Content) (here : (v.homes t).chunks ≡ chunks_of ks) (ss : List Source) (sources_are : sources v t ≡ ss) (hs : Heaps)
-    (read : (u : ℕ) → (u ≡ t → ⊥) → Rests l u → (o : Seen) → In (objects v u) o → refs_in hs o.at ≡ o.refs) where
+    (read : (u : ℕ) → (u ≡ t → ⊥) → Rests l u → (o : Located) → In (objects v u) o → refs_in hs o.at ≡ o.refs) where
   -- the owner of a resting home's object
-  owner_at : (u : ℕ) → Rests l u → (o : Seen) → In (objects v u) o → v.owner o.at.chunk ≡ Some u
+  owner_at : (u : ℕ) → Rests l u → (o : Located) → In (objects v u) o → v.owner o.at.chunk ≡ Some u
   owner_at u r o i =
       let c = in_chunk (v.homes u).chunks o i in
       ap v.owner ((W.homes u r).inside c.0 o c.1 c.2) ∙ (W.homes u r).owned c.0 c.1
@@ -99,20 +100,20 @@ module _ (v : Value) (l : Ledger) (t : ℕ) (W : Stands v l) (at_rest : Rests l 
   record SourceAt (s : Source) : Type 0 where
     home : ℕ
     rests : Rests l home
-    object : Seen
+    object : Located
     there : In (objects v home) object
     at : object.at ≡ s.object
     refs : refs_in hs s.object ≡ object.refs
     field : s.field < length object.refs
 
-  refs_at_home : (u : ℕ) → (u ≡ t → ⊥) → Rests l u → (o : Seen) → In (objects v u) o → (a : Addr) → o.at ≡ a → refs_in hs a ≡ o.refs
+  refs_at_home : (u : ℕ) → (u ≡ t → ⊥) → Rests l u → (o : Located) → In (objects v u) o → (a : Addr) → o.at ≡ a → refs_in hs a ≡ o.refs
   refs_at_home u ne r o i a e = ap (refs_in hs) (sym e) ∙ read u ne r o i
 
   source_at : (s : Source) → In ss s → SourceAt s
   source_at s i =
       let S : IsSource v l t s = W.sources t s (subst (λ xs. In xs s) (sym sources_are) i) in
       let lies : Lies (v.homes (own l S.name)).chunks S.name s.object = S.place.here S.rests in
-      let o : Seen = lies.0 in
+      let o : Located = lies.0 in
       let c = W.contents (own l S.name) o S.rests lies.1 in
       let same : S.object ≡ c.0 = same_Some S.object c.0 (sym S.is ∙ (ap (object_at l.machine.store) (sym lies.2.name) ∙ c.1)) in
       let long : length o.refs ≡ length S.object.refs = refs_long (Place v l) o.refs c.0.refs c.2.refs ∙ ap (λ (z : Object). length z.refs) (sym same) in
@@ -132,7 +133,7 @@ module _ (v : Value) (l : Ledger) (t : ℕ) (W : Stands v l) (at_rest : Rests l 
   are_fields = all_in (λ s. s.field < length (refs_in hs s.object)) ss (λ s i. let A = source_at s i in subst (λ rs. s.field < length rs) (sym A.refs) A.field)
 
   -- an address in a chunk of the heap that stands for a name is the place of its object
-  pub lies_here : (n : Name) (a : Addr) → Place v l n a → v.owner a.chunk ≡ Some t → (q : Seen) × In (objects_in (chunks_of ks)) q × (q.at ≡ a)
+  pub lies_here : (n : Name) (a : Addr) → Place v l n a → v.owner a.chunk ≡ Some t → (q : Located) × In (objects_in (chunks_of ks)) q × (q.at ≡ a)
   lies_here n a p mine =
       let owned : own l n ≡ t = same_Some (own l n) t (sym p.chunk ∙ mine) in
       let lies : Lies (v.homes t).chunks n a = subst (λ z. Lies (v.homes z).chunks n a) owned (p.here (subst (Rests l) (sym owned) at_rest)) in
@@ -144,14 +145,14 @@ module _ (v : Value) (l : Ledger) (t : ℕ) (W : Stands v l) (at_rest : Rests l 
       let c = chunk_in ks number h in
       ap v.owner (sym c.2) ∙ (W.homes t at_rest).owned (chunk_of c.0) (subst (λ cs. In cs (chunk_of c.0)) (sym here) (in_map chunk_of ks c.0 c.1))
 
-  pub object_chunk : (q : Seen) → In (objects_in (chunks_of ks)) q → has_chunk ks q.at.chunk ≡ true
+  pub object_chunk : (q : Located) → In (objects_in (chunks_of ks)) q → has_chunk ks q.at.chunk ≡ true
   object_chunk q i =
       let c = in_chunk (chunks_of ks) q i in
       let d = map_in chunk_of ks c.0 c.1 in
       has_it ks d.0 q.at.chunk d.1 (ap (λ (z : Chunk). z.number) d.2 ∙ sym ((W.homes t at_rest).inside c.0 q (subst (λ cs. In cs c.0) (sym here) c.1) c.2))
 
   -- the object in the heap to which a reference of another home's object leads
-  leads_here : (u : ℕ) → Rests l u → (o : Seen) → In (objects v u) o → (i : ℕ) (a : Addr) → slice_get o.refs i ≡ Some (Some a) → v.owner a.chunk ≡ Some t → (q : Seen) × In (objects_in (chunks_of ks)) q × (q.at ≡ a)
+  leads_here : (u : ℕ) → Rests l u → (o : Located) → In (objects v u) o → (i : ℕ) (a : Addr) → slice_get o.refs i ≡ Some (Some a) → v.owner a.chunk ≡ Some t → (q : Located) × In (objects_in (chunks_of ks)) q × (q.at ≡ a)
   leads_here u r o j i a e mine =
       let c = W.contents u o r j in
       let n = name_at (Place v l) o.refs c.0.refs i a c.2.refs e in
@@ -195,5 +196,5 @@ module _ (v : Value) (l : Ledger) (t : ℕ) (W : Stands v l) (at_rest : Rests l 
           targets_there refs_in hs ks ss s a (subst (λ xs. In xs s) sources_are R.noted) is (ap (λ (z : Addr). has_chunk ks z.chunk) (sym q.2) ∙ object_chunk q.0 q.1)
 
   -- and each is an object of the heap
-  pub root_here : (a : Addr) → In (targets_of refs_in hs ks ss) a → (q : Seen) × In (objects_in (chunks_of ks)) q × (q.at ≡ a)
+  pub root_here : (a : Addr) → In (targets_of refs_in hs ks ss) a → (q : Located) × In (objects_in (chunks_of ks)) q × (q.at ≡ a)
   root_here a i = let R = (are_roots a).0 i in leads_here R.home R.rests R.object R.there R.source.field a R.holds R.into

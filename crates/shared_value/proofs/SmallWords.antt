@@ -9,51 +9,52 @@ use Rattle.object_layout.specs.Cell.{Born, Cell, Hole, Mark, Moved, moved_to, si
 use Rattle.object_layout.specs.Chunks.{held_size, small_part, small_words, sum_in}
 use Rattle.object_layout.specs.Content.{Content}
 use Rattle.object_layout.specs.Place.{words_in}
+use Rattle.object_layout.specs.Objects.{Located, located, located_by, objects_from}
 use Rattle.alloc_path.specs.Heap.{AreTidy, AreWithin}
 use Rattle.core_relation.specs.Layout.{HoldsLarge, words}
-use Rattle.core_relation.specs.Value.{In, Seen}
+use Rattle.core_relation.specs.Value.{In, object_name}
 use Rattle.task_machine.specs.Accounts.{named_by, names_in, small_lists}
 use Rattle.task_machine.specs.Place.{name_of}
-use Rattle.shared_value.specs.Objects.{chunk_of, objects_from, seen, seen_by}
+use Rattle.shared_value.specs.Objects.{chunk_of}
 use Rattle.shared_value.proofs.CellsRead.{behind}
 
 -- the machine's object of this name has as many words
-abbrev pub SameWords : State → Seen → Type 0
-SameWords m o = words_at m o.name ≡ words o
+abbrev pub SameWords : State → Located → Type 0
+SameWords m o = words_at m (object_name o) ≡ words o
 
 module _ (m : State) where
   -- all objects of a small chunk are small
-  small_cells : (cs : List Cell) (number base : ℕ) → words_in cs ≤ 1024 → All (λ c. moved_to c.mark ≡ None) cs → ((o : Seen) → In (objects_from number base cs) o → SameWords m o) → words_sum m (names_in cs) ≡ sum_in small_part cs
+  small_cells : (cs : List Cell) (number base : ℕ) → words_in cs ≤ 1024 → All (λ c. moved_to c.mark ≡ None) cs → ((o : Located) → In (objects_from number base cs) o → SameWords m o) → words_sum m (names_in cs) ≡ sum_in small_part cs
   small_cells [] number base few tidy same = refl
   small_cells (c ∷ cs) number base few tidy same =
       by c.mark refl same (tidy 0 c (omega arith))
       (small_cells cs number (base + size_of c) (omega (arith, few)) (λ i d lt. tidy (suc i) d (omega (arith, lt))) (λ o i. same o (behind number base c c.mark (objects_from number (base + size_of c) cs) o i)))
     where
-      rest : List Seen
+      rest : List Located
       rest = objects_from number (base + size_of c) cs
 
       small : small_part (size_of c) ≡ size_of c
       small = cond-true (nat_le (size_of c) 1024) (size_of c) 0 (le-leb (size_of c) 1024 (omega (arith, few)))
 
-      by : (k : Mark) → c.mark ≡ k → ((o : Seen) → In (seen_by number base c k (objects_from number (base + size_of c) cs)) o → SameWords m o) → moved_to k ≡ None → words_sum m (names_in cs) ≡ sum_in small_part cs
+      by : (k : Mark) → c.mark ≡ k → ((o : Located) → In (located_by number base c k (objects_from number (base + size_of c) cs)) o → SameWords m o) → moved_to k ≡ None → words_sum m (names_in cs) ≡ sum_in small_part cs
           → words_sum m (named_by k (names_in cs)) ≡ held_size k (small_part (size_of c)) + sum_in small_part cs
       by (Born b) e same t go =
-          let own : words_at m (name_of b) ≡ small_part (size_of c) = same (seen number base b c) (inl refl) ∙ (omega arith ∙ sym small) in
+          let own : words_at m (name_of b) ≡ small_part (size_of c) = same (located number base b c) (inl refl) ∙ (omega arith ∙ sym small) in
           sum_by-cons (words_at m) (name_of b) (names_in cs) ∙ ap₂ (λ x y. x + y) own go
       by (Moved to) e same t go = absurd cc
       by Hole e same t go = omega (arith, go)
 
   -- and none of a large one
-  large_cells : (cs : List Cell) (number base : ℕ) → All (λ c. moved_to c.mark ≡ None) cs → ((o : Seen) → In (objects_from number base cs) o → 1024 < words o) → sum_in small_part cs ≡ 0
+  large_cells : (cs : List Cell) (number base : ℕ) → All (λ c. moved_to c.mark ≡ None) cs → ((o : Located) → In (objects_from number base cs) o → 1024 < words o) → sum_in small_part cs ≡ 0
   large_cells [] number base tidy large = refl
   large_cells (c ∷ cs) number base tidy large =
       by c.mark refl large (tidy 0 c (omega arith))
       (large_cells cs number (base + size_of c) (λ i d lt. tidy (suc i) d (omega (arith, lt))) (λ o i. large o (behind number base c c.mark (objects_from number (base + size_of c) cs) o i)))
     where
-      by : (k : Mark) → c.mark ≡ k → ((o : Seen) → In (seen_by number base c k (objects_from number (base + size_of c) cs)) o → 1024 < words o) → moved_to k ≡ None → sum_in small_part cs ≡ 0
+      by : (k : Mark) → c.mark ≡ k → ((o : Located) → In (located_by number base c k (objects_from number (base + size_of c) cs)) o → 1024 < words o) → moved_to k ≡ None → sum_in small_part cs ≡ 0
           → held_size k (small_part (size_of c)) + sum_in small_part cs ≡ 0
       by (Born b) e large t go =
-          let big : 1024 < words (seen number base b c) = large (seen number base b c) (inl refl) in
+          let big : 1024 < words (located number base b c) = large (located number base b c) (inl refl) in
           let none : small_part (size_of c) ≡ 0 = cond-false (nat_le (size_of c) 1024) (size_of c) 0 (not_le (size_of c) (omega (arith, big))) in
           omega (arith, none, go)
         where
@@ -63,12 +64,12 @@ module _ (m : State) where
       by Hole e large t go = omega (arith, go)
 
   -- a large chunk's object is large
-  large_in : (k : Content) → k.size ≡ 1024 * (k.size / 1024) → (k.size == 1024) ≡ false → HoldsLarge (chunk_of k) → (o : Seen) → In (chunk_of k).objects o → 1024 < words o
+  large_in : (k : Content) → k.size ≡ 1024 * (k.size / 1024) → (k.size == 1024) ≡ false → HoldsLarge (chunk_of k) → (o : Located) → In (chunk_of k).objects o → 1024 < words o
   large_in k whole big (inl none) o i = absurd (subst (λ os. In os o) none i)
   large_in k whole big (inr (q, only, at, fits)) o i = elim (subst (λ os. In os o) only i) [
     | inl e ↦
         let ne : k.size ≡ 1024 → ⊥ = λ z. cc in
-        subst (λ (z : Seen). 1024 < words z) e (by (k.size / 1024) (words q) whole ne fits (omega arith))
+        subst (λ (z : Located). 1024 < words z) e (by (k.size / 1024) (words q) whole ne fits (omega arith))
     | inr j ↦ absurd j
   ]
     where
@@ -77,7 +78,7 @@ module _ (m : State) where
 
   -- THE WORDS of all names of small chunks
   pub small_counted : (ks : List Content) → AreTidy ks → AreWithin ks → ((k : Content) → In ks k → k.size ≡ 1024 * (k.size / 1024)) → ((k : Content) → In ks k → (chunk_of k).large ≡ true → HoldsLarge (chunk_of k))
-      → ((k : Content) (o : Seen) → In ks k → In (chunk_of k).objects o → SameWords m o) → words_sum m (flat_map (λ ns. ns) (small_lists ks)) ≡ small_words ks
+      → ((k : Content) (o : Located) → In ks k → In (chunk_of k).objects o → SameWords m o) → words_sum m (flat_map (λ ns. ns) (small_lists ks)) ≡ small_words ks
   small_counted [] tidy within whole large same = refl
   small_counted (k ∷ ks) tidy within whole large same =
       by (k.size == 1024) refl

@@ -6,8 +6,9 @@ use Rattle.run_ledger.specs.declared.data.Ledger.{Ledger}
 use Rattle.run_ledger.specs.Heaps.{heap_of}
 use Rattle.run_ledger.specs.Reachable.{is_name}
 use Rattle.object_layout.specs.declared.word.Addr.{Addr}
+use Rattle.object_layout.specs.Objects.{Located}
 use Rattle.ledger_steps.specs.Accounts.{own}
-use Rattle.core_relation.specs.Value.{Seen, Value, objects}
+use Rattle.core_relation.specs.Value.{Value, object_name, objects}
 use Rattle.task_machine.specs.declared.part.Private.{Private}
 use Rattle.task_machine.specs.Place.{Places}
 use Rattle.task_machine.specs.Fits.{FitsNow as FitsMachine}
@@ -15,9 +16,9 @@ use Rattle.shared_value.specs.World.{World, accounts, value_of}
 use Rattle.shared_value.specs.Fits.{beyond}
 
 -- where the first object of this name lies
-abbrev pub find_at : List Seen → Name → Option Addr
+abbrev pub find_at : List Located → Name → Option Addr
 find_at [] n = None
-find_at (o ∷ os) n = if is_name o.name n then Some o.at else find_at os n
+find_at (o ∷ os) n = if is_name (object_name o) n then Some o.at else find_at os n
 
 -- the addresses of the names that other tasks own, of those that no worker holds
 abbrev pub above_of : Value → Ledger → ℕ → Places
