@@ -16,7 +16,7 @@ use Rattle.alloc_path.specs.Heap.{AreTidy, AreWithin, IsTidy}
 use Rattle.alloc_path.proofs.Near.{are_near}
 use Rattle.ledger_steps.specs.Accounts.{Rests, own, rested}
 use Rattle.ledger_steps.proofs.Rested.{rested_worker}
-use Rattle.core_relation.specs.Value.{Home, In, Lies, Seen, Value, objects, objects_in}
+use Rattle.core_relation.specs.Value.{Home, In, Lies, Value, objects, objects_in}
 use Rattle.core_relation.specs.Changes.{StepsAtHome}
 use Rattle.core_relation.specs.Copies.{PartFits}
 use Rattle.core_relation.specs.Fits.{with_home}
@@ -147,8 +147,8 @@ module _ (w : World) (k : ℕ) (p q : Private) (n : ℕ) (I : IsWorld w) (F : Fi
   stays : (m : Name) (a : Addr) → Lies (before.homes t).chunks m a → Lies (after.homes t).chunks m a
   stays m a y =
       let z = seen_object p.heap.chunks y.0 F.form.shaped.apart (subst (λ (h : Home). In (objects_in h.chunks) y.0) was y.1) in
-      let i = object_seen q.heap.chunks y.0.at z.birth (keeps.stays y.0.at z.birth z.mark) in
-      subst (λ (h : Home). Lies h.chunks m a) (sym here) (_, i, record { name = ap (λ (o : Seen). o.name) (sym z.is) ∙ y.2.name; at = y.2.at })
+      let i = object_seen q.heap.chunks y.0.at y.0.birth (keeps.stays y.0.at y.0.birth z.mark) in
+      subst (λ (h : Home). Lies h.chunks m a) (sym here) (_, i, record { name = y.2.name; at = y.2.at })
 
   at_home_then : StepsAtHome before after t
   at_home_then = record {

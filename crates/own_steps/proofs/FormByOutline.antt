@@ -18,8 +18,8 @@ use Rattle.object_layout.specs.Cell.{Born, Cell, Hole, Mark, Moved, moved_to, si
 use Rattle.object_layout.specs.Chunks.{chunk_at, place_in, place_of}
 use Rattle.object_layout.specs.Content.{Content}
 use Rattle.object_layout.specs.Place.{words_in}
+use Rattle.object_layout.specs.Objects.{Located, located_by, objects_from}
 use Rattle.alloc_path.specs.Heap.{AreApart, Heap, IsCurrent, IsReserved, IsTidy, place_for, placed, units}
-use Rattle.core_relation.specs.Value.{Seen}
 use Rattle.core_relation.specs.Layout.{HoldsLarge, words}
 use Rattle.task_machine.specs.declared.part.Private.{Private}
 use Rattle.task_machine.specs.Fits.{IsShaped}
@@ -27,7 +27,7 @@ use Rattle.task_machine.specs.Outline.{blank, outline_after, outline_by, outline
 use Rattle.task_machine.specs.Place.{Places}
 use Rattle.task_machine.specs.Run.{Ran}
 use Rattle.task_machine.proofs.Outlines.{outline_at}
-use Rattle.shared_value.specs.Objects.{chunk_of, objects_from, seen_by}
+use Rattle.shared_value.specs.Objects.{chunk_of}
 use Rattle.shared_value.proofs.NextStepAsks.{counts_two}
 use Rattle.shared_value.proofs.PlacedForm.{Formed, IsFormed, formed_placed}
 use Rattle.shared_value.proofs.OutlineKept.{outline_size}
@@ -35,19 +35,19 @@ use Rattle.shared_value.proofs.OutlineKept.{outline_size}
 -- ---- OBJECTS
 
 -- an object with blank fields
-abbrev plain : Seen → Seen
+abbrev plain : Located → Located
 plain o = record o { mutable = false; refs = []; ints = replicate (length o.refs + length o.ints) (pos 0) }
 
-plain_words : (o : Seen) → words (plain o) ≡ words o
+plain_words : (o : Located) → words (plain o) ≡ words o
 plain_words o = let e = length-replicate (length o.refs + length o.ints) (pos 0) in omega (arith, e)
 
 objects_outlined : (cs : List Cell) (number base : ℕ) → objects_from number base (map outline_of_cell cs) ≡ map plain (objects_from number base cs)
 objects_outlined [] number base = refl
 objects_outlined (c ∷ cs) number base =
-    ap (λ n. seen_by number base (outline_of_cell c) c.mark (objects_from number (base + n) (map outline_of_cell cs))) (outline_size c)
-    ∙ (ap (seen_by number base (outline_of_cell c) c.mark) (objects_outlined cs number (base + size_of c)) ∙ along c.mark (objects_from number (base + size_of c) cs))
+    ap (λ n. located_by number base (outline_of_cell c) c.mark (objects_from number (base + n) (map outline_of_cell cs))) (outline_size c)
+    ∙ (ap (located_by number base (outline_of_cell c) c.mark) (objects_outlined cs number (base + size_of c)) ∙ along c.mark (objects_from number (base + size_of c) cs))
   where
-    along : (m : Mark) (os : List Seen) → seen_by number base (outline_of_cell c) m (map plain os) ≡ map plain (seen_by number base c m os)
+    along : (m : Mark) (os : List Located) → located_by number base (outline_of_cell c) m (map plain os) ≡ map plain (located_by number base c m os)
     along (Born b) os = refl
     along (Moved to) os = refl
     along Hole os = refl
@@ -55,11 +55,11 @@ objects_outlined (c ∷ cs) number base =
 objects_of : (k : Content) → (chunk_of (outline_of_chunk k)).objects ≡ map plain (chunk_of k).objects
 objects_of k = objects_outlined k.cells k.number 0
 
-none_back : (os : List Seen) → map plain os ≡ [] → os ≡ []
+none_back : (os : List Located) → map plain os ≡ [] → os ≡ []
 none_back [] e = refl
 none_back (o ∷ os) e = absurd cc
 
-one_back : (os : List Seen) (o : Seen) → map plain os ≡ o ∷ [] → (q : Seen) × (os ≡ q ∷ []) × (plain q ≡ o)
+one_back : (os : List Located) (o : Located) → map plain os ≡ o ∷ [] → (q : Located) × (os ≡ q ∷ []) × (plain q ≡ o)
 one_back [] o e = absurd cc
 one_back (q ∷ []) o e = (q, refl, cc)
 one_back (q ∷ r ∷ os) o e = absurd cc
@@ -72,7 +72,7 @@ large_back : (k : Content) → HoldsLarge (chunk_of (outline_of_chunk k)) → Ho
 large_back k (inl e) = inl (none_back (chunk_of k).objects (sym (objects_of k) ∙ e))
 large_back k (inr h) =
     let q = one_back (chunk_of k).objects h.0 (sym (objects_of k) ∙ h.1) in
-    inr (q.0, q.1, ap (λ (o : Seen). o.at.offset) q.2 ∙ h.2, h.3 ∙ (ap (λ (o : Seen). units_for (words o)) (sym q.2) ∙ ap units_for (plain_words q.0)))
+    inr (q.0, q.1, ap (λ (o : Located). o.at.offset) q.2 ∙ h.2, h.3 ∙ (ap (λ (o : Located). units_for (words o)) (sym q.2) ∙ ap units_for (plain_words q.0)))
 
 -- ---- CHUNKS
 

@@ -16,9 +16,11 @@ use Rattle.object_layout.specs.declared.word.Addr.{Addr}
 use Rattle.object_layout.specs.Cell.{Born}
 use Rattle.object_layout.specs.Chunks.{cell_of}
 use Rattle.object_layout.specs.Content.{Content}
+use Rattle.object_layout.specs.Objects.{Located, located}
+use Rattle.object_layout.specs.ObjectLaws.{LiesThere}
 use Rattle.task_frames.specs.declared.frames.Frame.{Frame as FrameOfCode}
 use Rattle.ledger_steps.specs.Accounts.{own}
-use Rattle.core_relation.specs.Value.{Chunk, Home, In, Lies, Seen, Value, objects, objects_in}
+use Rattle.core_relation.specs.Value.{Chunk, Home, In, Lies, Value, object_name, objects, objects_in}
 use Rattle.core_relation.specs.Changes.{HomeIsRead}
 use Rattle.core_relation.specs.Layout.{AreLaidOut}
 use Rattle.core_relation.specs.Reads.{AllRead, FrameIsRead, FramesAreRead, HoldsRead, IsRead, TaskIsRead}
@@ -28,9 +30,9 @@ use Rattle.task_machine.specs.declared.part.Private.{Private}
 use Rattle.task_machine.specs.Accounts.{IsCounted}
 use Rattle.task_machine.specs.Fits.{FitsNow as FitsMachine}
 use Rattle.task_machine.specs.Place.{AreAt, FrameStands, FramesStand, Places, birth_of}
-use Rattle.shared_value.specs.Objects.{chunks_of, seen}
+use Rattle.shared_value.specs.Objects.{chunks_of}
 use Rattle.shared_value.specs.Fits.{home_of_part}
-use Rattle.shared_value.proofs.CellsRead.{LiesThere, object_seen, seen_object}
+use Rattle.shared_value.proofs.CellsRead.{object_seen, seen_object}
 use Rattle.shared_value.proofs.HeapCounts.{large_are, small_names}
 use Rattle.shared_value.proofs.PlacedForm.{Formed}
 use Rattle.shared_value.proofs.HeapLaidOut.{content_of, inside_from, laid_from}
@@ -76,10 +78,10 @@ module _ (program : ProgramText) (q : Private) (L : Ledger) (above : Places) (G 
   home_chunks : (v.homes t).chunks ≡ ks
   home_chunks = ap (λ (h : Home). h.chunks) here
 
-  in_part : (o : Seen) → In (objects v t) o → In (objects_in ks) o
+  in_part : (o : Located) → In (objects v t) o → In (objects_in ks) o
   in_part o i = subst (λ cs. In (objects_in cs) o) home_chunks i
 
-  lying : (o : Seen) → In (objects_in ks) o → LiesThere cells o
+  lying : (o : Located) → In (objects_in ks) o → LiesThere cells o
   lying o i = seen_object cells o F.shaped.apart i
 
   owned_chunk : (k : Chunk) → In ks k → v.owner k.number ≡ Some t
@@ -88,19 +90,19 @@ module _ (program : ProgramText) (q : Private) (L : Ledger) (above : Places) (G 
   -- ---- NAMES
 
   -- the map has an object's name where it lies
-  placed : (o : Seen) → In (objects_in ks) o → G.place o.name ≡ Some o.at
-  placed o i = let y = lying o i in ap (λ (z : Seen). G.place z.name) y.is ∙ (G.heap.objects o.at y.birth y.mark).placed
+  placed : (o : Located) → In (objects_in ks) o → G.place (object_name o) ≡ Some o.at
+  placed o i = (G.heap.objects o.at o.birth (lying o i).mark).placed
 
   -- two objects at one address are one
-  same_place : (o r : Seen) → In (objects_in ks) o → In (objects_in ks) r → o.at ≡ r.at → o ≡ r
+  same_place : (o r : Located) → In (objects_in ks) o → In (objects_in ks) r → o.at ≡ r.at → o ≡ r
   same_place o r i j e =
       let y = lying o i in
       let z = lying r j in
-      let marks : Born y.birth ≡ Born z.birth = sym y.mark ∙ (ap (λ a. (cell_of cells a).mark) e ∙ z.mark) in
-      let births : y.birth ≡ z.birth = cc in
-      y.is ∙ (ap₂ (λ (a : Addr) b. seen a.chunk a.offset b (cell_of cells a)) e births ∙ sym z.is)
+      let marks : Born o.birth ≡ Born r.birth = sym y.mark ∙ (ap (λ a. (cell_of cells a).mark) e ∙ z.mark) in
+      let births : o.birth ≡ r.birth = cc in
+      y.is ∙ (ap₂ (λ (a : Addr) b. located a.chunk a.offset b (cell_of cells a)) e births ∙ sym z.is)
 
-  same_name : (o r : Seen) → In (objects_in ks) o → In (objects_in ks) r → o.name ≡ r.name → o ≡ r
+  same_name : (o r : Located) → In (objects_in ks) o → In (objects_in ks) r → object_name o ≡ object_name r → o ≡ r
   same_name o r i j e = same_place o r i j (same_Some o.at r.at (sym (placed o i) ∙ (ap G.place e ∙ placed r j)))
 
   home_then : HomeStands v L t
@@ -120,21 +122,21 @@ module _ (program : ProgramText) (q : Private) (L : Ledger) (above : Places) (G 
 
   own_place : (n : Name) (a : Addr) → own L n ≡ t → G.place n ≡ Some a → Place v L n a
   own_place n a mine e =
-      let i : In (objects_in ks) (seen a.chunk a.offset (birth_of n) (cell_of cells a)) = object_seen cells a (birth_of n) (G.heap.own n a mine e) in
+      let i : In (objects_in ks) (located a.chunk a.offset (birth_of n) (cell_of cells a)) = object_seen cells a (birth_of n) (G.heap.own n a mine e) in
       let c = in_chunk ks _ i in
       record {
         chunk = ap v.owner (inside_from cells c.0 _ c.1 c.2) ∙ (owned_chunk c.0 c.1 ∙ ap Some (sym mine));
-        here = λ r. subst (λ u. Lies (v.homes u).chunks n a) (sym mine) (subst (λ cs. Lies cs n a) (sym home_chunks) (seen a.chunk a.offset (birth_of n) (cell_of cells a), i, record { name = refl; at = refl }));
+        here = λ r. subst (λ u. Lies (v.homes u).chunks n a) (sym mine) (subst (λ cs. Lies cs n a) (sym home_chunks) (located a.chunk a.offset (birth_of n) (cell_of cells a), i, record { name = refl; at = refl }));
       }
 
   lies : (n : Name) (a : Addr) → G.place n ≡ Some a → Place v L n a
   lies n a e = elim (cases_eq (own L n) t) [ inl mine ↦ own_place n a mine e | inr ne ↦ elsewhere n a ne (sym (G.heap.others n ne) ∙ e) ]
 
-  content : (o : Seen) → In (objects v t) o → (x : Object) × (object_at L.machine.store o.name ≡ Some x) × IsRead (Place v L) o x
+  content : (o : Located) → In (objects v t) o → (x : Object) × (object_at L.machine.store (object_name o) ≡ Some x) × IsRead (Place v L) o x
   content o i =
       let y = lying o (in_part o i) in
-      let O = G.heap.objects o.at y.birth y.mark in
-      subst (λ (z : Seen). (x : Object) × (object_at L.machine.store z.name ≡ Some x) × IsRead (Place v L) z x) (sym y.is)
+      let O = G.heap.objects o.at o.birth y.mark in
+      subst (λ (z : Located). (x : Object) × (object_at L.machine.store (object_name z) ≡ Some x) × IsRead (Place v L) z x) (sym y.is)
       (O.object, O.is, record { mutable = O.stands.mutable; refs = refs_read G.place (Place v L) lies O.object.refs (cell_of cells o.at).refs O.stands.refs; ints = O.stands.ints })
 
   task_then : (x : Task) → slice_get L.machine.tasks t ≡ Some x → TaskIsRead (Place v L) (v.homes t) x
