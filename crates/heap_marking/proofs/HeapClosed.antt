@@ -10,28 +10,29 @@ use Rattle.object_layout.specs.Cell.{Born, Hole, IsBorn, Mark, Moved}
 use Rattle.object_layout.specs.Chunks.{AreApart, cell_of, has_chunk, place_of}
 use Rattle.object_layout.specs.Content.{Content}
 use Rattle.object_layout.specs.Graph.{IsClosed, IsHeld, IsSound}
+use Rattle.object_layout.specs.Objects.{Located, located}
 use Rattle.leaf_copy_gc.proofs.ListLemmas.{all_from}
 use Rattle.ledger_steps.specs.Accounts.{Rests, own}
-use Rattle.core_relation.specs.Value.{Chunk, In, Seen, Value, objects, objects_in}
+use Rattle.core_relation.specs.Value.{Chunk, In, Value, objects, objects_in}
 use Rattle.core_relation.specs.Stands.{Place, Stands}
 use Rattle.core_relation.proofs.objects.Members.{in_map}
 use Rattle.core_relation.proofs.notes.Roots.{index_of, name_at}
-use Rattle.shared_value.specs.Objects.{AreNear, chunk_of, chunks_of, seen}
+use Rattle.shared_value.specs.Objects.{AreNear, chunk_of, chunks_of}
 use Rattle.shared_value.proofs.CellsRead.{object_seen, seen_object}
 use Rattle.shared_value.proofs.RootsHeld.{chunk_in}
 
 -- what is held is read
-pub held_seen : (ks : List Content) (a : Addr) → IsHeld ks a → (o : Seen) × In (objects_in (chunks_of ks)) o × (o.at ≡ a) × ((cell_of ks a).refs ≡ o.refs)
+pub held_seen : (ks : List Content) (a : Addr) → IsHeld ks a → (o : Located) × In (objects_in (chunks_of ks)) o × (o.at ≡ a) × ((cell_of ks a).refs ≡ o.refs)
 held_seen ks a h = by (cell_of ks a).mark refl h
   where
-    by : (m : Mark) → (cell_of ks a).mark ≡ m → IsBorn m → (o : Seen) × In (objects_in (chunks_of ks)) o × (o.at ≡ a) × ((cell_of ks a).refs ≡ o.refs)
-    by (Born b) e o = (seen a.chunk a.offset b (cell_of ks a), object_seen ks a b e, refl, refl)
+    by : (m : Mark) → (cell_of ks a).mark ≡ m → IsBorn m → (o : Located) × In (objects_in (chunks_of ks)) o × (o.at ≡ a) × ((cell_of ks a).refs ≡ o.refs)
+    by (Born b) e o = (located a.chunk a.offset b (cell_of ks a), object_seen ks a b e, refl, refl)
     by (Moved to) e o = absurd o
     by Hole e o = absurd o
 
 -- what is read is held, with the references that are read
-pub seen_held : (ks : List Content) → AreApart ks → (o : Seen) → In (objects_in (chunks_of ks)) o → IsHeld ks o.at × ((cell_of ks o.at).refs ≡ o.refs)
-seen_held ks apart o i = let y = seen_object ks o apart i in (subst IsBorn (sym y.mark) tt, sym (ap (λ (z : Seen). z.refs) y.is))
+pub seen_held : (ks : List Content) → AreApart ks → (o : Located) → In (objects_in (chunks_of ks)) o → IsHeld ks o.at × ((cell_of ks o.at).refs ≡ o.refs)
+seen_held ks apart o i = let y = seen_object ks o apart i in (subst IsBorn (sym y.mark) tt, sym (ap (λ (z : Located). z.refs) y.is))
 
 module _ (v : Value) (l : Ledger) (V : Stands v l) (t : ℕ) (rests : Rests l t) (ks : List Content) (home : (v.homes t).chunks ≡ chunks_of ks) (apart : AreApart ks) (near : AreNear ks) where
   -- where a name is read

@@ -13,12 +13,13 @@ use Rattle.object_layout.specs.declared.word.Addr.{Addr}
 use Rattle.object_layout.specs.Chunks.{cell_of, object_count}
 use Rattle.object_layout.specs.Content.{Content}
 use Rattle.object_layout.specs.Graph.{IsHeld, Leads}
+use Rattle.object_layout.specs.Objects.{Located}
 use Rattle.task_frames.specs.declared.frames.Frame.{Frame}
 use Rattle.inner_mark_gc.specs.Marks.{IsMarking, IsOf, Marks}
 use Rattle.inner_mark_gc.specs.Snapshot.{Fork, IsInSnapshot, Starts}
 use Rattle.ledger_steps.specs.Accounts.{Rests}
 use Rattle.ledger_steps.proofs.Split.{legal_idle}
-use Rattle.core_relation.specs.Value.{In, Seen, Value, objects, objects_in}
+use Rattle.core_relation.specs.Value.{In, Value, object_name, objects, objects_in}
 use Rattle.core_relation.specs.Begins.{IsAt, IsRoot, LeadsAt}
 use Rattle.core_relation.specs.Marking.{GoesOn}
 use Rattle.core_relation.specs.Now.{IsReachedNow, StartsNow}
@@ -65,28 +66,28 @@ module _ (w : World) (I : IsWorld w) (on : (accounts w).end ≡ None) (t : ℕ) 
   pub home_is : (v.homes t).chunks ≡ chunks_of ks
   home_is = ap (λ o. (home_in o).chunks) there ∙ home_chunks r
 
-  pub to_home : (o : Seen) → In (objects_in (chunks_of ks)) o → In (objects v t) o
+  pub to_home : (o : Located) → In (objects_in (chunks_of ks)) o → In (objects v t) o
   to_home o i = subst (λ cs. In (objects_in cs) o) (sym home_is) i
 
-  pub from_home : (o : Seen) → In (objects v t) o → In (objects_in (chunks_of ks)) o
+  pub from_home : (o : Located) → In (objects v t) o → In (objects_in (chunks_of ks)) o
   from_home o i = subst (λ cs. In (objects_in cs) o) home_is i
 
-  pub is_held : (o : Seen) → In (objects v t) o → IsHeld ks o.at
+  pub is_held : (o : Located) → In (objects v t) o → IsHeld ks o.at
   is_held o i = (seen_held ks form.shaped.apart o (from_home o i)).0
 
-  pub seen_at : (a : Addr) → IsHeld ks a → (o : Seen) × In (objects v t) o × (o.at ≡ a) × ((cell_of ks a).refs ≡ o.refs)
+  pub seen_at : (a : Addr) → IsHeld ks a → (o : Located) × In (objects v t) o × (o.at ≡ a) × ((cell_of ks a).refs ≡ o.refs)
   seen_at a h = let o = held_seen ks a h in (o.0, to_home o.0 o.1, o.2, o.3)
 
-  pub refs_are : (o : Seen) → In (objects v t) o → (cell_of ks o.at).refs ≡ o.refs
+  pub refs_are : (o : Located) → In (objects v t) o → (cell_of ks o.at).refs ≡ o.refs
   refs_are o i = (seen_held ks form.shaped.apart o (from_home o i)).1
 
   -- the roots: what registers name, and what remembered fields hold
-  module _ (roots : List Addr) (are : (a : Addr) → In roots a ↔ (((o : Seen) × IsAt (v.homes t) a o × ((f : Frame) × In (v.homes t).frames f × In f.refs (Some a))) ⊎ IsRoot v l t a)) where
+  module _ (roots : List Addr) (are : (a : Addr) → In roots a ↔ (((o : Located) × IsAt (v.homes t) a o × ((f : Frame) × In (v.homes t).frames f × In f.refs (Some a))) ⊎ IsRoot v l t a)) where
     abbrev pub f : Fork
     f = record { heap = ks; roots = roots }
 
     abbrev IsThere : Addr → Type 0
-    IsThere a = IsReachedNow v l t a × ((o : Seen) × IsAt (v.homes t) a o)
+    IsThere a = IsReachedNow v l t a × ((o : Located) × IsAt (v.homes t) a o)
 
     start_now : (a : Addr) → Starts f (kept v t) a → IsThere a
     start_now a s =
@@ -100,7 +101,7 @@ module _ (w : World) (I : IsWorld w) (on : (accounts w).end ≡ None) (t : ℕ) 
 
     more_now : (b a : Addr) → IsThere b → Leads ks b a → IsThere a
     more_now b a y d =
-        let o : (o : Seen) × IsAt (v.homes t) b o = y.1 in
+        let o : (o : Located) × IsAt (v.homes t) b o = y.1 in
         let q = seen_at a d.1 in
         let at : IsAt (v.homes t) a q.0 = (q.1, q.2) in
         let refs : (cell_of ks b).refs ≡ o.0.refs = ap (λ x. (cell_of ks x).refs) (sym o.1.1) ∙ refs_are o.0 o.1.0 in
@@ -109,7 +110,7 @@ module _ (w : World) (I : IsWorld w) (on : (accounts w).end ≡ None) (t : ℕ) 
     to_now : (a : Addr) → IsInSnapshot f (kept v t) a → IsReachedNow v l t a
     to_now a g = (reached_within (Starts f (kept v t)) (Leads ks) IsThere start_now more_now a g).0
 
-    held_at : (a : Addr) (o : Seen) → IsAt (v.homes t) a o → IsHeld ks a
+    held_at : (a : Addr) (o : Located) → IsAt (v.homes t) a o → IsHeld ks a
     held_at a o at = subst (IsHeld ks) at.1 (is_held o at.0)
 
     start_then : (a : Addr) → StartsNow v l t a → IsInSnapshot f (kept v t) a
@@ -140,7 +141,7 @@ module _ (w : World) (I : IsWorld w) (on : (accounts w).end ≡ None) (t : ℕ) 
         by None e h = absurd (false≢true h)
         by (Some x) e h = (x, e)
 
-    pub snapshot_is : (o : Seen) → In (objects v t) o → IsInSnapshot f (kept v t) o.at ↔ In (heap_of l t).snapshot o.name
+    pub snapshot_is : (o : Located) → In (objects v t) o → IsInSnapshot f (kept v t) o.at ↔ In (heap_of l t).snapshot (object_name o)
     snapshot_is o i =
         let s = snapshot_now v l t task.0 sound stands.homes task.1 wait rests (stands.since t keeps) o i in
         ((λ g. s.0 (to_now o.at g)), (λ n. from_now o.at (s.1 n)))

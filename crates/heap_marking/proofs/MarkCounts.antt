@@ -13,12 +13,13 @@ use Rattle.run_ledger.proofs.History.{snapshots_are_held}
 use Rattle.object_layout.specs.declared.word.Addr.{Addr}
 use Rattle.object_layout.proofs.Distinct.{distinct_take}
 use Rattle.object_layout.specs.Graph.{IsHeld, Leads}
+use Rattle.object_layout.specs.Objects.{Located}
 use Rattle.inner_mark_gc.specs.Marks.{Marks, marked_of}
 use Rattle.inner_mark_gc.specs.Snapshot.{IsInSnapshot, Starts}
 use Rattle.inner_mark_gc.proofs.Marked.{in_take}
 use Rattle.ledger_steps.specs.Accounts.{Rests}
 use Rattle.ledger_steps.proofs.Ahead.{heap_then, with_at}
-use Rattle.core_relation.specs.Value.{In, Seen, Value, objects}
+use Rattle.core_relation.specs.Value.{In, Value, object_name, objects}
 use Rattle.core_relation.specs.Marking.{GoesOn, MarkedBy}
 use Rattle.core_relation.specs.Since.{kept}
 use Rattle.core_relation.specs.Whole.{StandsFor}
@@ -35,7 +36,7 @@ take_long (suc n) [] le = absurd (omega (arith, le))
 take_long (suc n) (x ∷ xs) le = ap suc (take_long n xs (omega (arith, le)))
 
 -- what is marked is of the snapshot
-marked_each : (v : Value) (t : ℕ) (names : List Name) (m : Marks) → GoesOn v t names m → (a : Addr) → In (marked_of m) a → (q : Seen) × In (objects v t) q × (q.at ≡ a) × In names q.name
+marked_each : (v : Value) (t : ℕ) (names : List Name) (m : Marks) → GoesOn v t names m → (a : Addr) → In (marked_of m) a → (q : Located) × In (objects v t) q × (q.at ≡ a) × In names (object_name q)
 marked_each v t names m G a i =
     let reached = G.marks.each a (contains_from_in m.found a (in_take m.marked m.found a i)) in
     let held : IsHeld G.fork.heap a = reached_within (Starts G.fork (kept v t)) (Leads G.fork.heap) (IsHeld G.fork.heap) (λ x s. s.0) (λ b x h d. d.1) a reached in

@@ -18,12 +18,13 @@ use Rattle.object_layout.specs.declared.word.Addr.{Addr}
 use Rattle.object_layout.specs.Chunks.{same_address}
 use Rattle.object_layout.specs.Graph.{IsHeld, Leads}
 use Rattle.object_layout.proofs.Distinct.{distinct_take}
+use Rattle.object_layout.specs.Objects.{Located}
 use Rattle.inner_mark_gc.specs.Marks.{Marks, marked_of}
 use Rattle.inner_mark_gc.specs.Snapshot.{IsInSnapshot, Starts}
 use Rattle.inner_mark_gc.proofs.Marked.{in_take}
 use Rattle.ledger_steps.proofs.Ahead.{heap_then, with_at, with_machine, with_off}
 use Rattle.ledger_steps.specs.Accounts.{Rests}
-use Rattle.core_relation.specs.Value.{In, Seen, Value, objects}
+use Rattle.core_relation.specs.Value.{In, Value, object_name, objects}
 use Rattle.core_relation.specs.Changes.{SameObjects}
 use Rattle.core_relation.specs.Counts.{CountsGo, IsMarked, IsQuiet}
 use Rattle.core_relation.specs.Marking.{GoesOn, MarkedBy}
@@ -132,13 +133,13 @@ module _ (w : World) (e : Event) (I : IsWorld w) (free : refused w e ≡ None) (
           places = G.places;
         })
 
-    each_marked : (a : Addr) → In (marked_of m) a → (q : Seen) × In (objects v' t) q × (q.at ≡ a) × In (heap_of L t).snapshot q.name
+    each_marked : (a : Addr) → In (marked_of m) a → (q : Located) × In (objects v' t) q × (q.at ≡ a) × In (heap_of L t).snapshot (object_name q)
     each_marked a i =
         let found : Contains m.found a = contains_from_in m.found a (in_take m.marked m.found a i) in
         let reached = G.marks.each a found in
         let held : IsHeld G.fork.heap a = reached_within (Starts G.fork (kept v t)) (Leads G.fork.heap) (IsHeld G.fork.heap) (λ x s. s.0) (λ b x h d. d.1) a reached in
         let o = G.were a held in
-        (o.0, o.1, o.2, subst (λ (h : Heap). In h.snapshot o.0.name) (sym heap_t) ((G.snapshot o.0 o.1).0 (subst (λ b. IsInSnapshot G.fork (kept v t) b) (sym o.2) reached)))
+        (o.0, o.1, o.2, subst (λ (h : Heap). In h.snapshot (object_name o.0)) (sym heap_t) ((G.snapshot o.0 o.1).0 (subst (λ b. IsInSnapshot G.fork (kept v t) b) (sym o.2) reached)))
 
     marked_now : MarkedBy v' L t (Some m)
     marked_now = (

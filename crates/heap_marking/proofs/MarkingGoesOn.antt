@@ -14,10 +14,11 @@ use Rattle.object_layout.specs.declared.word.Addr.{Addr}
 use Rattle.object_layout.specs.Chunks.{cell_of, object_count}
 use Rattle.object_layout.specs.Content.{Content}
 use Rattle.object_layout.specs.Graph.{IsClosed, IsHeld, Leads}
+use Rattle.object_layout.specs.Objects.{Located}
 use Rattle.inner_mark_gc.specs.Marks.{IsAllMarked, IsMarking, IsOf, Marks, marked_of}
 use Rattle.inner_mark_gc.specs.Snapshot.{Fork, IsInSnapshot, IsSince, Starts}
 use Rattle.ledger_steps.specs.Accounts.{Rests}
-use Rattle.core_relation.specs.Value.{In, Seen, Value, objects, objects_in}
+use Rattle.core_relation.specs.Value.{In, Value, object_name, objects, objects_in}
 use Rattle.core_relation.specs.Begins.{LeadsAt}
 use Rattle.core_relation.specs.Marking.{GoesOn, MarksStand}
 use Rattle.core_relation.proofs.notes.MarksAll.{marks_are_all}
@@ -63,7 +64,7 @@ module _ (w : World) (I : IsWorld w) (on : (accounts w).end ≡ None) (t : ℕ) 
       by None e h = absurd (false≢true h)
       by (Some x) e h = (x, e)
 
-  now : (q : Seen) → In (objects v t) q → IsReachedNow v l t q.at ↔ In (heap_of l t).snapshot q.name
+  now : (q : Located) → In (objects v t) q → IsReachedNow v l t q.at ↔ In (heap_of l t).snapshot (object_name q)
   now = snapshot_now v l t task.0 (legal_sound w.program w.settings w.journal.items I.legal) stands.homes task.1 wait (begun.rests w I on t r there wait keeps) (stands.since t keeps)
 
   reached_held : (a : Addr) → IsInSnapshot G.fork (kept v t) a → IsHeld G.fork.heap a

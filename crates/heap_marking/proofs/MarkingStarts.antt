@@ -12,6 +12,7 @@ use Rattle.object_layout.specs.declared.word.Addr.{Addr}
 use Rattle.object_layout.specs.Chunks.{has_chunk}
 use Rattle.object_layout.specs.Content.{Content}
 use Rattle.object_layout.specs.Graph.{IsHeld}
+use Rattle.object_layout.specs.Objects.{Located}
 use Rattle.task_frames.specs.declared.frames.Frame.{Frame}
 use Rattle.task_frames.specs.Stack.{frames_of as stacked}
 use Rattle.remembered_set.specs.declared.remembered.Source.{Source}
@@ -23,7 +24,7 @@ use Rattle.ledger_steps.proofs.Split.{legal_idle}
 use Rattle.core_relation.specs.Begins.{AreRoots, IsAt}
 use Rattle.core_relation.specs.Reads.{FramesAreRead, HoldsRead}
 use Rattle.core_relation.specs.Stands.{Place, Stands}
-use Rattle.core_relation.specs.Value.{Home, In, Seen, Value, objects, objects_in, sources}
+use Rattle.core_relation.specs.Value.{Home, In, Value, objects, objects_in, sources}
 use Rattle.core_relation.proofs.objects.Members.{from_flat, in_chunk}
 use Rattle.core_relation.proofs.whole.Past.{waiting_stops}
 use Rattle.core_relation.proofs.notes.Roots.{frame_name}
@@ -104,7 +105,7 @@ module _ (w : World) (I : IsWorld w) (on : (accounts w).end ≡ None) (t : ℕ) 
   sources_are : sources v t ≡ ss
   sources_are = noted_sources (slice_get w.sets t)
 
-  read : (u : ℕ) → (u ≡ t → ⊥) → Rests l u → (o : Seen) → In (objects v u) o → refs_in (heaps_of w) o.at ≡ o.refs
+  read : (u : ℕ) → (u ≡ t → ⊥) → Rests l u → (o : Located) → In (objects v u) o → refs_in (heaps_of w) o.at ≡ o.refs
   read u ne q o i =
       let c = in_chunk (v.homes u).chunks o i in
       read_at_rest w u I o i (ap v.owner ((W.homes u q).inside c.0 o c.1 c.2) ∙ (W.homes u q).owned c.0 c.1)
@@ -127,7 +128,7 @@ module _ (w : World) (I : IsWorld w) (on : (accounts w).end ≡ None) (t : ℕ) 
   registers_read = frames_read (Place v l) (v.homes t) task.0 task.0.status (ap is_waiting (sym task.1) ∙ wait) (W.tasks t task.0 rests task.1)
 
   -- an object of the heap lies where a register leads into it
-  at_register : (f : Frame) (a : Addr) → In (v.homes t).frames f → In f.refs (Some a) → has_chunk ks a.chunk ≡ true → (q : Seen) × IsAt (v.homes t) a q
+  at_register : (f : Frame) (a : Addr) → In (v.homes t).frames f → In f.refs (Some a) → has_chunk ks a.chunk ≡ true → (q : Located) × IsAt (v.homes t) a q
   at_register f a i j h =
       let n = frame_name (Place v l) (v.homes t).frames (task.0.top ∷ task.0.below) f a registers_read i j in
       let q = held.lies_here v l t W rests ks here ss sources_are (heaps_of w) read n.0 a n.2 (held.own_chunk v l t W rests ks here ss sources_are (heaps_of w) read a.chunk h) in
@@ -151,7 +152,7 @@ module _ (w : World) (I : IsWorld w) (on : (accounts w).end ≡ None) (t : ℕ) 
       let q = at_register f.0 a j f.2 b.1 in
       inl (q.0, q.1, (f.0, j, f.2))
 
-  register_from : (a : Addr) (o : Seen) → IsAt (v.homes t) a o → (f : Frame) → In (v.homes t).frames f → In f.refs (Some a) → In own a
+  register_from : (a : Addr) (o : Located) → IsAt (v.homes t) a o → (f : Frame) → In (v.homes t).frames f → In f.refs (Some a) → In own a
   register_from a o at f i j =
       let h : has_chunk ks a.chunk ≡ true =
       ap (λ (z : Addr). has_chunk ks z.chunk) (sym at.1) ∙ held.object_chunk v l t W rests ks here ss sources_are (heaps_of w) read o (subst (λ cs. In (objects_in cs) o) here at.0) in
@@ -178,11 +179,11 @@ module _ (w : World) (I : IsWorld w) (on : (accounts w).end ≡ None) (t : ℕ) 
   pub starts_held : ((value_of w).noted t).keeps ≡ true → All (IsHeld ks) (starts_of w t)
   starts_held keeps = all_from (IsHeld ks) (starts_of w t) (λ a i. held_one a (held_by_start a ((starts_are a).0 i)))
     where
-      held_by_start : (a : Addr) → IsStart v l t a → (o : Seen) × IsAt (v.homes t) a o
+      held_by_start : (a : Addr) → IsStart v l t a → (o : Located) × IsAt (v.homes t) a o
       held_by_start a (inl s) = (s.0, s.1)
       held_by_start a (inr R) =
           let q = held.root_here v l t W rests ks here ss sources_are (heaps_of w) read a ((roots_are a).1 R) in
           (q.0, (subst (λ cs. In (objects_in cs) q.0) (sym here) q.1, q.2))
 
-      held_one : (a : Addr) → (o : Seen) × IsAt (v.homes t) a o → IsHeld ks a
+      held_one : (a : Addr) → (o : Located) × IsAt (v.homes t) a o → IsHeld ks a
       held_one a q = subst (IsHeld ks) q.1.1 (begun.is_held w I on t r there wait keeps q.0 q.1.0)

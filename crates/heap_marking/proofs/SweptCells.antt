@@ -5,53 +5,37 @@ use Rattle.object_layout.specs.declared.word.Addr.{Addr}
 use Rattle.object_layout.specs.Cell.{Born, Cell, Hole, Mark, Moved, moved_to, size_of}
 use Rattle.object_layout.specs.Content.{Content}
 use Rattle.object_layout.specs.Place.{words_in}
+use Rattle.object_layout.specs.Objects.{Located, located, located_by, objects_from}
+use Rattle.object_layout.proofs.ObjectChanges.{sifted_are_kept}
 use Rattle.inner_mark_gc.specs.Marks.{has_address}
 use Rattle.inner_mark_gc.specs.Swept.{has_object, is_object, swept_cell, swept_cells, swept_chunk}
 use Rattle.inner_mark_gc.proofs.Sweeping.{size_swept}
 use Rattle.core_relation.specs.Layout.{HoldsLarge, has_none}
-use Rattle.core_relation.specs.Value.{Seen}
-use Rattle.shared_value.specs.Objects.{chunk_of, objects_from, seen, seen_by}
+use Rattle.shared_value.specs.Objects.{chunk_of}
 
 -- the object stays where its address is kept
-abbrev pub is_there : List Addr → Seen → Bool
+abbrev pub is_there : List Addr → Located → Bool
 is_there kept o = has_address kept o.at
 
 module _ (kept : List Addr) (number : ℕ) where
   abbrev place : ℕ → Addr
   place base = record { chunk = number; offset = base }
 
-  -- just the objects that are kept are left, where they lie
-  pub objects_kept : (cs : List Cell) (base : ℕ) → objects_from number base (swept_cells kept number base cs) ≡ filter (is_there kept) (objects_from number base cs)
-  objects_kept [] base = refl
-  objects_kept (c ∷ cs) base = by (has_address kept (place base)) refl c.mark refl (objects_kept cs (base + size_of c))
-    where
-      by : (v : Bool) → has_address kept (place base) ≡ v → (m : Mark) → c.mark ≡ m → objects_from number (base + size_of c) (swept_cells kept number (base + size_of c) cs) ≡ filter (is_there kept) (objects_from number (base + size_of c) cs)
-          → objects_from number base (swept_cell v c ∷ swept_cells kept number (base + size_of c) cs) ≡ filter (is_there kept) (seen_by number base c m (objects_from number (base + size_of c) cs))
-      by true q (Born b) e go =
-          ap (λ m. seen_by number base c m (objects_from number (base + size_of c) (swept_cells kept number (base + size_of c) cs))) e
-          ∙ (ap (λ os. seen number base b c ∷ os) go
-          ∙ sym (ap (λ z. cond z (seen number base b c ∷ filter (is_there kept) (objects_from number (base + size_of c) cs)) (filter (is_there kept) (objects_from number (base + size_of c) cs))) q))
-      by true q (Moved to) e go = ap (λ m. seen_by number base c m (objects_from number (base + size_of c) (swept_cells kept number (base + size_of c) cs))) e ∙ go
-      by true q Hole e go = ap (λ m. seen_by number base c m (objects_from number (base + size_of c) (swept_cells kept number (base + size_of c) cs))) e ∙ go
-      by false q (Born b) e go = go ∙ sym (ap (λ z. cond z (seen number base b c ∷ filter (is_there kept) (objects_from number (base + size_of c) cs)) (filter (is_there kept) (objects_from number (base + size_of c) cs))) q)
-      by false q (Moved to) e go = go
-      by false q Hole e go = go
-
-  -- and an object is left where one is kept
+  -- an object is left where one is kept
   pub object_left : (cs : List Cell) (base : ℕ) → All (λ c. moved_to c.mark ≡ None) cs → has_object (swept_cells kept number base cs) ≡ not (has_none (filter (is_there kept) (objects_from number base cs)))
   object_left [] base tidy = refl
   object_left (c ∷ cs) base tidy = by (has_address kept (place base)) refl c.mark refl (tidy 0 c (omega arith)) (object_left cs (base + size_of c) (λ i d lt. tidy (suc i) d (omega (arith, lt))))
     where
       by : (v : Bool) → has_address kept (place base) ≡ v → (m : Mark) → c.mark ≡ m → moved_to m ≡ None
           → has_object (swept_cells kept number (base + size_of c) cs) ≡ not (has_none (filter (is_there kept) (objects_from number (base + size_of c) cs)))
-          → (is_object (swept_cell v c).mark || has_object (swept_cells kept number (base + size_of c) cs)) ≡ not (has_none (filter (is_there kept) (seen_by number base c m (objects_from number (base + size_of c) cs))))
+          → (is_object (swept_cell v c).mark || has_object (swept_cells kept number (base + size_of c) cs)) ≡ not (has_none (filter (is_there kept) (located_by number base c m (objects_from number (base + size_of c) cs))))
       by true q (Born b) e u go =
           ap (λ z. is_object z || has_object (swept_cells kept number (base + size_of c) cs)) e
-          ∙ sym (ap (λ z. not (has_none (cond z (seen number base b c ∷ filter (is_there kept) (objects_from number (base + size_of c) cs)) (filter (is_there kept) (objects_from number (base + size_of c) cs))))) q)
+          ∙ sym (ap (λ z. not (has_none (cond z (located number base b c ∷ filter (is_there kept) (objects_from number (base + size_of c) cs)) (filter (is_there kept) (objects_from number (base + size_of c) cs))))) q)
       by true q (Moved to) e u go = absurd cc
       by true q Hole e u go = ap (λ z. is_object z || has_object (swept_cells kept number (base + size_of c) cs)) e ∙ go
       by false q (Born b) e u go =
-          go ∙ sym (ap (λ z. not (has_none (cond z (seen number base b c ∷ filter (is_there kept) (objects_from number (base + size_of c) cs)) (filter (is_there kept) (objects_from number (base + size_of c) cs))))) q)
+          go ∙ sym (ap (λ z. not (has_none (cond z (located number base b c ∷ filter (is_there kept) (objects_from number (base + size_of c) cs)) (filter (is_there kept) (objects_from number (base + size_of c) cs))))) q)
       by false q (Moved to) e u go = absurd cc
       by false q Hole e u go = go
 
@@ -61,11 +45,11 @@ module _ (kept : List Addr) (number : ℕ) where
 
 -- a large chunk holds its object, or nothing
 pub large_kept : (kept : List Addr) (k : Content) → HoldsLarge (chunk_of k) → HoldsLarge (chunk_of (swept_chunk kept k))
-large_kept kept k (inl none) = inl (objects_kept kept k.number k.cells 0 ∙ ap (filter (is_there kept)) none)
+large_kept kept k (inl none) = inl (sifted_are_kept (has_address kept) k ∙ ap (filter (is_there kept)) none)
 large_kept kept k (inr (o, only, at, fits)) = by (is_there kept o) refl
   where
     left : (b : Bool) → is_there kept o ≡ b → (chunk_of (swept_chunk kept k)).objects ≡ cond b (o ∷ []) []
-    left b q = objects_kept kept k.number k.cells 0 ∙ (ap (filter (is_there kept)) only ∙ ap (λ z. cond z (o ∷ []) []) q)
+    left b q = sifted_are_kept (has_address kept) k ∙ (ap (filter (is_there kept)) only ∙ ap (λ z. cond z (o ∷ []) []) q)
 
     by : (b : Bool) → is_there kept o ≡ b → HoldsLarge (chunk_of (swept_chunk kept k))
     by true q = inr (o, left true q, at, fits)

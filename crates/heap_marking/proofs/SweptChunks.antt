@@ -9,18 +9,19 @@ use Rattle.run_ledger.specs.Heaps.{is_empty, units_sum, without_empty, words_at}
 use Rattle.object_layout.specs.declared.word.Addr.{Addr}
 use Rattle.object_layout.specs.Cell.{moved_to}
 use Rattle.object_layout.specs.Content.{Content}
+use Rattle.object_layout.specs.Objects.{Located}
+use Rattle.object_layout.proofs.ObjectChanges.{sifted_are_kept}
 use Rattle.alloc_path.specs.Heap.{units}
 use Rattle.alloc_path.specs.Units.{unit_count}
 use Rattle.inner_mark_gc.specs.Marks.{has_address}
 use Rattle.inner_mark_gc.specs.Swept.{goes, has_object, stays, swept_chunk}
 use Rattle.core_relation.specs.Layout.{HoldsLarge, has_none, words}
 use Rattle.core_relation.specs.Stands.{large_chunks, names_of, small_chunks}
-use Rattle.core_relation.specs.Value.{In, Seen, objects_in}
+use Rattle.core_relation.specs.Value.{In, object_name, objects_in}
 use Rattle.core_relation.proofs.objects.Merged.{filter_append, map_append}
 use Rattle.shared_value.specs.Objects.{chunk_of, chunks_of}
 use Rattle.shared_value.proofs.SmallWords.{SameWords}
-use Rattle.shared_value.proofs.ObjectCounts.{name_in}
-use Rattle.heap_marking.proofs.SweptCells.{is_there, object_left, objects_kept}
+use Rattle.heap_marking.proofs.SweptCells.{is_there, object_left}
 
 -- a chunk of a heap without a reserved one
 pub record IsFilled (k : Content) : Type 0 where
@@ -32,7 +33,7 @@ pub record IsFilled (k : Content) : Type 0 where
 abbrev pub AreFilled : List Content → Type 0
 AreFilled ks = (k : Content) → In ks k → IsFilled k
 
-none_is : (os : List Seen) → false ≡ not (has_none os) → os ≡ []
+none_is : (os : List Located) → false ≡ not (has_none os) → os ≡ []
 none_is [] e = refl
 none_is (o ∷ os) e = absurd (false≢true e)
 
@@ -44,7 +45,7 @@ module _ (kept : List Addr) where
   abbrev pub gone : List Content → List Content
   gone ks = filter (goes kept None) ks
 
-  abbrev pub kept_in : Content → List Seen
+  abbrev pub kept_in : Content → List Located
   kept_in k = filter (is_there kept) (chunk_of k).objects
 
   -- whether the chunk stays
@@ -55,7 +56,7 @@ module _ (kept : List Addr) where
   has_is k F = object_left kept k.number k.cells 0 F.unmoved
 
   pub swept_is : (k : Content) → (chunk_of (swept_chunk kept k)).objects ≡ kept_in k
-  swept_is k = objects_kept kept k.number k.cells 0
+  swept_is k = sifted_are_kept (has_address kept) k
 
   -- OBJECTS
   pub objects_left : (ks : List Content) → AreFilled ks → objects_in (chunks_of (left ks)) ≡ filter (is_there kept) (objects_in (chunks_of ks))
@@ -69,18 +70,18 @@ module _ (kept : List Addr) where
 
   -- NAMES: where an address is kept just for its object's name
   module _ (keep : Name → Bool) where
-    abbrev pub Agrees : List Seen → Type 0
-    Agrees os = (o : Seen) → In os o → has_address kept o.at ≡ keep o.name
+    abbrev pub Agrees : List Located → Type 0
+    Agrees os = (o : Located) → In os o → has_address kept o.at ≡ keep (object_name o)
 
-    names_kept : (os : List Seen) → Agrees os → map name_in (filter (is_there kept) os) ≡ filter keep (map name_in os)
+    names_kept : (os : List Located) → Agrees os → map object_name (filter (is_there kept) os) ≡ filter keep (map object_name os)
     names_kept [] A = refl
-    names_kept (o ∷ os) A = by (keep o.name) (A o (inl refl)) (names_kept os (λ q i. A q (inr i)))
+    names_kept (o ∷ os) A = by (keep (object_name o)) (A o (inl refl)) (names_kept os (λ q i. A q (inr i)))
       where
-        by : (b : Bool) → has_address kept o.at ≡ b → map name_in (filter (is_there kept) os) ≡ filter keep (map name_in os) → map name_in (filter (is_there kept) (o ∷ os)) ≡ cond b (o.name ∷ filter keep (map name_in os)) (filter keep (map name_in os))
-        by true e go = ap (λ b. map name_in (cond b (o ∷ filter (is_there kept) os) (filter (is_there kept) os))) e ∙ ap (λ ns. o.name ∷ ns) go
-        by false e go = ap (λ b. map name_in (cond b (o ∷ filter (is_there kept) os) (filter (is_there kept) os))) e ∙ go
+        by : (b : Bool) → has_address kept o.at ≡ b → map object_name (filter (is_there kept) os) ≡ filter keep (map object_name os) → map object_name (filter (is_there kept) (o ∷ os)) ≡ cond b (object_name o ∷ filter keep (map object_name os)) (filter keep (map object_name os))
+        by true e go = ap (λ b. map object_name (cond b (o ∷ filter (is_there kept) os) (filter (is_there kept) os))) e ∙ ap (λ ns. object_name o ∷ ns) go
+        by false e go = ap (λ b. map object_name (cond b (o ∷ filter (is_there kept) os) (filter (is_there kept) os))) e ∙ go
 
-    empty_is : (os : List Seen) → has_none os ≡ is_empty (map name_in os)
+    empty_is : (os : List Located) → has_none os ≡ is_empty (map object_name os)
     empty_is [] = refl
     empty_is (o ∷ os) = refl
 
@@ -88,7 +89,7 @@ module _ (kept : List Addr) where
     names k = filter keep (names_of (chunk_of k))
 
     names_are : (k : Content) → Agrees (chunk_of k).objects → names_of (chunk_of (swept_chunk kept k)) ≡ names k
-    names_are k A = ap (map name_in) (swept_is k) ∙ names_kept (chunk_of k).objects A
+    names_are k A = ap (map object_name) (swept_is k) ∙ names_kept (chunk_of k).objects A
 
     pub has_names : (k : Content) → IsFilled k → Agrees (chunk_of k).objects → has k ≡ not (is_empty (names k))
     has_names k F A = has_is k F ∙ (ap not (empty_is (kept_in k)) ∙ ap (λ ns. not (is_empty ns)) (names_kept (chunk_of k).objects A))
@@ -128,23 +129,23 @@ module _ (kept : List Addr) where
 
     -- and of large ones
     abbrev large : List Content → List Name
-    large ks = map name_in (objects_in (large_chunks (chunks_of ks)))
+    large ks = map object_name (objects_in (large_chunks (chunks_of ks)))
 
-    pub large_left : (ks : List Content) → AreFilled ks → Agrees (objects_in (chunks_of ks)) → map name_in (objects_in (large_chunks (chunks_of (left ks)))) ≡ filter keep (map name_in (objects_in (large_chunks (chunks_of ks))))
+    pub large_left : (ks : List Content) → AreFilled ks → Agrees (objects_in (chunks_of ks)) → map object_name (objects_in (large_chunks (chunks_of (left ks)))) ≡ filter keep (map object_name (objects_in (large_chunks (chunks_of ks))))
     large_left [] F A = refl
     large_left (k ∷ ks) F A = by (has k) refl (k.size == 1024) refl (large_left ks (λ j i. F j (inr i)) (behind k ks A))
       where
-        both : filter keep (map name_in ((chunk_of k).objects ++ objects_in (large_chunks (chunks_of ks)))) ≡ names k ++ filter keep (large ks)
-        both = ap (filter keep) (map_append name_in (chunk_of k).objects (objects_in (large_chunks (chunks_of ks)))) ∙ filter_append keep (names_of (chunk_of k)) (large ks)
+        both : filter keep (map object_name ((chunk_of k).objects ++ objects_in (large_chunks (chunks_of ks)))) ≡ names k ++ filter keep (large ks)
+        both = ap (filter keep) (map_append object_name (chunk_of k).objects (objects_in (large_chunks (chunks_of ks)))) ∙ filter_append keep (names_of (chunk_of k)) (large ks)
 
         by : (b : Bool) → has k ≡ b → (s : Bool) → (k.size == 1024) ≡ s → large (left ks) ≡ filter keep (large ks)
-            → map name_in (objects_in (large_chunks (chunks_of (map (swept_chunk kept) (cond b (k ∷ filter (stays kept None) ks) (filter (stays kept None) ks))))))
-            ≡ filter keep (map name_in (objects_in (cond (not s) (chunk_of k ∷ large_chunks (chunks_of ks)) (large_chunks (chunks_of ks)))))
+            → map object_name (objects_in (large_chunks (chunks_of (map (swept_chunk kept) (cond b (k ∷ filter (stays kept None) ks) (filter (stays kept None) ks))))))
+            ≡ filter keep (map object_name (objects_in (cond (not s) (chunk_of k ∷ large_chunks (chunks_of ks)) (large_chunks (chunks_of ks)))))
         by true e true q go =
-            ap (λ z. map name_in (objects_in (cond (not z) (chunk_of (swept_chunk kept k) ∷ large_chunks (chunks_of (left ks))) (large_chunks (chunks_of (left ks)))))) q ∙ go
+            ap (λ z. map object_name (objects_in (cond (not z) (chunk_of (swept_chunk kept k) ∷ large_chunks (chunks_of (left ks))) (large_chunks (chunks_of (left ks)))))) q ∙ go
         by true e false q go =
-            ap (λ z. map name_in (objects_in (cond (not z) (chunk_of (swept_chunk kept k) ∷ large_chunks (chunks_of (left ks))) (large_chunks (chunks_of (left ks)))))) q
-            ∙ (map_append name_in (chunk_of (swept_chunk kept k)).objects (objects_in (large_chunks (chunks_of (left ks))))
+            ap (λ z. map object_name (objects_in (cond (not z) (chunk_of (swept_chunk kept k) ∷ large_chunks (chunks_of (left ks))) (large_chunks (chunks_of (left ks)))))) q
+            ∙ (map_append object_name (chunk_of (swept_chunk kept k)).objects (objects_in (large_chunks (chunks_of (left ks))))
             ∙ (ap₂ (λ a b. a ++ b) (names_are k (here k ks A)) go ∙ sym both))
         by false e true q go = go
         by false e false q go = go ∙ (ap (λ a. a ++ filter keep (large ks)) (sym (no_names k (F k (inl refl)) (here k ks A) e)) ∙ sym both)
@@ -154,7 +155,7 @@ module _ (kept : List Addr) where
   many ks = length (small_chunks (chunks_of ks))
 
   abbrev pub large_units : State → List Content → ℕ
-  large_units m ks = units_sum m (map name_in (objects_in (large_chunks (chunks_of ks))))
+  large_units m ks = units_sum m (map object_name (objects_in (large_chunks (chunks_of ks))))
 
   -- so many of small chunks go, and so many of large ones
   pub record Goes (m : State) (ks : List Content) : Type 0 where
@@ -165,28 +166,28 @@ module _ (kept : List Addr) where
     pub all : unit_count (gone ks) ≡ small + large
 
   module _ (m : State) where
-    abbrev pub KnowWords : List Seen → Type 0
-    KnowWords os = (o : Seen) → In os o → SameWords m o
+    abbrev pub KnowWords : List Located → Type 0
+    KnowWords os = (o : Located) → In os o → SameWords m o
 
-    abbrev units_of : List Seen → ℕ
-    units_of os = units_sum m (map name_in os)
+    abbrev units_of : List Located → ℕ
+    units_of os = units_sum m (map object_name os)
 
-    units_both : (os qs : List Seen) → units_of (os ++ qs) ≡ units_of os + units_of qs
-    units_both os qs = ap (units_sum m) (map_append name_in os qs) ∙ sum_by-append (λ n. units (words_at m n)) (map name_in os) (map name_in qs)
+    units_both : (os qs : List Located) → units_of (os ++ qs) ≡ units_of os + units_of qs
+    units_both os qs = ap (units_sum m) (map_append object_name os qs) ∙ sum_by-append (λ n. units (words_at m n)) (map object_name os) (map object_name qs)
 
     -- a large chunk has its object's units
-    one_large : (k : Content) → IsFilled k → (k.size == 1024) ≡ false → KnowWords (chunk_of k).objects → (o : Seen) × ((chunk_of k).objects ≡ o ∷ []) × (units_of (o ∷ []) ≡ units k.size)
+    one_large : (k : Content) → IsFilled k → (k.size == 1024) ≡ false → KnowWords (chunk_of k).objects → (o : Located) × ((chunk_of k).objects ≡ o ∷ []) × (units_of (o ∷ []) ≡ units k.size)
     one_large k F q W = by (F.large q)
       where
-        by : HoldsLarge (chunk_of k) → (o : Seen) × ((chunk_of k).objects ≡ o ∷ []) × (units_of (o ∷ []) ≡ units k.size)
+        by : HoldsLarge (chunk_of k) → (o : Located) × ((chunk_of k).objects ≡ o ∷ []) × (units_of (o ∷ []) ≡ units k.size)
         by (inl none) = absurd (F.some q none)
         by (inr (o, only, at, fits)) =
-            let w : words_at m o.name ≡ words o = W o (subst (λ os. In os o) (sym only) (inl refl)) in
+            let w : words_at m (object_name o) ≡ words o = W o (subst (λ os. In os o) (sym only) (inl refl)) in
             let whole : k.size ≡ 1024 * (k.size / 1024) = F.whole in
             let u : units k.size ≡ k.size / 1024 = omega (arith, whole) in (
               o,
               only,
-              sum_by-cons (λ n. units (words_at m n)) o.name [] ∙ (let z : units (words_at m o.name) + 0 ≡ units (words_at m o.name) = omega arith in z ∙ (ap units w ∙ (sym fits ∙ sym u))),
+              sum_by-cons (λ n. units (words_at m n)) (object_name o) [] ∙ (let z : units (words_at m (object_name o)) + 0 ≡ units (words_at m (object_name o)) = omega arith in z ∙ (ap units w ∙ (sym fits ∙ sym u))),
             )
 
     -- one chunk more, by whether it stays and whether it is small
@@ -228,7 +229,7 @@ module _ (kept : List Addr) where
             all = G.all;
           }
         where
-          whole_by : (o : Seen) → true ≡ not (has_none (filter (is_there kept) (o ∷ []))) → filter (is_there kept) (o ∷ []) ≡ o ∷ []
+          whole_by : (o : Located) → true ≡ not (has_none (filter (is_there kept) (o ∷ []))) → filter (is_there kept) (o ∷ []) ≡ o ∷ []
           whole_by o h = one (is_there kept o) h
             where
               one : (b : Bool) → true ≡ not (has_none (cond b (o ∷ []) [])) → cond b (o ∷ []) [] ≡ o ∷ []

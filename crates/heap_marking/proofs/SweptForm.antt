@@ -10,13 +10,14 @@ use Rattle.object_layout.specs.declared.word.Addr.{Addr}
 use Rattle.object_layout.specs.Chunks.{chunk_at, no_chunk, place_in}
 use Rattle.object_layout.specs.Content.{Content}
 use Rattle.object_layout.specs.Place.{words_in}
+use Rattle.object_layout.specs.Objects.{Located}
 use Rattle.alloc_path.specs.Heap.{AreWithin, Heap, IsCurrent, IsSettled, IsTidy, room_at, room_of}
 use Rattle.alloc_path.proofs.HeapLemmas as heap
 use Rattle.inner_mark_gc.specs.Swept.{gone_of, number_at, place_at, swept}
 use Rattle.inner_mark_gc.proofs.Finding.{all_from}
 use Rattle.inner_mark_gc.proofs.Kept as kept_chunks
 use Rattle.core_relation.specs.Layout.{HoldsLarge, has_none}
-use Rattle.core_relation.specs.Value.{In, Seen, objects_in}
+use Rattle.core_relation.specs.Value.{In, objects_in}
 use Rattle.core_relation.proofs.objects.Members.{in_objects, in_map}
 use Rattle.task_machine.specs.Accounts.{IsLastSmall}
 use Rattle.shared_value.specs.Objects.{chunk_of, chunks_of}
@@ -64,7 +65,7 @@ module _ (kept : List Addr) (h : Heap) (F : HeapForm h) (none : h.reserved ≡ N
   settled = record { tidy = F.tidy; apart = F.shaped.apart }
 
   -- an object that is left was there
-  was : (o : Seen) → In (objects_in (chunks_of (left kept h.chunks))) o → In (objects_in (chunks_of h.chunks)) o
+  was : (o : Located) → In (objects_in (chunks_of (left kept h.chunks))) o → In (objects_in (chunks_of h.chunks)) o
   was o i = (in_from_kept (is_there kept) (objects_in (chunks_of h.chunks)) o (subst (λ os. In os o) (objects_left kept h.chunks filled) i)).0
 
   within_left : AreWithin (left kept h.chunks)

@@ -13,6 +13,7 @@ use Rattle.run_ledger.specs.Heaps.{heap_of, left_in, or_fresh, swept_heap, with_
 use Rattle.run_ledger.proofs.Members.{holds_from_in, in_from_holds}
 use Rattle.object_layout.specs.declared.word.Addr.{Addr}
 use Rattle.object_layout.specs.Content.{Content}
+use Rattle.object_layout.specs.Objects.{Located}
 use Rattle.chunk_pool.specs.declared.pool.Held.{Held}
 use Rattle.chunk_pool.specs.Chunks.{Chunks, held_at, owner_of, units_held}
 use Rattle.alloc_path.specs.Heap.{Heap as HeapOfCode, IsFresh, room_of, with_places}
@@ -26,7 +27,7 @@ use Rattle.ledger_steps.proofs.Ahead.{heap_then, with_at}
 use Rattle.core_relation.specs.Changes.{KeepsJust}
 use Rattle.core_relation.specs.Layout.{AreLaidOut}
 use Rattle.core_relation.specs.Stands.{HasNames, HomeStands}
-use Rattle.core_relation.specs.Value.{Chunk, Home, In, Seen, Value, objects, objects_in, sources}
+use Rattle.core_relation.specs.Value.{Chunk, Home, In, Value, object_name, objects, objects_in, sources}
 use Rattle.core_relation.proofs.objects.Members.{in_map, map_in}
 use Rattle.shared_value.specs.declared.task_at_rest.Rest.{Rest}
 use Rattle.shared_value.specs.declared.task_at_rest.Work.{Work}
@@ -200,7 +201,7 @@ module _ (w : World) (I : IsWorld w) (on : (accounts w).end ≡ None) (t : ℕ) 
       objects_before : objects v t ≡ objects_in (chunks_of ks)
       objects_before = ap objects_in (start.chunks_here w I on t free)
 
-      was : (o : Seen) → In (objects v' t) o → In (objects v t) o × (is_there kept o ≡ true)
+      was : (o : Located) → In (objects v' t) o → In (objects v t) o × (is_there kept o ≡ true)
       was o i =
           let f = in_from_kept (is_there kept) (objects_in (chunks_of ks)) o (subst (λ os. In os o) objects_then i) in
           (subst (λ os. In os o) (sym objects_before) f.0, f.1)
@@ -235,11 +236,11 @@ module _ (w : World) (I : IsWorld w) (on : (accounts w).end ≡ None) (t : ℕ) 
         home = home_then;
         kept = λ o i n.
             let j : In (objects_in (chunks_of ks)) o = subst (λ os. In os o) objects_before i in
-            subst (λ os. In os o) (sym objects_then) (in_kept (is_there kept) (objects_in (chunks_of ks)) o j (start.agree w I on t free none_left o j ∙ holds_from_in a.snapshot o.name n));
+            subst (λ os. In os o) (sym objects_then) (in_kept (is_there kept) (objects_in (chunks_of ks)) o j (start.agree w I on t free none_left o j ∙ holds_from_in a.snapshot (object_name o) n));
         only = λ o i.
             let x = was o i in
             let j : In (objects_in (chunks_of ks)) o = subst (λ os. In os o) objects_before x.0 in
-            (x.0, in_from_holds a.snapshot o.name (sym (start.agree w I on t free none_left o j) ∙ x.1));
+            (x.0, in_from_holds a.snapshot (object_name o) (sym (start.agree w I on t free none_left o j) ∙ x.1));
         frames = ap (λ (h : Home). h.frames) home ∙ (frames_by heap' r.heap r.view r.allocations r.work ∙ ap (λ (h : Home). h.frames) (sym (start.here w I on t free)));
         result = ap (λ (h : Home). h.result) home ∙ (result_by heap' r.heap r.view r.allocations r.work ∙ ap (λ (h : Home). h.result) (sym (start.here w I on t free)));
         view = ap (λ (h : Home). h.view) home ∙ (view_by heap' r.heap r.view r.allocations r.work ∙ ap (λ (h : Home). h.view) (sym (start.here w I on t free)));

@@ -21,7 +21,8 @@ use Rattle.core_relation.specs.Layout.{AreLaidOut}
 use Rattle.core_relation.specs.Marking.{MarkedBy}
 use Rattle.core_relation.specs.Since.{kept as kept_of}
 use Rattle.core_relation.specs.Stands.{HasNames, HomeStands}
-use Rattle.core_relation.specs.Value.{Home, In, Seen, Value, objects, objects_in}
+use Rattle.object_layout.specs.Objects.{Located}
+use Rattle.core_relation.specs.Value.{Home, In, Value, object_name, objects, objects_in}
 use Rattle.core_relation.specs.Whole.{StandsFor}
 use Rattle.core_relation.proofs.notes.MarksAll.{marks_are_all}
 use Rattle.core_relation.proofs.objects.Members.{in_map}
@@ -137,25 +138,25 @@ module _ (w : World) (I : IsWorld w) (on : (accounts w).end ≡ None) (t : ℕ) 
   large k i q = laid.large (chunk_of k) (in_map chunk_of Z.rest.heap.chunks k i) (ap not q)
 
   -- its objects in the value
-  pub object_there : (o : Seen) → In (objects_in (chunks_of Z.rest.heap.chunks)) o → In (objects v t) o
+  pub object_there : (o : Located) → In (objects_in (chunks_of Z.rest.heap.chunks)) o → In (objects v t) o
   object_there o i = subst (λ cs. In (objects_in cs) o) (sym chunks_here) i
 
   module _ (none_left : left_in a ≡ 0) where
     -- what is marked is just what the snapshot names
     pub agree : Agrees (marked_of Z.marks) (holds_name a.snapshot) (objects_in (chunks_of Z.rest.heap.chunks))
-    agree o i = same_truth (has_address (marked_of Z.marks) o.at) (holds_name a.snapshot o.name) named marked
+    agree o i = same_truth (has_address (marked_of Z.marks) o.at) (holds_name a.snapshot (object_name o)) named marked
       where
-        named : has_address (marked_of Z.marks) o.at ≡ true → holds_name a.snapshot o.name ≡ true
+        named : has_address (marked_of Z.marks) o.at ≡ true → holds_name a.snapshot (object_name o) ≡ true
         named e =
             let q = M.0.each o.at (has_in (marked_of Z.marks) o.at e) in
             let same : q.0 ≡ o = H.once q.0 o q.1 (object_there o i) q.2 in
-            holds_from_in a.snapshot o.name (subst (λ (x : Seen). In a.snapshot x.name) same q.3)
+            holds_from_in a.snapshot (object_name o) (subst (λ (x : Located). In a.snapshot (object_name x)) same q.3)
 
-        marked : holds_name a.snapshot o.name ≡ true → has_address (marked_of Z.marks) o.at ≡ true
+        marked : holds_name a.snapshot (object_name o) ≡ true → has_address (marked_of Z.marks) o.at ≡ true
         marked e =
             let held = snapshots_are_held w.program w.settings w.journal.items t I.legal Z.wait in
             in_has (marked_of Z.marks) o.at
-            ((marks_are_all v l t (marked_of Z.marks) S.homes rests held.once (λ n j. in_from_contains (held_in a) n (held.held n (contains_from_in a.snapshot n j))) M.0).0 none_left o (object_there o i) (in_from_holds a.snapshot o.name e))
+            ((marks_are_all v l t (marked_of Z.marks) S.homes rests held.once (λ n j. in_from_contains (held_in a) n (held.held n (contains_from_in a.snapshot n j))) M.0).0 none_left o (object_there o i) (in_from_holds a.snapshot (object_name o) e))
 
     -- and all that was found is marked
     pub done : IsDone Z.marks

@@ -14,6 +14,7 @@ use Rattle.run_ledger.specs.Reachable.{holds_name}
 use Rattle.run_ledger.proofs.Space.{heaps_fit, use_is_bounded}
 use Rattle.object_layout.specs.declared.word.Addr.{Addr}
 use Rattle.object_layout.specs.Content.{Content}
+use Rattle.object_layout.specs.Objects.{Located}
 use Rattle.alloc_path.specs.Units.{counted32, unit_count}
 use Rattle.inner_mark_gc.specs.Marks.{IsDone, Marks, marked_of}
 use Rattle.inner_mark_gc.specs.Swept.{gone_of}
@@ -21,7 +22,7 @@ use Rattle.inner_mark_gc.proofs.Finding.{found_few}
 use Rattle.core_relation.specs.Layout.{words}
 use Rattle.core_relation.specs.Marking.{MarkedBy}
 use Rattle.core_relation.specs.Stands.{HasNames, large_chunks, names_of, small_chunks}
-use Rattle.core_relation.specs.Value.{In, Seen, objects_in}
+use Rattle.core_relation.specs.Value.{In, object_name, objects_in}
 use Rattle.core_relation.proofs.objects.Merged.{map_append}
 use Rattle.shared_value.specs.declared.task_at_rest.Rest.{Rest}
 use Rattle.shared_value.specs.Objects.{chunk_of, chunks_of}
@@ -29,7 +30,6 @@ use Rattle.shared_value.specs.World.{World, accounts, marks_at, rest_at, value_o
 use Rattle.shared_value.specs.Stands.{IsWorld}
 use Rattle.shared_value.proofs.HeapWords.{words_same}
 use Rattle.shared_value.proofs.ObjectCounts.{objects_counted}
-use Rattle.shared_value.proofs.ObjectCounts.{name_in}
 use Rattle.heap_marking.specs.MarkCauses.{marking_cause}
 use Rattle.heap_marking.proofs.SweptChunks.{Agrees, AreFilled, Goes, KnowWords, gone, large_left, large_units, left, many, small_left, units_gone}
 use Rattle.heap_marking.proofs.SweptForm.{filled, gone_plain}
@@ -95,22 +95,22 @@ few_words l t = one_words l.machine l.heaps t
 
 -- an object has words
 module _ (m : State) where
-  abbrev Know : List Seen → Type 0
-  Know os = (o : Seen) → In os o → words_at m o.name ≡ words o
+  abbrev Know : List Located → Type 0
+  Know os = (o : Located) → In os o → words_at m (object_name o) ≡ words o
 
-  objects_few : (os : List Seen) → Know os → length os ≤ words_sum m (map name_in os)
+  objects_few : (os : List Located) → Know os → length os ≤ words_sum m (map object_name os)
   objects_few [] W = omega arith
   objects_few (o ∷ os) W =
-      let s = sum_by-cons (words_at m) o.name (map name_in os) in
-      let w : words_at m o.name ≡ words o = W o (inl refl) in
-      let go : length os ≤ words_sum m (map name_in os) = objects_few os (λ q i. W q (inr i)) in
+      let s = sum_by-cons (words_at m) (object_name o) (map object_name os) in
+      let w : words_at m (object_name o) ≡ words o = W o (inl refl) in
+      let go : length os ≤ words_sum m (map object_name os) = objects_few os (λ q i. W q (inr i)) in
       omega (arith, s, w, go)
 
   abbrev small_words : List Content → ℕ
   small_words ks = words_sum m (flat_map (λ ns. ns) (map names_of (small_chunks (chunks_of ks))))
 
   abbrev large_words : List Content → ℕ
-  large_words ks = words_sum m (map name_in (objects_in (large_chunks (chunks_of ks))))
+  large_words ks = words_sum m (map object_name (objects_in (large_chunks (chunks_of ks))))
 
   chunks_few : (ks : List Content) → Know (objects_in (chunks_of ks)) → length (objects_in (chunks_of ks)) ≤ small_words ks + large_words ks
   chunks_few [] W = omega arith
@@ -124,12 +124,12 @@ module _ (m : State) where
       by : (b : Bool) → length (chunk_of k).objects ≤ words_sum m (names_of (chunk_of k)) → length (objects_in (chunks_of ks)) ≤ small_words ks + large_words ks
           → length (objects_in (chunks_of (k ∷ ks)))
           ≤ words_sum m (flat_map (λ ns. ns) (map names_of (cond (not (not b)) (chunk_of k ∷ small_chunks (chunks_of ks)) (small_chunks (chunks_of ks)))))
-          + words_sum m (map name_in (objects_in (cond (not b) (chunk_of k ∷ large_chunks (chunks_of ks)) (large_chunks (chunks_of ks)))))
+          + words_sum m (map object_name (objects_in (cond (not b) (chunk_of k ∷ large_chunks (chunks_of ks)) (large_chunks (chunks_of ks)))))
       by true own go =
           let s = sum_by-append (words_at m) (names_of (chunk_of k)) (flat_map (λ ns. ns) (map names_of (small_chunks (chunks_of ks)))) in
           omega (arith, long, own, go, s)
       by false own go =
-          let s = ap (words_sum m) (map_append name_in (chunk_of k).objects (objects_in (large_chunks (chunks_of ks)))) ∙ sum_by-append (words_at m) (names_of (chunk_of k)) (map name_in (objects_in (large_chunks (chunks_of ks)))) in
+          let s = ap (words_sum m) (map_append object_name (chunk_of k).objects (objects_in (large_chunks (chunks_of ks)))) ∙ sum_by-append (words_at m) (names_of (chunk_of k)) (map object_name (objects_in (large_chunks (chunks_of ks)))) in
           omega (arith, long, own, go, s)
 
   pub held_few : (a : Account) (ks : List Content) → HasNames (chunks_of ks) a → Know (objects_in (chunks_of ks)) → length (objects_in (chunks_of ks)) ≤ words_sum m (held_in a)
@@ -159,7 +159,7 @@ module _ (w : World) (I : IsWorld w) (on : (accounts w).end ≡ None) (t : ℕ) 
   abbrev ks : List Content
   ks = (start.Z w I on t free).rest.heap.chunks
 
-  pub know : (o : Seen) → In (objects_in (chunks_of ks)) o → words_at l.machine o.name ≡ words o
+  pub know : (o : Located) → In (objects_in (chunks_of ks)) o → words_at l.machine (object_name o) ≡ words o
   know o i = words_same (value_of w) l t ks (start.S w I on t free).homes (start.rests w I on t free) (start.chunks_here w I on t free) o (start.object_there w I on t free o i)
 
   used : in_use l ≤ 65536

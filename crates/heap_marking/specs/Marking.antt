@@ -9,10 +9,11 @@ use Rattle.run_ledger.specs.Heaps.{heap_of, left_in}
 use Rattle.run_ledger.specs.Entries.{after}
 use Rattle.object_layout.specs.declared.word.Addr.{Addr}
 use Rattle.object_layout.specs.Graph.{IsClosed, IsHeld}
+use Rattle.object_layout.specs.Objects.{Located}
 use Rattle.task_frames.specs.declared.frames.Frame.{Frame}
 use Rattle.inner_mark_gc.specs.Marks.{IsAllMarked, IsMarking, IsOf, Marks, marked_of}
 use Rattle.inner_mark_gc.specs.Snapshot.{Fork, IsSince}
-use Rattle.core_relation.specs.Value.{In, Seen, Value}
+use Rattle.core_relation.specs.Value.{In, Value}
 use Rattle.core_relation.specs.Begins.{IsAt, IsRoot}
 use Rattle.core_relation.specs.Marking.{GoesOn, MarksStand}
 use Rattle.core_relation.specs.Since.{kept as kept_of}
@@ -24,7 +25,7 @@ use Rattle.shared_value.specs.Entered.{refused}
 
 -- where a marking of the heap of t begins: at an object of it that a register of t names, or to which a remembered field refers
 abbrev pub IsStart : Value → Ledger → ℕ → Addr → Type 0
-IsStart v l t a = ((o : Seen) × IsAt (v.homes t) a o × ((f : Frame) × In (v.homes t).frames f × In f.refs (Some a))) ⊎ IsRoot v l t a
+IsStart v l t a = ((o : Located) × IsAt (v.homes t) a o × ((f : Frame) × In (v.homes t).frames f × In f.refs (Some a))) ⊎ IsRoot v l t a
 
 -- of a task that waits, whose overwritten references are kept, such a marking goes on to just the snapshot
 abbrev pub MarksBegin : Type 0
