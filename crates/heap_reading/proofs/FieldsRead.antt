@@ -12,11 +12,12 @@ use Rattle.std.proofs.lemmas.Map.Keys.{IsDistinct-IsPermutation, IsDistinct-cons
 use Rattle.listed.proofs.Members.{In, any_from_in, contains_from_in, in_from_contains}
 use Rattle.object_layout.specs.declared.word.Addr.{Addr}
 use Rattle.object_layout.specs.Layout.{word_of_ref}
+use Rattle.object_layout.specs.Objects.{Located}
 use Rattle.remembered_set.specs.declared.remembered.Source.{Source}
 use Rattle.remembered_set.specs.Sources.{StandOnce, has_source, same_source}
 use Rattle.write_barrier.specs.declared.sets.SetOf.{SetOf}
 use Rattle.ledger_steps.specs.Accounts.{own}
-use Rattle.core_relation.specs.Value.{In as HasItem, Seen, objects_in, sources}
+use Rattle.core_relation.specs.Value.{In as HasItem, objects_in, sources}
 use Rattle.core_relation.specs.Whole.{handed}
 use Rattle.shared_value.specs.declared.task_at_rest.Rest.{Rest}
 use Rattle.shared_value.specs.Stands.{IsWorld}
@@ -144,7 +145,7 @@ item_same (y ∷ ys) x (inr i) = inr (item_same ys x i)
 item_same [] x i = absurd i
 
 module _ (w : World) (I : IsWorld w) where
-  near_in : (o : Option Rest) (u : ℕ) → rest_at w.homes u ≡ o → (a : Addr) → (q : Seen) → HasItem (objects_in (home_in o).chunks) q → q.at ≡ a → a.offset < 1024
+  near_in : (o : Option Rest) (u : ℕ) → rest_at w.homes u ≡ o → (a : Addr) → (q : Located) → HasItem (objects_in (home_in o).chunks) q → q.at ≡ a → a.offset < 1024
   near_in None u e a q i at = absurd i
   near_in (Some r) u e a q i at = subst (λ (z : Addr). z.offset < 1024) at ((I.heaps u r e).near q (subst (λ ks. HasItem (objects_in ks) q) (home_chunks r) i))
 

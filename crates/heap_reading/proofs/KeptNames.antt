@@ -27,13 +27,14 @@ use Rattle.run_ledger.proofs.Space.{heaps_fit, use_is_bounded}
 use Rattle.run_ledger.proofs.Stocks.{names_are_held_once}
 use Rattle.object_layout.specs.Chunks.{held_words, object_count}
 use Rattle.object_layout.specs.Content.{Content}
+use Rattle.object_layout.specs.Objects.{Located}
 use Rattle.alloc_path.specs.Heap.{counted}
 use Rattle.heap_tree.specs.Node.{Node}
 use Rattle.ledger_steps.specs.Accounts.{Rests, rested}
 use Rattle.ledger_steps.proofs.Ahead.{with_off}
 use Rattle.ledger_steps.proofs.Rested.{rested_view}
 use Rattle.core_relation.specs.Stands.{HasNames, Stands, large_chunks, names_of, small_chunks}
-use Rattle.core_relation.specs.Value.{In, Seen, objects_in}
+use Rattle.core_relation.specs.Value.{In, object_name, objects_in}
 use Rattle.core_relation.specs.Whole.{by_end, handed, state_by}
 use Rattle.shared_value.specs.declared.task_at_rest.Rest.{Rest}
 use Rattle.shared_value.specs.Objects.{chunk_of, chunks_of}
@@ -44,7 +45,6 @@ use Rattle.shared_value.proofs.SameLength.{same_length}
 use Rattle.shared_value.proofs.FieldsLed.{home_chunks}
 use Rattle.shared_value.proofs.ObjectCounts.{objects_counted}
 use Rattle.shared_value.proofs.BeforeTheEnd.{goes_by}
-use Rattle.shared_value.proofs.ObjectCounts.{name_in}
 use Rattle.heap_reading.specs.HeldNames.{is_state_running, kept_of}
 use Rattle.heap_reading.proofs.IdleTasks.{journal_idle}
 
@@ -70,9 +70,9 @@ small_many : List Content → ℕ
 small_many ks = length (flat_map (λ ns. ns) (map names_of (small_chunks (chunks_of ks))))
 
 large_many : List Content → ℕ
-large_many ks = length (map name_in (objects_in (large_chunks (chunks_of ks))))
+large_many ks = length (map object_name (objects_in (large_chunks (chunks_of ks))))
 
-length_names : (os : List Seen) → length (map name_in os) ≡ length os
+length_names : (os : List Located) → length (map object_name os) ≡ length os
 length_names [] = refl
 length_names (o ∷ os) = ap suc (length_names os)
 
@@ -83,7 +83,7 @@ chunks_many (k ∷ ks) = by (k.size == 1024) (chunks_many ks) ∙ sym (length-ap
   where
     by : (b : Bool) → small_many ks + large_many ks ≡ length (objects_in (chunks_of ks))
         → length (flat_map (λ ns. ns) (map names_of (cond (not (not b)) (chunk_of k ∷ small_chunks (chunks_of ks)) (small_chunks (chunks_of ks)))))
-        + length (map name_in (objects_in (cond (not b) (chunk_of k ∷ large_chunks (chunks_of ks)) (large_chunks (chunks_of ks))))) ≡ length (chunk_of k).objects + length (objects_in (chunks_of ks))
+        + length (map object_name (objects_in (cond (not b) (chunk_of k ∷ large_chunks (chunks_of ks)) (large_chunks (chunks_of ks))))) ≡ length (chunk_of k).objects + length (objects_in (chunks_of ks))
     by true go =
         let own = length_names (chunk_of k).objects in
         let both = length-append (names_of (chunk_of k)) (flat_map (λ ns. ns) (map names_of (small_chunks (chunks_of ks)))) in

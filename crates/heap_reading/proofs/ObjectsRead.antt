@@ -9,12 +9,13 @@ use Rattle.object_layout.specs.Chunks.{chunk_at, place_in, place_of}
 use Rattle.object_layout.specs.Content.{Content}
 use Rattle.object_layout.specs.Place.{cells_from}
 use Rattle.object_layout.specs.declared.word.Birth.{Birth}
+use Rattle.object_layout.specs.Objects.{Located, located, located_by, objects_from}
 use Rattle.chunk_pool.specs.Chunks.{owner_of}
 use Rattle.alloc_path.proofs.HeapLemmas.{none_there, place_found}
 use Rattle.heap_tree.specs.Node.{state_of}
-use Rattle.core_relation.specs.Value.{Home, In, Seen}
+use Rattle.core_relation.specs.Value.{Home, In}
 use Rattle.shared_value.specs.declared.task_at_rest.Rest.{Rest}
-use Rattle.shared_value.specs.Objects.{chunk_of, chunks_of, objects_from, seen, seen_by}
+use Rattle.shared_value.specs.Objects.{chunk_of, chunks_of}
 use Rattle.shared_value.specs.World.{World, home_in, rest_at}
 use Rattle.shared_value.proofs.FieldsLed.{home_chunks}
 use Rattle.heap_reading.specs.declared.seen.Seen.{Seen as Shown}
@@ -45,31 +46,31 @@ born_from (Born b) e h = h
 born_from (Moved to) e h = absurd cc
 born_from Hole e h = h
 
-skipped : (number at : ℕ) (c : Cell) (m : Mark) (os : List Seen) → moved_to m ≡ None → (IsObject m → ⊥) → seen_by number at c m os ≡ os
+skipped : (number at : ℕ) (c : Cell) (m : Mark) (os : List Located) → moved_to m ≡ None → (IsObject m → ⊥) → located_by number at c m os ≡ os
 skipped number at c (Born b) os e off = absurd (off tt)
 skipped number at c (Moved to) os e off = refl
 skipped number at c Hole os e off = refl
 
 -- A STEP OF THE WALK
 module _ (number at next : ℕ) (cells : List Cell) (c : Cell) (rest : cells_from cells at ≡ c ∷ cells_from cells next) (next_is : next ≡ at + size_of c) where
-  abbrev here : List Seen
+  abbrev here : List Located
   here = objects_from number at (cells_from cells at)
 
-  abbrev there : List Seen
+  abbrev there : List Located
   there = objects_from number next (cells_from cells next)
 
-  here_is : here ≡ seen_by number at c c.mark there
-  here_is = ap (objects_from number at) rest ∙ ap (λ n. seen_by number at c c.mark (objects_from number n (cells_from cells next))) (sym next_is)
+  here_is : here ≡ located_by number at c c.mark there
+  here_is = ap (objects_from number at) rest ∙ ap (λ n. located_by number at c c.mark (objects_from number n (cells_from cells next))) (sym next_is)
 
   pub unmoved_next : All (λ k. moved_to k.mark ≡ None) (cells_from cells at) → All (λ k. moved_to k.mark ≡ None) (cells_from cells next)
   unmoved_next all = All-tail (λ k. moved_to k.mark ≡ None) c (cells_from cells next) (subst (All (λ k. moved_to k.mark ≡ None)) rest all)
 
   module _ (b : Birth) (born : c.mark ≡ Born b) where
-    abbrev one : Seen
-    one = seen number at b c
+    abbrev one : Located
+    one = located number at b c
 
     born_here : here ≡ one ∷ there
-    born_here = here_is ∙ ap (λ m. seen_by number at c m there) born
+    born_here = here_is ∙ ap (λ m. located_by number at c m there) born
 
     pub objects_more : (os os' all : List Shown) → os' ≡ os ++ shown one ∷ [] → os ++ map shown here ≡ all → os' ++ map shown there ≡ all
     objects_more os os' all more e =
@@ -77,7 +78,7 @@ module _ (number at next : ℕ) (cells : List Cell) (c : Cell) (rest : cells_fro
         ∙ (append_assoc os (shown one ∷ []) (map shown there)
         ∙ (ap (λ z. os ++ map shown z) (sym born_here) ∙ e))
 
-    pub words_more : (all : List Seen) → IsInWords one → ((o : Seen) → In all o → IsInWords o ⊎ In here o) → (o : Seen) → In all o → IsInWords o ⊎ In there o
+    pub words_more : (all : List Located) → IsInWords one → ((o : Located) → In all o → IsInWords o ⊎ In here o) → (o : Located) → In all o → IsInWords o ⊎ In there o
     words_more all words was o i = elim (was o i) [
       | inl w ↦ inl w
       | inr j ↦ elim (subst (λ z. In z o) born_here j) [ inl e ↦ inl (subst IsInWords e words) | inr k ↦ inr k ]
@@ -90,7 +91,7 @@ module _ (number at next : ℕ) (cells : List Cell) (c : Cell) (rest : cells_fro
     pub objects_same : (os all : List Shown) → os ++ map shown here ≡ all → os ++ map shown there ≡ all
     objects_same os all e = ap (λ z. os ++ map shown z) (sym none_here) ∙ e
 
-    pub words_same : (all : List Seen) → ((o : Seen) → In all o → IsInWords o ⊎ In here o) → (o : Seen) → In all o → IsInWords o ⊎ In there o
+    pub words_same : (all : List Located) → ((o : Located) → In all o → IsInWords o ⊎ In here o) → (o : Located) → In all o → IsInWords o ⊎ In there o
     words_same all was o i = elim (was o i) [ inl w ↦ inl w | inr j ↦ inr (subst (λ z. In z o) none_here j) ]
 
 -- THE CHUNK OF A NUMBER

@@ -5,13 +5,13 @@ use Rattle.listed.specs.Members.{In}
 use Rattle.hh_model.specs.Step.{owner_of}
 use Rattle.object_layout.specs.Cell.{IsRef}
 use Rattle.object_layout.specs.Layout.{word_of_ref}
+use Rattle.object_layout.specs.Objects.{Located}
 use Rattle.chunk_pool.specs.declared.pool.Held.{Held}
 use Rattle.chunk_pool.specs.Chunks.{held_at, owner_of as holder_of}
 use Rattle.heap_tree.specs.declared.state.State.TheVariants.{Joined}
 use Rattle.heap_tree.specs.Node.{Node, state_of}
 use Rattle.remembered_set.specs.declared.remembered.Source.{Source}
-use Rattle.core_relation.specs.Value.{Chunk, Seen as SeenAt, In as HasItem, sources}
-use Rattle.task_machine.specs.Place.{birth_of}
+use Rattle.core_relation.specs.Value.{Chunk, In as HasItem, sources}
 use Rattle.shared_value.specs.World.{World, accounts, value_of}
 use Rattle.heap_reading.specs.declared.live.Live.{Live}
 use Rattle.heap_reading.specs.declared.live.InUse.{InUse}
@@ -59,30 +59,30 @@ pub record IsInUse (w : World) (c : InUse) : Type 0 where
 -- OBJECTS
 
 -- those of the chunk of a number
-abbrev pub objects_numbered : ℕ → List Chunk → List SeenAt
+abbrev pub objects_numbered : ℕ → List Chunk → List Located
 objects_numbered number [] = []
 objects_numbered number (k ∷ ks) = if k.number == number then k.objects else objects_numbered number ks
 
 -- in the heap of a task, unless that runs
-abbrev pub objects_owned : World → ℕ → Option ℕ → List SeenAt
+abbrev pub objects_owned : World → ℕ → Option ℕ → List Located
 objects_owned w number None = []
 objects_owned w number (Some t) = if is_state_running (state_of w.tree t) then [] else objects_numbered number ((value_of w).homes t).chunks
 
 -- in its owner's heap
-abbrev pub objects_of : World → ℕ → List SeenAt
+abbrev pub objects_of : World → ℕ → List Located
 objects_of w number = objects_owned w number (holder_of w.pool number)
 
 -- with addresses as numbers, 0 for nil
-abbrev pub shown : SeenAt → Seen
-shown o = record { at = word_of_ref (Some o.at); birth = birth_of o.name; mutable = o.mutable; refs = map word_of_ref o.refs; ints = o.ints }
+abbrev pub shown : Located → Seen
+shown o = record { at = word_of_ref (Some o.at); birth = o.birth; mutable = o.mutable; refs = map word_of_ref o.refs; ints = o.ints }
 
 -- words hold its fields
-pub record IsInWords (o : SeenAt) : Type 0 where
+pub record IsInWords (o : Located) : Type 0 where
   pub refs : All IsRef o.refs
   pub ints : All (FitsSigned w64) o.ints
 
-abbrev pub AreInWords : List SeenAt → Type 0
-AreInWords os = (o : SeenAt) → HasItem os o → IsInWords o
+abbrev pub AreInWords : List Located → Type 0
+AreInWords os = (o : Located) → HasItem os o → IsInWords o
 
 -- REMEMBERED FIELDS
 

@@ -6,7 +6,8 @@ ghost use Rattle.object_layout.specs.Cell.{IsBorn, IsRef, moved_to, Born as IsBo
 ghost use Rattle.object_layout.specs.Layout.{word_of_ref};
 ghost use Rattle.object_layout.specs.Place.{cell_at, object_at};
 ghost use Rattle.object_layout.specs.declared.word.Birth.{Birth as BirthOf};
-ghost use Rattle.shared_value.specs.Objects.{chunk_of, seen};
+ghost use Rattle.object_layout.specs.Objects.{located};
+ghost use Rattle.shared_value.specs.Objects.{chunk_of};
 ghost use Rattle.heap_reading.specs.Image.{shown, AreInWords};
 
 use listed::Listed;
@@ -72,7 +73,7 @@ fn ints_at(alloc: Global, chunk: &Chunk, at: u32, count: u32) -> Result<Listed<i
 // The object at an offset.
 fn seen_at(alloc: Global, chunk: &Chunk, at: u32) -> Result<Seen, AllocError>
     requires { IsBorn (cell_at chunk.now.cells at).mark }
-    ensures object { IfOk result (λ o. (b : BirthOf) → (cell_at chunk.now.cells at).mark ≡ IsBornAs b → o ≡ shown (seen chunk.now.number at b (cell_at chunk.now.cells at))) }
+    ensures object { IfOk result (λ o. (b : BirthOf) → (cell_at chunk.now.cells at).mark ≡ IsBornAs b → o ≡ shown (located chunk.now.number at b (cell_at chunk.now.cells at))) }
     ensures refs { IfOk result (λ o. All IsRef (cell_at chunk.now.cells at).refs) }
     ensures ints { IfOk result (λ o. All (FitsSigned w64) (cell_at chunk.now.cells at).ints) }
 {

@@ -1,8 +1,8 @@
 use Rattle.std.proofs.Common.{◌≡◌, ◌+◌, ◌-◌, ◌<◌, ◌≤◌, ◌⊎◌, ◌++◌, All, None, map}
 use Rattle.object_layout.specs.Cell.{moved_to}
 use Rattle.object_layout.specs.Place.{IsCellAt, cells_from}
-use Rattle.core_relation.specs.Value.{Seen, In}
-use Rattle.shared_value.specs.Objects.{objects_from}
+use Rattle.object_layout.specs.Objects.{Located, objects_from}
+use Rattle.core_relation.specs.Value.{In}
 use Rattle.heap_reading.specs.Image.{IsInWords, shown}
 use Rattle.heap_reading.proofs.seen.seen_in.Given as goal
 
@@ -12,7 +12,7 @@ invariant-loop-at l = record {
   begins : l.at < l.used → IsCellAt l.chunk.cells l.at;
   unmoved : All (λ c. moved_to c.mark ≡ None) (cells_from l.chunk.cells l.at);
   objects : l.objects ++ map shown (objects_from l.chunk.number l.at (cells_from l.chunk.cells l.at)) ≡ map shown (objects_from l.chunk.number 0 l.chunk.cells);
-  words : (o : Seen) → In (objects_from l.chunk.number 0 l.chunk.cells) o → IsInWords o ⊎ In (objects_from l.chunk.number l.at (cells_from l.chunk.cells l.at)) o;
+  words : (o : Located) → In (objects_from l.chunk.number 0 l.chunk.cells) o → IsInWords o ⊎ In (objects_from l.chunk.number l.at (cells_from l.chunk.cells l.at)) o;
 }
 
 abbrev pub decreases-loop-at : goal.decreases-loop-at
