@@ -103,7 +103,7 @@ module _ (w : World) (k : ℕ) (p : Private) (I : IsWorld w) (F : Fits w k p) (n
     sound_root a i = λ lt.
         let q = root_here w k p I F0 goes a (subst (λ rs. In rs a) er i) in
         let y = seen_object p.heap.chunks q.0 F.form.shaped.apart q.1 in
-        (subst (λ z. IsBorn (cell_of p.heap.chunks z).mark) q.2 (born_is (cell_of p.heap.chunks q.0.at).mark y.birth y.mark), subst (λ (z : Addr). z.offset < 1024) q.2 (F.form.near q.0 q.1))
+        (subst (λ z. IsBorn (cell_of p.heap.chunks z).mark) q.2 (born_is (cell_of p.heap.chunks q.0.at).mark q.0.birth y.mark), subst (λ (z : Addr). z.offset < 1024) q.2 (F.form.near q.0 q.1))
 
     pub begins_with : (new : Private) (to : ToChunks) → to.chunks.items ≡ news → new ≡ record p { heap = with_places p.heap new.heap.slots new.heap.spare; begun = Some begun_so } → AreReserved new.heap (vec_len to.chunks) to → HasBegun p new roots to
     begins_with new to items part reserved = record {

@@ -21,13 +21,14 @@ use Rattle.run_ledger.proofs.Journals.{entry_tells}
 use Rattle.run_ledger.proofs.Space.{legal_booked}
 use Rattle.object_layout.specs.Chunks.{place_in}
 use Rattle.object_layout.specs.Content.{Content}
+use Rattle.object_layout.specs.Objects.{Located}
 use Rattle.chunk_pool.specs.declared.pool.Held.{Held}
 use Rattle.chunk_pool.specs.Chunks.{Chunks, Takes as PoolTakes, units_in_use}
 use Rattle.alloc_path.specs.Heap.{Heap, IsFresh, added, with_places}
 use Rattle.ledger_steps.specs.Accounts.{Rests, rested}
 use Rattle.ledger_steps.proofs.Ahead.{heap_then, with_at, with_machine, with_off}
 use Rattle.ledger_steps.proofs.Rested.{rested_view}
-use Rattle.core_relation.specs.Value.{Chunk, Home, In, Seen, Value, objects, objects_in}
+use Rattle.core_relation.specs.Value.{Chunk, Home, In, Value, object_name, objects, objects_in}
 use Rattle.core_relation.specs.Layout.{AreLaidOut, reserved_chunks, reserved_units}
 use Rattle.core_relation.specs.Stands.{HasNames, HomeStands, large_chunks}
 use Rattle.core_relation.specs.Changes.{SameObjects}
@@ -336,9 +337,9 @@ module _ (w : World) (k : ℕ) (p : Private) (I : IsWorld w) (F : Fits w k (reco
     names_then = record {
       small = small_names g.chunks ∙ counted_rested.chunks;
       large =
-          ap (λ ks. map (λ (o : Seen). o.name) (objects_in (large_chunks (chunks_of ks)))) chunks_are
+          ap (λ ks. map object_name (objects_in (large_chunks (chunks_of ks)))) chunks_are
           ∙ (large_more K refl p.heap.chunks
-          ∙ (ap (λ (z : Home). map (λ (o : Seen). o.name) (objects_in (large_chunks z.chunks))) (sym here)
+          ∙ (ap (λ (z : Home). map object_name (objects_in (large_chunks z.chunks))) (sym here)
           ∙ (H.names.large ∙ (ap (λ (z : Account). z.large) account_before ∙ (sym (chunk_large words there.0) ∙ ap (λ (z : Account). z.large) (sym account_then))))));
     }
 
@@ -350,7 +351,7 @@ module _ (w : World) (k : ℕ) (p : Private) (I : IsWorld w) (F : Fits w k (reco
           | inr q ↦ inr q
         ]
 
-    was : (o : Seen) → In (objects after_ t) o → In (objects before t) o
+    was : (o : Located) → In (objects after_ t) o → In (objects before t) o
     was o i = subst (λ (z : Home). In (objects_in z.chunks) o) (sym here) (subst (λ os. In os o) objects_then (subst (λ (z : Home). In (objects_in z.chunks) o) here' i))
 
     abbrev spares : ℕ

@@ -25,6 +25,7 @@ use Rattle.object_layout.specs.declared.word.Addr.{Addr}
 use Rattle.object_layout.specs.Cell.{Born, marked_object}
 use Rattle.object_layout.specs.Chunks.{cell_of}
 use Rattle.object_layout.specs.Content.{Content}
+use Rattle.object_layout.specs.Objects.{Located}
 use Rattle.chunk_pool.specs.declared.pool.Held.{Held}
 use Rattle.chunk_pool.specs.Chunks.{Chunks, held_at, owner_of, units_in_use}
 use Rattle.alloc_path.specs.Heap.{IsFresh}
@@ -42,7 +43,7 @@ use Rattle.core_relation.specs.Copies.{CopyFits, EndsAt}
 use Rattle.core_relation.specs.Counts.{CountsGo}
 use Rattle.core_relation.specs.Since.{OthersNotes}
 use Rattle.core_relation.specs.Stands.{IsSource, Place}
-use Rattle.core_relation.specs.Value.{Chunk, Home, In, Lies, Seen, Value, objects_in, rewritten_home, sources}
+use Rattle.core_relation.specs.Value.{Chunk, Home, In, Lies, Value, objects_in, rewritten_home, sources}
 use Rattle.core_relation.specs.Fits.{Part, part_for}
 use Rattle.core_relation.specs.Whole.{StandsFor, StandsForAll, by_end}
 use Rattle.core_relation.specs.Worker.{Fits as FitsValue}
@@ -121,19 +122,19 @@ module _ (w : World) (k : ℕ) (p : Private) (moved : Moved) (I : IsWorld w) (F 
       let long : length lies.0.refs ≡ length Q.object.refs = refs_long (Place v l) lies.0.refs c.0.refs c.2.refs ∙ ap (λ (z : Object). length z.refs) (sym same) in
       by Q lies.0 lies.2.at long (rest_at w.homes (own l Q.name)) refl lies.1
     where
-      by : (Q : IsSource v l t s) (o : Seen) → o.at ≡ s.object → length o.refs ≡ length Q.object.refs → (r : Option Rest) → rest_at w.homes (own l Q.name) ≡ r → In (objects_in (home_in r).chunks) o → At s
+      by : (Q : IsSource v l t s) (o : Located) → o.at ≡ s.object → length o.refs ≡ length Q.object.refs → (r : Option Rest) → rest_at w.homes (own l Q.name) ≡ r → In (objects_in (home_in r).chunks) o → At s
       by Q o e long None q j = absurd j
       by Q o e long (Some r) q j =
           let y = seen_object r.heap.chunks o (I.heaps (own l Q.name) r q).shaped.apart (subst (λ cs. In (objects_in cs) o) (home_chunks r) j) in
-          let born : (cell_of r.heap.chunks s.object).mark ≡ Born y.birth = ap (λ z. (cell_of r.heap.chunks z).mark) (sym e) ∙ y.mark in
+          let born : (cell_of r.heap.chunks s.object).mark ≡ Born o.birth = ap (λ z. (cell_of r.heap.chunks z).mark) (sym e) ∙ y.mark in
           let refs : refs_in (heaps_of w) s.object ≡ o.refs =
           ap (λ z. refs_for w.homes z s.object) Q.place.chunk
           ∙ (ap (λ z. refs_of_rest z s.object) q
-          ∙ (ap (λ m. (marked_object m (cell_of r.heap.chunks s.object)).refs) born ∙ sym (ap (λ (z : Seen). z.refs) y.is ∙ ap (λ z. (cell_of r.heap.chunks z).refs) e))) in
+          ∙ (ap (λ m. (marked_object m (cell_of r.heap.chunks s.object)).refs) born ∙ sym (ap (λ (z : Located). z.refs) y.is ∙ ap (λ z. (cell_of r.heap.chunks z).refs) e))) in
           let f : s.field < length Q.object.refs = Q.field in
           let n = ap length refs in
           record {
-            place = record { home = own l Q.name; good = Q.rests; owner = Q.place.chunk; rest = r; is = q; birth = y.birth; born = born };
+            place = record { home = own l Q.name; good = Q.rests; owner = Q.place.chunk; rest = r; is = q; birth = o.birth; born = born };
             field = omega (arith, f, long, n);
           }
 

@@ -25,7 +25,8 @@ use Rattle.core_relation.specs.Fits.{with_home}
 use Rattle.core_relation.specs.Layout.{AreLaidOut}
 use Rattle.core_relation.specs.Since.{NotesStay}
 use Rattle.core_relation.specs.Stands.{HasNames, HomeStands}
-use Rattle.core_relation.specs.Value.{Chunk, Home, In, Seen, Value, objects, objects_in}
+use Rattle.object_layout.specs.Objects.{Located}
+use Rattle.core_relation.specs.Value.{Chunk, Home, In, Value, objects, objects_in}
 use Rattle.core_relation.specs.Whole.{BegunBy, StandsFor}
 use Rattle.core_relation.proofs.changes.Alone.{home_kept}
 use Rattle.core_relation.proofs.changes.With.{at_home, off_home}
@@ -185,7 +186,7 @@ module _ (w : World) (k : ℕ) (p : Private) (I : IsWorld w) (F : Fits w k (reco
   was : (c : Chunk) → In (after_.homes t).chunks c → In (before.homes t).chunks c
   was c i = subst (λ (z : Home). In z.chunks c) (sym here) (subst (λ (z : Home). In z.chunks c) here' i)
 
-  object_was : (o : Seen) → In (objects after_ t) o → In (objects before t) o
+  object_was : (o : Located) → In (objects after_ t) o → In (objects before t) o
   object_was o i = subst (λ (z : Home). In (objects_in z.chunks) o) (sym here) (subst (λ (z : Home). In (objects_in z.chunks) o) here' i)
 
   rested_same : (rested l t).machine ≡ (rested L t).machine

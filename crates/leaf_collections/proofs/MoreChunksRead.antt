@@ -8,12 +8,13 @@ use Rattle.run_ledger.specs.Entries.{chunk_units, with_chunk}
 use Rattle.object_layout.specs.Chunks.{chunk_at}
 use Rattle.object_layout.specs.Content.{Content}
 use Rattle.object_layout.specs.Place.{words_in}
+use Rattle.object_layout.specs.Objects.{Located, objects_from}
 use Rattle.alloc_path.specs.Heap.{Heap, IsCurrent, IsReserved, added, room_at, with_places}
-use Rattle.core_relation.specs.Value.{Chunk, In, Seen, objects_in}
+use Rattle.core_relation.specs.Value.{Chunk, In, object_name, objects_in}
 use Rattle.core_relation.specs.Stands.{large_chunks}
 use Rattle.task_machine.specs.Accounts.{AreReserved, IsCounted, IsLastLarge, IsLastSmall, large_names, names_in, small_lists}
 use Rattle.task_machine.specs.Fits.{IsShaped}
-use Rattle.shared_value.specs.Objects.{chunk_of, chunks_of, objects_from}
+use Rattle.shared_value.specs.Objects.{chunk_of, chunks_of}
 
 -- ---- LISTS OF CHUNKS
 
@@ -42,24 +43,24 @@ module _ (k : Content) (empty : k.cells ≡ []) where
 
   -- no object more
   pub objects_more : (ks : List Content) → objects_in (chunks_of (ks ++ k ∷ [])) ≡ objects_in (chunks_of ks)
-  objects_more [] = ap (λ (os : List Seen). os ++ []) none_in
-  objects_more (x ∷ xs) = ap (λ (os : List Seen). (chunk_of x).objects ++ os) (objects_more xs)
+  objects_more [] = ap (λ (os : List Located). os ++ []) none_in
+  objects_more (x ∷ xs) = ap (λ (os : List Located). (chunk_of x).objects ++ os) (objects_more xs)
 
   -- nor a large one's name
   large_by : (b : Bool) (x : Chunk) (ks js : List Chunk) → objects_in ks ≡ objects_in js → objects_in (cond b (x ∷ ks) ks) ≡ objects_in (cond b (x ∷ js) js)
-  large_by true x ks js e = ap (λ (os : List Seen). x.objects ++ os) e
+  large_by true x ks js e = ap (λ (os : List Located). x.objects ++ os) e
   large_by false x ks js e = e
 
   large_objects : (ks : List Content) → objects_in (large_chunks (chunks_of (ks ++ k ∷ []))) ≡ objects_in (large_chunks (chunks_of ks))
   large_objects [] = by (chunk_of k).large
     where
       by : (b : Bool) → objects_in (cond b (chunk_of k ∷ []) []) ≡ []
-      by true = ap (λ (os : List Seen). os ++ []) none_in
+      by true = ap (λ (os : List Located). os ++ []) none_in
       by false = refl
   large_objects (x ∷ xs) = large_by (chunk_of x).large (chunk_of x) (large_chunks (chunks_of (xs ++ k ∷ []))) (large_chunks (chunks_of xs)) (large_objects xs)
 
-  pub large_more : (ks : List Content) → map (λ (o : Seen). o.name) (objects_in (large_chunks (chunks_of (ks ++ k ∷ [])))) ≡ map (λ (o : Seen). o.name) (objects_in (large_chunks (chunks_of ks)))
-  large_more ks = ap (map (λ (o : Seen). o.name)) (large_objects ks)
+  pub large_more : (ks : List Content) → map object_name (objects_in (large_chunks (chunks_of (ks ++ k ∷ [])))) ≡ map object_name (objects_in (large_chunks (chunks_of ks)))
+  large_more ks = ap (map object_name) (large_objects ks)
 
   -- one list of names more, or none
   small_by : (b : Bool) (ns : List Name) (xs ys : List (List Name)) → xs ≡ ys ++ [] ∷ [] → cond b (ns ∷ xs) xs ≡ cond b (ns ∷ ys) ys ++ [] ∷ []
