@@ -10,16 +10,17 @@ use Rattle.run_ledger.specs.Heaps.{words_at}
 use Rattle.object_layout.specs.declared.word.Birth.{Birth}
 use Rattle.object_layout.specs.Cell.{Born, Cell, Hole, Mark, Moved, size_of}
 use Rattle.object_layout.specs.Content.{Content}
+use Rattle.object_layout.specs.Objects.{Located, located, located_by, objects_from}
 use Rattle.alloc_path.specs.Heap.{AreApart, Heap}
 use Rattle.leaf_copy_gc.specs.declared.lists.Survivor.{Survivor}
 use Rattle.leaf_copy_gc.specs.Survivors.{olds}
-use Rattle.core_relation.specs.Value.{In, Seen, objects_in}
+use Rattle.core_relation.specs.Value.{In, object_name, objects_in}
 use Rattle.core_relation.specs.Layout.{AreLaidOut, words}
 use Rattle.core_relation.specs.Stands.{HasNames}
 use Rattle.core_relation.proofs.objects.Members.{in_map, in_objects}
 use Rattle.task_machine.specs.Accounts.{named_by, names_in, small_lists}
 use Rattle.task_machine.specs.Place.{name_of}
-use Rattle.shared_value.specs.Objects.{chunk_of, chunks_of, objects_from, seen, seen_by}
+use Rattle.shared_value.specs.Objects.{chunk_of, chunks_of}
 use Rattle.shared_value.specs.Stands.{HeapForm}
 use Rattle.shared_value.proofs.CellsRead.{fresh_off}
 use Rattle.copied_part.proofs.SurvivorOrder.{Single}
@@ -29,39 +30,39 @@ use Rattle.copied_part.proofs.ObjectsApart.{span}
 pub record Old (h : Heap) (ss : List Survivor) (m : State) (a : Account) : Type 0 where
   pub form : HeapForm h
   pub names : HasNames (chunks_of h.chunks) a
-  pub named : (o q : Seen) → In (objects_in (chunks_of h.chunks)) o → In (objects_in (chunks_of h.chunks)) q → o.name ≡ q.name → o ≡ q
-  pub words : (o : Seen) → In (objects_in (chunks_of h.chunks)) o → words_at m o.name ≡ words o
+  pub named : (o q : Located) → In (objects_in (chunks_of h.chunks)) o → In (objects_in (chunks_of h.chunks)) q → object_name o ≡ object_name q → o ≡ q
+  pub words : (o : Located) → In (objects_in (chunks_of h.chunks)) o → words_at m (object_name o) ≡ words o
   pub laid : AreLaidOut (chunks_of h.chunks) a.reserved
-  pub lives : (o : Seen) → In (objects_in (chunks_of h.chunks)) o → In (olds ss) o.at → In a.survivors o.name
-  pub dies : (o : Seen) → In (objects_in (chunks_of h.chunks)) o → In a.survivors o.name → In (olds ss) o.at
+  pub lives : (o : Located) → In (objects_in (chunks_of h.chunks)) o → In (olds ss) o.at → In a.survivors (object_name o)
+  pub dies : (o : Located) → In (objects_in (chunks_of h.chunks)) o → In a.survivors (object_name o) → In (olds ss) o.at
 
 -- ---- NAMES THAT ARE READ
 
-pub there : (number base : ℕ) (c : Cell) (m : Mark) (b : Birth) (os : List Seen) → m ≡ Born b → In (seen_by number base c m os) (seen number base b c)
-there number base c m b os e = subst (λ z. In (seen_by number base c z os) (seen number base b c)) (sym e) (inl refl)
+pub there : (number base : ℕ) (c : Cell) (m : Mark) (b : Birth) (os : List Located) → m ≡ Born b → In (located_by number base c m os) (located number base b c)
+there number base c m b os e = subst (λ z. In (located_by number base c z os) (located number base b c)) (sym e) (inl refl)
 
-pub behind : (number base : ℕ) (c : Cell) (m : Mark) (os : List Seen) (o : Seen) → In os o → In (seen_by number base c m os) o
+pub behind : (number base : ℕ) (c : Cell) (m : Mark) (os : List Located) (o : Located) → In os o → In (located_by number base c m os) o
 behind number base c (Born b) os o i = inr i
 behind number base c (Moved to) os o i = i
 behind number base c Hole os o i = i
 
 -- a name of cells is that of an object of theirs
-pub name_seen : (cs : List Cell) (number base : ℕ) (n : Name) → In (names_in cs) n → (o : Seen) × In (objects_from number base cs) o × (o.name ≡ n)
+pub name_seen : (cs : List Cell) (number base : ℕ) (n : Name) → In (names_in cs) n → (o : Located) × In (objects_from number base cs) o × (object_name o ≡ n)
 name_seen [] number base n i = absurd i
 name_seen (c ∷ cs) number base n i = by c.mark i refl (name_seen cs number (base + size_of c) n)
   where
-    by : (m : Mark) → In (named_by m (names_in cs)) n → c.mark ≡ m → (In (names_in cs) n → (o : Seen) × In (objects_from number (base + size_of c) cs) o × (o.name ≡ n)) → (o : Seen) × In (objects_from number base (c ∷ cs)) o × (o.name ≡ n)
-    by (Born b) (inl e) q go = (seen number base b c, there number base c c.mark b (objects_from number (base + size_of c) cs) q, e)
+    by : (m : Mark) → In (named_by m (names_in cs)) n → c.mark ≡ m → (In (names_in cs) n → (o : Located) × In (objects_from number (base + size_of c) cs) o × (object_name o ≡ n)) → (o : Located) × In (objects_from number base (c ∷ cs)) o × (object_name o ≡ n)
+    by (Born b) (inl e) q go = (located number base b c, there number base c c.mark b (objects_from number (base + size_of c) cs) q, e)
     by (Born b) (inr j) q go = let r = go j in (r.0, behind number base c c.mark (objects_from number (base + size_of c) cs) r.0 r.1, r.2)
     by (Moved to) j q go = let r = go j in (r.0, behind number base c c.mark (objects_from number (base + size_of c) cs) r.0 r.1, r.2)
     by Hole j q go = let r = go j in (r.0, behind number base c c.mark (objects_from number (base + size_of c) cs) r.0 r.1, r.2)
 
 -- and the names of all objects are those of the cells
-pub names_are : (cs : List Cell) (number base : ℕ) → map (λ (o : Seen). o.name) (objects_from number base cs) ≡ names_in cs
+pub names_are : (cs : List Cell) (number base : ℕ) → map object_name (objects_from number base cs) ≡ names_in cs
 names_are [] number base = refl
 names_are (c ∷ cs) number base = by c.mark (names_are cs number (base + size_of c))
   where
-    by : (m : Mark) → map (λ (o : Seen). o.name) (objects_from number (base + size_of c) cs) ≡ names_in cs → map (λ (o : Seen). o.name) (seen_by number base c m (objects_from number (base + size_of c) cs)) ≡ named_by m (names_in cs)
+    by : (m : Mark) → map object_name (objects_from number (base + size_of c) cs) ≡ names_in cs → map object_name (located_by number base c m (objects_from number (base + size_of c) cs)) ≡ named_by m (names_in cs)
     by (Born b) e = ap (λ ns. name_of b ∷ ns) e
     by (Moved to) e = e
     by Hole e = e
@@ -81,8 +82,8 @@ small_seen (k ∷ ks) n i = by (k.size == 1024) refl i (small_seen ks n)
 
 -- ---- NO NAME TWICE
 
-abbrev Injective : List Seen → Type 0
-Injective os = (o q : Seen) → In os o → In os q → o.name ≡ q.name → o ≡ q
+abbrev Injective : List Located → Type 0
+Injective os = (o q : Located) → In os o → In os q → object_name o ≡ object_name q → o ≡ q
 
 single_append : (xs ys : List Name) → Single xs → Single ys → ((n : Name) → In xs n → In ys n → ⊥) → Single (xs ++ ys)
 single_append [] ys s t f = t
@@ -92,15 +93,15 @@ pub single_cells : (cs : List Cell) (number base : ℕ) → Injective (objects_f
 single_cells [] number base f = tt
 single_cells (c ∷ cs) number base f = by c.mark refl (single_cells cs number (base + size_of c) (λ o q i j e. f o q (behind number base c c.mark os o i) (behind number base c c.mark os q j) e))
   where
-    os : List Seen
+    os : List Located
     os = objects_from number (base + size_of c) cs
 
     by : (m : Mark) → c.mark ≡ m → Single (names_in cs) → Single (named_by m (names_in cs))
     by (Born b) e go = (
       (λ i.
           let r = name_seen cs number (base + size_of c) (name_of b) i in
-          let same : seen number base b c ≡ r.0 = f (seen number base b c) r.0 (there number base c c.mark b os e) (behind number base c c.mark os r.0 r.1) (sym r.2) in
-          let at : base ≡ r.0.at.offset = ap (λ (o : Seen). o.at.offset) same in
+          let same : located number base b c ≡ r.0 = f (located number base b c) r.0 (there number base c c.mark b os e) (behind number base c c.mark os r.0 r.1) (sym r.2) in
+          let at : base ≡ r.0.at.offset = ap (λ (o : Located). o.at.offset) same in
           let le : base + size_of c ≤ r.0.at.offset = (span cs number (base + size_of c) r.0 r.1).from in
           omega (arith, at, le)),
       go,
@@ -112,10 +113,10 @@ pub single_small : (ks : List Content) → AreApart ks → Injective (objects_in
 single_small [] A f = tt
 single_small (k ∷ ks) A f = by (k.size == 1024) (single_small ks A.1 (λ o q i j e. f o q (right o i) (right q j) e))
   where
-    left : (o : Seen) → In (objects_from k.number 0 k.cells) o → In (objects_in (chunks_of (k ∷ ks))) o
+    left : (o : Located) → In (objects_from k.number 0 k.cells) o → In (objects_in (chunks_of (k ∷ ks))) o
     left o i = in_append_left (objects_from k.number 0 k.cells) (objects_in (chunks_of ks)) o i
 
-    right : (o : Seen) → In (objects_in (chunks_of ks)) o → In (objects_in (chunks_of (k ∷ ks))) o
+    right : (o : Located) → In (objects_in (chunks_of ks)) o → In (objects_in (chunks_of (k ∷ ks))) o
     right o i = in_append_right (objects_from k.number 0 k.cells) (objects_in (chunks_of ks)) o i
 
     clash : (n : Name) → In (names_in k.cells) n → In (flat_map (λ ns. ns) (small_lists ks)) n → ⊥
@@ -126,7 +127,7 @@ single_small (k ∷ ks) A f = by (k.size == 1024) (single_small ks A.1 (λ o q i
         let same : o.0 ≡ q.0 = f o.0 q.0 (left o.0 o.1) (right q.0 (in_objects (chunks_of ks) (chunk_of s.0) q.0 (in_map chunk_of ks s.0 s.1) q.1)) (o.2 ∙ sym q.2) in
         let here : o.0.at.chunk ≡ k.number = (span k.cells k.number 0 o.0 o.1).chunk in
         let off : q.0.at.chunk ≡ s.0.number = (span s.0.cells s.0.number 0 q.0 q.1).chunk in
-        fresh_off ks s.0 k.number A.0 s.1 (sym off ∙ (ap (λ (x : Seen). x.at.chunk) (sym same) ∙ here))
+        fresh_off ks s.0 k.number A.0 s.1 (sym off ∙ (ap (λ (x : Located). x.at.chunk) (sym same) ∙ here))
 
     by : (b : Bool) → Single (flat_map (λ ns. ns) (small_lists ks)) → Single (flat_map (λ ns. ns) (cond b (names_in k.cells ∷ small_lists ks) (small_lists ks)))
     by true go = single_append (names_in k.cells) (flat_map (λ ns. ns) (small_lists ks)) (single_cells k.cells k.number 0 (λ o q i j e. f o q (left o i) (left q j) e)) go clash

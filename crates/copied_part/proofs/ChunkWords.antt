@@ -10,37 +10,38 @@ use Rattle.object_layout.specs.declared.word.Addr.{Addr}
 use Rattle.object_layout.specs.Cell.{Born, Cell, Hole, Mark, Moved, moved_to, size_of}
 use Rattle.object_layout.specs.Content.{Content}
 use Rattle.object_layout.specs.Chunks.{cell_of, held_in as held_cells, held_size, held_words}
+use Rattle.object_layout.specs.Objects.{Located, located, objects_from}
 use Rattle.alloc_path.specs.Heap.{units as chunk_units}
 use Rattle.alloc_path.specs.Units.{unit_count}
 use Rattle.leaf_copy_gc.specs.Laid.{AreNew, Laying, laid_all, laid_one, room_in}
 use Rattle.leaf_copy_gc.specs.Exchanged.{emptied}
 use Rattle.leaf_copy_gc.proofs.Numbers.{Distinct, new_reverse, numbers, removed_at}
 use Rattle.leaf_copy_gc.proofs.Numbers as nums
-use Rattle.core_relation.specs.Value.{In, Seen, objects_in}
+use Rattle.core_relation.specs.Value.{In, object_name, objects_in}
 use Rattle.core_relation.specs.Layout.{words}
 use Rattle.task_machine.specs.Accounts.{large_names, named_by, names_in, small_lists}
 use Rattle.task_machine.specs.Place.{name_of}
-use Rattle.shared_value.specs.Objects.{chunks_of, objects_from, seen}
+use Rattle.shared_value.specs.Objects.{chunks_of}
 use Rattle.copied_part.proofs.BeforeTheCopy.{behind, there}
 use Rattle.copied_part.proofs.ObjectsPlaced.{opened_new}
 
 -- ---- WORDS HELD
 
 module _ (m : State) where
-  cells_held : (cs : List Cell) (number base : ℕ) → ((c : Cell) → In cs c → moved_to c.mark ≡ None) → ((o : Seen) → In (objects_from number base cs) o → words_at m o.name ≡ words o) → held_cells cs ≡ words_sum m (names_in cs)
+  cells_held : (cs : List Cell) (number base : ℕ) → ((c : Cell) → In cs c → moved_to c.mark ≡ None) → ((o : Located) → In (objects_from number base cs) o → words_at m (object_name o) ≡ words o) → held_cells cs ≡ words_sum m (names_in cs)
   cells_held [] number base f g = refl
   cells_held (c ∷ cs) number base f g =
       by c.mark refl (f c (inl refl)) (cells_held cs number (base + size_of c) (λ x i. f x (inr i)) (λ o i. g o (behind number base c c.mark (objects_from number (base + size_of c) cs) o i)))
     where
       by : (k : Mark) → c.mark ≡ k → moved_to k ≡ None → held_cells cs ≡ words_sum m (names_in cs) → held_size k (size_of c) + held_cells cs ≡ words_sum m (named_by k (names_in cs))
       by (Born b) e n go =
-          let w : words_at m (name_of b) ≡ 2 + length c.refs + length c.ints = g (seen number base b c) (there number base c c.mark b (objects_from number (base + size_of c) cs) e) in
+          let w : words_at m (name_of b) ≡ 2 + length c.refs + length c.ints = g (located number base b c) (there number base c c.mark b (objects_from number (base + size_of c) cs) e) in
           let s = sum_by-cons (words_at m) (name_of b) (names_in cs) in
           omega (arith, w, s, go)
       by (Moved to) e n go = absurd cc
       by Hole e n go = omega (arith, go)
 
-  pub chunks_held : (ks : List Content) → ((k : Content) → In ks k → (c : Cell) → In k.cells c → moved_to c.mark ≡ None) → ((o : Seen) → In (objects_in (chunks_of ks)) o → words_at m o.name ≡ words o)
+  pub chunks_held : (ks : List Content) → ((k : Content) → In ks k → (c : Cell) → In k.cells c → moved_to c.mark ≡ None) → ((o : Located) → In (objects_in (chunks_of ks)) o → words_at m (object_name o) ≡ words o)
       → held_words ks ≡ words_sum m (flat_map (λ ns. ns) (small_lists ks)) + words_sum m (large_names ks)
   chunks_held [] f g = omega arith
   chunks_held (k ∷ ks) f g =

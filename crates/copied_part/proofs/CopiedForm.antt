@@ -12,6 +12,8 @@ use Rattle.object_layout.specs.Cell.{Cell, size_of}
 use Rattle.object_layout.specs.Content.{Content}
 use Rattle.object_layout.specs.Place.{words_in}
 use Rattle.object_layout.specs.Chunks.{cell_of, chunk_at}
+use Rattle.object_layout.specs.Objects.{Located, led_object as led_fields, objects_from}
+use Rattle.object_layout.proofs.ObjectChanges.{led_are_read}
 use Rattle.object_layout.proofs.PlaceLemmas.{words_in-push}
 use Rattle.alloc_path.specs.Heap.{Heap, IsReserved, room_of, with_places}
 use Rattle.leaf_copy_gc.specs.declared.lists.Survivor.{Survivor}
@@ -25,13 +27,12 @@ use Rattle.leaf_copy_gc.proofs.ListLemmas.{all_from, read_in}
 use Rattle.leaf_copy_gc.proofs.Numbers.{new_reverse}
 use Rattle.leaf_copy_gc.proofs.Reading as reading
 use Rattle.leaf_copy_gc.proofs.Tidied.{all_tidy}
-use Rattle.core_relation.specs.Value.{Chunk, In, Seen, led, objects_in}
+use Rattle.core_relation.specs.Value.{Chunk, In, led, objects_in}
 use Rattle.core_relation.specs.Layout.{AreLaidOut, HoldsLarge, has_none, reserved_chunks, reserved_units, words}
 use Rattle.core_relation.proofs.objects.Members.{in_map, map_in}
 use Rattle.task_machine.specs.Accounts.{AreReserved, IsCounted}
-use Rattle.shared_value.specs.Objects.{chunk_of, chunks_of, objects_from}
+use Rattle.shared_value.specs.Objects.{chunk_of, chunks_of}
 use Rattle.shared_value.specs.Stands.{HeapForm}
-use Rattle.shared_value.proofs.CellsChanged.{led_refs, objects_led}
 use Rattle.shared_value.proofs.HeapCounts.{counted_from}
 use Rattle.copied_part.proofs.BeforeTheCopy.{Old}
 use Rattle.copied_part.proofs.NamesLaid.{Told, words_led}
@@ -137,17 +138,17 @@ module _ (h : Heap) (from : List (Option Addr)) (ss : List Survivor) (news : Lis
 
   led_holds : (k : Content) → HoldsLarge (chunk_of k) → HoldsLarge (chunk_of (led_chunk g k))
   led_holds k H = elim H [
-    | inl none ↦ inl (objects ∙ ap (map (led_refs to)) none)
-    | inr q ↦ inr (led_refs to q.0, objects ∙ ap (map (led_refs to)) q.1, q.2, q.3 ∙ ap (λ n. units (2 + n + length q.0.ints)) (sym (length-map q.0.refs (led to))))
+    | inl none ↦ inl (objects ∙ ap (map (led_fields (led to))) none)
+    | inr q ↦ inr (led_fields (led to) q.0, objects ∙ ap (map (led_fields (led to))) q.1, q.2, q.3 ∙ ap (λ n. units (2 + n + length q.0.ints)) (sym (length-map q.0.refs (led to))))
   ]
     where
       to : Addr → Addr
       to = moving.to h from ss news S T (naming.settled h from ss news S T m a O) (naming.reserved h from ss news S T m a O)
 
-      objects : objects_from k.number 0 (map (led_cell_by g) k.cells) ≡ map (led_refs to) (objects_from k.number 0 k.cells)
+      objects : objects_from k.number 0 (map (led_cell_by g) k.cells) ≡ map (led_fields (led to)) (objects_from k.number 0 k.cells)
       objects =
           ap (λ (w : Option Addr → Option Addr). objects_from k.number 0 (map (led_cell_by w) k.cells)) (moving.g_is h from ss news S T (naming.settled h from ss news S T m a O) (naming.reserved h from ss news S T m a O))
-          ∙ objects_led to k.cells k.number 0
+          ∙ led_are_read (led to) k
 
   kept_part : (k : Content) → In K k → Part k
   kept_part k i =
@@ -201,7 +202,7 @@ module _ (h : Heap) (from : List (Option Addr)) (ss : List Survivor) (news : Lis
     | inr j ↦ (part k j).holds
   ]
 
-  near_each : (o : Seen) → In (objects_in (chunks_of (L ++ (K ++ R)))) o → o.at.offset < 1024
+  near_each : (o : Located) → In (objects_in (chunks_of (L ++ (K ++ R)))) o → o.at.offset < 1024
   near_each o i = by (held_by (L ++ (K ++ R)) o i)
     where
       by : Holds (L ++ (K ++ R)) o → o.at.offset < 1024
@@ -215,7 +216,7 @@ module _ (h : Heap) (from : List (Option Addr)) (ss : List Survivor) (news : Lis
           | inl none ↦ absurd (subst (λ os. In os o) none H.object)
           | inr q ↦
               let same : q.0 ≡ o = elim (subst (λ os. In os o) q.1 H.object) [ inl d ↦ d | inr z ↦ absurd z ] in
-              let z : o.at.offset ≡ 0 = ap (λ (x : Seen). x.at.offset) (sym same) ∙ q.2 in
+              let z : o.at.offset ≡ 0 = ap (λ (x : Located). x.at.offset) (sym same) ∙ q.2 in
               omega (arith, z)
         ]
       ]
@@ -236,7 +237,7 @@ module _ (h : Heap) (from : List (Option Addr)) (ss : List Survivor) (news : Lis
       spare_not : (k : Content) → ((chunk_of k).objects ≡ [] → ⊥) → is_spare (chunk_of k) ≡ false
       spare_not k f = by (chunk_of k).large (chunk_of k).objects refl
         where
-          by : (b : Bool) (os : List Seen) → (chunk_of k).objects ≡ os → (b && has_none os) ≡ false
+          by : (b : Bool) (os : List Located) → (chunk_of k).objects ≡ os → (b && has_none os) ≡ false
           by true [] e = absurd (f e)
           by true (o ∷ os) e = refl
           by false os e = refl

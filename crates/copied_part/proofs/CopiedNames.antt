@@ -17,6 +17,8 @@ use Rattle.object_layout.specs.Content.{Content}
 use Rattle.object_layout.specs.Place.{cell_at, words_in}
 use Rattle.object_layout.specs.Chunks.{cell_of}
 use Rattle.object_layout.proofs.Distinct.{Once, once_from}
+use Rattle.object_layout.specs.Objects.{Located, located, objects_from}
+use Rattle.object_layout.proofs.ObjectLemmas.{cell_in}
 use Rattle.alloc_path.specs.Heap.{Heap, IsReserved, IsSettled}
 use Rattle.remembered_set.specs.Moved.{same_address}
 use Rattle.leaf_copy_gc.specs.declared.lists.Survivor.{Survivor}
@@ -33,13 +35,13 @@ use Rattle.leaf_copy_gc.proofs.Naming.{in_unmap}
 use Rattle.leaf_copy_gc.proofs.Numbers.{new_reverse}
 use Rattle.leaf_copy_gc.proofs.Reading as reading
 use Rattle.leaf_copy_gc.proofs.Rebuilt.{any_here, any_none, first_of}
-use Rattle.core_relation.specs.Value.{Chunk, In, Seen, objects_in}
+use Rattle.core_relation.specs.Value.{Chunk, In, object_name, objects_in}
 use Rattle.core_relation.specs.Layout.{words}
 use Rattle.core_relation.specs.Stands.{HasNames, names_of, small_chunks}
 use Rattle.core_relation.proofs.objects.Members.{from_flat, in_map, in_objects, map_in}
 use Rattle.task_machine.specs.Accounts.{large_names, names_in, small_lists}
-use Rattle.shared_value.specs.Objects.{chunk_of, chunks_of, objects_from, seen}
-use Rattle.shared_value.proofs.CellsRead.{cell_in, object_seen, seen_object}
+use Rattle.shared_value.specs.Objects.{chunk_of, chunks_of}
+use Rattle.shared_value.proofs.CellsRead.{object_seen, seen_object}
 use Rattle.shared_value.proofs.HeapCounts.{large_are, small_names}
 use Rattle.copied_part.proofs.SurvivorOrder.{Single, single_names, small_survivors_are, sorted_names}
 use Rattle.copied_part.proofs.BeforeTheCopy.{Old, names_are, single_small}
@@ -78,8 +80,8 @@ module _ (h : Heap) (from : List (Option Addr)) (ss : List Survivor) (news : Lis
   born : (s : Survivor) → In ss s → (cell_of h.chunks s.old).mark ≡ Born s.birth
   born s i = read_in (λ (x : Survivor). (cell_of h.chunks x.old).mark ≡ Born x.birth) ss s i S.names
 
-  abbrev pub object_of : Survivor → Seen
-  object_of s = seen s.old.chunk s.old.offset s.birth (cell_of h.chunks s.old)
+  abbrev pub object_of : Survivor → Located
+  object_of s = located s.old.chunk s.old.offset s.birth (cell_of h.chunks s.old)
 
   object_there : (s : Survivor) → In ss s → In (objects_in (chunks_of h.chunks)) (object_of s)
   object_there s i = object_seen h.chunks s.old s.birth (born s i)
@@ -88,16 +90,16 @@ module _ (h : Heap) (from : List (Option Addr)) (ss : List Survivor) (news : Lis
   survivor_words s i = O.words (object_of s) (object_there s i) ∙ (let e : 2 + length (cell_of h.chunks s.old).refs + length (cell_of h.chunks s.old).ints ≡ size_of (cell_of h.chunks s.old) = omega arith in e)
 
   -- that is found by its address
-  pub survivor_of : (o : Seen) → In (objects_in (chunks_of h.chunks)) o → In (olds ss) o.at → (s : Survivor) × In ss s × (object_of s ≡ o)
+  pub survivor_of : (o : Located) → In (objects_in (chunks_of h.chunks)) o → In (olds ss) o.at → (s : Survivor) × In ss s × (object_of s ≡ o)
   survivor_of o i j =
       let s = in_unmap ss o.at j in
       (s.0, s.1.0, once h.chunks settled.apart (object_of s.0) o (object_there s.0 s.1.0) i s.1.1)
 
-  pub cell_words : (o : Seen) → In (objects_in (chunks_of h.chunks)) o → size_of (cell_of h.chunks o.at) ≡ words o
+  pub cell_words : (o : Located) → In (objects_in (chunks_of h.chunks)) o → size_of (cell_of h.chunks o.at) ≡ words o
   cell_words o i =
       let y = seen_object h.chunks o settled.apart i in
-      let r : length o.refs ≡ length (cell_of h.chunks o.at).refs = ap (λ (z : Seen). length z.refs) y.is in
-      let n : length o.ints ≡ length (cell_of h.chunks o.at).ints = ap (λ (z : Seen). length z.ints) y.is in
+      let r : length o.refs ≡ length (cell_of h.chunks o.at).refs = ap (λ (z : Located). length z.refs) y.is in
+      let n : length o.ints ≡ length (cell_of h.chunks o.at).ints = ap (λ (z : Located). length z.ints) y.is in
       omega (arith, r, n)
 
   -- ---- SMALL OBJECTS LIE IN SMALL CHUNKS
@@ -105,7 +107,7 @@ module _ (h : Heap) (from : List (Option Addr)) (ss : List Survivor) (news : Lis
   one_unit : (k : Content) → In h.chunks k → k.size / 1024 ≡ 1 → k.size ≡ 1024
   one_unit k i e = let w : k.size ≡ 1024 * (k.size / 1024) = O.form.whole k i in omega (arith, w, e)
 
-  pub small_chunk : (o : Seen) (k : Content) → In h.chunks k → In (objects_from k.number 0 k.cells) o → words o ≤ 1024 → (k.size == 1024) ≡ true
+  pub small_chunk : (o : Located) (k : Content) → In h.chunks k → In (objects_from k.number 0 k.cells) o → words o ≤ 1024 → (k.size == 1024) ≡ true
   small_chunk o k i j le = elim (cases_Bool (k.size == 1024)) [
     | inl e ↦ e
     | inr e ↦ elim (O.laid.large (chunk_of k) (in_map chunk_of h.chunks k i) (ap not e)) [
@@ -120,12 +122,12 @@ module _ (h : Heap) (from : List (Option Addr)) (ss : List Survivor) (news : Lis
     ]
   ]
 
-  pub large_words : (o : Seen) (k : Content) → In h.chunks k → In (objects_from k.number 0 k.cells) o → (k.size == 1024) ≡ false → 1024 < words o
+  pub large_words : (o : Located) (k : Content) → In h.chunks k → In (objects_from k.number 0 k.cells) o → (k.size == 1024) ≡ false → 1024 < words o
   large_words o k i j e = elim (cases_lt 1024 (words o)) [ inl l ↦ l | inr le ↦ absurd (false≢true (sym e ∙ small_chunk o k i j le)) ]
 
   -- ---- SMALL NAMES
 
-  small_is : (o : Seen) → In (objects_in (chunks_of h.chunks)) o → is_small h.chunks o.at ≡ true → In (small_in a) o.name
+  small_is : (o : Located) → In (objects_in (chunks_of h.chunks)) o → is_small h.chunks o.at ≡ true → In (small_in a) (object_name o)
   small_is o i e =
       let H = held_by h.chunks o i in
       let w = cell_words o i in
@@ -133,13 +135,13 @@ module _ (h : Heap) (from : List (Option Addr)) (ss : List Survivor) (news : Lis
       let s : (H.chunk.size == 1024) ≡ true = small_chunk o H.chunk H.there H.object (omega (arith, w, le)) in
       let k : In (small_chunks (chunks_of h.chunks)) (chunk_of H.chunk) = in_kept (λ (c : Chunk). not c.large) (chunks_of h.chunks) (chunk_of H.chunk) (in_map chunk_of h.chunks H.chunk H.there) (ap (λ b. not (not b)) s) in
       let l : In a.chunks (names_of (chunk_of H.chunk)) = subst (λ ns. In ns (names_of (chunk_of H.chunk))) O.names.small (in_map names_of (small_chunks (chunks_of h.chunks)) (chunk_of H.chunk) k) in
-      in_flat (λ ns. ns) a.chunks (names_of (chunk_of H.chunk)) o.name l (in_map (λ (o : Seen). o.name) (chunk_of H.chunk).objects o H.object)
+      in_flat (λ ns. ns) a.chunks (names_of (chunk_of H.chunk)) (object_name o) l (in_map object_name (chunk_of H.chunk).objects o H.object)
 
-  is_small_one : (n : Name) → In (small_in a) n → (o : Seen) × In (objects_in (chunks_of h.chunks)) o × (o.name ≡ n) × (is_small h.chunks o.at ≡ true)
+  is_small_one : (n : Name) → In (small_in a) n → (o : Located) × In (objects_in (chunks_of h.chunks)) o × (object_name o ≡ n) × (is_small h.chunks o.at ≡ true)
   is_small_one n i =
       let f = from_flat (λ ns. ns) a.chunks n i in
       let c = map_in names_of (small_chunks (chunks_of h.chunks)) f.0 (subst (λ ns. In ns f.0) (sym O.names.small) f.1) in
-      let o = map_in (λ (o : Seen). o.name) c.0.objects n (subst (λ ns. In ns n) (sym c.2) f.2) in
+      let o = map_in object_name c.0.objects n (subst (λ ns. In ns n) (sym c.2) f.2) in
       let k = in_from_kept (λ (c : Chunk). not c.large) (chunks_of h.chunks) c.0 c.1 in
       let there : In (objects_in (chunks_of h.chunks)) o.0 = in_objects (chunks_of h.chunks) c.0 o.0 k.0 o.1 in
       let u : c.0.units ≡ 1 = O.laid.small c.0 k.0 (off c.0.large k.1) in
@@ -160,7 +162,7 @@ module _ (h : Heap) (from : List (Option Addr)) (ss : List Survivor) (news : Lis
   -- the small survivors, in order of birth
   pub births : map birth_name zs ≡ small_survivors a
   births = small_survivors_are m a (map birth_name zs) (sorted_names (λ s. is_small h.chunks s.old) ss S.order)
-      (single_names zs once_zs (λ s t i j e. ap (λ (o : Seen). o.at) (O.named (object_of s) (object_of t) (object_there s (in_small h.chunks ss s i)) (object_there t (in_small h.chunks ss t j)) e)))
+      (single_names zs once_zs (λ s t i j e. ap (λ (o : Located). o.at) (O.named (object_of s) (object_of t) (object_there s (in_small h.chunks ss s i)) (object_there t (in_small h.chunks ss t j)) e)))
       single_here
       (λ n i.
       let s = map_in birth_name zs n i in
@@ -172,9 +174,9 @@ module _ (h : Heap) (from : List (Option Addr)) (ss : List Survivor) (news : Lis
       (λ n i e.
       let o = is_small_one n i in
       let s = survivor_of o.0 o.1 (O.dies o.0 o.1 (subst (In a.survivors) (sym o.2) (in_from_holds a.survivors n e))) in
-      let small : is_small h.chunks s.0.old ≡ true = ap (λ (z : Seen). is_small h.chunks z.at) s.2 ∙ o.3 in
+      let small : is_small h.chunks s.0.old ≡ true = ap (λ (z : Located). is_small h.chunks z.at) s.2 ∙ o.3 in
       let z : In zs s.0 = in_kept (λ (s : Survivor). is_small h.chunks s.old) ss s.0 s.1 small in
-      subst (In (map birth_name zs)) (ap (λ (z : Seen). z.name) s.2 ∙ o.2) (in_map birth_name zs s.0 z))
+      subst (In (map birth_name zs)) (ap object_name s.2 ∙ o.2) (in_map birth_name zs s.0 z))
 
   laid_all_lists : (lists_of y.laid ≡ laid_onto m [] (map birth_name zs)) × Told m y.laid
   laid_all_lists = subst (λ xs. (lists_of (laid_all (before (reverse news)) h.chunks xs).laid ≡ laid_onto m [] (map birth_name zs)) × Told m (laid_all (before (reverse news)) h.chunks xs).laid) (olds_small h.chunks ss)
@@ -225,7 +227,7 @@ module _ (h : Heap) (from : List (Option Addr)) (ss : List Survivor) (news : Lis
       by [] le = omega arith
       by (c ∷ cs) le = omega (arith, le)
 
-  module _ (k : Content) (i : In h.chunks k) (big : (k.size == 1024) ≡ false) (o : Seen) (objects : objects_from k.number 0 k.cells ≡ o ∷ []) (zero' : o.at.offset ≡ 0) where
+  module _ (k : Content) (i : In h.chunks k) (big : (k.size == 1024) ≡ false) (o : Located) (objects : objects_from k.number 0 k.cells ≡ o ∷ []) (zero' : o.at.offset ≡ 0) where
     in_k : In (objects_from k.number 0 k.cells) o
     in_k = subst (λ os. In os o) (sym objects) (inl refl)
 
@@ -242,28 +244,28 @@ module _ (h : Heap) (from : List (Option Addr)) (ss : List Survivor) (news : Lis
         let l = large_words o k i in_k big in
         lt-leb (size_of (cell_at k.cells 0)) 1024 (omega (arith, s, l))
 
-    pub keeps_is : keeps ss k ≡ holds_name a.survivors o.name
-    keeps_is = ap (λ b. not b && list_any (λ (s : Survivor). same_address s.old (first_of k)) ss) first_big ∙ by (holds_name a.survivors o.name) refl
+    pub keeps_is : keeps ss k ≡ holds_name a.survivors (object_name o)
+    keeps_is = ap (λ b. not b && list_any (λ (s : Survivor). same_address s.old (first_of k)) ss) first_big ∙ by (holds_name a.survivors (object_name o)) refl
       where
-        by : (b : Bool) → holds_name a.survivors o.name ≡ b → list_any (λ (s : Survivor). same_address s.old (first_of k)) ss ≡ b
-        by true e = any_here ss (first_of k) (subst (In (olds ss)) o_first (O.dies o in_h (in_from_holds a.survivors o.name e)))
-        by false e = any_none ss (first_of k) (λ j. false≢true (sym e ∙ holds_from_in a.survivors o.name (O.lives o in_h (subst (In (olds ss)) (sym o_first) j))))
+        by : (b : Bool) → holds_name a.survivors (object_name o) ≡ b → list_any (λ (s : Survivor). same_address s.old (first_of k)) ss ≡ b
+        by true e = any_here ss (first_of k) (subst (In (olds ss)) o_first (O.dies o in_h (in_from_holds a.survivors (object_name o) e)))
+        by false e = any_none ss (first_of k) (λ j. false≢true (sym e ∙ holds_from_in a.survivors (object_name o) (O.lives o in_h (subst (In (olds ss)) (sym o_first) j))))
 
   -- what a large chunk holds: nothing, or one object
   pub record One (k : Content) : Type 0 where
-    pub object : Seen
+    pub object : Located
     pub objects : objects_from k.number 0 k.cells ≡ object ∷ []
-    pub names : names_in k.cells ≡ object.name ∷ []
+    pub names : names_in k.cells ≡ object_name object ∷ []
     pub units : k.size / 1024 ≡ units (words object)
-    pub kept : keeps ss k ≡ holds_name a.survivors object.name
+    pub kept : keeps ss k ≡ holds_name a.survivors (object_name object)
 
   pub one_of : (k : Content) → In h.chunks k → (k.size == 1024) ≡ false → (names_in k.cells ≡ []) ⊎ One k
   one_of k i big = elim (O.laid.large (chunk_of k) (in_map chunk_of h.chunks k i) (ap not big)) [
-    | inl none ↦ inl (sym (names_are k.cells k.number 0) ∙ ap (map (λ (o : Seen). o.name)) none)
+    | inl none ↦ inl (sym (names_are k.cells k.number 0) ∙ ap (map object_name) none)
     | inr q ↦ inr (record {
       object = q.0;
       objects = q.1;
-      names = sym (names_are k.cells k.number 0) ∙ ap (map (λ (o : Seen). o.name)) q.1;
+      names = sym (names_are k.cells k.number 0) ∙ ap (map object_name) q.1;
       units = q.3;
       kept = keeps_is k i big q.0 q.1 q.2;
     })
@@ -298,7 +300,7 @@ module _ (h : Heap) (from : List (Option Addr)) (ss : List Survivor) (news : Lis
         | inl z ↦ none (keeps ss k) e z go
         | inr o ↦
             ap (λ b. large_names (cond b (k ∷ filter (keeps ss) us) (filter (keeps ss) us))) o.kept
-            ∙ some (holds_name a.survivors o.object.name) o.object.name e o.names refl go
+            ∙ some (holds_name a.survivors (object_name o.object)) (object_name o.object) e o.names refl go
       ]
 
   pub large_now : large_names (L ++ (K ++ R)) ≡ large_survivors a

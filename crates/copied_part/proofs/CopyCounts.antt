@@ -17,6 +17,7 @@ use Rattle.object_layout.specs.Cell.{Cell, moved_to}
 use Rattle.object_layout.specs.Content.{Content}
 use Rattle.object_layout.specs.Place.{words_in}
 use Rattle.object_layout.specs.Chunks.{chunk_at, held_words}
+use Rattle.object_layout.specs.Objects.{Located, objects_from}
 use Rattle.alloc_path.specs.Heap.{AreTidy, Heap, IsReserved, IsTidy, units as chunk_units}
 use Rattle.alloc_path.specs.Units.{counted32, unit_count}
 use Rattle.leaf_copy_gc.specs.declared.lists.Survivor.{Survivor}
@@ -30,11 +31,11 @@ use Rattle.leaf_copy_gc.proofs.Numbers as nums
 use Rattle.leaf_copy_gc.proofs.Extent as extent
 use Rattle.leaf_copy_gc.proofs.ListLemmas.{read_in}
 use Rattle.leaf_copy_gc.proofs.Tidied.{all_tidy}
-use Rattle.core_relation.specs.Value.{In, Seen, objects_in}
+use Rattle.core_relation.specs.Value.{In, object_name, objects_in}
 use Rattle.core_relation.specs.Layout.{words}
 use Rattle.core_relation.proofs.objects.Members.{in_map, in_objects, map_in}
 use Rattle.task_machine.specs.Accounts.{large_names, names_in, small_lists}
-use Rattle.shared_value.specs.Objects.{chunk_of, chunks_of, objects_from}
+use Rattle.shared_value.specs.Objects.{chunk_of, chunks_of}
 use Rattle.shared_value.proofs.HeapCounts.{large_are, small_names}
 use Rattle.copied_part.proofs.CopiedForm as forming
 use Rattle.copied_part.proofs.BeforeTheCopy.{Old, names_are}
@@ -85,13 +86,13 @@ module _ (h : Heap) (from : List (Option Addr)) (ss : List Survivor) (news : Lis
   tidy_now : AreTidy (L ++ (K ++ R))
   tidy_now = all_tidy (forming.g h from ss news S T m a O) h.chunks ss news h.reserved O.form.tidy T.new (moving.within_of h.chunks h.reserved O.form.shaped.reserved) L refl
 
-  words_now : (o : Seen) → In (objects_in (chunks_of (L ++ (K ++ R)))) o → words_at m o.name ≡ words o
+  words_now : (o : Located) → In (objects_in (chunks_of (L ++ (K ++ R)))) o → words_at m (object_name o) ≡ words o
   words_now o i =
       let c = moving.came h from ss news S T (naming.settled h from ss news S T m a O) (naming.reserved h from ss news S T m a O) o i in
       let w = O.words c.object c.there in
-      let n : o.name ≡ c.object.name = ap (λ (z : Seen). z.name) c.is in
-      let r : length o.refs ≡ length c.object.refs = ap (λ (z : Seen). length z.refs) c.is ∙ length-map c.object.refs _ in
-      let s : length o.ints ≡ length c.object.ints = ap (λ (z : Seen). length z.ints) c.is in
+      let n : object_name o ≡ object_name c.object = ap object_name c.is in
+      let r : length o.refs ≡ length c.object.refs = ap (λ (z : Located). length z.refs) c.is ∙ length-map c.object.refs _ in
+      let s : length o.ints ≡ length c.object.ints = ap (λ (z : Located). length z.ints) c.is in
       ap (words_at m) n ∙ (w ∙ (let e : words c.object ≡ words o = omega (arith, r, s) in e))
 
   pub left_is : held_words (L ++ (K ++ R)) ≡ words_held m Then
@@ -122,7 +123,7 @@ module _ (h : Heap) (from : List (Option Addr)) (ss : List Survivor) (news : Lis
       no_objects : (k : Content) → names_in k.cells ≡ [] → objects_from k.number 0 k.cells ≡ []
       no_objects k e = by (objects_from k.number 0 k.cells) (names_are k.cells k.number 0 ∙ e)
         where
-          by : (os : List Seen) → map (λ (o : Seen). o.name) os ≡ [] → os ≡ []
+          by : (os : List Located) → map object_name os ≡ [] → os ≡ []
           by [] q = refl
           by (o ∷ os) q = absurd cc
 
@@ -169,9 +170,9 @@ module _ (h : Heap) (from : List (Option Addr)) (ss : List Survivor) (news : Lis
           let i : In (objects_in (chunks_of h.chunks)) o.object = in_objects (chunks_of h.chunks) (chunk_of k) o.object (in_map chunk_of h.chunks k old) (subst (λ os. In os o.object) (sym o.objects) (inl refl)) in
           let w : k.size ≡ 1024 * (k.size / 1024) = O.form.whole k old in
           let u : k.size / 1024 ≡ units (words o.object) = o.units in
-          let v : units (words_at m o.object.name) ≡ units (words o.object) = ap units (O.words o.object i) in
+          let v : units (words_at m (object_name o.object)) ≡ units (words o.object) = ap units (O.words o.object i) in
           ap (λ b. unit_count (cond (not b) (k ∷ filter (leaves ss) us) (filter (leaves ss) us)) + Units (large_names (cond b (k ∷ filter (keeps ss) us) (filter (keeps ss) us)))) o.kept
-          ∙ large (holds_name a.survivors o.object.name) o.object.name e o.names (let q : chunk_units k.size ≡ k.size / 1024 = omega (arith, w) in q ∙ (u ∙ sym v)) go
+          ∙ large (holds_name a.survivors (object_name o.object)) (object_name o.object) e o.names (let q : chunk_units k.size ≡ k.size / 1024 = omega (arith, w) in q ∙ (u ∙ sym v)) go
 
   small_count : length (small_lists U) ≡ length a.chunks
   small_count = by h.reserved O.form.shaped.reserved ∙ ap (λ (ls : List (List Name)). length ls) (sym (small_names h.chunks) ∙ O.names.small)

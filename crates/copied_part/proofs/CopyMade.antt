@@ -13,6 +13,7 @@ use Rattle.run_ledger.specs.declared.data.Ledger.{Ledger}
 use Rattle.run_ledger.specs.Heaps.{heap_of, let_go, words_at, words_of}
 use Rattle.object_layout.specs.declared.word.Addr.{Addr}
 use Rattle.object_layout.specs.Content.{Content}
+use Rattle.object_layout.specs.Objects.{Located}
 use Rattle.alloc_path.specs.Heap.{Heap, with_places}
 use Rattle.alloc_path.specs.View.{Level}
 use Rattle.task_frames.specs.declared.frames.Frame.{Frame}
@@ -31,7 +32,7 @@ use Rattle.ledger_steps.specs.Accounts.{rested}
 use Rattle.ledger_steps.proofs.Ahead.{with_machine}
 use Rattle.ledger_steps.proofs.Rested.{rested_view, rested_worker}
 use Rattle.task_machine.specs.declared.part.Begun.{Begun}
-use Rattle.core_relation.specs.Value.{Chunk, Home, In, Seen, Value, led, led_frame, led_object, objects_in}
+use Rattle.core_relation.specs.Value.{Chunk, Home, In, Value, led, led_frame, led_object, object_name, objects_in}
 use Rattle.core_relation.specs.Layout.{AreLaidOut, words}
 use Rattle.core_relation.specs.Reads.{AllRead}
 use Rattle.core_relation.specs.Begins.{IsReachedAt}
@@ -113,7 +114,7 @@ module _ (p : ProgramText) (st : Limits) (t : ℕ) (h : Heap) (view : List Level
   pub machine : lt.machine ≡ l.machine
   machine = with_machine l t let_go
 
-  pub there : (o : Seen) → In (objects_in (chunks_of h.chunks)) o → In (objects_in (V.homes t).chunks) o
+  pub there : (o : Located) → In (objects_in (chunks_of h.chunks)) o → In (objects_in (V.homes t).chunks) o
   there o i = subst (λ (z : Home). In (objects_in z.chunks) o) (sym here) i
 
   names : HasNames (chunks_of h.chunks) a
@@ -127,11 +128,11 @@ module _ (p : ProgramText) (st : Limits) (t : ℕ) (h : Heap) (view : List Level
   survivors_same : (heap_of lt t).survivors ≡ a.survivors
   survivors_same = rested_view (λ x. x.survivors) (λ x. refl) l t
 
-  read_words : (o : Seen) → In (objects_in (chunks_of h.chunks)) o → words_at l.machine o.name ≡ words o
+  read_words : (o : Located) → In (objects_in (chunks_of h.chunks)) o → words_at l.machine (object_name o) ≡ words o
   read_words o i =
       let c = stands.contents t o (rested_worker l t) (there o i) in
       let x : Object = c.0 in
-      let e : words_at l.machine o.name ≡ words_of (Some c.0) = ap (λ (m : State). words_of (object_at m.store o.name)) (sym machine) ∙ ap words_of c.1 in
+      let e : words_at l.machine (object_name o) ≡ words_of (Some c.0) = ap (λ (m : State). words_of (object_at m.store (object_name o))) (sym machine) ∙ ap words_of c.1 in
       let r : length c.0.refs ≡ length o.refs = read_length (Place V lt) o.refs c.0.refs c.2.refs in
       let n : length c.0.ints ≡ length o.ints = ap (λ zs. length zs) (sym c.2.ints) in
       e ∙ (let q : 2 + length c.0.refs + length c.0.ints ≡ 2 + length o.refs + length o.ints = omega (arith, r, n) in q)
@@ -141,14 +142,14 @@ module _ (p : ProgramText) (st : Limits) (t : ℕ) (h : Heap) (view : List Level
   owned_chunk k i = home.owned (chunk_of k) (subst (λ (z : Home). In z.chunks (chunk_of k)) (sym here) (in_map chunk_of h.chunks k i))
 
   module _ (ss : List Survivor) (S : AreSurvivors h.chunks (outside s b.roots) ss) where
-    lives : (o : Seen) → In (objects_in (chunks_of h.chunks)) o → In (olds ss) o.at → In a.survivors o.name
+    lives : (o : Located) → In (objects_in (chunks_of h.chunks)) o → In (olds ss) o.at → In a.survivors (object_name o)
     lives o i j =
         let w : IsReachedAt H b.roots o.at = reached_back h.chunks B.form.shaped.apart H s b.roots refl refl o.at ((S.exactly o.at).0 (contains_from_in (olds ss) o.at j)) in
-        subst (λ ns. In ns o.name) survivors_same ((began.survivors o (there o i)).0 (subst (λ (z : Home). IsReachedAt z b.roots o.at) (sym here) w))
+        subst (λ ns. In ns (object_name o)) survivors_same ((began.survivors o (there o i)).0 (subst (λ (z : Home). IsReachedAt z b.roots o.at) (sym here) w))
 
-    dies : (o : Seen) → In (objects_in (chunks_of h.chunks)) o → In a.survivors o.name → In (olds ss) o.at
+    dies : (o : Located) → In (objects_in (chunks_of h.chunks)) o → In a.survivors (object_name o) → In (olds ss) o.at
     dies o i j =
-        let w : IsReachedAt (V.homes t) b.roots o.at = (began.survivors o (there o i)).1 (subst (λ ns. In ns o.name) (sym survivors_same) j) in
+        let w : IsReachedAt (V.homes t) b.roots o.at = (began.survivors o (there o i)).1 (subst (λ ns. In ns (object_name o)) (sym survivors_same) j) in
         in_from_contains (olds ss) o.at ((S.exactly o.at).1 (reached_to h.chunks B.form.shaped.apart H s b.roots refl refl o.at (subst (λ (z : Home). IsReachedAt z b.roots o.at) here w)))
 
     pub old : Old h ss l.machine a
@@ -192,16 +193,16 @@ module _ (p : ProgramText) (st : Limits) (t : ℕ) (h : Heap) (view : List Level
     f_is : new_address out.moved.items ≡ to
     f_is = λ i x. ap (λ (o : Option Addr). unwrap_or o x) (told.same x) i
 
-    came : (o' : Seen) → In (objects_in (chunks_of (L ++ (K ++ R)))) o' → (o : Seen) × In (objects_in (chunks_of h.chunks)) o × In a.survivors o.name × (o' ≡ led_object to o)
+    came : (o' : Located) → In (objects_in (chunks_of (L ++ (K ++ R)))) o' → (o : Located) × In (objects_in (chunks_of h.chunks)) o × In a.survivors (object_name o) × (o' ≡ led_object to o)
     came o' i =
         let c = moving.came h (outside s b.roots) C.survivors news C.are B.new (naming.settled h (outside s b.roots) C.survivors news C.are B.new l.machine a O) (naming.reserved h (outside s b.roots) C.survivors news C.are B.new l.machine a O) o' i in
         (c.object, c.there, lives C.survivors C.are c.object c.there c.survives, c.is)
 
-    named_now : (o q : Seen) → In (objects_in (chunks_of (L ++ (K ++ R)))) o → In (objects_in (chunks_of (L ++ (K ++ R)))) q → o.name ≡ q.name → o ≡ q
+    named_now : (o q : Located) → In (objects_in (chunks_of (L ++ (K ++ R)))) o → In (objects_in (chunks_of (L ++ (K ++ R)))) q → object_name o ≡ object_name q → o ≡ q
     named_now o q i j e =
         let x = came o i in
         let z = came q j in
-        let same : x.0 ≡ z.0 = home.named x.0 z.0 (there x.0 x.1) (there z.0 z.1) (ap (λ (w : Seen). w.name) (sym x.3) ∙ (e ∙ ap (λ (w : Seen). w.name) z.3)) in
+        let same : x.0 ≡ z.0 = home.named x.0 z.0 (there x.0 x.1) (there z.0 z.1) (ap object_name (sym x.3) ∙ (e ∙ ap object_name z.3)) in
         x.3 ∙ (ap (led_object to) same ∙ sym z.3)
 
     owned_each : (k : Content) → In (L ++ (K ++ R)) k → v.owner k.number ≡ Some t

@@ -25,7 +25,7 @@ use Rattle.leaf_copy_gc.proofs.ListLemmas.{all_from, read_in}
 use Rattle.ledger_steps.specs.Accounts.{Rests}
 use Rattle.ledger_steps.proofs.Rested.{rested_view, rested_worker}
 use Rattle.task_machine.specs.declared.part.Begun.{Begun}
-use Rattle.core_relation.specs.Value.{Home, In, Seen, Value, objects_in}
+use Rattle.core_relation.specs.Value.{Home, In, Value, objects_in}
 use Rattle.core_relation.specs.Reads.{AllRead, FramesAreRead, HoldsRead, TaskIsRead}
 use Rattle.core_relation.specs.Stands.{Place}
 use Rattle.shared_value.specs.Objects.{chunks_of}

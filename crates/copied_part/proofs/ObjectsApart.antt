@@ -6,63 +6,64 @@ use Rattle.object_layout.specs.declared.word.Addr.{Addr}
 use Rattle.object_layout.specs.Cell.{Born, Cell, Hole, Mark, Moved, size_of}
 use Rattle.object_layout.specs.Content.{Content}
 use Rattle.object_layout.specs.Place.{words_in}
+use Rattle.object_layout.specs.Objects.{Located, located_by, objects_from}
 use Rattle.alloc_path.specs.Heap.{AreApart}
-use Rattle.core_relation.specs.Value.{Chunk, In, Seen, objects_in}
+use Rattle.core_relation.specs.Value.{Chunk, In, objects_in}
 use Rattle.core_relation.specs.Layout.{AreApart as ObjectsApart, AreLaidOut, HoldsLarge, reserved_chunks, reserved_units, words}
 use Rattle.core_relation.proofs.objects.Members.{in_chunk, map_in}
-use Rattle.shared_value.specs.Objects.{chunk_of, chunks_of, objects_from, seen_by}
+use Rattle.shared_value.specs.Objects.{chunk_of, chunks_of}
 use Rattle.shared_value.proofs.CellsRead.{fresh_off}
 
 -- ---- IN ONE CHUNK
 
 -- the object lies in the chunk of this number, between two offsets
-pub record Span (number base stop : ℕ) (o : Seen) : Type 0 where
+pub record Span (number base stop : ℕ) (o : Located) : Type 0 where
   pub chunk : o.at.chunk ≡ number
   pub from : base ≤ o.at.offset
   pub upto : o.at.offset + words o ≤ stop
 
-wider : (number base stop base' stop' : ℕ) (o : Seen) → base' ≤ base → stop ≤ stop' → Span number base stop o → Span number base' stop' o
+wider : (number base stop base' stop' : ℕ) (o : Located) → base' ≤ base → stop ≤ stop' → Span number base stop o → Span number base' stop' o
 wider number base stop base' stop' o b s S = let f : base ≤ o.at.offset = S.from in let u : o.at.offset + words o ≤ stop = S.upto in record { chunk = S.chunk; from = omega (arith, b, f); upto = omega (arith, s, u) }
 
-pub first_span : (number base : ℕ) (c : Cell) (b : Mark) (x : Seen) (stop : ℕ) → In (seen_by number base c b []) x → base + size_of c ≤ stop → Span number base stop x
+pub first_span : (number base : ℕ) (c : Cell) (b : Mark) (x : Located) (stop : ℕ) → In (located_by number base c b []) x → base + size_of c ≤ stop → Span number base stop x
 first_span number base c (Born b) x stop (inl e) le = subst (Span number base stop) e (record { chunk = refl; from = omega arith; upto = omega (arith, le) })
 first_span number base c (Born b) x stop (inr i) le = absurd i
 first_span number base c (Moved to) x stop i le = absurd i
 first_span number base c Hole x stop i le = absurd i
 
 -- the first object, or one of the others
-pub first_or : (number base : ℕ) (c : Cell) (m : Mark) (os : List Seen) (o : Seen) → In (seen_by number base c m os) o → In (seen_by number base c m []) o ⊎ In os o
+pub first_or : (number base : ℕ) (c : Cell) (m : Mark) (os : List Located) (o : Located) → In (located_by number base c m os) o → In (located_by number base c m []) o ⊎ In os o
 first_or number base c (Born b) os o (inl e) = inl (inl e)
 first_or number base c (Born b) os o (inr i) = inr i
 first_or number base c (Moved to) os o i = inr i
 first_or number base c Hole os o i = inr i
 
-pub span : (cs : List Cell) (number base : ℕ) (o : Seen) → In (objects_from number base cs) o → Span number base (base + words_in cs) o
+pub span : (cs : List Cell) (number base : ℕ) (o : Located) → In (objects_from number base cs) o → Span number base (base + words_in cs) o
 span [] number base o i = absurd i
 span (c ∷ cs) number base o i = elim (first_or number base c c.mark (objects_from number (base + size_of c) cs) o i) [
   | inl f ↦ first_span number base c c.mark o (base + words_in (c ∷ cs)) f (omega arith)
   | inr r ↦ wider number (base + size_of c) (base + size_of c + words_in cs) base (base + words_in (c ∷ cs)) o (omega arith) (omega arith) (span cs number (base + size_of c) o r)
 ]
 
-only_first : (number base : ℕ) (c : Cell) (m : Mark) (o q : Seen) → In (seen_by number base c m []) o → In (seen_by number base c m []) q → o ≡ q
+only_first : (number base : ℕ) (c : Cell) (m : Mark) (o q : Located) → In (located_by number base c m []) o → In (located_by number base c m []) q → o ≡ q
 only_first number base c (Born b) o q (inl e) (inl d) = sym e ∙ d
 only_first number base c (Born b) o q (inl e) (inr j) = absurd j
 only_first number base c (Born b) o q (inr i) j = absurd i
 only_first number base c (Moved to) o q i j = absurd i
 only_first number base c Hole o q i j = absurd i
 
-pub apart_here : (cs : List Cell) (number base : ℕ) (o q : Seen) → In (objects_from number base cs) o → In (objects_from number base cs) q → (o ≡ q) ⊎ ObjectsApart o q
+pub apart_here : (cs : List Cell) (number base : ℕ) (o q : Located) → In (objects_from number base cs) o → In (objects_from number base cs) q → (o ≡ q) ⊎ ObjectsApart o q
 apart_here [] number base o q i j = absurd i
 apart_here (c ∷ cs) number base o q i j =
     by (first_or number base c c.mark (objects_from number (base + size_of c) cs) o i) (first_or number base c c.mark (objects_from number (base + size_of c) cs) q j) (apart_here cs number (base + size_of c) o q)
   where
-    before : (x y : Seen) → In (seen_by number base c c.mark []) x → In (objects_from number (base + size_of c) cs) y → x.at.offset + words x ≤ y.at.offset
+    before : (x y : Located) → In (located_by number base c c.mark []) x → In (objects_from number (base + size_of c) cs) y → x.at.offset + words x ≤ y.at.offset
     before x y f r =
         let a : x.at.offset + words x ≤ base + size_of c = (first_span number base c c.mark x (base + size_of c) f (omega arith)).upto in
         let b : base + size_of c ≤ y.at.offset = (span cs number (base + size_of c) y r).from in
         omega (arith, a, b)
 
-    by : In (seen_by number base c c.mark []) o ⊎ In (objects_from number (base + size_of c) cs) o → In (seen_by number base c c.mark []) q ⊎ In (objects_from number (base + size_of c) cs) q
+    by : In (located_by number base c c.mark []) o ⊎ In (objects_from number (base + size_of c) cs) o → In (located_by number base c c.mark []) q ⊎ In (objects_from number (base + size_of c) cs) q
         → (In (objects_from number (base + size_of c) cs) o → In (objects_from number (base + size_of c) cs) q → (o ≡ q) ⊎ ObjectsApart o q) → (o ≡ q) ⊎ ObjectsApart o q
     by (inl f) (inl g) go = inl (only_first number base c c.mark o q f g)
     by (inl f) (inr r) go = inr (inr (inl (before o q f r)))
@@ -79,23 +80,23 @@ one_number (x ∷ xs) A k j (inr i) (inl d) q = absurd (fresh_off xs k x.number 
 one_number (x ∷ xs) A k j (inr i) (inr h) q = one_number xs A.1 k j i h q
 
 -- the chunk in which an object is read
-pub record Holds (ks : List Content) (o : Seen) : Type 0 where
+pub record Holds (ks : List Content) (o : Located) : Type 0 where
   pub chunk : Content
   pub there : In ks chunk
   pub object : In (objects_from chunk.number 0 chunk.cells) o
 
-pub held_by : (ks : List Content) (o : Seen) → In (objects_in (chunks_of ks)) o → Holds ks o
+pub held_by : (ks : List Content) (o : Located) → In (objects_in (chunks_of ks)) o → Holds ks o
 held_by ks o i =
     let c = in_chunk (chunks_of ks) o i in
     let k = map_in chunk_of ks c.0 c.1 in
     record { chunk = k.0; there = k.1; object = subst (λ (z : Chunk). In z.objects o) (sym k.2) c.2 }
 
-pub inside : (ks : List Content) (c : Chunk) (o : Seen) → In (chunks_of ks) c → In c.objects o → o.at.chunk ≡ c.number
+pub inside : (ks : List Content) (c : Chunk) (o : Located) → In (chunks_of ks) c → In c.objects o → o.at.chunk ≡ c.number
 inside ks c o i j =
     let k = map_in chunk_of ks c i in
     (span k.0.cells k.0.number 0 o (subst (λ (z : Chunk). In z.objects o) (sym k.2) j)).chunk ∙ ap (λ (z : Chunk). z.number) k.2
 
-pub once : (ks : List Content) → AreApart ks → (o q : Seen) → In (objects_in (chunks_of ks)) o → In (objects_in (chunks_of ks)) q → o.at ≡ q.at → o ≡ q
+pub once : (ks : List Content) → AreApart ks → (o q : Located) → In (objects_in (chunks_of ks)) o → In (objects_in (chunks_of ks)) q → o.at ≡ q.at → o ≡ q
 once ks A o q i j e =
     let h = held_by ks o i in
     let g = held_by ks q j in
@@ -109,7 +110,7 @@ once ks A o q i j e =
       | inr (inr (inr le)) ↦ let f : o.at.offset ≡ q.at.offset = ap (λ (a : Addr). a.offset) e in absurd (omega (arith, f, le))
     ]
 
-apart : (ks : List Content) → AreApart ks → (o q : Seen) → In (objects_in (chunks_of ks)) o → In (objects_in (chunks_of ks)) q → (o ≡ q) ⊎ ObjectsApart o q
+apart : (ks : List Content) → AreApart ks → (o q : Located) → In (objects_in (chunks_of ks)) o → In (objects_in (chunks_of ks)) q → (o ≡ q) ⊎ ObjectsApart o q
 apart ks A o q i j = elim (cases_eq o.at.chunk q.at.chunk) [
   | inr ne ↦ inr (inl ne)
   | inl e ↦

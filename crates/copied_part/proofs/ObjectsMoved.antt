@@ -11,6 +11,8 @@ use Rattle.object_layout.specs.Content.{Content}
 use Rattle.object_layout.specs.Place.{cell_at}
 use Rattle.object_layout.specs.Chunks.{cell_of, chunk_at}
 use Rattle.object_layout.proofs.Distinct.{Once, once_from}
+use Rattle.object_layout.proofs.ObjectChanges.{led_are_read}
+use Rattle.object_layout.specs.Objects.{Located, led_object as led_fields, located, located_by, objects_from}
 use Rattle.alloc_path.specs.Heap.{AreApart, Heap, IsReserved, IsSettled, IsTidy}
 use Rattle.remembered_set.specs.Moved.{new_of, same_address}
 use Rattle.leaf_copy_gc.specs.declared.lists.Survivor.{Survivor}
@@ -30,11 +32,10 @@ use Rattle.leaf_copy_gc.proofs.Order.{first_in, firsts, in_first}
 use Rattle.leaf_copy_gc.proofs.Reading as reading
 use Rattle.leaf_copy_gc.proofs.Rebuilt as rebuilt
 use Rattle.leaf_copy_gc.proofs.Rebuilt.{NoneThere, first_of}
-use Rattle.core_relation.specs.Value.{In, Seen, led, led_object, objects_in}
+use Rattle.core_relation.specs.Value.{In, led, led_object, objects_in}
 use Rattle.core_relation.proofs.objects.Members.{in_map, in_objects, map_in}
-use Rattle.shared_value.specs.Objects.{chunk_of, chunks_of, objects_from, seen, seen_by}
+use Rattle.shared_value.specs.Objects.{chunk_of, chunks_of}
 use Rattle.shared_value.proofs.CellsRead.{object_seen, seen_object}
-use Rattle.shared_value.proofs.CellsChanged.{led_cell, led_refs, objects_led}
 use Rattle.copied_part.proofs.ObjectsApart.{Holds, held_by}
 use Rattle.copied_part.proofs.ObjectsPlaced.{laid_objects, seen_only}
 
@@ -158,24 +159,24 @@ module _ (h : Heap) (from : List (Option Addr)) (ss : List Survivor) (news : Lis
   moved_small m i = subst (λ as'. In as' m.0) firsts_are (in_first ms m i)
 
   -- a survivor is read where it was
-  pub seen_there : (a : Addr) → In (olds ss) a → (o : Seen) × In (objects_in (chunks_of h.chunks)) o × (o.at ≡ a)
+  pub seen_there : (a : Addr) → In (olds ss) a → (o : Located) × In (objects_in (chunks_of h.chunks)) o × (o.at ≡ a)
   seen_there a i =
       let s = naming.in_unmap ss a i in
       let born : (cell_of h.chunks s.0.old).mark ≡ Born s.0.birth = read_in (λ (x : Survivor). (cell_of h.chunks x.old).mark ≡ Born x.birth) ss s.0 s.1.0 S.names in
-      (seen s.0.old.chunk s.0.old.offset s.0.birth (cell_of h.chunks s.0.old), object_seen h.chunks s.0.old s.0.birth born, s.1.1)
+      (located s.0.old.chunk s.0.old.offset s.0.birth (cell_of h.chunks s.0.old), object_seen h.chunks s.0.old s.0.birth born, s.1.1)
 
   -- ---- what was there is there now
 
-  there_now : (o : Seen) (a : Addr) (b : Birth) → o ≡ seen o.at.chunk o.at.offset b (cell_of h.chunks o.at) → (cell_of h.chunks o.at).mark ≡ Born b → to o.at ≡ a
+  there_now : (o : Located) (a : Addr) (b : Birth) → o ≡ located o.at.chunk o.at.offset b (cell_of h.chunks o.at) → (cell_of h.chunks o.at).mark ≡ Born b → to o.at ≡ a
       → cell_of ks' a ≡ led_cell_by g (cell_of h.chunks o.at) → In (objects_in (chunks_of ks')) (led_object to o)
   there_now o a b is mark leads read =
-      let i : In (objects_in (chunks_of ks')) (seen a.chunk a.offset b (cell_of ks' a)) = object_seen ks' a b (ap (λ (c : Cell). c.mark) read ∙ mark) in
-      let e : seen a.chunk a.offset b (cell_of ks' a) ≡ seen a.chunk a.offset b (led_cell_by (led to) (cell_of h.chunks o.at)) =
-      ap (seen a.chunk a.offset b) read ∙ ap (λ (w : Option Addr → Option Addr). seen a.chunk a.offset b (led_cell_by w (cell_of h.chunks o.at))) g_is in
-      let d : led_object to (seen o.at.chunk o.at.offset b (cell_of h.chunks o.at)) ≡ seen a.chunk a.offset b (led_cell_by (led to) (cell_of h.chunks o.at)) = λ k. record (led_object to (seen o.at.chunk o.at.offset b (cell_of h.chunks o.at))) { at = leads k } in
+      let i : In (objects_in (chunks_of ks')) (located a.chunk a.offset b (cell_of ks' a)) = object_seen ks' a b (ap (λ (c : Cell). c.mark) read ∙ mark) in
+      let e : located a.chunk a.offset b (cell_of ks' a) ≡ located a.chunk a.offset b (led_cell_by (led to) (cell_of h.chunks o.at)) =
+      ap (located a.chunk a.offset b) read ∙ ap (λ (w : Option Addr → Option Addr). located a.chunk a.offset b (led_cell_by w (cell_of h.chunks o.at))) g_is in
+      let d : led_object to (located o.at.chunk o.at.offset b (cell_of h.chunks o.at)) ≡ located a.chunk a.offset b (led_cell_by (led to) (cell_of h.chunks o.at)) = λ k. record (led_object to (located o.at.chunk o.at.offset b (cell_of h.chunks o.at))) { at = leads k } in
       subst (In (objects_in (chunks_of ks'))) (e ∙ sym (ap (led_object to) is ∙ d)) i
 
-  pub kept : (o : Seen) → In (objects_in (chunks_of h.chunks)) o → In (olds ss) o.at → In (objects_in (chunks_of ks')) (led_object to o)
+  pub kept : (o : Located) → In (objects_in (chunks_of h.chunks)) o → In (olds ss) o.at → In (objects_in (chunks_of ks')) (led_object to o)
   kept o i j = elim (cases_Bool (is_small h.chunks o.at)) [
     | inl small ↦
         let l = seen_object h.chunks o settled.apart i in
@@ -183,29 +184,29 @@ module _ (h : Heap) (from : List (Option Addr)) (ss : List Survivor) (news : Lis
         let m = from_first ms o.at (subst (λ as'. In as' o.at) (sym firsts_are) x) in
         let e : to o.at ≡ m.0.1 = ap to (sym m.2) ∙ to_new m.0 m.1 in
         let read : cell_of ks' m.0.1 ≡ led_cell_by g (cell_of h.chunks o.at) = reading.moved_are_read h from ss news S T m.0.0 m.0.1 (contains_from_in ms m.0 m.1) ∙ ap (λ (z : Addr). led_cell_by g (cell_of h.chunks z)) m.2 in
-        there_now o m.0.1 l.birth l.is l.mark e read
+        there_now o m.0.1 o.birth l.is l.mark e read
     | inr large ↦
         let l = seen_object h.chunks o settled.apart i in
         let e : to o.at ≡ o.at = to_itself o.at (λ x. false≢true (sym large ∙ (in_xs o.at x).1)) in
-        there_now o o.at l.birth l.is l.mark e (reading.large_are_read h from ss news S T settled reserved o.at (contains_from_in (olds ss) o.at j) large)
+        there_now o o.at o.birth l.is l.mark e (reading.large_are_read h from ss news S T settled reserved o.at (contains_from_in (olds ss) o.at j) large)
   ]
 
   -- ---- and nothing else
 
   -- a survivor that an object came from
-  pub record Came (o' : Seen) : Type 0 where
-    pub object : Seen
+  pub record Came (o' : Located) : Type 0 where
+    pub object : Located
     pub there : In (objects_in (chunks_of h.chunks)) object
     pub survives : In (olds ss) object.at
     pub is : o' ≡ led_object to object
 
   -- an object of a chunk whose references were led
-  led_back : (k : Content) (o' : Seen) → In (objects_from k.number 0 (map (led_cell_by g) k.cells)) o' → (q : Seen) × In (objects_from k.number 0 k.cells) q × (led_refs to q ≡ o')
+  led_back : (k : Content) (o' : Located) → In (objects_from k.number 0 (map (led_cell_by g) k.cells)) o' → (q : Located) × In (objects_from k.number 0 k.cells) q × (led_fields (led to) q ≡ o')
   led_back k o' i =
-      let j : In (objects_from k.number 0 (map (led_cell to) k.cells)) o' = subst (λ (w : Option Addr → Option Addr). In (objects_from k.number 0 (map (led_cell_by w) k.cells)) o') g_is i in
-      map_in (led_refs to) (objects_from k.number 0 k.cells) o' (subst (λ os. In os o') (objects_led to k.cells k.number 0) j)
+      let j : In (objects_from k.number 0 (map (led_cell_by (led to)) k.cells)) o' = subst (λ (w : Option Addr → Option Addr). In (objects_from k.number 0 (map (led_cell_by w) k.cells)) o') g_is i in
+      map_in (led_fields (led to)) (objects_from k.number 0 k.cells) o' (subst (λ os. In os o') (led_are_read (led to) k) j)
 
-  from_laid : (k : Content) (o' : Seen) → In y.laid k → In (objects_from k.number 0 (map (led_cell_by g) k.cells)) o' → Came o'
+  from_laid : (k : Content) (o' : Located) → In y.laid k → In (objects_from k.number 0 (map (led_cell_by g) k.cells)) o' → Came o'
   from_laid k o' i j =
       let q = led_back k o' j in
       let there : In (objects_in (chunks_of y.laid)) q.0 = in_objects (chunks_of y.laid) (chunk_of k) q.0 (in_map chunk_of y.laid k i) q.1 in
@@ -214,13 +215,13 @@ module _ (h : Heap) (from : List (Option Addr)) (ss : List Survivor) (news : Lis
         | inr r ↦
             let m : Addr × Addr = r.0 in
             let b = seen_only m.1.chunk m.1.offset (cell_of h.chunks m.0) (cell_of h.chunks m.0).mark q.0 r.2 in
-            let o : Seen = seen m.0.chunk m.0.offset b.0 (cell_of h.chunks m.0) in
-            let e : led_refs to (seen m.1.chunk m.1.offset b.0 (cell_of h.chunks m.0)) ≡ led_object to o = λ k. record (led_object to o) { at = sym (to_new m r.1) k } in
+            let o : Located = located m.0.chunk m.0.offset b.0 (cell_of h.chunks m.0) in
+            let e : led_fields (led to) (located m.1.chunk m.1.offset b.0 (cell_of h.chunks m.0)) ≡ led_object to o = λ k. record (led_object to o) { at = sym (to_new m r.1) k } in
             record {
               object = o;
               there = object_seen h.chunks m.0 b.0 b.1;
               survives = (in_xs m.0 (moved_small m r.1)).0;
-              is = sym q.2 ∙ (ap (led_refs to) (sym b.2) ∙ e);
+              is = sym q.2 ∙ (ap (led_fields (led to)) (sym b.2) ∙ e);
             }
       ]
 
@@ -256,18 +257,18 @@ module _ (h : Heap) (from : List (Option Addr)) (ss : List Survivor) (news : Lis
       let born : (cell_of h.chunks (first_of k)).mark ≡ Born s.0.birth = ap (λ (z : Addr). (cell_of h.chunks z).mark) (sym s.1.1) ∙ read_in (λ (x : Survivor). (cell_of h.chunks x.old).mark ≡ Born x.birth) ss s.0 s.1.0 S.names in
       let mark : (cell_at k.cells 0).mark ≡ Born s.0.birth = ap (λ (c : Cell). c.mark) (sym (extent.chunk_there h.chunks k once_h A.there (first_of k) refl)) ∙ born in
       let c : Cell = led_cell_by g (cell_at k.cells 0) in
-      let here : objects_from k.number 0 (map (led_cell_by g) k.cells) ≡ seen k.number 0 s.0.birth c ∷ [] = ap (λ cs. objects_from k.number 0 (map (led_cell_by g) cs)) A.one ∙ ap (λ m. seen_by k.number 0 c m []) mark in
+      let here : objects_from k.number 0 (map (led_cell_by g) k.cells) ≡ located k.number 0 s.0.birth c ∷ [] = ap (λ cs. objects_from k.number 0 (map (led_cell_by g) cs)) A.one ∙ ap (λ m. located_by k.number 0 c m []) mark in
       absurd (none_some (sym e ∙ here))
     where
-      none_some : {o : Seen} → [] ≡ o ∷ [] → ⊥
+      none_some : {o : Located} → [] ≡ o ∷ [] → ⊥
       none_some q = absurd cc
 
-  from_kept : (k : Content) (o' : Seen) → In (filter (keeps ss) (unreserved h.chunks h.reserved)) k → In (objects_from k.number 0 (map (led_cell_by g) k.cells)) o' → Came o'
+  from_kept : (k : Content) (o' : Located) → In (filter (keeps ss) (unreserved h.chunks h.reserved)) k → In (objects_from k.number 0 (map (led_cell_by g) k.cells)) o' → Came o'
   from_kept k o' i j =
       let A = alone k i in
       let q = led_back k o' j in
       let b = seen_only k.number 0 (cell_at k.cells 0) (cell_at k.cells 0).mark q.0 (subst (λ cs. In (objects_from k.number 0 cs) q.0) A.one q.1) in
-      let at : q.0.at ≡ first_of k = ap (λ (z : Seen). z.at) (sym b.2) in
+      let at : q.0.at ≡ first_of k = ap (λ (z : Located). z.at) (sym b.2) in
       let cell : cell_of h.chunks (first_of k) ≡ cell_at k.cells 0 = extent.chunk_there h.chunks k once_h A.there (first_of k) refl in
       let stays : to q.0.at ≡ q.0.at = to_itself q.0.at (λ x.
       let small : nat_le (size_of (cell_at k.cells 0)) 1024 ≡ true = ap (λ (c : Cell). nat_le (size_of c) 1024) (sym (ap (cell_of h.chunks) at ∙ cell)) ∙ (in_xs q.0.at x).1 in
@@ -277,10 +278,10 @@ module _ (h : Heap) (from : List (Option Addr)) (ss : List Survivor) (news : Lis
         object = q.0;
         there = in_objects (chunks_of h.chunks) (chunk_of k) q.0 (in_map chunk_of h.chunks k A.there) q.1;
         survives = subst (In (olds ss)) (sym at) A.survives;
-        is = sym q.2 ∙ (λ k. record (led_refs to q.0) { at = sym stays k });
+        is = sym q.2 ∙ (λ k. record (led_fields (led to) q.0) { at = sym stays k });
       }
 
-  pub came : (o' : Seen) → In (objects_in (chunks_of ks')) o' → Came o'
+  pub came : (o' : Located) → In (objects_in (chunks_of ks')) o' → Came o'
   came o' i = by (held_by ks' o' i)
     where
       by : Holds ks' o' → Came o'

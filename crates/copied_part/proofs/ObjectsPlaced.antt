@@ -8,26 +8,27 @@ use Rattle.object_layout.specs.Cell.{Born, Cell, Hole, Mark, Moved, size_of}
 use Rattle.object_layout.specs.Content.{Content}
 use Rattle.object_layout.specs.Place.{words_in}
 use Rattle.object_layout.specs.Chunks.{cell_of}
+use Rattle.object_layout.specs.Objects.{Located, located, located_by, objects_from}
 use Rattle.leaf_copy_gc.specs.Laid.{AreNew, Laying, laid_all, laid_at, laid_one, next_place, open_next, opened, placed, relocations, room_in}
-use Rattle.core_relation.specs.Value.{In, Seen, objects_in}
-use Rattle.shared_value.specs.Objects.{chunks_of, objects_from, seen, seen_by}
+use Rattle.core_relation.specs.Value.{In, objects_in}
+use Rattle.shared_value.specs.Objects.{chunks_of}
 use Rattle.shared_value.proofs.CellsRead.{objects_appended}
 
 -- ---- OBJECTS LAID INTO NEW CHUNKS
 
-pub seen_only : (number at : ℕ) (c : Cell) (m : Mark) (q : Seen) → In (seen_by number at c m []) q → (b : Birth) × (m ≡ Born b) × (seen number at b c ≡ q)
+pub seen_only : (number at : ℕ) (c : Cell) (m : Mark) (q : Located) → In (located_by number at c m []) q → (b : Birth) × (m ≡ Born b) × (located number at b c ≡ q)
 seen_only number at c (Born b) q (inl e) = (b, refl, e)
 seen_only number at c (Born b) q (inr i) = absurd i
 seen_only number at c (Moved to) q i = absurd i
 seen_only number at c Hole q i = absurd i
 
 -- an object placed is behind those of the last chunk
-placed_objects : (ks : List Content) (c : Cell) (q : Seen) → In (objects_in (chunks_of (placed ks c))) q → In (objects_in (chunks_of ks)) q ⊎ In (seen_by (next_place ks).chunk (next_place ks).offset c c.mark []) q
+placed_objects : (ks : List Content) (c : Cell) (q : Located) → In (objects_in (chunks_of (placed ks c))) q → In (objects_in (chunks_of ks)) q ⊎ In (located_by (next_place ks).chunk (next_place ks).offset c c.mark []) q
 placed_objects [] c q i = inl i
 placed_objects (k ∷ []) c q i = elim (in_append_cases (objects_from k.number 0 (k.cells ++ c ∷ [])) [] q i) [
-  | inl j ↦ elim (in_append_cases (objects_from k.number 0 k.cells) (seen_by k.number (0 + words_in k.cells) c c.mark []) q (subst (λ os. In os q) (objects_appended k.cells k.number 0 c) j)) [
+  | inl j ↦ elim (in_append_cases (objects_from k.number 0 k.cells) (located_by k.number (0 + words_in k.cells) c c.mark []) q (subst (λ os. In os q) (objects_appended k.cells k.number 0 c) j)) [
     | inl a ↦ inl (in_append_left (objects_from k.number 0 k.cells) [] q a)
-    | inr b ↦ inr (subst (λ n. In (seen_by k.number n c c.mark []) q) (let e : 0 + words_in k.cells ≡ words_in k.cells = omega arith in e) b)
+    | inr b ↦ inr (subst (λ n. In (located_by k.number n c c.mark []) q) (let e : 0 + words_in k.cells ≡ words_in k.cells = omega arith in e) b)
   ]
   | inr z ↦ absurd z
 ]
@@ -39,18 +40,18 @@ placed_objects (k ∷ (l ∷ ks)) c q i = elim (in_append_cases (objects_from k.
   ]
 ]
 
-pushed_objects : (ks : List Content) (k : Content) (q : Seen) → k.cells ≡ [] → In (objects_in (chunks_of (ks ++ k ∷ []))) q → In (objects_in (chunks_of ks)) q
+pushed_objects : (ks : List Content) (k : Content) (q : Located) → k.cells ≡ [] → In (objects_in (chunks_of (ks ++ k ∷ []))) q → In (objects_in (chunks_of ks)) q
 pushed_objects [] k q e i = subst (λ cs. In (objects_from k.number 0 cs ++ []) q) e i
 pushed_objects (x ∷ ks) k q e i = elim (in_append_cases (objects_from x.number 0 x.cells) (objects_in (chunks_of (ks ++ k ∷ []))) q i) [
   | inl j ↦ in_append_left (objects_from x.number 0 x.cells) (objects_in (chunks_of ks)) q j
   | inr j ↦ in_append_right (objects_from x.number 0 x.cells) (objects_in (chunks_of ks)) q (pushed_objects ks k q e j)
 ]
 
-open_objects : (laid spare : List Content) (q : Seen) → AreNew spare → In (objects_in (chunks_of (open_next laid spare).laid)) q → In (objects_in (chunks_of laid)) q
+open_objects : (laid spare : List Content) (q : Located) → AreNew spare → In (objects_in (chunks_of (open_next laid spare).laid)) q → In (objects_in (chunks_of laid)) q
 open_objects laid [] q n i = i
 open_objects laid (k ∷ ks) q n i = pushed_objects laid k q n.0.0 i
 
-opened_objects : (y : Laying) (b : Bool) (q : Seen) → AreNew y.spare → In (objects_in (chunks_of (cond b (open_next y.laid y.spare) y).laid)) q → In (objects_in (chunks_of y.laid)) q
+opened_objects : (y : Laying) (b : Bool) (q : Located) → AreNew y.spare → In (objects_in (chunks_of (cond b (open_next y.laid y.spare) y).laid)) q → In (objects_in (chunks_of y.laid)) q
 opened_objects y true q n i = open_objects y.laid y.spare q n i
 opened_objects y false q n i = i
 
@@ -62,8 +63,8 @@ pub opened_new : (y : Laying) (b : Bool) → AreNew y.spare → AreNew (cond b (
 opened_new y true n = open_new y.laid y.spare n
 opened_new y false n = n
 
-pub laid_objects : (y : Laying) (h : List Content) (xs : List Addr) (q : Seen) → AreNew y.spare → In (objects_in (chunks_of (laid_all y h xs).laid)) q
-    → In (objects_in (chunks_of y.laid)) q ⊎ ((m : Addr × Addr) × In (relocations y h xs) m × In (seen_by m.1.chunk m.1.offset (cell_of h m.0) (cell_of h m.0).mark []) q)
+pub laid_objects : (y : Laying) (h : List Content) (xs : List Addr) (q : Located) → AreNew y.spare → In (objects_in (chunks_of (laid_all y h xs).laid)) q
+    → In (objects_in (chunks_of y.laid)) q ⊎ ((m : Addr × Addr) × In (relocations y h xs) m × In (located_by m.1.chunk m.1.offset (cell_of h m.0) (cell_of h m.0).mark []) q)
 laid_objects y h [] q n i = inl i
 laid_objects y h (a ∷ xs) q n i =
     let c : Cell = cell_of h a in

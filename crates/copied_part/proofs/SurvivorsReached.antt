@@ -6,11 +6,12 @@ use Rattle.object_layout.specs.declared.word.Addr.{Addr}
 use Rattle.object_layout.specs.Chunks.{cell_of}
 use Rattle.object_layout.specs.Content.{Content}
 use Rattle.object_layout.specs.Graph.{IsHeld, Leads}
+use Rattle.object_layout.specs.Objects.{Located}
 use Rattle.alloc_path.specs.Heap.{AreApart}
 use Rattle.task_frames.specs.declared.frames.Frame.{Frame}
 use Rattle.task_frames.specs.Stack.{Stack, frames_of as all_frames}
 use Rattle.leaf_copy_gc.specs.Survivors.{IsSurvivor, Starts, as_reference, held_by, outside, references_in}
-use Rattle.core_relation.specs.Value.{Home, In, Seen, objects_in}
+use Rattle.core_relation.specs.Value.{Home, In, objects_in}
 use Rattle.core_relation.specs.Begins.{IsAt, IsReachedAt, LeadsAt, StartsAt}
 use Rattle.core_relation.proofs.objects.Members.{in_map, map_in}
 use Rattle.shared_value.specs.Objects.{chunks_of}
@@ -20,16 +21,16 @@ use Rattle.heap_marking.proofs.HeapClosed.{held_seen, seen_held}
 module _ (ks : List Content) (A : AreApart ks) (home : Home) (s : Stack) (roots : List Addr) (chunks : home.chunks ≡ chunks_of ks) (frames : home.frames ≡ frames_of s) where
   -- ---- OBJECTS
 
-  in_chunks : (o : Seen) → In (objects_in home.chunks) o → In (objects_in (chunks_of ks)) o
+  in_chunks : (o : Located) → In (objects_in home.chunks) o → In (objects_in (chunks_of ks)) o
   in_chunks o i = subst (λ cs. In (objects_in cs) o) chunks i
 
-  live_at : (a : Addr) (o : Seen) → IsAt home a o → IsHeld ks a
+  live_at : (a : Addr) (o : Located) → IsAt home a o → IsHeld ks a
   live_at a o at = subst (IsHeld ks) at.1 (seen_held ks A o (in_chunks o at.0)).0
 
-  refs_at : (a : Addr) (o : Seen) → IsAt home a o → o.refs ≡ (cell_of ks a).refs
+  refs_at : (a : Addr) (o : Located) → IsAt home a o → o.refs ≡ (cell_of ks a).refs
   refs_at a o at = sym (seen_held ks A o (in_chunks o at.0)).1 ∙ ap (λ (z : Addr). (cell_of ks z).refs) at.1
 
-  pub object_at : (a : Addr) → IsHeld ks a → (o : Seen) × IsAt home a o
+  pub object_at : (a : Addr) → IsHeld ks a → (o : Located) × IsAt home a o
   object_at a l = let o = held_seen ks a l in (o.0, (subst (λ cs. In (objects_in cs) o.0) (sym chunks) o.1, o.2))
 
   -- ---- REGISTERS
