@@ -20,7 +20,8 @@ use Rattle.run_ledger.specs.Steps.{task_steps}
 use Rattle.run_ledger.proofs.Steps.{task_steps_sound}
 use Rattle.ledger_steps.specs.Accounts.{Rests}
 use Rattle.ledger_steps.proofs.Known.{legal_knows}
-use Rattle.core_relation.specs.Value.{Chunk, In, Seen, Value, objects}
+use Rattle.object_layout.specs.Objects.{Located}
+use Rattle.core_relation.specs.Value.{Chunk, In, Value, objects}
 use Rattle.core_relation.specs.Stands.{HomeStands}
 use Rattle.core_relation.proofs.objects.Members.{in_chunk}
 use Rattle.task_machine.specs.Run.{Runs}
@@ -59,7 +60,7 @@ seen_names_are_held p s journal t k legal c x n m by is i leads =
 -- ---- LEVELS
 
 -- the chunk in which an object of a home lies is its task's
-lies_own : (v : Value) (l : Ledger) (u : ℕ) (o : Seen) → HomeStands v l u → In (objects v u) o → v.owner o.at.chunk ≡ Some u
+lies_own : (v : Value) (l : Ledger) (u : ℕ) (o : Located) → HomeStands v l u → In (objects v u) o → v.owner o.at.chunk ≡ Some u
 lies_own v l u o H i =
     let c = in_chunk (v.homes u).chunks o i in
     ap v.owner (H.inside c.0 o c.1 c.2) ∙ H.owned c.0 c.1

@@ -17,7 +17,8 @@ use Rattle.run_ledger.specs.Journals.{is_legal, ledger_of}
 use Rattle.run_ledger.specs.Sound.{Keeps, collecting}
 use Rattle.run_ledger.specs.Steps.{task_steps}
 use Rattle.ledger_steps.specs.Accounts.{Rests}
-use Rattle.core_relation.specs.Value.{Chunk, In, Seen, Value, objects}
+use Rattle.object_layout.specs.Objects.{Located}
+use Rattle.core_relation.specs.Value.{Chunk, In, Value, objects}
 use Rattle.core_relation.specs.Stands.{HasNumber, Stands}
 use Rattle.task_machine.specs.declared.part.Private.{Private}
 use Rattle.task_machine.specs.Run.{Ran, Runs}
@@ -61,8 +62,8 @@ SeenNamesAreHeld =
 pub record IsApart (v : Value) (u t : ℕ) : Type 0 where
   pub place : ℕ
   pub behind : drop (suc place) (v.homes t).view ≡ (v.homes u).view
-  pub levels : (i : ℕ) (level : List Chunk) (o : Seen) → i < place → slice_get (v.homes t).view i ≡ Some level → HasNumber level o.at.chunk → In (objects v u) o → ⊥
-  pub own : (o : Seen) → HasNumber (v.homes t).chunks o.at.chunk → In (objects v u) o → ⊥
+  pub levels : (i : ℕ) (level : List Chunk) (o : Located) → i < place → slice_get (v.homes t).view i ≡ Some level → HasNumber level o.at.chunk → In (objects v u) o → ⊥
+  pub own : (o : Located) → HasNumber (v.homes t).chunks o.at.chunk → In (objects v u) o → ⊥
 
 abbrev pub LevelsAreApart : Type 0
 LevelsAreApart =
