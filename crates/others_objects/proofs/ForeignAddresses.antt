@@ -8,8 +8,9 @@ use Rattle.run_ledger.specs.declared.data.Ledger.{Ledger}
 use Rattle.object_layout.specs.declared.word.Addr.{Addr}
 use Rattle.object_layout.specs.Chunks.{same_address}
 use Rattle.object_layout.specs.References.{same_reference}
+use Rattle.object_layout.specs.Objects.{Located}
 use Rattle.ledger_steps.specs.Accounts.{Rests, own}
-use Rattle.core_relation.specs.Value.{Lies, Seen, Value}
+use Rattle.core_relation.specs.Value.{Lies, Value, object_name}
 use Rattle.core_relation.specs.Reads.{Reads}
 use Rattle.core_relation.specs.Stands.{Place, Stands}
 
@@ -25,14 +26,14 @@ module _ (v : Value) (l : Ledger) (W : Stands v l) where
         let u : own l n ≡ own l m = same_Some (own l n) (own l m) (sym P.chunk ∙ (ap (λ (z : Addr). v.owner z.chunk) e ∙ Q.chunk)) in
         let x : Lies (v.homes (own l m)).chunks n a = subst (λ z. Lies (v.homes z).chunks n a) u (P.here (subst (Rests l) (sym u) rests)) in
         let same : x.0 ≡ there.0 = (W.homes (own l m) rests).once x.0 there.0 x.1 there.1 (x.2.at ∙ (e ∙ sym there.2.at)) in
-        sym x.2.name ∙ (ap (λ (z : Seen). z.name) same ∙ there.2.name)
+        sym x.2.name ∙ (ap object_name same ∙ there.2.name)
 
     -- one name lies at one address
     one_place : n ≡ m → a ≡ b
     one_place e =
         let x : Lies (v.homes (own l m)).chunks m a = subst (λ z. Lies (v.homes (own l z)).chunks z a) e (P.here (subst (λ z. Rests l (own l z)) (sym e) rests)) in
         let same : x.0 ≡ there.0 = (W.homes (own l m) rests).named x.0 there.0 x.1 there.1 (x.2.name ∙ sym there.2.name) in
-        sym x.2.at ∙ (ap (λ (z : Seen). z.at) same ∙ there.2.at)
+        sym x.2.at ∙ (ap (λ (z : Located). z.at) same ∙ there.2.at)
 
     address_is : same_address a b ≡ true → a ≡ b
     address_is h =

@@ -16,8 +16,9 @@ use Rattle.object_layout.specs.declared.word.Addr.{Addr}
 use Rattle.object_layout.specs.declared.word.Birth.{Birth}
 use Rattle.object_layout.specs.Cell.{Born, Cell}
 use Rattle.object_layout.specs.Chunks.{cell_of}
+use Rattle.object_layout.specs.Objects.{Located}
 use Rattle.ledger_steps.specs.Accounts.{Rests, own, rested}
-use Rattle.core_relation.specs.Value.{Home, In, Lies, Seen, Value, objects, objects_in}
+use Rattle.core_relation.specs.Value.{Home, In, Lies, Value, objects, objects_in}
 use Rattle.core_relation.specs.Fits.{with_home}
 use Rattle.core_relation.specs.Reads.{AllRead, FrameIsRead, FramesAreRead, HoldsRead, Reads}
 use Rattle.core_relation.specs.Stands.{Place}
@@ -145,13 +146,13 @@ module _ (w : World) (k : ℕ) (p : Private) (I : IsWorld w) (F : Fits w k p) (o
           rests = rests;
           rest = r;
           there = e;
-          birth = z.birth;
+          birth = y.0.birth;
           mark = ap (λ (d : Cell). d.mark) (sym c) ∙ z.mark;
           object = q.0;
           is = ap (object_at L.machine.store) (sym y.2.name) ∙ q.1;
-          mutable = ap (λ (d : Cell). d.mutable) (sym c) ∙ (ap (λ (s : Seen). s.mutable) (sym z.is) ∙ q.2.mutable);
-          refs = subst (λ rs. AllRead (Place v' L) rs q.0.refs) (ap (λ (s : Seen). s.refs) z.is ∙ ap (λ (d : Cell). d.refs) c) q.2.refs;
-          ints = ap (λ (d : Cell). d.ints) (sym c) ∙ (ap (λ (s : Seen). s.ints) (sym z.is) ∙ q.2.ints);
+          mutable = ap (λ (d : Cell). d.mutable) (sym c) ∙ (ap (λ (s : Located). s.mutable) (sym z.is) ∙ q.2.mutable);
+          refs = subst (λ rs. AllRead (Place v' L) rs q.0.refs) (ap (λ (s : Located). s.refs) z.is ∙ ap (λ (d : Cell). d.refs) c) q.2.refs;
+          ints = ap (λ (d : Cell). d.ints) (sym c) ∙ (ap (λ (s : Located). s.ints) (sym z.is) ∙ q.2.ints);
         }
 
     pub foreign : IsForeign w v' L t n a

@@ -11,13 +11,14 @@ use Rattle.object_layout.specs.declared.word.Addr.{Addr}
 use Rattle.object_layout.specs.declared.word.Birth.{Birth}
 use Rattle.object_layout.specs.Cell.{Cell, size_of}
 use Rattle.object_layout.specs.Chunks.{cell_of}
+use Rattle.object_layout.specs.Objects.{Located, located, with_fields}
 use Rattle.alloc_path.specs.Heap.{Heap, room_of}
 use Rattle.alloc_path.specs.View.{Level}
 use Rattle.task_frames.specs.declared.frames.Frame.{Frame}
 use Rattle.remembered_set.specs.declared.remembered.Source.{Source}
 use Rattle.write_barrier.specs.declared.sets.SetOf.{SetOf}
 use Rattle.ledger_steps.specs.Accounts.{Rests, own, rested}
-use Rattle.core_relation.specs.Value.{Chunk, Home, In, Seen, Value, mapped_chunk, objects, objects_in, put_at, sources}
+use Rattle.core_relation.specs.Value.{Chunk, Home, In, Value, mapped_chunk, object_name, objects, objects_in, put_at, sources}
 use Rattle.core_relation.specs.Changes.{WritesAt}
 use Rattle.core_relation.specs.Fits.{with_home}
 use Rattle.core_relation.specs.Layout.{words}
@@ -29,11 +30,10 @@ use Rattle.shared_value.specs.declared.task_at_rest.Rest.{Rest}
 use Rattle.shared_value.specs.declared.task_at_rest.Work.{Work}
 use Rattle.shared_value.specs.declared.task_at_rest.Work.TheVariants.{Calls, Result}
 use Rattle.shared_value.specs.World.{World, accounts, flat, home_by, home_in, home_of, no_home, rest_at, value_by, value_of, with_marks}
-use Rattle.shared_value.specs.Objects.{chunks_of, seen}
+use Rattle.shared_value.specs.Objects.{chunks_of}
 use Rattle.shared_value.specs.Measured.{AreMeasured, RestsAreMeasured}
 use Rattle.shared_value.specs.Stands.{HeapForm, IsWorld}
 use Rattle.shared_value.specs.Fits.{Fits, home_of_part}
-use Rattle.shared_value.proofs.CellsChanged.{with_fields}
 use Rattle.shared_value.proofs.CellsRead.{seen_object}
 use Rattle.shared_value.proofs.PartFitsMachine as link
 use Rattle.shared_value.proofs.UnitsMeasured.{measured_written}
@@ -88,22 +88,22 @@ module _ (w : World) (k : ℕ) (p : Private) (I : IsWorld w) (F : Fits w k p) (o
     owner_apart : (z : ℕ) → (value_of w).owner a.chunk ≡ Some z → z ≡ u
     owner_apart z e = same_Some z u (sym e ∙ O.place.chunk)
 
-    lies_with : (z : ℕ) (hs : Home) → HomeStands (with_home (value_of w) t h) L z → (with_home (value_of w) t h).homes z ≡ hs → (z ≡ u → ⊥) → (o : Seen) → In (objects_in hs.chunks) o → o.at ≡ a → ⊥
+    lies_with : (z : ℕ) (hs : Home) → HomeStands (with_home (value_of w) t h) L z → (with_home (value_of w) t h).homes z ≡ hs → (z ≡ u → ⊥) → (o : Located) → In (objects_in hs.chunks) o → o.at ≡ a → ⊥
     lies_with z hs H e ne o i at =
         let x = in_chunk hs.chunks o i in
         let j : In ((with_home (value_of w) t h).homes z).chunks x.0 = subst (λ (q : Home). In q.chunks x.0) (sym e) x.1 in
         ne (owner_apart z (ap (λ (q : Addr). (value_of w).owner q.chunk) (sym at) ∙ (ap (value_of w).owner (H.inside x.0 o j x.2) ∙ H.owned x.0 j)))
 
     -- neither the task itself has an object there, nor another one that no worker holds
-    none_own : (o : Seen) → In (objects_in h.chunks) o → o.at ≡ a → ⊥
+    none_own : (o : Located) → In (objects_in h.chunks) o → o.at ≡ a → ⊥
     none_own o i at = lies_with t h ((link.W w k p I F on).homes t (link.at_rest w k p I F on)) (at_home (value_of w) t h) (λ e. O.apart (sym e)) o i at
 
-    none_other : (z : ℕ) → (z ≡ t → ⊥) → (z ≡ u → ⊥) → Rests l z → (o : Seen) → In (objects_in ((value_of w).homes z).chunks) o → o.at ≡ a → ⊥
+    none_other : (z : ℕ) → (z ≡ t → ⊥) → (z ≡ u → ⊥) → Rests l z → (o : Located) → In (objects_in ((value_of w).homes z).chunks) o → o.at ≡ a → ⊥
     none_other z nt nu rz o i at =
         lies_with z ((value_of w).homes z) ((link.W w k p I F on).homes z (link.rests_then w k p I F on z nt rz)) (off_home (value_of w) t h z nt) nu o i at
 
     -- THE OBJECT IS WRITTEN: its cell is d then, and the object as it is read is changed by f
-    module _ (d : Cell) (mark : d.mark ≡ c.mark) (size : size_of d ≡ size_of c) (f : Seen → Seen) (fields : (number at : ℕ) (b : Birth) → with_fields d (seen number at b c) ≡ f (seen number at b c))
+    module _ (d : Cell) (mark : d.mark ≡ c.mark) (size : size_of d ≡ size_of c) (f : Located → Located) (fields : (number at : ℕ) (b : Birth) → with_fields d (located number at b c) ≡ f (located number at b c))
         (sets : List SetOf) (top : Frame) where
       abbrev pub r' : Rest
       r' = put_rest r a d
@@ -160,8 +160,8 @@ module _ (w : World) (k : ℕ) (p : Private) (I : IsWorld w) (F : Fits w k p) (o
           chunks_put r.heap.chunks a d form.shaped.apart (sym mark) (sym size)
           ∙ chunks_same a (with_fields d) f (chunks_of r.heap.chunks) (λ o i at.
           let y = seen_object r.heap.chunks o form.shaped.apart i in
-          let e : o ≡ seen o.at.chunk o.at.offset y.birth c = y.is ∙ ap (λ (z : Addr). seen o.at.chunk o.at.offset y.birth (cell_of r.heap.chunks z)) at in
-          ap (with_fields d) e ∙ (fields o.at.chunk o.at.offset y.birth ∙ ap f (sym e)))
+          let e : o ≡ located o.at.chunk o.at.offset o.birth c = y.is ∙ ap (λ (z : Addr). located o.at.chunk o.at.offset o.birth (cell_of r.heap.chunks z)) at in
+          ap (with_fields d) e ∙ (fields o.at.chunk o.at.offset o.birth ∙ ap f (sym e)))
 
       home_owner : v'.homes u ≡ changed ((value_of w).homes u)
       home_owner =
@@ -204,7 +204,7 @@ module _ (w : World) (k : ℕ) (p : Private) (I : IsWorld w) (F : Fits w k p) (o
         | inr ne ↦ ap look (home_off z ne)
       ]
 
-      pub writes : ((o : Seen) → (f o).name ≡ o.name) → ((o : Seen) → (f o).at ≡ o.at) → ((o : Seen) → words (f o) ≡ words o) → ((o : Seen) → (f o).mutable ≡ o.mutable) → ((z : ℕ) (s : Source) → In (sources (value_of w) z) s → In (sources v' z) s) → WritesAt old new t a f
+      pub writes : ((o : Located) → object_name (f o) ≡ object_name o) → ((o : Located) → (f o).at ≡ o.at) → ((o : Located) → words (f o) ≡ words o) → ((o : Located) → (f o).mutable ≡ o.mutable) → ((z : ℕ) (s : Source) → In (sources (value_of w) z) s → In (sources v' z) s) → WritesAt old new t a f
       writes same_name same_at same_words same_kind noted = record {
         same_name = same_name;
         same_at = same_at;
@@ -223,26 +223,26 @@ module _ (w : World) (k : ℕ) (p : Private) (I : IsWorld w) (F : Fits w k p) (o
       }
 
       -- THE OBJECT lies in no other home
-      none_by : (z : ℕ) → (z ≡ t → ⊥) → (z ≡ u → ⊥) → (o : Seen) → o.at ≡ a → (x : Option ℕ) → (heap_of l z).worker ≡ x → In (objects_in (cond (is_none x) ((value_of w).homes z) no_home).chunks) o → ⊥
+      none_by : (z : ℕ) → (z ≡ t → ⊥) → (z ≡ u → ⊥) → (o : Located) → o.at ≡ a → (x : Option ℕ) → (heap_of l z).worker ≡ x → In (objects_in (cond (is_none x) ((value_of w).homes z) no_home).chunks) o → ⊥
       none_by z nt nu o at (Some y) e j = j
       none_by z nt nu o at None e j = none_other z nt nu e o j at
 
-      pub lies_old : (z : ℕ) → (z ≡ t → ⊥) → (o : Seen) → In (objects old z) o → o.at ≡ a → z ≡ u
+      pub lies_old : (z : ℕ) → (z ≡ t → ⊥) → (o : Located) → In (objects old z) o → o.at ≡ a → z ≡ u
       lies_old z nt o i at = elim (cases_eq z u) [
         | inl e ↦ e
         | inr nu ↦ absurd (none_by z nt nu o at (heap_of l z).worker refl (subst (λ (x : Home). In (objects_in x.chunks) o) (off_home v0 t h z nt) i))
       ]
 
       -- and is read from its cell
-      pub read_old : (o : Seen) → In (objects old u) o → o.at ≡ a → (b : Birth) × (o ≡ seen o.at.chunk o.at.offset b c)
+      pub read_old : (o : Located) → In (objects old u) o → o.at ≡ a → (b : Birth) × (o ≡ located o.at.chunk o.at.offset b c)
       read_old o i at =
           let j : In (objects_in (resting l (value_of w).homes u).chunks) o = subst (λ (x : Home). In (objects_in x.chunks) o) (off_home v0 t h u O.apart) i in
           let k' : In (objects_in (home_in (rest_at w.homes u)).chunks) o = subst (λ (x : Home). In (objects_in x.chunks) o) (resting_is l (value_of w).homes u O.rests) j in
           let m : In (objects_in (chunks_of r.heap.chunks)) o = subst (λ ks. In (objects_in ks) o) (chunks_are r.heap r.view r.allocations r.work) (subst (λ x. In (objects_in (home_in x).chunks) o) O.there k') in
           let y = seen_object r.heap.chunks o form.shaped.apart m in
-          (y.birth, y.is ∙ ap (λ (z : Addr). seen o.at.chunk o.at.offset y.birth (cell_of r.heap.chunks z)) at)
+          (o.birth, y.is ∙ ap (λ (z : Addr). located o.at.chunk o.at.offset o.birth (cell_of r.heap.chunks z)) at)
 
-      pub there_old : (o : Seen) × In (objects old u) o × (o.at ≡ a) × ((b : Birth) × (o ≡ seen o.at.chunk o.at.offset b c))
+      pub there_old : (o : Located) × In (objects old u) o × (o.at ≡ a) × ((b : Birth) × (o ≡ located o.at.chunk o.at.offset b c))
       there_old =
           let x = O.place.here (link.rests_then w k p I F on u O.apart O.rests) in
           let i : In (objects_in ((value_of w).homes u).chunks) x.0 = subst (λ (y : Home). In (objects_in y.chunks) x.0) (off_home (value_of w) t h u O.apart) x.1 in

@@ -11,6 +11,7 @@ use Rattle.run_ledger.specs.Heaps.{heap_of}
 use Rattle.object_layout.specs.declared.word.Addr.{Addr}
 use Rattle.object_layout.specs.declared.word.Birth.{Birth}
 use Rattle.object_layout.specs.Cell.{Cell, size_of, with_int as cell_int, with_ref as cell_ref}
+use Rattle.object_layout.specs.Objects.{Located, located}
 use Rattle.chunk_pool.specs.Chunks.{owner_of as pool_owner}
 use Rattle.task_frames.specs.declared.frames.Frame.{Frame}
 use Rattle.heap_tree.specs.Node.{is_on_path as tree_path}
@@ -18,7 +19,7 @@ use Rattle.remembered_set.specs.declared.remembered.Source.{Source}
 use Rattle.write_barrier.specs.declared.sets.SetOf.{SetOf}
 use Rattle.write_barrier.specs.Stored.{content_after, content_at}
 use Rattle.ledger_steps.specs.Accounts.{own}
-use Rattle.core_relation.specs.Value.{Home, In, Seen, Value, objects, sources}
+use Rattle.core_relation.specs.Value.{Home, In, Value, objects, sources}
 use Rattle.core_relation.specs.Changes.{StoresAt, StoresNumberAt, gone_on, register, with_field, with_number}
 use Rattle.core_relation.specs.Fits.{with_home}
 use Rattle.core_relation.specs.Reads.{Reads}
@@ -28,7 +29,6 @@ use Rattle.core_relation.proofs.changes.Store as store
 use Rattle.task_machine.specs.declared.part.Private.{Private}
 use Rattle.task_machine.specs.Plan.{int_of, ref_of}
 use Rattle.shared_value.specs.World.{World, accounts, value_of}
-use Rattle.shared_value.specs.Objects.{seen}
 use Rattle.shared_value.specs.Stands.{IsWorld}
 use Rattle.shared_value.specs.Fits.{Fits, home_of_part}
 use Rattle.shared_value.proofs.PartFitsMachine as link
@@ -107,7 +107,7 @@ module _ (w : World) (k : ℕ) (p : Private) (I : IsWorld w) (F : Fits w k p) (o
       pub size : size_of d ≡ size_of c
       size = ap (λ m. 2 + (m + length c.ints)) (length-set c.refs i value)
 
-      abbrev pub f : Seen → Seen
+      abbrev pub f : Located → Located
       f = with_field i value
 
       abbrev old : Value
@@ -122,7 +122,7 @@ module _ (w : World) (k : ℕ) (p : Private) (I : IsWorld w) (F : Fits w k p) (o
       abbrev new : Value
       new = with_home v1 t g
 
-      fields_of : (s : Seen) → length (f s).refs ≡ length s.refs
+      fields_of : (s : Located) → length (f s).refs ≡ length s.refs
       fields_of s = length-set s.refs i value
 
       down : (e : Addr) (y z : ℕ) → register p.frames.top b ≡ Some e → v0.owner a.chunk ≡ Some y → v0.owner e.chunk ≡ Some z → is_on_path L.machine.tasks z y ≡ false → In (sources new z) (record { object = a; field = i })
@@ -154,8 +154,8 @@ module _ (w : World) (k : ℕ) (p : Private) (I : IsWorld w) (F : Fits w k p) (o
       }
 
       -- WHAT IS KEPT
-      old_field : (s : Seen) (e : Addr) (birth : Birth) → s ≡ seen s.at.chunk s.at.offset birth c → slice_get s.refs i ≡ Some (Some e) → overwritten ≡ Some e
-      old_field s e birth is at = same_Some overwritten (Some e) (sym was ∙ (ap (λ (y : Seen). slice_get y.refs i) (sym is) ∙ at))
+      old_field : (s : Located) (e : Addr) (birth : Birth) → s ≡ located s.at.chunk s.at.offset birth c → slice_get s.refs i ≡ Some (Some e) → overwritten ≡ Some e
+      old_field s e birth is at = same_Some overwritten (Some e) (sym was ∙ (ap (λ (y : Located). slice_get y.refs i) (sym is) ∙ at))
 
       keeps : (z : ℕ) → (z ≡ t → ⊥) → (old.noted z).keeps ≡ true → Keeps old new z a i
       keeps z ne on' = record {
@@ -170,7 +170,7 @@ module _ (w : World) (k : ℕ) (p : Private) (I : IsWorld w) (F : Fits w k p) (o
           | inl before ↦ inl before
           | inr added ↦
               let y = other.there_old w k p I F on n a O d refl size f (λ number at birth. refl) sets top in
-              inr (u, y.0, y.1, y.2, ap (λ (s : Seen). slice_get s.refs i) y.3.1 ∙ (was ∙ ap Some added.0), added.1, O.place.chunk)
+              inr (u, y.0, y.1, y.2, ap (λ (s : Located). slice_get s.refs i) y.3.1 ∙ (was ∙ ap Some added.0), added.1, O.place.chunk)
         ];
       }
 
@@ -192,7 +192,7 @@ module _ (w : World) (k : ℕ) (p : Private) (I : IsWorld w) (F : Fits w k p) (o
       pub size_number : size_of d_number ≡ size_of c
       size_number = ap (λ m. 2 + (length c.refs + m)) (length-set c.ints i number)
 
-      abbrev pub f_number : Seen → Seen
+      abbrev pub f_number : Located → Located
       f_number = with_number i number
 
       abbrev new_number : Value

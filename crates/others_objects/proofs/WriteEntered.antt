@@ -17,11 +17,12 @@ use Rattle.run_ledger.proofs.Holders.{tasks_are_held_once}
 use Rattle.object_layout.specs.declared.word.Addr.{Addr}
 use Rattle.object_layout.specs.declared.word.Birth.{Birth}
 use Rattle.object_layout.specs.Cell.{Cell, size_of}
+use Rattle.object_layout.specs.Objects.{Located, located, with_fields}
 use Rattle.task_frames.specs.declared.frames.Frame.{Frame}
 use Rattle.write_barrier.specs.declared.sets.SetOf.{SetOf}
 use Rattle.ledger_steps.specs.Accounts.{Rests}
 use Rattle.ledger_steps.specs.Last.{Runs, Splits, Writing, WritesOther}
-use Rattle.core_relation.specs.Value.{Home, Seen, Value}
+use Rattle.core_relation.specs.Value.{Home, Value}
 use Rattle.core_relation.specs.Fits.{part_for, with_home}
 use Rattle.core_relation.specs.Makes.{Stores, StoresHome}
 use Rattle.core_relation.specs.Marks.{StoreMarks}
@@ -34,11 +35,9 @@ use Rattle.core_relation.proofs.parts.Workers.{ran_leaves}
 use Rattle.task_machine.specs.declared.part.Private.{Private}
 use Rattle.shared_value.specs.declared.task_at_rest.Rest.{Rest}
 use Rattle.shared_value.specs.World.{World, accounts, totals_of, value_of}
-use Rattle.shared_value.specs.Objects.{seen}
 use Rattle.shared_value.specs.Stands.{IsWorld}
 use Rattle.shared_value.specs.Fits.{Fits, OthersFit, home_of_part, part_of}
 use Rattle.shared_value.specs.Entered.{refused}
-use Rattle.shared_value.proofs.CellsChanged.{with_fields}
 use Rattle.shared_value.proofs.EntryMade.{entered, entered_world, held_apart, part_fits}
 use Rattle.shared_value.proofs.HeldTasks.{fits_held, stands_for_held}
 use Rattle.shared_value.proofs.BeforeTheEnd.{end_now, stands_now}
@@ -115,7 +114,7 @@ module _ (w : World) (k : ℕ) (p : Private) (I : IsWorld w) (F : Fits w k p) (s
   own_0 = fits_held (value_of w) v0.homes l (λ u r. resting_is l (value_of w).homes u r) w.program w.settings (part_for w.settings t h p.fresh) R.knows.sound (last.before_goes w k p I F shared free) F.fits
 
   module _ (n : Name) (a : Addr) (O : IsForeign w (with_home (value_of w) t h) (other.L w k p I F on) t n a) (d : Cell) (mark : d.mark ≡ (other.c w k p I F on n a O).mark) (size : size_of d ≡ size_of (other.c w k p I F on n a O))
-      (f : Seen → Seen) (fields : (number at : ℕ) (b : Birth) → with_fields d (seen number at b (other.c w k p I F on n a O)) ≡ f (seen number at b (other.c w k p I F on n a O))) (sets : List SetOf) (many : length sets ≡ length w.sets) (top : Frame) where
+      (f : Located → Located) (fields : (number at : ℕ) (b : Birth) → with_fields d (located number at b (other.c w k p I F on n a O)) ≡ f (located number at b (other.c w k p I F on n a O))) (sets : List SetOf) (many : length sets ≡ length w.sets) (top : Frame) where
     abbrev pub homes : List (Option Rest)
     homes = other.homes w k p I F on n a O d mark size f fields sets top
 
