@@ -7,8 +7,9 @@ use Rattle.listed.proofs.Members.{in_append_cases}
 use Rattle.object_layout.specs.Chunks.{AreApart, chunk_at, no_chunk}
 use Rattle.object_layout.specs.Content.{Content}
 use Rattle.object_layout.specs.Place.{words_in}
+use Rattle.object_layout.specs.Objects.{Located}
 use Rattle.alloc_path.specs.Heap.{Heap, IsCurrent, IsReserved, IsTidy, counted, merged, with_places}
-use Rattle.core_relation.specs.Value.{Chunk, In, Seen, objects_in}
+use Rattle.core_relation.specs.Value.{Chunk, In, objects_in}
 use Rattle.core_relation.proofs.objects.Members.{in_chunk, in_map, in_objects, map_in}
 use Rattle.task_machine.specs.Accounts.{AreReserved, IsLastLarge, IsLastSmall}
 use Rattle.shared_value.specs.Objects.{chunk_of, chunks_of}
@@ -18,13 +19,13 @@ none_some : {A B : Type 0} {x : A} → ◌≡◌ {A = Option A} None (Some x) �
 none_some e = absurd cc
 
 -- the content that an object lies in
-pub object_content : (ks : List Content) (o : Seen) → In (objects_in (chunks_of ks)) o → (c : Content) × In ks c × In (chunk_of c).objects o
+pub object_content : (ks : List Content) (o : Located) → In (objects_in (chunks_of ks)) o → (c : Content) × In ks c × In (chunk_of c).objects o
 object_content ks o i =
     let k = in_chunk (chunks_of ks) o i in
     let c = map_in chunk_of ks k.0 k.1 in
     (c.0, c.1, subst (λ (z : Chunk). In z.objects o) (sym c.2) k.2)
 
-pub content_object : (ks : List Content) (c : Content) (o : Seen) → In ks c → In (chunk_of c).objects o → In (objects_in (chunks_of ks)) o
+pub content_object : (ks : List Content) (c : Content) (o : Located) → In ks c → In (chunk_of c).objects o → In (objects_in (chunks_of ks)) o
 content_object ks c o i j = in_objects (chunks_of ks) (chunk_of c) o (in_map chunk_of ks c i) j
 
 module _ (ls rs ks : List Content) where
@@ -91,7 +92,7 @@ module _ (h a b : Heap) (H : HeapForm h) (A : HeapForm a) (B : HeapForm b) (apar
   abbrev m : ℕ
   m = length ls + length rs
 
-  near_by : (o : Seen) → In (objects_in (chunks_of all)) o → o.at.offset < 1024
+  near_by : (o : Located) → In (objects_in (chunks_of all)) o → o.at.offset < 1024
   near_by o i =
       let c = object_content all o i in
       elim (content_cases ls rs ks c.0 c.1) [

@@ -4,9 +4,10 @@ use Rattle.std.proofs.lemmas.Bool.{cases_eq}
 use Rattle.std.proofs.lemmas.Option.{same_Some}
 use Rattle.run_ledger.specs.declared.data.Ledger.{Ledger}
 use Rattle.object_layout.specs.declared.word.Addr.{Addr}
+use Rattle.object_layout.specs.Objects.{Located}
 use Rattle.remembered_set.specs.declared.remembered.Source.{Source}
 use Rattle.ledger_steps.specs.Accounts.{Rests, own}
-use Rattle.core_relation.specs.Value.{In, Seen, Value, objects, sources}
+use Rattle.core_relation.specs.Value.{In, Value, objects, sources}
 use Rattle.core_relation.specs.Begins.{AreRoots}
 use Rattle.core_relation.specs.Stands.{IsSource, Stands}
 use Rattle.core_relation.proofs.objects.Members.{in_chunk}
@@ -14,7 +15,7 @@ use Rattle.core_relation.proofs.objects.Members.{in_chunk}
 -- this remembered field holds the root
 pub record RootBy (v : Value) (l : Ledger) (t : ℕ) (s : Source) (a : Addr) : Type 0 where
   pub home : ℕ
-  pub object : Seen
+  pub object : Located
   pub rests : Rests l home
   pub there : In (objects v home) object
   pub at : object.at ≡ s.object
@@ -31,14 +32,14 @@ none_some : {A B : Type 0} {x : A} → ◌≡◌ {A = Option A} None (Some x) �
 none_some e = absurd cc
 
 module _ (v : Value) (l : Ledger) (t : ℕ) (V : Stands v l) where
-  owned : (u : ℕ) (o : Seen) → Rests l u → In (objects v u) o → v.owner o.at.chunk ≡ Some u
+  owned : (u : ℕ) (o : Located) → Rests l u → In (objects v u) o → v.owner o.at.chunk ≡ Some u
   owned u o r i = let k = in_chunk (v.homes u).chunks o i in ap v.owner ((V.homes u r).inside k.0 o k.1 k.2) ∙ (V.homes u r).owned k.0 k.1
 
   module _ (s : Source) (K : IsSource v l t s) where
     abbrev u : ℕ
     u = own l K.name
 
-    abbrev q : Seen
+    abbrev q : Located
     q = (K.place.here K.rests).0
 
     q_there : In (objects v u) q
@@ -54,7 +55,7 @@ module _ (v : Value) (l : Ledger) (t : ℕ) (V : Stands v l) where
         (V.homes u K.rests).once R.object q (subst (λ z. In (objects v z) R.object) home R.there) q_there (R.at ∙ sym q_at)
 
     held : (a : Addr) → RootBy v l t s a → slice_get q.refs s.field ≡ Some (Some a)
-    held a R = ap (λ (z : Seen). slice_get z.refs s.field) (sym (only a R)) ∙ R.holds
+    held a R = ap (λ (z : Located). slice_get z.refs s.field) (sym (only a R)) ∙ R.holds
 
     none : ((a : Addr) → RootBy v l t s a → ⊥) → OneRoot v l t s
     none never = (None, λ a. ((λ e. none_some e), (λ R. absurd (never a R))))
