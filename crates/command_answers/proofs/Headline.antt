@@ -16,7 +16,7 @@ use Rattle.run_ledger.proofs.Drops.{held_is_undropped}
 use Rattle.run_ledger.proofs.Journals.{nothing_reachable_is_freed}
 use Rattle.ledger_steps.specs.Accounts.{Rests}
 use Rattle.core_relation.specs.Stands.{HomeStands}
-use Rattle.core_relation.specs.Value.{In, Value}
+use Rattle.core_relation.specs.Value.{In, Value, object_name}
 use Rattle.core_relation.specs.Whole.{handed}
 use Rattle.core_relation.proofs.objects.Members.{held_object, object_held}
 use Rattle.shared_value.specs.Stands.{IsWorld}
@@ -41,10 +41,10 @@ module _ (w : World) (I : IsWorld w) (t : ℕ) (R : Rests (handed (accounts w)) 
   heap_is_held : HeapIsHeld v l t
   heap_is_held = record {
     each = λ o i.
-        contains_from_in (held_in (heap_of l t)) o.name (subst (λ ns. In ns o.name) (handed_held l t) (object_held (v.homes t).chunks (heap_of (handed l) t) H.names o i));
+        contains_from_in (held_in (heap_of l t)) (object_name o) (subst (λ ns. In ns (object_name o)) (handed_held l t) (object_held (v.homes t).chunks (heap_of (handed l) t) H.names o i));
     all = λ n c. held_object (v.homes t).chunks (heap_of (handed l) t) H.names n (subst (λ ns. In ns n) (sym (handed_held l t)) (in_from_contains (held_in (heap_of l t)) n c));
     once = H.named;
-    contents = λ o i. let x = I.stands.homes.contents t o R i in (x.0, ap (λ (m : Machine). object_at m.store o.name) (sym (same_machine w I)) ∙ x.1, x.2);
+    contents = λ o i. let x = I.stands.homes.contents t o R i in (x.0, ap (λ (m : Machine). object_at m.store (object_name o)) (sym (same_machine w I)) ∙ x.1, x.2);
   }
 
 heaps_are_held : (w : World) (I : IsWorld w) → HeapsAreHeld (Some (without_journal w)) (accounts w)

@@ -20,7 +20,8 @@ use Rattle.run_report.specs.declared.whole.Extras.{Extras}
 use Rattle.ledger_steps.specs.Accounts.{Rests}
 use Rattle.core_relation.specs.Reads.{IsRead}
 use Rattle.core_relation.specs.Stands.{Place}
-use Rattle.core_relation.specs.Value.{In, Seen, Value, objects}
+use Rattle.object_layout.specs.Objects.{Located}
+use Rattle.core_relation.specs.Value.{In, Value, object_name, objects}
 use Rattle.core_relation.specs.Whole.{handed}
 use Rattle.shared_value.specs.World.{World, value_of}
 use Rattle.command_answers.specs.declared.answer.Answer.{Answer}
@@ -41,10 +42,10 @@ pub record StopsUnordered (p : ProgramText) (m : State) (t : ℕ) : Type 0 where
 -- the objects of a task's heap are exactly those of the names that the accounts hold for it, one for each, and each is that of the
 -- machine's store
 pub record HeapIsHeld (v : Value) (l : Ledger) (t : ℕ) : Type 0 where
-  pub each : (o : Seen) → In (objects v t) o → Contains (held_in (heap_of l t)) o.name
-  pub all : (n : Name) → Contains (held_in (heap_of l t)) n → (o : Seen) × In (objects v t) o × (o.name ≡ n)
-  pub once : (o q : Seen) → In (objects v t) o → In (objects v t) q → o.name ≡ q.name → o ≡ q
-  pub contents : (o : Seen) → In (objects v t) o → (x : Object) × (object_at l.machine.store o.name ≡ Some x) × IsRead (Place v (handed l)) o x
+  pub each : (o : Located) → In (objects v t) o → Contains (held_in (heap_of l t)) (object_name o)
+  pub all : (n : Name) → Contains (held_in (heap_of l t)) n → (o : Located) × In (objects v t) o × (object_name o ≡ n)
+  pub once : (o q : Located) → In (objects v t) o → In (objects v t) q → object_name o ≡ object_name q → o ≡ q
+  pub contents : (o : Located) → In (objects v t) o → (x : Object) × (object_at l.machine.store (object_name o) ≡ Some x) × IsRead (Place v (handed l)) o x
 
 -- a value is handed back, in which that holds of each task that no worker holds (once the run is done, of the root too)
 pub record HeapsAreHeld (shared : Option World) (l : Ledger) : Type 0 where

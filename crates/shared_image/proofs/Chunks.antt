@@ -5,12 +5,13 @@ use Rattle.std.proofs.lemmas.Bool.{eq-eqb, false≢true}
 use Rattle.std.proofs.lemmas.Map.Keys.{IsDistinct-head, IsDistinct-tail}
 use Rattle.object_layout.specs.Cell.{Born, Cell, Hole, Mark, Moved, size_of}
 use Rattle.object_layout.specs.Content.{Content}
+use Rattle.object_layout.specs.Objects.{Located, located_by, objects_from}
 use Rattle.chunk_pool.specs.Chunks.{owner_of}
 use Rattle.heap_tree.specs.Node.{state_of}
-use Rattle.core_relation.specs.Value.{Chunk, In, Seen, Value, objects}
+use Rattle.core_relation.specs.Value.{Chunk, In, Value, objects}
 use Rattle.core_relation.proofs.objects.Members.{in_map, in_objects, map_in}
 use Rattle.shared_value.specs.declared.task_at_rest.Rest.{Rest}
-use Rattle.shared_value.specs.Objects.{chunk_of, chunks_of, objects_from, seen_by}
+use Rattle.shared_value.specs.Objects.{chunk_of, chunks_of}
 use Rattle.shared_value.specs.Stands.{IsWorld}
 use Rattle.shared_value.specs.World.{World, home_in, rest_at, value_of}
 use Rattle.shared_value.proofs.FieldsLed.{home_chunks}
@@ -23,15 +24,15 @@ use Rattle.shared_image.proofs.Orders.{rises_map}
 use Rattle.shared_image.proofs.Resting.{H, chunk, near, owner}
 
 -- WITHIN A CHUNK
-abbrev Lower : Seen → Seen → Type 0
+abbrev Lower : Located → Located → Type 0
 Lower o q = o.at.offset < q.at.offset
 
-from_least : (number at : ℕ) (cells : List Cell) (o : Seen) → In (objects_from number at cells) o → at ≤ o.at.offset
+from_least : (number at : ℕ) (cells : List Cell) (o : Located) → In (objects_from number at cells) o → at ≤ o.at.offset
 from_least number at [] o i = absurd i
 from_least number at (c ∷ cs) o i = by c.mark (from_least number (at + size_of c) cs o) i
   where
-    by : (m : Mark) → (In (objects_from number (at + size_of c) cs) o → at + size_of c ≤ o.at.offset) → In (seen_by number at c m (objects_from number (at + size_of c) cs)) o → at ≤ o.at.offset
-    by (Born b) go (inl e) = let f : at ≡ o.at.offset = ap (λ (z : Seen). z.at.offset) e in omega (arith, f)
+    by : (m : Mark) → (In (objects_from number (at + size_of c) cs) o → at + size_of c ≤ o.at.offset) → In (located_by number at c m (objects_from number (at + size_of c) cs)) o → at ≤ o.at.offset
+    by (Born b) go (inl e) = let f : at ≡ o.at.offset = ap (λ (z : Located). z.at.offset) e in omega (arith, f)
     by (Born b) go (inr j) = let f = go j in omega (arith, f)
     by (Moved to) go j = let f = go j in omega (arith, f)
     by Hole go j = let f = go j in omega (arith, f)
@@ -40,7 +41,7 @@ from_rises : (number at : ℕ) (cells : List Cell) → Rises Lower (objects_from
 from_rises number at [] = tt
 from_rises number at (c ∷ cs) = by c.mark (from_rises number (at + size_of c) cs)
   where
-    by : (m : Mark) → Rises Lower (objects_from number (at + size_of c) cs) → Rises Lower (seen_by number at c m (objects_from number (at + size_of c) cs))
+    by : (m : Mark) → Rises Lower (objects_from number (at + size_of c) cs) → Rises Lower (located_by number at c m (objects_from number (at + size_of c) cs))
     by (Born b) up = ((λ o i. (let f : at + size_of c ≤ o.at.offset = from_least number (at + size_of c) cs o i in omega (arith, f))), up)
     by (Moved to) up = up
     by Hole up = up
@@ -54,7 +55,7 @@ numbered_rises n (k ∷ ks) = by (k.number == n) (numbered_rises n ks)
     by true up = from_rises k.number 0 k.cells
     by false up = up
 
-numbered_in : (n : ℕ) (ks : List Chunk) (o : Seen) → In (objects_numbered n ks) o → (c : Chunk) × In ks c × (c.number ≡ n) × In c.objects o
+numbered_in : (n : ℕ) (ks : List Chunk) (o : Located) → In (objects_numbered n ks) o → (c : Chunk) × In ks c × (c.number ≡ n) × In c.objects o
 numbered_in n [] o i = absurd i
 numbered_in n (k ∷ ks) o i = by (numbered_in n ks o) (k.number == n) refl i
   where
@@ -67,7 +68,7 @@ all_at Q [] x all i = absurd i
 all_at Q (y ∷ ys) x all (inl e) = subst Q e all.0
 all_at Q (y ∷ ys) x all (inr i) = all_at Q ys x all.1 i
 
-in_numbered : (n : ℕ) (ks : List Chunk) (c : Chunk) (o : Seen) → IsDistinct (λ a b. a == b) (map (λ (z : Chunk). z.number) ks) → In ks c → c.number ≡ n → In c.objects o → In (objects_numbered n ks) o
+in_numbered : (n : ℕ) (ks : List Chunk) (c : Chunk) (o : Located) → IsDistinct (λ a b. a == b) (map (λ (z : Chunk). z.number) ks) → In ks c → c.number ≡ n → In c.objects o → In (objects_numbered n ks) o
 in_numbered n [] c o d i e j = absurd i
 in_numbered n (k ∷ ks) c o d i e j = by (λ h. in_numbered n ks c o (IsDistinct-tail (λ a b. a == b) k.number (map (λ (z : Chunk). z.number) ks) d) h e j) (k.number == n) refl i
   where
@@ -100,7 +101,7 @@ module _ (w : World) (I : IsWorld w) where
       by (Some t) = idle t (is_state_running (state_of w.tree t))
 
   -- an object that is told of a chunk is one of a heap handed back, and lies there
-  pub record IsToldOf (n : ℕ) (o : Seen) : Type 0 where
+  pub record IsToldOf (n : ℕ) (o : Located) : Type 0 where
     pub task : ℕ
     pub idle : IsHandedBack w task
     pub here : In (objects v task) o
@@ -108,7 +109,7 @@ module _ (w : World) (I : IsWorld w) where
     pub chunk : o.at.chunk ≡ n
     pub near : o.at.offset < 1024
 
-  pub told_back : (n : ℕ) (o : Seen) → In (objects_of w n) o → IsToldOf n o
+  pub told_back : (n : ℕ) (o : Located) → In (objects_of w n) o → IsToldOf n o
   told_back n o i = by (owner_of w.pool n) refl i
     where
       idle : (t : ℕ) → owner_of w.pool n ≡ Some t → (b : Bool) → is_state_running (state_of w.tree t) ≡ b → In (cond b [] (objects_numbered n (v.homes t).chunks)) o → IsToldOf n o
@@ -122,7 +123,7 @@ module _ (w : World) (I : IsWorld w) where
       by None e j = absurd j
       by (Some t) e j = idle t e (is_state_running (state_of w.tree t)) refl j
 
-  pub told_there : (t : ℕ) → IsHandedBack w t → (o : Seen) → In (objects v t) o → In (objects_of w o.at.chunk) o
+  pub told_there : (t : ℕ) → IsHandedBack w t → (o : Located) → In (objects v t) o → In (objects_of w o.at.chunk) o
   told_there t idle o i =
       let c = chunk w I t idle o i in
       let number : c.0.number ≡ o.at.chunk = sym ((H w I t idle o i).inside c.0 o c.1 c.2) in
@@ -130,11 +131,11 @@ module _ (w : World) (I : IsWorld w) where
       let one : In (objects_owned w o.at.chunk (Some t)) o = subst (λ b. In (cond b [] (objects_numbered o.at.chunk (v.homes t).chunks)) o) (sym idle) found in
       subst (λ h. In (objects_owned w o.at.chunk h) o) (sym (owner w I t idle o i)) one
 
-  abbrev pub one : Seen → Picked
+  abbrev pub one : Located → Picked
   one o = drawn_object (shown o)
 
   -- all of a chunk are drawn in order
-  pub told_in_order : (n : ℕ) → AreAll ObjectBefore (λ q. (o : Seen) × In (objects_of w n) o × (q ≡ one o)) (map drawn_object (map shown (objects_of w n)))
+  pub told_in_order : (n : ℕ) → AreAll ObjectBefore (λ q. (o : Located) × In (objects_of w n) o × (q ≡ one o)) (map drawn_object (map shown (objects_of w n)))
   told_in_order n = record {
     rising = rises_map (λ x y. ObjectBefore (drawn_object x) (drawn_object y)) ObjectBefore drawn_object (map shown (objects_of w n))
         (rises_map Lower (λ x y. ObjectBefore (drawn_object x) (drawn_object y)) shown (objects_of w n) (of_rises n) up) (λ x y i j b. b);
@@ -144,7 +145,7 @@ module _ (w : World) (I : IsWorld w) where
     );
   }
     where
-      up : (o q : Seen) → In (objects_of w n) o → In (objects_of w n) q → Lower o q → ObjectBefore (one o) (one q)
+      up : (o q : Located) → In (objects_of w n) o → In (objects_of w n) q → Lower o q → ObjectBefore (one o) (one q)
       up o q i j lt =
           let a : o.at.chunk ≡ n = (told_back n o i).chunk in
           let b : q.at.chunk ≡ n = (told_back n q j).chunk in
@@ -152,7 +153,7 @@ module _ (w : World) (I : IsWorld w) where
           f
 
   -- those of a chunk come before those of a later one
-  pub told_apart : (n m : ℕ) (o q : Seen) → n < m → In (objects_of w n) o → In (objects_of w m) q → ObjectBefore (one o) (one q)
+  pub told_apart : (n m : ℕ) (o q : Located) → n < m → In (objects_of w n) o → In (objects_of w m) q → ObjectBefore (one o) (one q)
   told_apart n m o q lt i j =
       let a : o.at.chunk ≡ n = (told_back n o i).chunk in
       let b : q.at.chunk ≡ m = (told_back m q j).chunk in

@@ -11,6 +11,7 @@ use Rattle.hh_model.specs.Step.{joined}
 use Rattle.object_layout.specs.declared.word.Addr.{Addr}
 use Rattle.object_layout.specs.Cell.{IsRef}
 use Rattle.object_layout.specs.Layout.{word_of_ref}
+use Rattle.object_layout.specs.Objects.{Located}
 use Rattle.chunk_pool.specs.declared.pool.Held.{Held}
 use Rattle.chunk_pool.specs.Chunks.{held_at}
 use Rattle.heap_tree.specs.Node.{state_of}
@@ -19,7 +20,7 @@ use Rattle.ledger_steps.specs.Accounts.{Rests, own}
 use Rattle.core_relation.specs.Layout.{words}
 use Rattle.core_relation.specs.Reads.{IsRead}
 use Rattle.core_relation.specs.Stands.{HomeStands, IsSource, Place}
-use Rattle.core_relation.specs.Value.{Chunk as ChunkOf, In, Seen, Value, objects, sources}
+use Rattle.core_relation.specs.Value.{Chunk as ChunkOf, In, Value, object_name, objects, sources}
 use Rattle.core_relation.proofs.objects.Members.{map_in}
 use Rattle.core_relation.proofs.notes.Roots.{name_at}
 use Rattle.shared_value.specs.Stands.{IsWorld}
@@ -45,17 +46,17 @@ module _ (w : World) (I : IsWorld w) (F : AreHeldInWords w) (p : Picture) (P : I
   TT = T w I
 
   -- AN OBJECT OF A HEAP HANDED BACK
-  module _ (t : ℕ) (idle : IsHandedBack w t) (o : Seen) (i : In (objects v t) o) where
+  module _ (t : ℕ) (idle : IsHandedBack w t) (o : Located) (i : In (objects v t) o) where
     abbrev pub R : Rests (k w I) t
     R = Known_R w I t idle o i
 
     abbrev pub H : HomeStands v (k w I) t
     H = Known_H w I t idle o i
 
-    abbrev pub content : (x : Object) × (object_at (k w I).machine.store o.name ≡ Some x) × IsRead (Place v (k w I)) o x
+    abbrev pub content : (x : Object) × (object_at (k w I).machine.store (object_name o) ≡ Some x) × IsRead (Place v (k w I)) o x
     content = Known_content w I t idle o i
 
-    abbrev pub own_is : own (k w I) o.name ≡ t
+    abbrev pub own_is : own (k w I) (object_name o) ≡ t
     own_is = Known_own_is w I t idle o i
 
     abbrev pub live : joined TT t ≡ false
@@ -174,11 +175,11 @@ module _ (w : World) (I : IsWorld w) (F : AreHeldInWords w) (p : Picture) (P : I
         keeps_by n r.0 r.1 h u oh (subst (λ z. IsOwned p z u) (sym r.2) ou)
 
   -- TWO OF THEM
-  module _ (t : ℕ) (idle : IsHandedBack w t) (o : Seen) (i : In (objects v t) o) (u : ℕ) (still : IsHandedBack w u) (s : Seen) (j : In (objects v u) s) where
-    pub births : o.name ≡ s.name → o.at ≡ s.at
+  module _ (t : ℕ) (idle : IsHandedBack w t) (o : Located) (i : In (objects v t) o) (u : ℕ) (still : IsHandedBack w u) (s : Located) (j : In (objects v u) s) where
+    pub births : object_name o ≡ object_name s → o.at ≡ s.at
     births e =
         let same : t ≡ u = sym (own_is t idle o i) ∙ (ap (own (k w I)) e ∙ own_is u still s j) in
-        ap (λ (z : Seen). z.at) ((H t idle o i).named o s i (subst (λ z. In (objects v z) s) (sym same) j) e)
+        ap (λ (z : Located). z.at) ((H t idle o i).named o s i (subst (λ z. In (objects v z) s) (sym same) j) e)
 
     pub apart : AreApart (drawn_object (shown o)) (drawn_object (shown s))
     apart lt e =
@@ -188,7 +189,7 @@ module _ (w : World) (I : IsWorld w) (F : AreHeldInWords w) (p : Picture) (P : I
         let a : end_of (drawn_object (shown o)) ≡ o.at.offset + words o = end_is t idle o i in
         let b : offset (word_of_ref (Some s.at)) ≡ s.at.offset = offset_of_word s.at (near u still s j) in
         elim ((H t idle o i).laid.apart o s i (subst (λ z. In (objects v z) s) (sym same) j)) [
-          | inl one ↦ absurd (let c : o.at.offset ≡ s.at.offset = ap (λ (z : Seen). z.at.offset) one in omega (arith, c, first))
+          | inl one ↦ absurd (let c : o.at.offset ≡ s.at.offset = ap (λ (z : Located). z.at.offset) one in omega (arith, c, first))
           | inr two ↦ elim two [
             | inl off ↦ absurd (off chunks)
             | inr ends ↦ elim ends [

@@ -10,11 +10,12 @@ use Rattle.run_ledger.specs.Heaps.{heap_of, held_in}
 use Rattle.object_layout.specs.declared.word.Addr.{Addr}
 use Rattle.object_layout.specs.Cell.{IsRef}
 use Rattle.object_layout.specs.Layout.{word_of_ref}
+use Rattle.object_layout.specs.Objects.{Located}
 use Rattle.heap_tree.specs.Node.{state_of}
 use Rattle.ledger_steps.specs.Accounts.{own}
 use Rattle.core_relation.specs.Reads.{AllRead}
 use Rattle.core_relation.specs.Stands.{Place}
-use Rattle.core_relation.specs.Value.{In, Seen, Value, objects}
+use Rattle.core_relation.specs.Value.{In, Value, object_name, objects}
 use Rattle.core_relation.proofs.objects.Members.{held_object, object_held}
 use Rattle.shared_value.specs.Stands.{IsWorld}
 use Rattle.shared_value.specs.World.{World, accounts, value_of}
@@ -40,7 +41,7 @@ module _ (w : World) (I : IsWorld w) (F : AreHeldInWords w) (p : Picture) (P : I
   runs_now : (t : ℕ) → is_state_running (state_of w.tree t) ≡ is_running (slice_get l.machine.tasks t)
   runs_now t = runs w I t ∙ ap (λ (m : Machine). is_running (slice_get m.tasks t)) (same w I)
 
-  drawn : (t : ℕ) → IsHandedBack w t → (o : Seen) → In (objects v t) o → In p.objects (drawn_object (shown o))
+  drawn : (t : ℕ) → IsHandedBack w t → (o : Located) → In (objects v t) o → In p.objects (drawn_object (shown o))
   drawn t idle o i = (P.objects.each (drawn_object (shown o))).1 (t, o, idle, i, refl)
 
   reference : (a : Addr) (n : Name) → IsRef (Some a) → Place v (k w I) n a → IsReference p l (word_of_ref (Some a)) (Some n)
@@ -67,12 +68,12 @@ module _ (w : World) (I : IsWorld w) (F : AreHeldInWords w) (p : Picture) (P : I
   references (Some a ∷ rs) (None ∷ xs) near h = absurd h.0
   references (Some a ∷ rs) (Some n ∷ xs) near h = (reference a n (near (Some a) (inl refl)) h.0, references rs xs (λ r i. near r (inr i)) h.1)
 
-  stands : (t : ℕ) (idle : IsHandedBack w t) (o : Seen) (i : In (objects v t) o) → StandsFor p l (drawn_object (shown o)) o.name
+  stands : (t : ℕ) (idle : IsHandedBack w t) (o : Located) (i : In (objects v t) o) → StandsFor p l (drawn_object (shown o)) (object_name o)
   stands t idle o i =
       let x = content w I t idle o i in
       record {
         object = x.0;
-        is = ap (λ (m : Machine). object_at m.store o.name) (sym (same w I)) ∙ x.1;
+        is = ap (λ (m : Machine). object_at m.store (object_name o)) (sym (same w I)) ∙ x.1;
         bears = (refl, refl);
         mutable = x.2.mutable;
         references = references o.refs x.0.refs (λ r j. all_in IsRef o.refs r (F t o idle i).refs j) x.2.refs;
@@ -83,8 +84,8 @@ module _ (w : World) (I : IsWorld w) (F : AreHeldInWords w) (p : Picture) (P : I
   just_kept = record {
     each = λ q j.
         let d = (P.objects.each q).0 j in
-        let held : In (held_in (heap_of (k w I) d.0)) d.1.name = object_held (v.homes d.0).chunks (heap_of (k w I) d.0) (H w I d.0 d.2 d.1 d.3).names d.1 d.3 in
-        (d.1.name, (d.0, sym (runs_now d.0) ∙ d.2, subst (λ ns. In ns d.1.name) (handed_held l d.0) held), subst (λ z. StandsFor p l z d.1.name) (sym d.4) (stands d.0 d.2 d.1 d.3));
+        let held : In (held_in (heap_of (k w I) d.0)) (object_name d.1) = object_held (v.homes d.0).chunks (heap_of (k w I) d.0) (H w I d.0 d.2 d.1 d.3).names d.1 d.3 in
+        (object_name d.1, (d.0, sym (runs_now d.0) ∙ d.2, subst (λ ns. In ns (object_name d.1)) (handed_held l d.0) held), subst (λ z. StandsFor p l z (object_name d.1)) (sym d.4) (stands d.0 d.2 d.1 d.3));
     all = λ n h.
         let idle : IsHandedBack w h.0 = runs_now h.0 ∙ h.1 in
         let names = (I.stands.homes.homes h.0 (rests w I h.0 idle)).names in

@@ -11,11 +11,12 @@ use Rattle.hh_model.specs.Effect.{object_at}
 use Rattle.hh_model.specs.Step.{is_running, is_waiting, joined, runs as status_runs, waits}
 use Rattle.run_ledger.specs.Heaps.{heap_of}
 use Rattle.object_layout.specs.declared.word.Addr.{Addr}
+use Rattle.object_layout.specs.Objects.{Located}
 use Rattle.chunk_pool.specs.Chunks.{held_at}
 use Rattle.ledger_steps.specs.Accounts.{Rests, own}
 use Rattle.core_relation.specs.Reads.{AllRead, IsRead}
 use Rattle.core_relation.specs.Stands.{HomeStands, Place, Stands}
-use Rattle.core_relation.specs.Value.{Chunk as ChunkOf, In, Seen, Value, objects, objects_in}
+use Rattle.core_relation.specs.Value.{Chunk as ChunkOf, In, Value, object_name, objects, objects_in}
 use Rattle.core_relation.proofs.objects.Members.{in_chunk, map_in, object_held}
 use Rattle.shared_value.specs.declared.task_at_rest.Rest.{Rest}
 use Rattle.shared_value.specs.Measured.{IsUnheld}
@@ -62,7 +63,7 @@ module _ (w : World) (I : IsWorld w) where
   pub made : (n t : ℕ) → v.owner n ≡ Some t → t < length TT
   made n t e = some_within TT t (S.made n t e)
 
-  near_by : (t : ℕ) (r : Option Rest) → rest_at w.homes t ≡ r → (o : Seen) → In (objects_in (home_in r).chunks) o → o.at.offset < 1024
+  near_by : (t : ℕ) (r : Option Rest) → rest_at w.homes t ≡ r → (o : Located) → In (objects_in (home_in r).chunks) o → o.at.offset < 1024
   near_by t None e o i = absurd i
   near_by t (Some r) e o i = (I.heaps t r e).near o (subst (λ ks. In (objects_in ks) o) (home_chunks r) i)
 
@@ -73,21 +74,21 @@ module _ (w : World) (I : IsWorld w) where
       subst (λ (z : ChunkOf). held_at w.pool z.number ≡ Some (record { owner = t; units = z.units })) q.2 (I.measured t r e un q.0 q.1)
 
   -- AN OBJECT OF A HEAP HANDED BACK
-  module _ (t : ℕ) (idle : IsHandedBack w t) (o : Seen) (i : In (objects v t) o) where
+  module _ (t : ℕ) (idle : IsHandedBack w t) (o : Located) (i : In (objects v t) o) where
     pub R : Rests (k w I) t
     R = rests w I t idle
 
     pub H : HomeStands v (k w I) t
     H = S.homes t R
 
-    pub content : (x : Object) × (object_at (k w I).machine.store o.name ≡ Some x) × IsRead (Place v (k w I)) o x
+    pub content : (x : Object) × (object_at (k w I).machine.store (object_name o) ≡ Some x) × IsRead (Place v (k w I)) o x
     content = S.contents t o R i
 
-    pub own_is : own (k w I) o.name ≡ t
-    own_is = (owned w I t o.name (object_held (v.homes t).chunks (heap_of (k w I) t) H.names o i)).1
+    pub own_is : own (k w I) (object_name o) ≡ t
+    own_is = (owned w I t (object_name o) (object_held (v.homes t).chunks (heap_of (k w I) t) H.names o i)).1
 
     pub live : joined TT t ≡ false
-    live = subst (λ u. joined TT u ≡ false) own_is ((owners w I).live o.name.task)
+    live = subst (λ u. joined TT u ≡ false) own_is ((owners w I).live o.birth.task)
 
     pub chunk : (c : ChunkOf) × In (v.homes t).chunks c × In c.objects o
     chunk = in_chunk (v.homes t).chunks o i

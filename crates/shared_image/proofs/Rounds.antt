@@ -4,7 +4,8 @@ use Rattle.listed.proofs.Members.{in_append_cases, in_append_left, in_append_rig
 use Rattle.hh_model.specs.Step.{owner_of}
 use Rattle.chunk_pool.specs.declared.pool.Held.{Held}
 use Rattle.chunk_pool.specs.Chunks.{held_at}
-use Rattle.core_relation.specs.Value.{In, Seen, objects}
+use Rattle.object_layout.specs.Objects.{Located}
+use Rattle.core_relation.specs.Value.{In, objects}
 use Rattle.shared_value.specs.Stands.{IsWorld}
 use Rattle.shared_value.specs.World.{World, accounts, value_of}
 use Rattle.heap_reading.specs.declared.live.InUse.{InUse}
@@ -38,7 +39,7 @@ module _ (w : World) (I : IsWorld w) where
   -- CHUNKS
   module _ (cs : List InUse) (i : ℕ) (c : InUse) (all : AreAll InUseBefore (IsInUse w) cs) (is : slice_get cs i ≡ Some c) where
     abbrev Here : Picked → Type 0
-    Here q = (o : Seen) × In (objects_of w c.number) o × (q ≡ drawn_object (shown o))
+    Here q = (o : Located) × In (objects_of w c.number) o × (q ≡ drawn_object (shown o))
 
     pub objects_step : (old new : List Picked) → AreAll ObjectBefore (AreObjectsOf w (take i cs)) old → new ≡ old ++ map drawn_object (map shown (objects_of w c.number)) → AreAll ObjectBefore (AreObjectsOf w (take (i + 1) cs)) new
     objects_step old new so more =
@@ -67,7 +68,7 @@ module _ (w : World) (I : IsWorld w) where
     ]
 
   -- the chunk of an object of a heap handed back is in use
-  in_use_of : (cs : List InUse) → AreAll InUseBefore (IsInUse w) cs → (t : ℕ) → IsHandedBack w t → (o : Seen) → In (objects (value_of w) t) o → (c : InUse) × In cs c × (c.number ≡ o.at.chunk)
+  in_use_of : (cs : List InUse) → AreAll InUseBefore (IsInUse w) cs → (t : ℕ) → IsHandedBack w t → (o : Located) → In (objects (value_of w) t) o → (c : InUse) × In cs c × (c.number ≡ o.at.chunk)
   in_use_of cs all t idle o i = by (held_at w.pool o.at.chunk) refl (owner w I t idle o i)
     where
       by : (h : Option Held) → held_at w.pool o.at.chunk ≡ h → option_map (λ (z : Held). z.owner) h ≡ Some t → (c : InUse) × In cs c × (c.number ≡ o.at.chunk)

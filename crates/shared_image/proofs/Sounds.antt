@@ -13,10 +13,11 @@ use Rattle.run_ledger.proofs.Space.{use_is_bounded}
 use Rattle.object_layout.specs.declared.word.Addr.{Addr}
 use Rattle.object_layout.specs.Cell.{IsRef}
 use Rattle.object_layout.specs.Layout.{word_of_ref}
+use Rattle.object_layout.specs.Objects.{Located}
 use Rattle.chunk_pool.specs.declared.pool.Held.{Held}
 use Rattle.chunk_pool.specs.Chunks.{AreChunks, held_at, held_in, units_held, units_in, units_in_use}
 use Rattle.core_relation.specs.Stands.{Place}
-use Rattle.core_relation.specs.Value.{In, Seen, Value, objects}
+use Rattle.core_relation.specs.Value.{In, Value, object_name, objects}
 use Rattle.core_relation.proofs.objects.Members.{map_in}
 use Rattle.shared_value.specs.Stands.{IsWorld}
 use Rattle.shared_value.specs.World.{World, accounts, value_of}
@@ -97,7 +98,7 @@ module _ (w : World) (I : IsWorld w) (C : AreChunks w.pool.slots) (F : AreHeldIn
       subst IsChunkForm (sym x.2) (record { number = a.0; owner = omega (arith, o, b); whole = omega (arith, words); least = omega (arith, words, some); most = omega (arith, words, few) })
 
   -- of an object of a heap handed back
-  module _ (t : ℕ) (idle : IsHandedBack w t) (o : Seen) (i : In (objects v t) o) where
+  module _ (t : ℕ) (idle : IsHandedBack w t) (o : Located) (i : In (objects v t) o) where
     short : o.at.chunk < 2 ^ 32
     short = by (held_at w.pool o.at.chunk) refl (owner w I F p P t idle o i)
       where
@@ -115,11 +116,11 @@ module _ (w : World) (I : IsWorld w) (C : AreChunks w.pool.slots) (F : AreHeldIn
     form_of : IsObjectForm (drawn_object (shown o))
     form_of =
         let x = content w I F p P t idle o i in
-        let n = stored_few w I o.name x.0 x.1 in
+        let n = stored_few w I (object_name o) x.0 x.1 in
         let long = address_long in
         let a : length o.refs ≡ length x.0.refs = read_length (Place v (k w I)) o.refs x.0.refs x.2.refs in
         let b : length o.ints ≡ length x.0.ints = ap length x.2.ints in
-        let c = fields_few w I o.name x.0 x.1 in
+        let c = fields_few w I (object_name o) x.0 x.1 in
         let m : length (map word_of_ref o.refs) ≡ length o.refs = length-map o.refs word_of_ref in
         record {
           address = omega (arith, long);
@@ -187,9 +188,9 @@ module _ (w : World) (I : IsWorld w) (C : AreChunks w.pool.slots) (F : AreHeldIn
       let a = (P.objects.each o).0 i in
       let b = (P.objects.each q).0 j in
       let birth : (drawn_object (shown a.1)).birth ≡ (drawn_object (shown b.1)).birth = sym (ap (λ (z : Picked). z.birth) a.4) ∙ (e ∙ ap (λ (z : Picked). z.birth) b.4) in
-      let task : a.1.name.task ≡ b.1.name.task = ap (λ (z : Birth). z.task) birth in
-      let count : a.1.name.count ≡ b.1.name.count = ap (λ (z : Birth). z.count) birth in
-      let name : a.1.name ≡ b.1.name = λ n. record { task = task n; count = count n } in
+      let task : a.1.birth.task ≡ b.1.birth.task = ap (λ (z : Birth). z.task) birth in
+      let count : a.1.birth.count ≡ b.1.birth.count = ap (λ (z : Birth). z.count) birth in
+      let name : object_name a.1 ≡ object_name b.1 = λ n. record { task = task n; count = count n } in
       let at = births w I F p P a.0 a.2 a.1 a.3 b.0 b.2 b.1 b.3 name in
       ap (λ (z : Picked). z.address) a.4 ∙ (ap (λ z. word_of_ref (Some z)) at ∙ sym (ap (λ (z : Picked). z.address) b.4))
 

@@ -3,7 +3,8 @@ use Rattle.std.specs.Prelude.{◌≡◌, ℕ, false}
 use Rattle.heap_tree.specs.declared.state.State.{State}
 use Rattle.heap_tree.specs.declared.state.State.TheVariants.{Ready, Out, Waiting, Ended, Joined}
 use Rattle.heap_tree.specs.Node.{state_of}
-use Rattle.core_relation.specs.Value.{In, Seen as SeenAt, objects}
+use Rattle.object_layout.specs.Objects.{Located}
+use Rattle.core_relation.specs.Value.{In, objects}
 use Rattle.shared_value.specs.World.{World, value_of}
 use Rattle.heap_reading.specs.declared.live.InUse.{InUse}
 use Rattle.heap_reading.specs.declared.live.Live.{Live}
@@ -58,7 +59,7 @@ IsHandedBack w t = is_state_running (state_of w.tree t) ≡ false
 
 -- it is an object of a heap handed back
 abbrev pub IsObjectOf : World → Picked → Type 0
-IsObjectOf w q = (t : ℕ) × (o : SeenAt) × IsHandedBack w t × In (objects (value_of w) t) o × (q ≡ drawn_object (shown o))
+IsObjectOf w q = (t : ℕ) × (o : Located) × IsHandedBack w t × In (objects (value_of w) t) o × (q ≡ drawn_object (shown o))
 
 -- it is a field that the set of a task that hasn't joined has
 abbrev pub IsFieldOf : World → Remembered → Type 0
@@ -74,4 +75,4 @@ pub record IsPictureOf (w : World) (p : Picture) : Type 0 where
 
 -- words hold the objects of the heaps handed back
 abbrev pub AreHeldInWords : World → Type 0
-AreHeldInWords w = (t : ℕ) (o : SeenAt) → IsHandedBack w t → In (objects (value_of w) t) o → IsInWords o
+AreHeldInWords w = (t : ℕ) (o : Located) → IsHandedBack w t → In (objects (value_of w) t) o → IsInWords o
