@@ -9,7 +9,6 @@ ghost use Rattle.world_core.specs.Next.{standing_by, IsNext};
 ghost use Rattle.world_core.specs.Whole.{Holds, HoldsPart};
 
 use crate::held::{Held, Made, idle_part};
-use hh_lang::Program;
 use outside_io::EmptyGate;
 use run_ledger::Refused;
 use run_trace::Kind;
@@ -141,14 +140,6 @@ fn standing(part: &Private, paused: Paused) -> u32
     }
 }
 
-// The part, ready for a fork where one comes next.
-fn settled(mut part: Private, program: &Program) -> Private
-    ensures { result ≡ part }
-{
-    part.settle_before_fork(program);
-    part
-}
-
 // Enters so many steps of the part, where they can stand in one entry.
 fn enter(shared: &mut Shared, worker: u32, part: Private, paused: Paused, steps: u32) -> Made
     requires room { 0 < shared.old.journal.room }
@@ -167,7 +158,7 @@ fn enter(shared: &mut Shared, worker: u32, part: Private, paused: Paused, steps:
     }
     let most = standing(&part, paused);
     if most == steps {
-        return enter_last(shared, worker, settled(part, shared.program()));
+        return enter_last(shared, worker, part);
     }
     shared.stands();
     Made {
@@ -187,7 +178,10 @@ fn ran(shared: &mut Shared, worker: u32, part: Private, steps: u32) -> Made
 {
     let mut part = part;
     match run_part(shared, worker, &mut part, steps) {
-        Ok(paused) => enter(shared, worker, part, paused, steps),
+        Ok(paused) => {
+            part.settle_before_fork(shared.program());
+            enter(shared, worker, part, paused, steps)
+        }
         Err(AllocError) => Made {
             hand: Held::Part(part),
             answer: Err(NotEntered::NoMemory),
