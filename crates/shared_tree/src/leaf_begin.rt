@@ -57,7 +57,7 @@ impl Shared {
         ensures others { OnOk result (OthersFit self.old self.new worker) }
     {
         self.stands();
-        let roots = self.roots(worker, part)?;
+        let roots = self.roots(part)?;
         let count = chunks_for(part.heap.small_words()) as u32;
         let alloc = *self.sets.allocator();
         let to = begin_with(alloc, &mut self.pool, part, &roots, count)?;

@@ -1,6 +1,6 @@
 // The marking of a heap begins.
 
-ghost use Rattle.std.specs.Prelude.{◌≡◌, ◌<◌, IfOk, OnErr, OnOk, None};
+ghost use Rattle.std.specs.Prelude.{◌≡◌, ◌<◌, ℕ, IfOk, OnErr, OnOk, None};
 ghost use Rattle.run_ledger.specs.Heaps.{heap_of};
 ghost use Rattle.core_relation.specs.Marking.{GoesOn};
 ghost use Rattle.shared_value.specs.Entered.{refused, Answers, Enters};
@@ -36,14 +36,13 @@ impl Shared {
     }
 
     // A marking that has marked nothing yet, of the heap of a task that waits.
-    fn marking_of(&mut self, worker: u32, t: u32) -> Result<Marking, AllocError>
-        requires free { refused self.old (record { worker = worker; kind = Kind.Mark t }) ≡ None }
+    fn marking_of(&mut self, t: u32) -> Result<Marking, AllocError>
+        requires free { (k : ℕ) × (refused self.old (record { worker = k; kind = Kind.Mark t }) ≡ None) }
         ensures same { self.new ≡ self.old }
         ensures none { IfOk result (λ m. m.marked ≡ 0) }
         ensures goes { IfOk result (λ m. GoesOn (value_of self.old) t (heap_of (accounts self.old) t).snapshot m) }
     {
         self.stands();
-        let _ = worker;
         let alloc = *self.sets.allocator();
         let (homes, pool) = (&mut self.homes, &mut self.pool);
         begin_marking(alloc, &self.sets, homes, pool, t)
@@ -78,7 +77,7 @@ impl Shared {
         if let Some(cause) = self.mark_refused(worker, t) {
             return Err(NotEntered::Refuses(cause));
         }
-        let Ok(marking) = self.marking_of(worker, t) else {
+        let Ok(marking) = self.marking_of(t) else {
             return Err(NotEntered::NoMemory);
         };
         match self.enter_mark(worker, t, marking) {

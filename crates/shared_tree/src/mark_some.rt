@@ -1,6 +1,6 @@
 // Objects of a heap are marked.
 
-ghost use Rattle.std.specs.Prelude.{◌≡◌, ◌<◌, ◌≤◌, IfOk, OnErr, OnOk, None, min};
+ghost use Rattle.std.specs.Prelude.{◌≡◌, ◌<◌, ◌≤◌, ℕ, IfOk, OnErr, OnOk, None, min};
 ghost use Rattle.run_ledger.specs.Heaps.{heap_of, left_in};
 ghost use Rattle.shared_value.specs.Entered.{cause_of, refused, Enters};
 ghost use Rattle.shared_value.specs.Fits.{AllFit};
@@ -15,10 +15,9 @@ use std::mem;
 
 impl Shared {
     // Why the entry is refused.
-    fn some_refused(&self, worker: u32, t: u32, n: u32) -> Option<Refused>
-        ensures { result ≡ refused self.now (record { worker = worker; kind = Kind.More t n }) }
+    fn some_refused(&self, worker: u32, t: u32) -> Option<Refused>
+        ensures { (n : ℕ) → result ≡ refused self.now (record { worker = worker; kind = Kind.More t n }) }
     {
-        let _ = n;
         let first = first_cause(self.end, self.steps, self.settings, worker, false);
         if first.is_some() {
             return first;
@@ -69,7 +68,7 @@ impl Shared {
         ensures enters { OnOk result (Enters self.old self.new (record { worker = worker; kind = Kind.More t n })) }
         ensures fits { OnOk result (AllFit self.old self.new) }
     {
-        match self.some_refused(worker, t, n) {
+        match self.some_refused(worker, t) {
             Some(cause) => Err(cause),
             None => Ok(self.enter_some(worker, t, n)),
         }

@@ -1,18 +1,18 @@
 // A part's steps are entered with one that isn't private, and in which no other task has part.
 
-ghost use Rattle.std.specs.Prelude.{◌≡◌, ◌≢◌, ◌<◌, ◌+◌, OnErr, OnOk, IfErr, IfOk, None};
+ghost use Rattle.std.specs.Prelude.{◌≡◌, ◌≢◌, ◌<◌, ℕ, OnErr, OnOk, IfErr, IfOk, None};
 ghost use Rattle.hh_model.specs.Step.{ended_by, step};
 ghost use Rattle.shared_value.specs.Entered.{refused, RanAnswers};
 ghost use Rattle.shared_value.specs.Fits.{Fits};
 ghost use Rattle.own_steps.specs.Alone.{alone_event, then_accounts, Answered, FinishesAlone, GoesAlone, HaltsAlone, IsShared, Tells};
 
 use crate::shared::Shared;
+use crate::steps_entered::enter_alone;
 use heap_tree::State;
 use hh_model::End;
 use out_of_line::Apart;
 use own_steps::{Alone, at_end};
 use run_ledger::{Refused, RunEnd};
-use run_trace::{Entry, Kind};
 use shared_value::{
     Ending, NotEntered, NotRan, Rest, first_cause, last_step, put_rest, rest_block,
 };
@@ -56,22 +56,18 @@ impl Shared {
         worker: u32,
         part: &mut Private,
         value: i64,
-        line: u32,
     ) -> Result<(), AllocError>
         requires room { 0 < self.old.journal.room }
         requires fits { Fits self.old worker part.old }
         requires shared { IsShared self.old part.old }
         requires free { refused self.old (alone_event worker part.old) ≡ None }
-        requires prints { Tells self.old part.old (Ending.Prints value) line }
+        requires prints { (line : ℕ) × Tells self.old part.old (Ending.Prints value) line }
         ensures same { OnErr result (self.new ≡ self.old) }
         ensures back { OnErr result (part.new ≡ part.old) }
         ensures goes { OnOk result (GoesAlone self.old self.new worker part.old part.new) }
     {
-        let _ = line;
         self.outputs.push(value)?;
-        self.steps += part.fresh as u64 + 1;
-        self.journal
-            .push_reserved(Entry::new(worker, Kind::Ran(part.task, part.fresh + 1)));
+        enter_alone(&mut self.steps, &mut self.journal, worker, part);
         let next = part.frames.next() + 1;
         part.frames.set_next(next);
         part.fresh = 0;
@@ -88,28 +84,23 @@ impl Shared {
         requires ends { step self.old.program (then_accounts self.old part.old).machine part.old.task ≡ ended_by (then_accounts self.old part.old).machine end }
         ensures { HaltsAlone self.old self.new worker part.old part.new }
     {
-        self.steps += part.fresh as u64 + 1;
-        self.journal
-            .push_reserved(Entry::new(worker, Kind::Ran(part.task, part.fresh + 1)));
+        enter_alone(&mut self.steps, &mut self.journal, worker, part);
         self.end = Some(RunEnd::Machine(end));
         part.fresh = 0;
     }
 
     // Enters the last return of the root.
-    fn enter_done(&mut self, worker: u32, part: Private, line: u32, block: Apart<Rest>)
+    fn enter_done(&mut self, worker: u32, part: Private, block: Apart<Rest>)
         requires room { 0 < self.old.journal.room }
         requires fits { Fits self.old worker part }
         requires shared { IsShared self.old part }
         requires free { refused self.old (alone_event worker part) ≡ None }
-        requires returns { Tells self.old part Ending.Returns line }
+        requires returns { (line : ℕ) × Tells self.old part Ending.Returns line }
         requires root { part.task ≡ 0 }
         ensures { FinishesAlone self.old self.new worker part }
     {
-        let _ = line;
         let task = part.task;
-        self.steps += part.fresh as u64 + 1;
-        self.journal
-            .push_reserved(Entry::new(worker, Kind::Ran(task, part.fresh + 1)));
+        enter_alone(&mut self.steps, &mut self.journal, worker, &part);
         self.tree.set_state(task, State::Ended);
         self.hands.set(worker as usize, None);
         let rest = put_rest(block, at_end(part));
@@ -118,12 +109,12 @@ impl Shared {
     }
 
     // Enters the last return of the root, where there is memory for what goes with the root then.
-    fn ran_done(&mut self, worker: u32, part: Private, line: u32) -> Result<Alone, NotRan>
+    fn ran_done(&mut self, worker: u32, part: Private) -> Result<Alone, NotRan>
         requires room { 0 < self.old.journal.room }
         requires fits { Fits self.old worker part }
         requires shared { IsShared self.old part }
         requires free { refused self.old (alone_event worker part) ≡ None }
-        requires returns { Tells self.old part Ending.Returns line }
+        requires returns { (line : ℕ) × Tells self.old part Ending.Returns line }
         requires root { part.task ≡ 0 }
         ensures refused { RanAnswers result None }
         ensures same { OnErr result (self.new ≡ self.old) }
@@ -132,7 +123,7 @@ impl Shared {
     {
         match rest_block(*self.sets.allocator()) {
             Ok(block) => {
-                self.enter_done(worker, part, line, block);
+                self.enter_done(worker, part, block);
                 Ok(Alone::Done)
             }
             Err(_) => Err(NotRan {
@@ -163,7 +154,7 @@ impl Shared {
         match ending {
             Ending::Prints(value) => {
                 let mut part = part;
-                match self.enter_output(worker, &mut part, value, line) {
+                match self.enter_output(worker, &mut part, value) {
                     Ok(()) => Ok(Alone::Goes(part)),
                     Err(_) => Err(NotRan {
                         cause: NotEntered::NoMemory,
@@ -179,7 +170,7 @@ impl Shared {
             }
             Ending::Returns => {
                 if part.task == 0 {
-                    self.ran_done(worker, part, line)
+                    self.ran_done(worker, part)
                 } else {
                     Ok(Alone::Beyond(part))
                 }

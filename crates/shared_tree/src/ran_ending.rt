@@ -1,6 +1,6 @@
 // A part's steps are entered with the last return of a task that another one forked.
 
-ghost use Rattle.std.specs.Prelude.{◌≡◌, ◌<◌, ◌+◌, OnErr, OnOk, IfErr, IfOk, None, Some, slice_set};
+ghost use Rattle.std.specs.Prelude.{◌≡◌, ◌<◌, ℕ, OnErr, OnOk, IfErr, IfOk, None, Some, slice_set};
 ghost use Rattle.heap_tree.specs.Node.{parent_of, state_of};
 ghost use Rattle.heap_tree.specs.Pairs.{sibling};
 ghost use Rattle.shared_value.specs.Entered.{refused, RanAnswers};
@@ -10,6 +10,7 @@ ghost use Rattle.child_tasks.specs.ChildEnds.{EndsChild, IsAtEnd};
 ghost use Rattle.child_tasks.specs.Joins.{HasPlaces, IsUnchanged, SameButPlaces};
 
 use crate::shared::Shared;
+use crate::steps_entered::enter_alone;
 use child_tasks::{
     in_order, is_ended, join_children, leave_other, leave_own, make_places, put_remembered,
     sibling_of, take_block, take_remembered,
@@ -17,7 +18,6 @@ use child_tasks::{
 use heap_tree::State;
 use out_of_line::Apart;
 use own_steps::at_end;
-use run_trace::{Entry, Kind};
 use shared_value::{NotEntered, NotRan, Rest, put_rest, rest_block};
 use std::alloc::AllocError;
 use task_machine::Private;
@@ -35,9 +35,7 @@ impl Shared {
         ensures hand { self.new.hands ≡ slice_set self.old.hands worker None }
     {
         let task = part.task;
-        self.steps += part.fresh as u64 + 1;
-        self.journal
-            .push_reserved(Entry::new(worker, Kind::Ran(task, part.fresh + 1)));
+        enter_alone(&mut self.steps, &mut self.journal, worker, &part);
         self.tree.set_state(task, State::Ended);
         self.hands.set(worker as usize, None);
         let rest = put_rest(block, at_end(part));
@@ -71,22 +69,15 @@ impl Shared {
     }
 
     // Makes places in the parent's heap and set for what both children bring; nothing else changes.
-    fn make_join_places(
-        &mut self,
-        worker: u32,
-        part: &Private,
-        parent: u32,
-    ) -> Result<(), AllocError>
-        requires fits { Fits self.old worker part.now }
+    fn make_join_places(&mut self, part: &Private, parent: u32) -> Result<(), AllocError>
+        requires held { (k : ℕ) × Fits self.old k part.now × (refused self.old (alone_event k part.now) ≡ None) }
         requires ends { IsAtEnd self.old part.now }
-        requires free { refused self.old (alone_event worker part.now) ≡ None }
         requires ended { state_of self.old.tree (sibling part.now.task) ≡ Some State.Ended }
         requires parent { parent_of self.old.tree part.now.task ≡ Some parent }
         ensures same { SameButPlaces self.old self.new }
         ensures places { OnOk result (HasPlaces self.new part.now parent) }
     {
         self.stands();
-        let _ = worker;
         make_places(&mut self.homes, &mut self.sets, part, parent)
     }
 
@@ -104,9 +95,7 @@ impl Shared {
     {
         let alloc = *self.sets.allocator();
         let (task, other) = (part.task, sibling_of(part.task));
-        self.steps += part.fresh as u64 + 1;
-        self.journal
-            .push_reserved(Entry::new(worker, Kind::Ran(task, part.fresh + 1)));
+        enter_alone(&mut self.steps, &mut self.journal, worker, &part);
         self.hands.set(worker as usize, None);
         self.tree.set_state(task, State::Ended);
         let own_noted = take_remembered(alloc, &mut self.sets, task);
@@ -155,7 +144,7 @@ impl Shared {
                 part,
             });
         };
-        match self.make_join_places(worker, &part, parent) {
+        match self.make_join_places(&part, parent) {
             Ok(()) => {
                 self.enter_join(worker, part, parent, set);
                 Ok(Some(parent))

@@ -1,6 +1,6 @@
 // A part's steps are entered with a fork.
 
-ghost use Rattle.std.specs.Prelude.{◌≡◌, ◌<◌, ◌+◌, ◌-◌, OnErr, IfErr, IfOk, None, Some};
+ghost use Rattle.std.specs.Prelude.{◌≡◌, ◌<◌, ℕ, OnErr, IfErr, IfOk, None, Some};
 ghost use Rattle.heap_tree.specs.Node.{depth_of};
 ghost use Rattle.shared_value.specs.Entered.{refused, RanAnswers};
 ghost use Rattle.shared_value.specs.Fits.{Fits};
@@ -9,10 +9,10 @@ ghost use Rattle.child_tasks.specs.Hands.{LeavesHand};
 ghost use Rattle.child_tasks.specs.Forks.{ForkAnswered, ForksTo, IsAtFork};
 
 use crate::shared::Shared;
+use crate::steps_entered::enter_alone;
 use child_tasks::{ForkBlocks, Forking, clear_marks, fork_sets, grow, put_homes};
 use hh_lang::Instr;
 use hh_model::{End, Trap};
-use run_trace::{Entry, Kind};
 use shared_value::{NotEntered, NotRan};
 use task_machine::Private;
 
@@ -43,13 +43,12 @@ impl Shared {
         part: Private,
         left: u32,
         right: u32,
-        line: u32,
     ) -> Result<Forking, NotRan>
         requires room { 0 < self.old.journal.room }
         requires fits { Fits self.old worker part }
         requires forks { IsAtFork self.old part }
         requires free { refused self.old (alone_event worker part) ≡ None }
-        requires by { ForksTo self.old part left right line }
+        requires by { (line : ℕ) × ForksTo self.old part left right line }
         requires shallow { depth_of self.old.tree part.task < 1000 }
         ensures memory { IfErr result (λ e. e.cause ≡ NotEntered.NoMemory) }
         ensures same { OnErr result (self.new ≡ self.old) }
@@ -57,7 +56,6 @@ impl Shared {
         ensures answered { IfOk result (ForkAnswered self.old self.new worker part) }
         ensures hand { IfOk result (LeavesHand self.old.hands self.new.hands worker) }
     {
-        let _ = line;
         let Ok(blocks) = ForkBlocks::new(*self.sets.allocator()) else {
             return Err(NotRan {
                 cause: NotEntered::NoMemory,
@@ -79,9 +77,7 @@ impl Shared {
             });
         };
         let (left, right) = (first.task, second.task);
-        self.steps += part.fresh as u64 + 1;
-        self.journal
-            .push_reserved(Entry::new(worker, Kind::Ran(part.task, part.fresh + 1)));
+        enter_alone(&mut self.steps, &mut self.journal, worker, &part);
         self.hands.set(worker as usize, None);
         fork_sets(&mut self.sets, part.task);
         clear_marks(&mut self.marks, part.task);
@@ -110,7 +106,7 @@ impl Shared {
         self.stands();
         let (left, right, line) = self.fork_line(worker, &part);
         if self.tree.depth(part.task) < DEPTH_LIMIT {
-            self.enter_fork(worker, part, left, right, line)
+            self.enter_fork(worker, part, left, right)
         } else {
             let mut part = part;
             let end = End::Trapped(Trap::Depth, part.task, line);

@@ -1,6 +1,6 @@
 // A part's steps are entered with one that works on an object of another task.
 
-ghost use Rattle.std.specs.Prelude.{◌≡◌, ◌<◌, OnErr, IfErr, IfOk, None};
+ghost use Rattle.std.specs.Prelude.{◌≡◌, ◌<◌, ℕ, OnErr, IfErr, IfOk, None};
 ghost use Rattle.shared_value.specs.Entered.{refused, RanAnswers};
 ghost use Rattle.shared_value.specs.Fits.{Fits};
 ghost use Rattle.own_steps.specs.Alone.{alone_event, GoesAlone, IsShared};
@@ -8,12 +8,12 @@ ghost use Rattle.child_tasks.specs.Joins.{IsUnchanged};
 ghost use Rattle.others_objects.specs.Other.{IsOther, OtherAnswered, SameButRoom, TellsOther};
 
 use crate::shared::Shared;
+use crate::steps_entered::enter_alone;
 use hh_lang::{IntReg, RefReg};
 use hh_model::End;
 use object_layout::Addr;
 use others_objects::{OtherStep, named, step_on};
 use own_steps::Alone;
-use run_trace::{Entry, Kind};
 use shared_value::{NotEntered, NotRan};
 use task_machine::Private;
 
@@ -48,25 +48,15 @@ impl Shared {
     }
 
     // Enters a read of a number.
-    fn enter_number(
-        &mut self,
-        worker: u32,
-        part: &mut Private,
-        register: IntReg,
-        value: i64,
-        line: u32,
-    )
+    fn enter_number(&mut self, worker: u32, part: &mut Private, register: IntReg, value: i64)
         requires room { 0 < self.old.journal.room }
         requires fits { Fits self.old worker part.old }
         requires shared { IsShared self.old part.old }
         requires free { refused self.old (alone_event worker part.old) ≡ None }
-        requires reads { TellsOther self.old part.old (OtherStep.SetsNumber register value) line }
+        requires reads { (line : ℕ) × TellsOther self.old part.old (OtherStep.SetsNumber register value) line }
         ensures { GoesAlone self.old self.new worker part.old part.new }
     {
-        let _ = line;
-        self.steps += part.fresh as u64 + 1;
-        self.journal
-            .push_reserved(Entry::new(worker, Kind::Ran(part.task, part.fresh + 1)));
+        enter_alone(&mut self.steps, &mut self.journal, worker, part);
         let next = part.frames.next() + 1;
         part.frames.set_int(register.index() as u32, value);
         part.frames.set_next(next);
@@ -80,19 +70,15 @@ impl Shared {
         part: &mut Private,
         register: RefReg,
         value: Option<Addr>,
-        line: u32,
     )
         requires room { 0 < self.old.journal.room }
         requires fits { Fits self.old worker part.old }
         requires shared { IsShared self.old part.old }
         requires free { refused self.old (alone_event worker part.old) ≡ None }
-        requires reads { TellsOther self.old part.old (OtherStep.SetsReference register value) line }
+        requires reads { (line : ℕ) × TellsOther self.old part.old (OtherStep.SetsReference register value) line }
         ensures { GoesAlone self.old self.new worker part.old part.new }
     {
-        let _ = line;
-        self.steps += part.fresh as u64 + 1;
-        self.journal
-            .push_reserved(Entry::new(worker, Kind::Ran(part.task, part.fresh + 1)));
+        enter_alone(&mut self.steps, &mut self.journal, worker, part);
         let next = part.frames.next() + 1;
         part.frames.set_reference(register.index() as u32, value);
         part.frames.set_next(next);
@@ -120,11 +106,11 @@ impl Shared {
         let mut part = part;
         match does {
             OtherStep::SetsNumber(register, value) => {
-                self.enter_number(worker, &mut part, register, value, line);
+                self.enter_number(worker, &mut part, register, value);
                 Ok(Alone::Goes(part))
             }
             OtherStep::SetsReference(register, value) => {
-                self.enter_reference(worker, &mut part, register, value, line);
+                self.enter_reference(worker, &mut part, register, value);
                 Ok(Alone::Goes(part))
             }
             OtherStep::Stops(owner) => {
@@ -138,13 +124,13 @@ impl Shared {
                 Ok(Alone::Over(part))
             }
             OtherStep::StoresReference(object, field, value) => {
-                self.store_other(worker, part, object, field, value, None, line)
+                self.store_other(worker, part, object, field, value, None)
             }
             OtherStep::Swaps(register, object, field, value) => {
-                self.store_other(worker, part, object, field, value, Some(register), line)
+                self.store_other(worker, part, object, field, value, Some(register))
             }
             OtherStep::StoresNumber(object, field, value) => {
-                self.enter_store_number(worker, &mut part, object, field, value, line);
+                self.enter_store_number(worker, &mut part, object, field, value);
                 Ok(Alone::Goes(part))
             }
         }

@@ -1,6 +1,6 @@
 // The roots of a part's heap.
 
-ghost use Rattle.std.specs.Prelude.{◌≡◌, IfOk, None};
+ghost use Rattle.std.specs.Prelude.{◌≡◌, ℕ, IfOk, None};
 ghost use Rattle.shared_value.specs.Fits.{Fits};
 ghost use Rattle.shared_value.specs.Roots.{roots_of};
 ghost use Rattle.shared_value.specs.World.{accounts};
@@ -16,14 +16,13 @@ use task_machine::Private;
 
 impl Shared {
     /// What the remembered fields that point down into the heap of a part hold now.
-    pub(crate) fn roots(&mut self, worker: u32, part: &Private) -> Result<Vec<Addr>, AllocError>
-        requires fits { Fits self.old worker part.now }
+    pub(crate) fn roots(&mut self, part: &Private) -> Result<Vec<Addr>, AllocError>
+        requires fits { (k : ℕ) × Fits self.old k part.now }
         requires fresh { part.now.fresh ≡ 0 }
         requires goes { (accounts self.old).end ≡ None }
         ensures same { self.new ≡ self.old }
         ensures roots { IfOk result (λ v. v.items ≡ roots_of self.old part.now) }
     {
-        let _ = worker;
         let alloc = *self.sets.allocator();
         let heaps = Heaps {
             homes: mem::replace(&mut self.homes, Listed::new(alloc)),

@@ -1,17 +1,17 @@
 // A part's steps are entered with one that writes an object of another task.
 
-ghost use Rattle.std.specs.Prelude.{◌≡◌, ◌<◌, ◌+◌, OnErr, OnOk, IfErr, IfOk, None};
+ghost use Rattle.std.specs.Prelude.{◌≡◌, ◌<◌, ℕ, OnErr, OnOk, IfErr, IfOk, None};
 ghost use Rattle.shared_value.specs.Entered.{refused, RanAnswers};
 ghost use Rattle.shared_value.specs.Fits.{Fits};
 ghost use Rattle.own_steps.specs.Alone.{alone_event, GoesAlone, IsShared};
 ghost use Rattle.others_objects.specs.Other.{store_of, OtherAnswered, SameButRoom, TellsOther};
 
 use crate::shared::Shared;
+use crate::steps_entered::enter_alone;
 use hh_lang::IntReg;
 use object_layout::Addr;
 use others_objects::{OtherStep, go_on, write_number, write_reference};
 use own_steps::Alone;
-use run_trace::{Entry, Kind};
 use shared_value::{NotEntered, NotRan};
 use std::alloc::AllocError;
 use task_machine::Private;
@@ -26,18 +26,16 @@ impl Shared {
         field: u32,
         value: Option<Addr>,
         swap: Option<IntReg>,
-        line: u32,
     ) -> Result<(), AllocError>
         requires room { 0 < self.old.journal.room }
         requires fits { Fits self.old worker part.old }
         requires shared { IsShared self.old part.old }
         requires free { refused self.old (alone_event worker part.old) ≡ None }
-        requires stores { TellsOther self.old part.old (store_of swap object field value) line }
+        requires stores { (line : ℕ) × TellsOther self.old part.old (store_of swap object field value) line }
         ensures same { OnErr result (SameButRoom self.old self.new) }
         ensures back { OnErr result (part.new ≡ part.old) }
         ensures goes { OnOk result (GoesAlone self.old self.new worker part.old part.new) }
     {
-        let _ = line;
         write_reference(
             &self.tree,
             &self.pool,
@@ -47,9 +45,7 @@ impl Shared {
             field,
             value,
         )?;
-        self.steps += part.fresh as u64 + 1;
-        self.journal
-            .push_reserved(Entry::new(worker, Kind::Ran(part.task, part.fresh + 1)));
+        enter_alone(&mut self.steps, &mut self.journal, worker, part);
         go_on(&mut part.frames, swap);
         part.fresh = 0;
         Ok(())
@@ -63,20 +59,16 @@ impl Shared {
         object: Addr,
         field: u32,
         value: i64,
-        line: u32,
     )
         requires room { 0 < self.old.journal.room }
         requires fits { Fits self.old worker part.old }
         requires shared { IsShared self.old part.old }
         requires free { refused self.old (alone_event worker part.old) ≡ None }
-        requires stores { TellsOther self.old part.old (OtherStep.StoresNumber object field value) line }
+        requires stores { (line : ℕ) × TellsOther self.old part.old (OtherStep.StoresNumber object field value) line }
         ensures { GoesAlone self.old self.new worker part.old part.new }
     {
-        let _ = line;
         write_number(&self.pool, &mut self.homes, object, field, value);
-        self.steps += part.fresh as u64 + 1;
-        self.journal
-            .push_reserved(Entry::new(worker, Kind::Ran(part.task, part.fresh + 1)));
+        enter_alone(&mut self.steps, &mut self.journal, worker, part);
         go_on(&mut part.frames, None);
         part.fresh = 0;
     }
@@ -90,20 +82,19 @@ impl Shared {
         field: u32,
         value: Option<Addr>,
         swap: Option<IntReg>,
-        line: u32,
     ) -> Result<Alone, NotRan>
         requires room { 0 < self.old.journal.room }
         requires fits { Fits self.old worker part }
         requires shared { IsShared self.old part }
         requires free { refused self.old (alone_event worker part) ≡ None }
-        requires stores { TellsOther self.old part (store_of swap object field value) line }
+        requires stores { (line : ℕ) × TellsOther self.old part (store_of swap object field value) line }
         ensures refused { RanAnswers result None }
         ensures same { OnErr result (SameButRoom self.old self.new) }
         ensures back { IfErr result (λ e. e.part ≡ part) }
         ensures answered { IfOk result (OtherAnswered self.old self.new worker part) }
     {
         let mut part = part;
-        match self.enter_store(worker, &mut part, object, field, value, swap, line) {
+        match self.enter_store(worker, &mut part, object, field, value, swap) {
             Ok(()) => Ok(Alone::Goes(part)),
             Err(_) => Err(NotRan {
                 cause: NotEntered::NoMemory,

@@ -1,12 +1,15 @@
 -- The shared value in turns, as the turn is told of it.
-use Rattle.std.specs.Prelude.{◌≡◌, ℕ, ◌||◌, Bool, List, is_some}
+use Rattle.std.specs.Prelude.{◌≡◌, ◌<◌, ℕ, ◌||◌, Bool, false, None, List, is_some}
 use Rattle.std.specs.declared.snapshot.Snapshot.{Snapshot}
 use Rattle.run_trace.specs.Entry.{Event}
 use Rattle.run_trace.specs.declared.entry.Kind.{Kind}
+use Rattle.run_ledger.specs.declared.data.Owed.{Owed}
 use Rattle.task_machine.specs.declared.part.Private.{Private}
+use Rattle.shared_value.specs.Causes.{first_cause}
 use Rattle.shared_value.specs.Entered.{Enters}
 use Rattle.shared_value.specs.Fits.{AllFit, Fits, OthersFit}
 use Rattle.shared_value.specs.World.{World, accounts}
+use Rattle.paced_tree.specs.Owed.{owed_by}
 use Rattle.turn_entries.specs.declared.run.Run.{Run}
 use Rattle.turn_entries.specs.declared.run.Setup.{Setup}
 
@@ -26,6 +29,14 @@ FitsKept r k kept = Fits r.paced k kept.value
 -- no more entries are made: the run has ended, or some worker has met want of memory
 abbrev pub is_over : Run → Bool
 is_over r = r.paced.halted || is_some (accounts r.paced).end
+
+-- worker k may make an entry, for which there is room, and owes this
+pub record MayEnter (w : World) (k : ℕ) (owes : Owed) : Type 0 where
+  pub room : 0 < w.journal.room
+  pub goes : (accounts w).end ≡ None
+  pub on : w.halted ≡ false
+  pub free : first_cause w.end w.steps w.settings k false ≡ None
+  pub owed : owed_by w k ≡ owes
 
 -- no entry was made, and all is the same that workers rest on
 pub record IsSame (w after : World) : Type 0 where

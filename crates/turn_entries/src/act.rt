@@ -1,11 +1,11 @@
 //! What a worker does with the shared value in its turn: at most one entry.
 ghost use Rattle.std.specs.Prelude.{◌≡◌, ◌<◌, None, false};
-ghost use Rattle.shared_value.specs.Causes.{first_cause};
 ghost use Rattle.shared_value.specs.World.{accounts};
 ghost use Rattle.paced_tree.specs.Owed.{owed_by};
 ghost use Rattle.turn_entries.specs.Acts.{Acts, ActsFor, EndsEntered, EndsHalted};
 ghost use Rattle.turn_entries.specs.Next.{going_kind, is_wanting, owing_kind};
 ghost use Rattle.turn_entries.specs.Parts.{BringsTo};
+ghost use Rattle.turn_entries.specs.Values.{MayEnter};
 
 use crate::held::{Next, Ready};
 use crate::run::Run;
@@ -72,11 +72,8 @@ impl Run {
 
     // Makes the entry that comes next, where fuel is left.
     fn act_free(self, alloc: Global, worker: u32, ready: Ready) -> Acted
-        requires room { 0 < self.paced.journal.room }
+        requires enter { MayEnter self.paced worker (owed_by self.paced worker) }
         requires worker { worker < self.paced.settings.workers }
-        requires goes { (accounts self.paced).end ≡ None }
-        requires free { first_cause self.paced.end self.paced.steps self.paced.settings worker false ≡ None }
-        requires on { self.paced.halted ≡ false }
         requires met { is_wanting ready ≡ false }
         requires brings { BringsTo self.paced worker ready }
         ensures { ActsFor self worker ready (owing_kind self.paced (owed_by self.paced worker) ready) result }

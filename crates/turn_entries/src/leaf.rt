@@ -1,15 +1,14 @@
 //! The entries of leaf collections.
-ghost use Rattle.std.specs.Prelude.{◌≡◌, ◌<◌, None, true, false};
+ghost use Rattle.std.specs.Prelude.{◌≡◌, true, false};
 ghost use Rattle.run_trace.specs.declared.entry.Kind.{Kind as KindOf};
 ghost use Rattle.run_ledger.specs.declared.data.Owed.{Owed as OwedOf};
 ghost use Rattle.run_ledger.specs.Entries.{is_pool_enough};
-ghost use Rattle.shared_value.specs.Causes.{first_cause};
 ghost use Rattle.shared_value.specs.World.{accounts};
 ghost use Rattle.leaf_collections.specs.LeafEnd.{FitsCopied};
-ghost use Rattle.paced_tree.specs.Owed.{owed_by};
 ghost use Rattle.turn_entries.specs.Acts.{ActsAnyhow};
 ghost use Rattle.turn_entries.specs.Next.{due_kind};
 ghost use Rattle.turn_entries.specs.Parts.{IsPaused};
+ghost use Rattle.turn_entries.specs.Values.{MayEnter};
 
 use crate::act::Acted;
 use crate::held::{Collecting, Copied, Next};
@@ -50,12 +49,8 @@ fn put_chunks(block: Apart<ToChunks>, to_chunks: ToChunks) -> Apart<ToChunks>
 impl Run {
     // The collection of the part begins. There is a block for the new chunks.
     fn begin_in(self, worker: u32, part: HeldPart, block: Apart<ToChunks>) -> Acted
-        requires room { 0 < self.paced.journal.room }
-        requires free { first_cause self.paced.end self.paced.steps self.paced.settings worker false ≡ None }
-        requires owes { owed_by self.paced worker ≡ OwedOf.Nothing }
-        requires goes { (accounts self.paced).end ≡ None }
+        requires enter { MayEnter self.paced worker OwedOf.Nothing }
         requires paused { IsPaused self.paced worker part Paused.Due }
-        requires on { self.paced.halted ≡ false }
         requires enough { is_pool_enough self.paced.settings (accounts self.paced) part.task ≡ true }
         requires fresh { part.fresh ≡ 0 }
         ensures { ActsAnyhow self worker (KindOf.Begin part.task) result }
@@ -75,12 +70,8 @@ impl Run {
 
     // The collection of the part begins, where there is memory for what it takes along.
     fn begin_leaf(self, alloc: Global, worker: u32, part: HeldPart) -> Acted
-        requires room { 0 < self.paced.journal.room }
-        requires free { first_cause self.paced.end self.paced.steps self.paced.settings worker false ≡ None }
-        requires owes { owed_by self.paced worker ≡ OwedOf.Nothing }
-        requires goes { (accounts self.paced).end ≡ None }
+        requires enter { MayEnter self.paced worker OwedOf.Nothing }
         requires paused { IsPaused self.paced worker part Paused.Due }
-        requires on { self.paced.halted ≡ false }
         requires enough { is_pool_enough self.paced.settings (accounts self.paced) part.task ≡ true }
         requires fresh { part.fresh ≡ 0 }
         ensures { ActsAnyhow self worker (KindOf.Begin part.task) result }
@@ -93,12 +84,8 @@ impl Run {
 
     // The collection of the part is put off.
     fn put_off_leaf(self, worker: u32, part: HeldPart) -> Acted
-        requires room { 0 < self.paced.journal.room }
-        requires free { first_cause self.paced.end self.paced.steps self.paced.settings worker false ≡ None }
-        requires owes { owed_by self.paced worker ≡ OwedOf.Nothing }
-        requires goes { (accounts self.paced).end ≡ None }
+        requires enter { MayEnter self.paced worker OwedOf.Nothing }
         requires paused { IsPaused self.paced worker part Paused.Due }
-        requires on { self.paced.halted ≡ false }
         requires short { is_pool_enough self.paced.settings (accounts self.paced) part.task ≡ false }
         requires fresh { part.fresh ≡ 0 }
         ensures { ActsAnyhow self worker (KindOf.PutOff part.task) result }
@@ -114,11 +101,7 @@ impl Run {
 
     /// The due collection of the part begins, or is put off where too few chunks are free.
     pub(crate) fn collect(self, alloc: Global, worker: u32, part: HeldPart) -> Acted
-        requires room { 0 < self.paced.journal.room }
-        requires free { first_cause self.paced.end self.paced.steps self.paced.settings worker false ≡ None }
-        requires owes { owed_by self.paced worker ≡ OwedOf.Nothing }
-        requires goes { (accounts self.paced).end ≡ None }
-        requires on { self.paced.halted ≡ false }
+        requires enter { MayEnter self.paced worker OwedOf.Nothing }
         requires paused { IsPaused self.paced worker part Paused.Due }
         requires fresh { part.fresh ≡ 0 }
         ensures { ActsAnyhow self worker (due_kind self.paced part.task) result }
@@ -132,10 +115,7 @@ impl Run {
 
     /// The collection of the part ends, whose heap was copied.
     pub(crate) fn end_leaf(self, worker: u32, copied: Copied) -> Acted
-        requires room { 0 < self.paced.journal.room }
-        requires free { first_cause self.paced.end self.paced.steps self.paced.settings worker false ≡ None }
-        requires owes { owed_by self.paced worker ≡ OwedOf.Nothing }
-        requires on { self.paced.halted ≡ false }
+        requires enter { MayEnter self.paced worker OwedOf.Nothing }
         requires fits { FitsCopied self.paced worker copied.part copied.moved }
         ensures { ActsAnyhow self worker (KindOf.End copied.part.task copied.moved.taken copied.moved.given copied.moved.left) result }
     {

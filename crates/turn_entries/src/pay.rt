@@ -6,10 +6,10 @@ ghost use Rattle.run_ledger.specs.Heaps.{heap_of, sweep_number};
 ghost use Rattle.run_ledger.specs.Pace.{marked_at_once};
 ghost use Rattle.shared_value.specs.Causes.{first_cause};
 ghost use Rattle.shared_value.specs.World.{accounts};
-ghost use Rattle.paced_tree.specs.Owed.{owed_by};
 ghost use Rattle.turn_entries.specs.Acts.{ActsAnyhow, ActsFor, EndsPaid};
 ghost use Rattle.turn_entries.specs.Next.{is_wanting};
 ghost use Rattle.turn_entries.specs.Parts.{next_after, BringsTo};
+ghost use Rattle.turn_entries.specs.Values.{MayEnter};
 
 use crate::act::Acted;
 use crate::held::{Next, Ready};
@@ -42,11 +42,7 @@ impl Run {
 
     /// A marking begins.
     pub(crate) fn pay_mark(self, worker: u32, ready: Ready, task: u32) -> Acted
-        requires room { 0 < self.paced.journal.room }
-        requires goes { (accounts self.paced).end ≡ None }
-        requires free { first_cause self.paced.end self.paced.steps self.paced.settings worker false ≡ None }
-        requires owes { owed_by self.paced worker ≡ OwedOf.Mark task }
-        requires on { self.paced.halted ≡ false }
+        requires enter { MayEnter self.paced worker (OwedOf.Mark task) }
         requires met { is_wanting ready ≡ false }
         requires brings { BringsTo self.paced worker ready }
         ensures { ActsFor self worker ready (Some (KindOf.Mark task)) result }
@@ -61,11 +57,7 @@ impl Run {
 
     /// More objects are marked.
     pub(crate) fn pay_more(self, worker: u32, ready: Ready, task: u32) -> Acted
-        requires room { 0 < self.paced.journal.room }
-        requires goes { (accounts self.paced).end ≡ None }
-        requires free { first_cause self.paced.end self.paced.steps self.paced.settings worker false ≡ None }
-        requires owes { owed_by self.paced worker ≡ OwedOf.More task }
-        requires on { self.paced.halted ≡ false }
+        requires enter { MayEnter self.paced worker (OwedOf.More task) }
         requires met { is_wanting ready ≡ false }
         requires brings { BringsTo self.paced worker ready }
         ensures { ActsFor self worker ready (Some (KindOf.More task marked_at_once)) result }
@@ -80,11 +72,7 @@ impl Run {
 
     /// A heap is swept.
     pub(crate) fn pay_sweep(self, worker: u32, ready: Ready, task: u32) -> Acted
-        requires room { 0 < self.paced.journal.room }
-        requires goes { (accounts self.paced).end ≡ None }
-        requires free { first_cause self.paced.end self.paced.steps self.paced.settings worker false ≡ None }
-        requires owes { owed_by self.paced worker ≡ OwedOf.Sweep task }
-        requires on { self.paced.halted ≡ false }
+        requires enter { MayEnter self.paced worker (OwedOf.Sweep task) }
         requires met { is_wanting ready ≡ false }
         requires brings { BringsTo self.paced worker ready }
         ensures { ActsFor self worker ready (Some (KindOf.Sweep task (sweep_number (accounts self.paced).machine (heap_of (accounts self.paced) task)))) result }

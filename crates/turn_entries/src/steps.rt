@@ -1,13 +1,11 @@
 //! The entries that a worker comes for.
-ghost use Rattle.std.specs.Prelude.{◌≡◌, ◌+◌, ◌<◌, Some, None, false};
+ghost use Rattle.std.specs.Prelude.{◌≡◌, ◌+◌, ◌<◌, Some, false};
 ghost use Rattle.run_trace.specs.declared.entry.Kind.{Kind as KindOf};
 ghost use Rattle.run_ledger.specs.declared.data.Owed.{Owed as OwedOf};
-ghost use Rattle.shared_value.specs.Causes.{first_cause};
-ghost use Rattle.shared_value.specs.World.{accounts};
-ghost use Rattle.paced_tree.specs.Owed.{owed_by};
 ghost use Rattle.turn_entries.specs.Acts.{after_end, ActsAnyhow, ActsFor};
 ghost use Rattle.turn_entries.specs.Next.{brought_kind, is_wanting, paused_kind};
 ghost use Rattle.turn_entries.specs.Parts.{BringsTo, IsPaused, MayRun};
+ghost use Rattle.turn_entries.specs.Values.{MayEnter};
 
 use crate::act::Acted;
 use crate::held::{Next, Ready};
@@ -30,10 +28,7 @@ fn after_end(resumed: Option<u32>) -> Next
 impl Run {
     // The worker takes a task that it has found. There is a block for its part.
     fn take_in(self, worker: u32, task: u32, block: PartBlock) -> Acted
-        requires room { 0 < self.paced.journal.room }
-        requires owes { owed_by self.paced worker ≡ OwedOf.Nothing }
-        requires goes { (accounts self.paced).end ≡ None }
-        requires on { self.paced.halted ≡ false }
+        requires enter { MayEnter self.paced worker OwedOf.Nothing }
         ensures { ActsAnyhow self worker (KindOf.Took task) result }
     {
         let mut run = self;
@@ -45,10 +40,7 @@ impl Run {
 
     // The worker takes a task that it has found, where there is memory for a block.
     fn take_task(self, alloc: Global, worker: u32, task: u32) -> Acted
-        requires room { 0 < self.paced.journal.room }
-        requires owes { owed_by self.paced worker ≡ OwedOf.Nothing }
-        requires goes { (accounts self.paced).end ≡ None }
-        requires on { self.paced.halted ≡ false }
+        requires enter { MayEnter self.paced worker OwedOf.Nothing }
         ensures { ActsAnyhow self worker (KindOf.Took task) result }
     {
         match PartBlock::new(alloc) {
@@ -59,10 +51,7 @@ impl Run {
 
     // The worker takes the task that it has found, if it has.
     fn enter_found(self, alloc: Global, worker: u32, found: Option<u32>) -> Acted
-        requires room { 0 < self.paced.journal.room }
-        requires owes { owed_by self.paced worker ≡ OwedOf.Nothing }
-        requires goes { (accounts self.paced).end ≡ None }
-        requires on { self.paced.halted ≡ false }
+        requires enter { MayEnter self.paced worker OwedOf.Nothing }
         ensures { ActsFor self worker (Ready.Found found) (brought_kind self.paced (Ready.Found found)) result }
     {
         match found {
@@ -73,10 +62,7 @@ impl Run {
 
     // The fresh steps of the part are entered.
     fn enter_private(self, worker: u32, part: HeldPart) -> Acted
-        requires room { 0 < self.paced.journal.room }
-        requires free { first_cause self.paced.end self.paced.steps self.paced.settings worker false ≡ None }
-        requires owes { owed_by self.paced worker ≡ OwedOf.Nothing }
-        requires on { self.paced.halted ≡ false }
+        requires enter { MayEnter self.paced worker OwedOf.Nothing }
         requires may { MayRun self.paced worker part }
         requires fresh { 0 < part.fresh }
         ensures { ActsAnyhow self worker (KindOf.Ran part.task part.fresh) result }
@@ -92,11 +78,7 @@ impl Run {
 
     // The fresh steps of the part are entered with its next one, which isn't private. There is a block for the part after them.
     fn ran_in(self, worker: u32, part: Private, block: PartBlock) -> Acted
-        requires room { 0 < self.paced.journal.room }
-        requires free { first_cause self.paced.end self.paced.steps self.paced.settings worker false ≡ None }
-        requires owes { owed_by self.paced worker ≡ OwedOf.Nothing }
-        requires goes { (accounts self.paced).end ≡ None }
-        requires on { self.paced.halted ≡ false }
+        requires enter { MayEnter self.paced worker OwedOf.Nothing }
         requires paused { IsPaused self.paced worker part Paused.Shared }
         ensures { ActsFor self worker (Ready.Paused part Paused.Shared) (Some (KindOf.Ran part.task (part.fresh + 1))) result }
     {
@@ -114,11 +96,7 @@ impl Run {
 
     // The fresh steps of the part are entered with its next one, which isn't private.
     fn enter_shared(self, worker: u32, part: HeldPart) -> Acted
-        requires room { 0 < self.paced.journal.room }
-        requires free { first_cause self.paced.end self.paced.steps self.paced.settings worker false ≡ None }
-        requires owes { owed_by self.paced worker ≡ OwedOf.Nothing }
-        requires goes { (accounts self.paced).end ≡ None }
-        requires on { self.paced.halted ≡ false }
+        requires enter { MayEnter self.paced worker OwedOf.Nothing }
         requires paused { IsPaused self.paced worker part Paused.Shared }
         ensures { ActsFor self worker (Ready.Paused part Paused.Shared) (Some (KindOf.Ran part.task (part.fresh + 1))) result }
     {
@@ -128,11 +106,7 @@ impl Run {
 
     // The part gets a chunk.
     fn enter_chunk(self, worker: u32, part: HeldPart) -> Acted
-        requires room { 0 < self.paced.journal.room }
-        requires free { first_cause self.paced.end self.paced.steps self.paced.settings worker false ≡ None }
-        requires owes { owed_by self.paced worker ≡ OwedOf.Nothing }
-        requires goes { (accounts self.paced).end ≡ None }
-        requires on { self.paced.halted ≡ false }
+        requires enter { MayEnter self.paced worker OwedOf.Nothing }
         requires paused { IsPaused self.paced worker part Paused.NeedChunk }
         requires fresh { part.fresh ≡ 0 }
         ensures { ActsAnyhow self worker (KindOf.Chunk part.task) result }
@@ -148,11 +122,7 @@ impl Run {
 
     // The entry that the part's steps have paused for; its fresh steps come before a chunk or a collection.
     fn enter_part(self, alloc: Global, worker: u32, part: HeldPart, why: Paused) -> Acted
-        requires room { 0 < self.paced.journal.room }
-        requires free { first_cause self.paced.end self.paced.steps self.paced.settings worker false ≡ None }
-        requires owes { owed_by self.paced worker ≡ OwedOf.Nothing }
-        requires goes { (accounts self.paced).end ≡ None }
-        requires on { self.paced.halted ≡ false }
+        requires enter { MayEnter self.paced worker OwedOf.Nothing }
         requires paused { IsPaused self.paced worker part why }
         ensures { ActsFor self worker (Ready.Paused part why) (Some (paused_kind self.paced part why)) result }
     {
@@ -176,11 +146,7 @@ impl Run {
 
     /// The entry that the worker comes with, where it owes none.
     pub(crate) fn enter(self, alloc: Global, worker: u32, ready: Ready) -> Acted
-        requires room { 0 < self.paced.journal.room }
-        requires goes { (accounts self.paced).end ≡ None }
-        requires free { first_cause self.paced.end self.paced.steps self.paced.settings worker false ≡ None }
-        requires owes { owed_by self.paced worker ≡ OwedOf.Nothing }
-        requires on { self.paced.halted ≡ false }
+        requires enter { MayEnter self.paced worker OwedOf.Nothing }
         requires met { is_wanting ready ≡ false }
         requires brings { BringsTo self.paced worker ready }
         ensures { ActsFor self worker ready (brought_kind self.paced ready) result }

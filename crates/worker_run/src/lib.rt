@@ -10,6 +10,7 @@ mod tasks;
 mod turn;
 mod workers;
 mod working;
+mod workshop;
 
 pub use bell::Bell;
 pub use desk::Desk;
@@ -19,3 +20,4 @@ pub use turn::take_turn;
 pub use turn_entries::{Acted, Collecting, Copied, Next, Ready, Run, Setup};
 pub use workers::{all_work, close, opened, run_on_workers};
 pub use working::{prepare, work};
+pub use workshop::Workshop;

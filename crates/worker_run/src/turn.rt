@@ -7,6 +7,7 @@ ghost use Rattle.turn_entries.specs.Parts.{ComesWith, GoesWith, TakesFrom};
 ghost use Rattle.worker_run.specs.Desks.{GivesOne, HasEntry, HasGiven, IsDesk, KeepsPlace, SameDesk, TakesTurn};
 
 use crate::desk::Desk;
+use crate::workshop::Workshop;
 use hh_lang::Program;
 use std::snapshot::Snapshot;
 use std::sync::Wait;
@@ -72,25 +73,19 @@ fn give(turn: &Turn<Run>, desk: &mut Desk, program: &Program, run: Run, next: Ne
 }
 
 /// Takes the turn with what the worker comes with, and makes the entry that comes next, if one does.
-pub fn take_turn<R: Wait>(
-    rt: &R,
-    turn: &Turn<Run>,
-    desk: &mut Desk,
-    program: &Program,
-    ready: Ready,
-) -> Next
-    requires desk { IsDesk (identity turn.now) program.now desk.old }
-    requires comes { ComesWith program.now desk.old.worker (view desk.old.seat) ready }
-    ensures desk { IsDesk (identity turn.now) program.now desk.new }
+pub fn take_turn<R: Wait, G>(rt: &R, shop: &Workshop<G>, desk: &mut Desk, ready: Ready) -> Next
+    requires desk { IsDesk (identity shop.now.turn.now) shop.now.program.now desk.old }
+    requires comes { ComesWith shop.now.program.now desk.old.worker (view desk.old.seat) ready }
+    ensures desk { IsDesk (identity shop.now.turn.now) shop.now.program.now desk.new }
     ensures same { SameDesk desk.old desk.new }
-    ensures next { GoesWith program.now desk.old.worker (view desk.new.seat) result }
+    ensures next { GoesWith shop.now.program.now desk.old.worker (view desk.new.seat) result }
     ensures turn { TakesTurn desk.old desk.new ready result }
 {
-    let run = turn.take(rt, &mut desk.seat);
+    let run = shop.turn.take(rt, &mut desk.seat);
     match run.act(desk.alloc, desk.worker, ready) {
-        Acted::Entered(run, next) => give(turn, desk, program, run, next),
+        Acted::Entered(run, next) => give(shop.turn, desk, shop.program, run, next),
         Acted::Same(run, next) => {
-            turn.give_same(&mut desk.seat, run);
+            shop.turn.give_same(&mut desk.seat, run);
             next
         }
     }

@@ -11,6 +11,7 @@ use crate::bell::Bell;
 use crate::desk::Desk;
 use crate::end::{Finish, Outcome};
 use crate::working::work;
+use crate::workshop::Workshop;
 use hh_lang::Program;
 use outside_io::Gate;
 use run_trace::Settings;
@@ -49,7 +50,18 @@ pub fn all_work<R: Threads + Wait + Sync, G: Gate>(
         &|_: usize, desk: &mut Desk|
             requires { IsDesk (identity turn.now) program.now desk.now }
             ensures { IsDesk (identity turn.entry.now) program.entry.now desk.exit.now × SameDesk desk.entry.now desk.exit.now × GoesRound program.entry.now desk.entry.now Next.Idle desk.exit.now Next.Stop × HasStopped desk.exit.now }
-        { work(rt, turn, bell, gate, program, desk) },
+        {
+            work(
+                rt,
+                &Workshop {
+                    turn,
+                    bell,
+                    gate,
+                    program,
+                },
+                desk,
+            )
+        },
     );
 }
 

@@ -12,11 +12,10 @@ use crate::desk::Desk;
 use crate::local::{copy_part, run_part};
 use crate::tasks::{find, put, put_both};
 use crate::turn::take_turn;
-use hh_lang::Program;
+use crate::workshop::Workshop;
 use outside_io::{Gate, Point};
 use std::sync::Wait;
-use turn_entries::{Next, Ready, Run};
-use turn_lock::Turn;
+use turn_entries::{Next, Ready};
 
 // The worker looks for a task.
 fn look<R: Wait>(rt: &R, bell: &Bell, desk: &mut Desk) -> Ready
@@ -58,37 +57,35 @@ fn share<R: Wait>(rt: &R, bell: &Bell, desk: &mut Desk, task: u32) -> Ready
 /// What the worker comes for its next turn with; None where it stops.
 pub fn prepare<R: Wait, G: Gate>(
     rt: &R,
-    bell: &Bell,
-    gate: &G,
-    program: &Program,
+    shop: &Workshop<G>,
     desk: &mut Desk,
     next: Next,
 ) -> Option<Ready>
-    requires goes { GoesWith program.now desk.old.worker (view desk.old.seat) next }
+    requires goes { GoesWith shop.now.program.now desk.old.worker (view desk.old.seat) next }
     requires few { FewThefts desk.old }
     ensures hand { ChangesHand desk.old desk.new }
-    ensures comes { IfSome result (ComesWith program.now desk.old.worker (view desk.old.seat)) }
-    ensures tasks { IfSome result (Prepares program.now desk.old.worker next desk.old.hand desk.new.hand) }
+    ensures comes { IfSome result (ComesWith shop.now.program.now desk.old.worker (view desk.old.seat)) }
+    ensures tasks { IfSome result (Prepares shop.now.program.now desk.old.worker next desk.old.hand desk.new.hand) }
     ensures stops { IfNone result ((next ≡ Next.Stop) × (desk.new ≡ desk.old)) }
 {
     match next {
-        Next::Running(part) => Some(run_part(part, program, gate, desk.worker)),
+        Next::Running(part) => Some(run_part(part, shop.program, shop.gate, desk.worker)),
         Next::Collecting(collecting) => Some(Ready::Copied(copy_part(
             collecting,
-            gate,
+            shop.gate,
             desk.worker,
         ))),
         Next::Copied(copied) => Some(Ready::Copied(copied)),
         Next::Found(task) => Some(Ready::Found(Some(task))),
-        Next::Forked { left, right } => Some(share_both(rt, bell, desk, left, right)),
-        Next::Resumed(task) => Some(share(rt, bell, desk, task)),
-        Next::Idle => Some(look(rt, bell, desk)),
+        Next::Forked { left, right } => Some(share_both(rt, shop.bell, desk, left, right)),
+        Next::Resumed(task) => Some(share(rt, shop.bell, desk, task)),
+        Next::Idle => Some(look(rt, shop.bell, desk)),
         Next::Waits => {
-            bell.wait_past(rt, desk.heard);
-            Some(look(rt, bell, desk))
+            shop.bell.wait_past(rt, desk.heard);
+            Some(look(rt, shop.bell, desk))
         }
         Next::Stop => {
-            bell.ring_all(rt);
+            shop.bell.ring_all(rt);
             None
         }
     }
@@ -105,29 +102,22 @@ fn task_of(ready: &Ready) -> u32 {
 }
 
 /// Works until the run is over, as the worker has seen at its last turn.
-pub fn work<R: Wait, G: Gate>(
-    rt: &R,
-    turn: &Turn<Run>,
-    bell: &Bell,
-    gate: &G,
-    program: &Program,
-    desk: &mut Desk,
-)
-    requires desk { IsDesk (identity turn.now) program.now desk.old }
-    ensures desk { IsDesk (identity turn.now) program.now desk.new }
+pub fn work<R: Wait, G: Gate>(rt: &R, shop: &Workshop<G>, desk: &mut Desk)
+    requires desk { IsDesk (identity shop.now.turn.now) shop.now.program.now desk.old }
+    ensures desk { IsDesk (identity shop.now.turn.now) shop.now.program.now desk.new }
     ensures same { SameDesk desk.old desk.new }
-    ensures rounds { GoesRound program.now desk.old Next.Idle desk.new Next.Stop }
+    ensures rounds { GoesRound shop.now.program.now desk.old Next.Idle desk.new Next.Stop }
     ensures over { HasStopped desk.new }
 {
     let mut next = Next::Idle;
     for _ in rt.forever() {
-        let Some(ready) = prepare(rt, bell, gate, program, desk, next) else {
+        let Some(ready) = prepare(rt, shop, desk, next) else {
             return;
         };
         let task = task_of(&ready);
-        gate.pass(desk.worker, task, Point::BeforeTurn);
-        next = take_turn(rt, turn, desk, program, ready);
-        gate.pass(desk.worker, task, Point::AfterTurn);
+        shop.gate.pass(desk.worker, task, Point::BeforeTurn);
+        next = take_turn(rt, shop, desk, ready);
+        shop.gate.pass(desk.worker, task, Point::AfterTurn);
     }
     unreachable!()
 }

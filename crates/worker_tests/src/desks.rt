@@ -15,7 +15,7 @@ use std::alloc::Global;
 use std::sync::Wait;
 use trace_input::read_trace_input;
 use turn_lock::Turn;
-use worker_run::{Bell, Desk, Next, Ready, Run, opened, prepare, take_turn};
+use worker_run::{Bell, Desk, Next, Ready, Run, Workshop, opened, prepare, take_turn};
 use world_core::{World, replay};
 
 const COLLECTS: &str =
@@ -61,7 +61,13 @@ fn makes_ready<R: Wait>(
     ensures comes { IfSome result (ComesWith program.now desk.old.worker (view desk.old.seat)) }
 {
     let run = turn.take(rt, &mut other.seat);
-    let ready = prepare(rt, bell, &EmptyGate, program, desk, next);
+    let shop = Workshop {
+        turn,
+        bell,
+        gate: &EmptyGate,
+        program,
+    };
+    let ready = prepare(rt, &shop, desk, next);
     turn.give_same(&mut other.seat, run);
     ready
 }
@@ -85,7 +91,15 @@ fn goes_on<R: Wait>(
     ensures goes { GoesWith program.now desk.new.worker (view desk.new.seat) result }
 {
     match makes_ready(rt, turn, bell, program, other, desk, next) {
-        Some(ready) => take_turn(rt, turn, desk, program, ready),
+        Some(ready) => {
+            let shop = Workshop {
+                turn,
+                bell,
+                gate: &EmptyGate,
+                program,
+            };
+            take_turn(rt, &shop, desk, ready)
+        }
         None => Next::Stop,
     }
 }

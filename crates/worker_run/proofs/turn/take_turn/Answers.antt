@@ -6,12 +6,12 @@ use Rattle.worker_run.proofs.turn.take_turn.Goals as goal
 
 pub act-requires-clause-brings : goal.act-requires-clause-brings
 act-requires-clause-brings g c =
-    brings c.args.program.now c.args.desk.now c.take-run.result (view c.args.desk.now.seat) c.take-run.ensures.value c.requires.desk.number c.requires.desk.under c.args.ready c.requires.comes
+    brings c.args.shop.now.program.now c.args.desk.now c.take-run.result (view c.args.desk.now.seat) c.take-run.ensures.value c.requires.desk.number c.requires.desk.under c.args.ready c.requires.comes
 
 pub give-requires-clause-entry : goal.give-requires-clause-entry
 give-requires-clause-entry g c =
     let A = c.in-Entered.ensures in
-    has_entry (identity c.args.turn.now) c.args.program.now c.args.desk.now (record c.args.desk.now { seat = c.take-run.new.seat }) c.take-run.result c.in-Entered.run' c.requires.desk refl c.take-run.ensures.turn c.take-run.ensures.seat
+    has_entry (identity c.args.shop.now.turn.now) c.args.shop.now.program.now c.args.desk.now (record c.args.desk.now { seat = c.take-run.new.seat }) c.take-run.result c.in-Entered.run' c.requires.desk refl c.take-run.ensures.turn c.take-run.ensures.seat
     c.take-run.ensures.value A.made A.enters A.world
 
 pub give-requires-clause-takes : goal.give-requires-clause-takes

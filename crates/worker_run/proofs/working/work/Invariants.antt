@@ -9,9 +9,9 @@ use Rattle.worker_run.proofs.working.work.Given as goal
 
 abbrev pub invariant-loop : goal.invariant-loop
 invariant-loop g l = record {
-  desk : IsDesk (identity l.turn) l.program l.desk;
+  desk : IsDesk (identity l.shop.turn.now) l.shop.program.now l.desk;
   same : SameDesk l.fn.desk l.desk;
-  goes : GoesWith l.program l.desk.worker (view l.desk.seat) l.next;
+  goes : GoesWith l.shop.program.now l.desk.worker (view l.desk.seat) l.next;
   stops : l.next ≡ Stop → HasStopped l.desk;
-  rounds : GoesRound l.program l.fn.desk Idle l.desk l.next;
+  rounds : GoesRound l.shop.program.now l.fn.desk Idle l.desk l.next;
 }

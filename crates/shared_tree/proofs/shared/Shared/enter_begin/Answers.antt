@@ -30,7 +30,7 @@ overflow_cast-count c =
     omega (arith, few)
 
 pub roots-requires-clause-fits : goal.roots-requires-clause-fits
-roots-requires-clause-fits c = c.requires.fits
+roots-requires-clause-fits c = (c.args.worker, c.requires.fits)
 
 pub roots-requires-clause-fresh : goal.roots-requires-clause-fresh
 roots-requires-clause-fresh c = c.requires.fresh

@@ -1,4 +1,4 @@
-use Rattle.std.proofs.Common.{◌≡◌, ℕ, ◌+◌, ◌-◌, arith, Some, None, [], slice_set, ap, sym, subst, ◌∙◌}
+use Rattle.std.proofs.Common.{refl, ◌≡◌, ℕ, ◌+◌, ◌-◌, Some, None, [], slice_set, ap, sym, subst, ◌∙◌}
 use Rattle.hh_model.specs.declared.data.End.TheVariants.{Done}
 use Rattle.run_ledger.specs.declared.data.RunEnd.TheVariants.{Machine}
 use Rattle.heap_tree.specs.declared.state.State.TheVariants.{Ended}
@@ -10,23 +10,23 @@ use Rattle.shared_value.specs.Stands.{IsWorld}
 use Rattle.shared_value.specs.World.{World}
 use Rattle.shared_value.specs.Fits.{Fits}
 use Rattle.shared_value.specs.Entered.{refused}
-use Rattle.shared_value.proofs.JournalGoesOn.{four_changed, journal_by}
+use Rattle.shared_value.proofs.JournalGoesOn.{four_changed}
 use Rattle.own_steps.specs.Alone.{IsShared, alone_event}
 use Rattle.own_steps.specs.Alone.{FinishesAlone, Tells, ended_rest}
 use Rattle.own_steps.proofs.AloneEntries.{alone_small, finishes_alone, finished_world, home_there, node_there}
 use Rattle.shared_tree.specs.contracts.shared.Shared.{the_view}
+use Rattle.shared_tree.proofs.StepsEntered.{along, entered}
 use Rattle.shared_tree.proofs.shared.Shared.enter_done.Goals as goal
 
-pub overflow_add-self-2 : goal.overflow_add-self-2
-overflow_add-self-2 c =
+pub enter_alone-requires-clause-small : goal.enter_alone-requires-clause-small
+enter_alone-requires-clause-small c =
     let w : World = the_view c.self.inside in
     let p : Private = c.args.part in
     let k : ℕ = c.args.worker in
     let F : Fits w k p = subst (λ (z : World). Fits z k p) (sym c.self.view_is) c.requires.fits in
     let shared : IsShared w p = subst (λ (z : World). IsShared z p) (sym c.self.view_is) c.requires.shared in
     let free : refused w (alone_event k p) ≡ None = subst (λ (z : World). refused z (alone_event k p) ≡ None) (sym c.self.view_is) c.requires.free in
-    let few = alone_small w k p c.self.invariant F shared free in
-    omega (arith, few.0, few.1)
+    alone_small w k p c.self.invariant F shared free
 
 pub set_state-requires : goal.set_state-requires
 set_state-requires c =
@@ -36,8 +36,8 @@ set_state-requires c =
     let F : Fits w k p = subst (λ (z : World). Fits z k p) (sym c.self.view_is) c.requires.fits in
     let shared : IsShared w p = subst (λ (z : World). IsShared z p) (sym c.self.view_is) c.requires.shared in
     let free : refused w (alone_event k p) ≡ None = subst (λ (z : World). refused z (alone_event k p) ≡ None) (sym c.self.view_is) c.requires.free in
-    let T : Tells w p Returns c.args.line = subst (λ (z : World). Tells z p Returns c.args.line) (sym c.self.view_is) c.requires.returns in
-    node_there w k p c.self.invariant F shared free c.args.line T c.requires.root (record { items = []; room = 0 })
+    let T : (n : ℕ) × Tells w p Returns n = subst (λ (z : World). (n : ℕ) × Tells z p Returns n) (sym c.self.view_is) c.requires.returns in
+    node_there w k p c.self.invariant F shared free T.0 T.1 c.requires.root (record { items = []; room = 0 })
 
 pub set-requires-2 : goal.set-requires-2
 set-requires-2 c =
@@ -47,8 +47,8 @@ set-requires-2 c =
     let F : Fits w k p = subst (λ (z : World). Fits z k p) (sym c.self.view_is) c.requires.fits in
     let shared : IsShared w p = subst (λ (z : World). IsShared z p) (sym c.self.view_is) c.requires.shared in
     let free : refused w (alone_event k p) ≡ None = subst (λ (z : World). refused z (alone_event k p) ≡ None) (sym c.self.view_is) c.requires.free in
-    let T : Tells w p Returns c.args.line = subst (λ (z : World). Tells z p Returns c.args.line) (sym c.self.view_is) c.requires.returns in
-    home_there w k p c.self.invariant F shared free c.args.line T c.requires.root (record { items = []; room = 0 })
+    let T : (n : ℕ) × Tells w p Returns n = subst (λ (z : World). (n : ℕ) × Tells z p Returns n) (sym c.self.view_is) c.requires.returns in
+    home_there w k p c.self.invariant F shared free T.0 T.1 c.requires.root (record { items = []; room = 0 })
 
 pub invariant_of-self : goal.invariant_of-self
 invariant_of-self c =
@@ -58,11 +58,12 @@ invariant_of-self c =
     let F : Fits w k p = subst (λ (z : World). Fits z k p) (sym c.self.view_is) c.requires.fits in
     let shared : IsShared w p = subst (λ (z : World). IsShared z p) (sym c.self.view_is) c.requires.shared in
     let free : refused w (alone_event k p) ≡ None = subst (λ (z : World). refused z (alone_event k p) ≡ None) (sym c.self.view_is) c.requires.free in
-    let T : Tells w p Returns c.args.line = subst (λ (z : World). Tells z p Returns c.args.line) (sym c.self.view_is) c.requires.returns in
+    let T : (n : ℕ) × Tells w p Returns n = subst (λ (z : World). (n : ℕ) × Tells z p Returns n) (sym c.self.view_is) c.requires.returns in
     let v : World = record w { steps = w.steps + (p.fresh + 1); end = Some (Machine Done) } in
-    subst IsWorld (sym (four_changed v (with_state w.tree p.task Ended) _ (slice_set w.homes p.task (Some (ended_rest p))) _ (slice_set w.hands k None) _ (record { items = _; room = w.journal.room - 1 }) _
-    c.set_state.ensures (c.set-2.ensures ∙ ap (λ (r : Rest). slice_set w.homes p.task (Some r)) (c.put_rest-rest.ensures ∙ c.at_end.ensures)) c.set.ensures (journal_by w.journal _ _ (alone_event k p) c.new.ensures c.push_reserved.ensures)))
-    (finished_world w k p c.self.invariant F shared free c.args.line T c.requires.root (record { items = []; room = w.journal.room - 1 }))
+    along w k p _ _ c.enter_alone.ensures.steps c.enter_alone.ensures.journal (λ n j. IsWorld (record w { steps = n; end = Some (Machine Done); tree = c.set_state.new.self; homes = c.set-2.new.self; hands = c.set.new.self; journal = j }))
+    (subst IsWorld (sym (four_changed v (with_state w.tree p.task Ended) _ (slice_set w.homes p.task (Some (ended_rest p))) _ (slice_set w.hands k None) _ (entered w k p) _
+    c.set_state.ensures (c.set-2.ensures ∙ ap (λ (r : Rest). slice_set w.homes p.task (Some r)) (c.put_rest-rest.ensures ∙ c.at_end.ensures)) c.set.ensures refl))
+    (finished_world w k p c.self.invariant F shared free T.0 T.1 c.requires.root (record { items = []; room = w.journal.room - 1 })))
 
 pub returns : goal.returns
 returns c =
@@ -72,9 +73,10 @@ returns c =
     let F : Fits w k p = subst (λ (z : World). Fits z k p) (sym c.self.view_is) c.requires.fits in
     let shared : IsShared w p = subst (λ (z : World). IsShared z p) (sym c.self.view_is) c.requires.shared in
     let free : refused w (alone_event k p) ≡ None = subst (λ (z : World). refused z (alone_event k p) ≡ None) (sym c.self.view_is) c.requires.free in
-    let T : Tells w p Returns c.args.line = subst (λ (z : World). Tells z p Returns c.args.line) (sym c.self.view_is) c.requires.returns in
+    let T : (n : ℕ) × Tells w p Returns n = subst (λ (z : World). (n : ℕ) × Tells z p Returns n) (sym c.self.view_is) c.requires.returns in
     let v : World = record w { steps = w.steps + (p.fresh + 1); end = Some (Machine Done) } in
-    subst (λ (z : World). FinishesAlone z (record v { tree = c.set_state.new.self; homes = c.set-2.new.self; hands = c.set.new.self; journal = c.push_reserved.new.self }) k p) c.self.view_is
-    (subst (λ (z : World). FinishesAlone w z k p) (sym (four_changed v (with_state w.tree p.task Ended) _ (slice_set w.homes p.task (Some (ended_rest p))) _ (slice_set w.hands k None) _ (record { items = _; room = w.journal.room - 1 }) _
-    c.set_state.ensures (c.set-2.ensures ∙ ap (λ (r : Rest). slice_set w.homes p.task (Some r)) (c.put_rest-rest.ensures ∙ c.at_end.ensures)) c.set.ensures (journal_by w.journal _ _ (alone_event k p) c.new.ensures c.push_reserved.ensures)))
-    (finishes_alone w k p c.self.invariant F shared free c.args.line T c.requires.root (record { items = []; room = w.journal.room - 1 })))
+    subst (λ (z : World). FinishesAlone z (record v { steps = c.enter_alone.new.steps; tree = c.set_state.new.self; homes = c.set-2.new.self; hands = c.set.new.self; journal = c.enter_alone.new.journal }) k p) c.self.view_is
+    (along w k p _ _ c.enter_alone.ensures.steps c.enter_alone.ensures.journal (λ n j. FinishesAlone w (record v { steps = n; tree = c.set_state.new.self; homes = c.set-2.new.self; hands = c.set.new.self; journal = j }) k p)
+    (subst (λ (z : World). FinishesAlone w z k p) (sym (four_changed v (with_state w.tree p.task Ended) _ (slice_set w.homes p.task (Some (ended_rest p))) _ (slice_set w.hands k None) _ (entered w k p) _
+    c.set_state.ensures (c.set-2.ensures ∙ ap (λ (r : Rest). slice_set w.homes p.task (Some r)) (c.put_rest-rest.ensures ∙ c.at_end.ensures)) c.set.ensures refl))
+    (finishes_alone w k p c.self.invariant F shared free T.0 T.1 c.requires.root (record { items = []; room = w.journal.room - 1 }))))

@@ -1,4 +1,4 @@
-use Rattle.std.proofs.Common.{◌≡◌, ℕ, ◌+◌, ◌-◌, arith, None, Some, [], slice_set, ap, sym, subst, ◌∙◌, ◌<◌}
+use Rattle.std.proofs.Common.{refl, ◌≡◌, ℕ, ◌+◌, ◌-◌, None, Some, [], slice_set, ap, sym, subst, ◌∙◌, ◌<◌}
 use Rattle.heap_tree.specs.declared.state.State.TheVariants.{Ended}
 use Rattle.heap_tree.specs.Node.{state_of, with_state}
 use Rattle.heap_tree.specs.Pairs.{sibling}
@@ -8,25 +8,25 @@ use Rattle.shared_value.specs.Stands.{IsWorld}
 use Rattle.shared_value.specs.World.{World}
 use Rattle.shared_value.specs.Fits.{Fits}
 use Rattle.shared_value.specs.Entered.{refused}
-use Rattle.shared_value.proofs.JournalGoesOn.{four_changed, journal_by}
+use Rattle.shared_value.proofs.JournalGoesOn.{four_changed}
 use Rattle.own_steps.specs.Alone.{alone_event, ended_rest}
 use Rattle.own_steps.proofs.AloneEntries.{alone_small}
 use Rattle.child_tasks.specs.ChildEnds.{EndsChild, IsAtEnd}
 use Rattle.child_tasks.proofs.ChildEnded.{alone_ends, alone_world, has_home, has_node}
 use Rattle.child_tasks.proofs.ChildReturns.{end_shared}
 use Rattle.shared_tree.specs.contracts.shared.Shared.{the_view}
+use Rattle.shared_tree.proofs.StepsEntered.{along, entered}
 use Rattle.shared_tree.proofs.shared.Shared.enter_end.Goals as goal
 
-pub overflow_add-self-2 : goal.overflow_add-self-2
-overflow_add-self-2 c =
+pub enter_alone-requires-clause-small : goal.enter_alone-requires-clause-small
+enter_alone-requires-clause-small c =
     let w : World = the_view c.self.inside in
     let p : Private = c.args.part in
     let k : ℕ = c.args.worker in
     let F : Fits w k p = subst (λ (z : World). Fits z k p) (sym c.self.view_is) c.requires.fits in
     let at : IsAtEnd w p = subst (λ (z : World). IsAtEnd z p) (sym c.self.view_is) c.requires.ends in
     let free : refused w (alone_event k p) ≡ None = subst (λ (z : World). refused z (alone_event k p) ≡ None) (sym c.self.view_is) c.requires.free in
-    let few = alone_small w k p c.self.invariant F (end_shared w p at) free in
-    omega (arith, few.0, few.1)
+    alone_small w k p c.self.invariant F (end_shared w p at) free
 
 pub set_state-requires : goal.set_state-requires
 set_state-requires c =
@@ -63,9 +63,10 @@ invariant_of-self c =
     let I : IsWorld w = c.self.invariant in
     let no : state_of w.tree (sibling p.task) ≡ Some Ended → ⊥ = λ e. c.requires.alone (subst (λ (z : World). state_of z.tree (sibling p.task) ≡ Some Ended) c.self.view_is e) in
     let v : World = record w { steps = w.steps + (p.fresh + 1) } in
-    subst IsWorld (sym (four_changed v (with_state w.tree p.task Ended) _ (slice_set w.homes p.task (Some (ended_rest p))) _ (slice_set w.hands k None) _ (record { items = _; room = w.journal.room - 1 }) _
-    c.set_state.ensures (c.set-2.ensures ∙ ap (λ (r : Rest). slice_set w.homes p.task (Some r)) (c.put_rest-rest.ensures ∙ c.at_end.ensures)) c.set.ensures (journal_by w.journal _ _ (alone_event k p) c.new.ensures c.push_reserved.ensures)))
-    (alone_world w k p I F at free no (record { items = []; room = w.journal.room - 1 }))
+    along w k p _ _ c.enter_alone.ensures.steps c.enter_alone.ensures.journal (λ n j. IsWorld (record w { steps = n; tree = c.set_state.new.self; homes = c.set-2.new.self; hands = c.set.new.self; journal = j }))
+    (subst IsWorld (sym (four_changed v (with_state w.tree p.task Ended) _ (slice_set w.homes p.task (Some (ended_rest p))) _ (slice_set w.hands k None) _ (entered w k p) _
+    c.set_state.ensures (c.set-2.ensures ∙ ap (λ (r : Rest). slice_set w.homes p.task (Some r)) (c.put_rest-rest.ensures ∙ c.at_end.ensures)) c.set.ensures refl))
+    (alone_world w k p I F at free no (record { items = []; room = w.journal.room - 1 })))
 
 pub returns-clause-ended : goal.returns-clause-ended
 returns-clause-ended c =
@@ -78,13 +79,14 @@ returns-clause-ended c =
     let I : IsWorld w = c.self.invariant in
     let no : state_of w.tree (sibling p.task) ≡ Some Ended → ⊥ = λ e. c.requires.alone (subst (λ (z : World). state_of z.tree (sibling p.task) ≡ Some Ended) c.self.view_is e) in
     let v : World = record w { steps = w.steps + (p.fresh + 1) } in
-    subst (λ (z : World). EndsChild z (record v { tree = c.set_state.new.self; homes = c.set-2.new.self; hands = c.set.new.self; journal = c.push_reserved.new.self }) k p None) c.self.view_is
-    (subst (λ (z : World). EndsChild w z k p None) (sym (four_changed v (with_state w.tree p.task Ended) _ (slice_set w.homes p.task (Some (ended_rest p))) _ (slice_set w.hands k None) _ (record { items = _; room = w.journal.room - 1 }) _
-    c.set_state.ensures (c.set-2.ensures ∙ ap (λ (r : Rest). slice_set w.homes p.task (Some r)) (c.put_rest-rest.ensures ∙ c.at_end.ensures)) c.set.ensures (journal_by w.journal _ _ (alone_event k p) c.new.ensures c.push_reserved.ensures)))
-    (alone_ends w k p I F at free no (record { items = []; room = w.journal.room - 1 })))
+    subst (λ (z : World). EndsChild z (record v { steps = c.enter_alone.new.steps; tree = c.set_state.new.self; homes = c.set-2.new.self; hands = c.set.new.self; journal = c.enter_alone.new.journal }) k p None) c.self.view_is
+    (along w k p _ _ c.enter_alone.ensures.steps c.enter_alone.ensures.journal (λ n j. EndsChild w (record v { steps = n; tree = c.set_state.new.self; homes = c.set-2.new.self; hands = c.set.new.self; journal = j }) k p None)
+    (subst (λ (z : World). EndsChild w z k p None) (sym (four_changed v (with_state w.tree p.task Ended) _ (slice_set w.homes p.task (Some (ended_rest p))) _ (slice_set w.hands k None) _ (entered w k p) _
+    c.set_state.ensures (c.set-2.ensures ∙ ap (λ (r : Rest). slice_set w.homes p.task (Some r)) (c.put_rest-rest.ensures ∙ c.at_end.ensures)) c.set.ensures refl))
+    (alone_ends w k p I F at free no (record { items = []; room = w.journal.room - 1 }))))
 
 pub returns-clause-hand : goal.returns-clause-hand
 returns-clause-hand c = c.set.ensures ∙ ap (λ (z : World). slice_set z.hands c.args.worker None) c.self.view_is
 
-pub push_reserved-requires : goal.push_reserved-requires
-push_reserved-requires c = subst (λ (z : World). 0 < z.journal.room) (sym c.self.view_is) c.requires.room
+pub enter_alone-requires-clause-room : goal.enter_alone-requires-clause-room
+enter_alone-requires-clause-room c = subst (λ (z : World). 0 < z.journal.room) (sym c.self.view_is) c.requires.room

@@ -10,13 +10,14 @@ use Rattle.shared_value.specs.Stands.{IsWorld}
 use Rattle.shared_value.specs.World.{World}
 use Rattle.shared_value.specs.Fits.{Fits}
 use Rattle.shared_value.specs.Entered.{refused}
-use Rattle.shared_value.proofs.JournalGoesOn.{four_changed, journal_by}
+use Rattle.shared_value.proofs.JournalGoesOn.{four_changed}
 use Rattle.own_steps.specs.Alone.{alone_event}
 use Rattle.own_steps.proofs.AloneEntries.{alone_small, next_small}
 use Rattle.child_tasks.specs.Forks.{ForksOn, ForksTo, HomesFork, IsAtFork, SetsFork, part_child}
 use Rattle.child_tasks.proofs.ForkEntries.{alone_forks, alone_world, homes_fork_by, own_home, own_set}
 use Rattle.child_tasks.proofs.NextStepForks.{few_tasks, fork_shared, on, tree_out}
 use Rattle.shared_tree.specs.contracts.shared.Shared.{the_view}
+use Rattle.shared_tree.proofs.StepsEntered.{along, entered}
 use Rattle.shared_tree.proofs.shared.Shared.enter_fork.Goals as goal
 
 pub grow-grown-requires-clause-out : goal.grow-grown-requires-clause-out
@@ -39,16 +40,15 @@ grow-grown-requires-clause-few c =
     let free : refused w (alone_event k p) ≡ None = subst (λ (z : World). refused z (alone_event k p) ≡ None) (sym c.self.view_is) c.requires.free in
     few_tasks w k p c.self.invariant F at free
 
-pub overflow_add-self-2 : goal.overflow_add-self-2
-overflow_add-self-2 c =
+pub enter_alone-requires-clause-small : goal.enter_alone-requires-clause-small
+enter_alone-requires-clause-small c =
     let w : World = the_view c.self.inside in
     let p : Private = c.args.part in
     let k : ℕ = c.args.worker in
     let F : Fits w k p = subst (λ (z : World). Fits z k p) (sym c.self.view_is) c.requires.fits in
     let at : IsAtFork w p = subst (λ (z : World). IsAtFork z p) (sym c.self.view_is) c.requires.forks in
     let free : refused w (alone_event k p) ≡ None = subst (λ (z : World). refused z (alone_event k p) ≡ None) (sym c.self.view_is) c.requires.free in
-    let few = alone_small w k p c.self.invariant F (fork_shared w p at) free in
-    omega (arith, few.0, few.1)
+    alone_small w k p c.self.invariant F (fork_shared w p at) free
 
 pub fork_sets-requires-clause-made : goal.fork_sets-requires-clause-made
 fork_sets-requires-clause-made c =
@@ -58,10 +58,10 @@ fork_sets-requires-clause-made c =
     let F : Fits w k p = subst (λ (z : World). Fits z k p) (sym c.self.view_is) c.requires.fits in
     let at : IsAtFork w p = subst (λ (z : World). IsAtFork z p) (sym c.self.view_is) c.requires.forks in
     let free : refused w (alone_event k p) ≡ None = subst (λ (z : World). refused z (alone_event k p) ≡ None) (sym c.self.view_is) c.requires.free in
-    let B : ForksTo w p c.args.left c.args.right c.args.line = subst (λ (z : World). ForksTo z p c.args.left c.args.right c.args.line) (sym c.self.view_is) c.requires.by in
+    let B : (n : ℕ) × ForksTo w p c.args.left c.args.right n = subst (λ (z : World). (n : ℕ) × ForksTo z p c.args.left c.args.right n) (sym c.self.view_is) c.requires.by in
     let low : depth_of w.tree p.task < 1000 = subst (λ (z : World). depth_of z.tree p.task < 1000) (sym c.self.view_is) c.requires.shallow in
     let I : IsWorld w = c.self.invariant in
-    subst (λ (xs : List SetOf). p.task < length xs) (sym c.in-Ok-grown.ensures.sets) (own_set w k p I F at free c.args.left c.args.right c.args.line B low)
+    subst (λ (xs : List SetOf). p.task < length xs) (sym c.in-Ok-grown.ensures.sets) (own_set w k p I F at free c.args.left c.args.right B.0 B.1 low)
 
 pub put_homes-requires-clause-made : goal.put_homes-requires-clause-made
 put_homes-requires-clause-made c =
@@ -71,10 +71,10 @@ put_homes-requires-clause-made c =
     let F : Fits w k p = subst (λ (z : World). Fits z k p) (sym c.self.view_is) c.requires.fits in
     let at : IsAtFork w p = subst (λ (z : World). IsAtFork z p) (sym c.self.view_is) c.requires.forks in
     let free : refused w (alone_event k p) ≡ None = subst (λ (z : World). refused z (alone_event k p) ≡ None) (sym c.self.view_is) c.requires.free in
-    let B : ForksTo w p c.args.left c.args.right c.args.line = subst (λ (z : World). ForksTo z p c.args.left c.args.right c.args.line) (sym c.self.view_is) c.requires.by in
+    let B : (n : ℕ) × ForksTo w p c.args.left c.args.right n = subst (λ (z : World). (n : ℕ) × ForksTo z p c.args.left c.args.right n) (sym c.self.view_is) c.requires.by in
     let low : depth_of w.tree p.task < 1000 = subst (λ (z : World). depth_of z.tree p.task < 1000) (sym c.self.view_is) c.requires.shallow in
     let I : IsWorld w = c.self.invariant in
-    let made : p.task < length w.homes = own_home w k p I F at free c.args.left c.args.right c.args.line B low in
+    let made : p.task < length w.homes = own_home w k p I F at free c.args.left c.args.right B.0 B.1 low in
     subst (λ xs. p.task < length xs) (sym c.in-Ok-grown.ensures.homes) (let e = length-append w.homes (None ∷ (None ∷ [])) in omega (arith, made, e))
 
 pub put_homes-requires-clause-next : goal.put_homes-requires-clause-next
@@ -95,19 +95,20 @@ invariant_of-self-2 c =
     let F : Fits w k p = subst (λ (z : World). Fits z k p) (sym c.self.view_is) c.requires.fits in
     let at : IsAtFork w p = subst (λ (z : World). IsAtFork z p) (sym c.self.view_is) c.requires.forks in
     let free : refused w (alone_event k p) ≡ None = subst (λ (z : World). refused z (alone_event k p) ≡ None) (sym c.self.view_is) c.requires.free in
-    let B : ForksTo w p c.args.left c.args.right c.args.line = subst (λ (z : World). ForksTo z p c.args.left c.args.right c.args.line) (sym c.self.view_is) c.requires.by in
+    let B : (n : ℕ) × ForksTo w p c.args.left c.args.right n = subst (λ (z : World). (n : ℕ) × ForksTo z p c.args.left c.args.right n) (sym c.self.view_is) c.requires.by in
     let low : depth_of w.tree p.task < 1000 = subst (λ (z : World). depth_of z.tree p.task < 1000) (sym c.self.view_is) c.requires.shallow in
     let I : IsWorld w = c.self.invariant in
-    let made : p.task < length w.homes = own_home w k p I F at free c.args.left c.args.right c.args.line B low in
+    let made : p.task < length w.homes = own_home w k p I F at free c.args.left c.args.right B.0 B.1 low in
     let first : c.in-Ok-grown.first ≡ part_child p (length w.homes) c.args.left c.in-Ok-grown.first.heap.slots c.in-Ok-grown.first.heap.spare = c.in-Ok-grown.ensures.left_child ∙ ap (λ n. part_child p n c.args.left c.in-Ok-grown.first.heap.slots c.in-Ok-grown.first.heap.spare) (sym I.made) in
     let second : c.in-Ok-grown.second ≡ part_child p (length w.homes + 1) c.args.right c.in-Ok-grown.second.heap.slots c.in-Ok-grown.second.heap.spare = c.in-Ok-grown.ensures.right_child ∙ ap (λ n. part_child p (n + 1) c.args.right c.in-Ok-grown.second.heap.slots c.in-Ok-grown.second.heap.spare) (sym I.made) in
     let H : HomesFork w.homes c.put_homes.new.homes p c.args.left c.args.right = homes_fork_by w.homes c.grow-grown.new.homes c.put_homes.new.homes p c.args.left c.args.right c.in-Ok-grown.first c.in-Ok-grown.second made c.in-Ok-grown.ensures.homes first second c.put_homes.ensures in
     let N : SetsFork w.sets c.fork_sets.new.sets.items p.task = subst (λ (xs : List SetOf). SetsFork xs c.fork_sets.new.sets.items p.task) c.in-Ok-grown.ensures.sets c.fork_sets.ensures in
     let j : Space Event = record { items = []; room = w.journal.room - 1 } in
     let v : World = record w { steps = w.steps + (p.fresh + 1); sets = c.fork_sets.new.sets.items; marks = c.clear_marks.new.marks } in
-    subst IsWorld (sym (four_changed v (forked w.tree p.task) _ c.put_homes.new.homes c.put_homes.new.homes (slice_set w.hands k None) _ (record { items = _; room = w.journal.room - 1 }) _
-    c.in-Ok-grown.ensures.tree refl c.set.ensures (journal_by w.journal _ _ (alone_event k p) c.new-2.ensures c.push_reserved.ensures)))
-    (alone_world w k p I F at free c.args.left c.args.right c.args.line B low c.put_homes.new.homes c.fork_sets.new.sets.items H N c.clear_marks.new.marks c.clear_marks.ensures j)
+    along w k p _ _ c.enter_alone.ensures.steps c.enter_alone.ensures.journal (λ n j. IsWorld (record v { steps = n; tree = c.grow-grown.new.tree; homes = c.put_homes.new.homes; hands = c.set.new.self; journal = j }))
+    (subst IsWorld (sym (four_changed v (forked w.tree p.task) _ c.put_homes.new.homes c.put_homes.new.homes (slice_set w.hands k None) _ (entered w k p) _
+    c.in-Ok-grown.ensures.tree refl c.set.ensures refl))
+    (alone_world w k p I F at free c.args.left c.args.right B.0 B.1 low c.put_homes.new.homes c.fork_sets.new.sets.items H N c.clear_marks.new.marks c.clear_marks.ensures j))
 
 pub returns-clause-answered : goal.returns-clause-answered
 returns-clause-answered c =
@@ -117,21 +118,22 @@ returns-clause-answered c =
     let F : Fits w k p = subst (λ (z : World). Fits z k p) (sym c.self.view_is) c.requires.fits in
     let at : IsAtFork w p = subst (λ (z : World). IsAtFork z p) (sym c.self.view_is) c.requires.forks in
     let free : refused w (alone_event k p) ≡ None = subst (λ (z : World). refused z (alone_event k p) ≡ None) (sym c.self.view_is) c.requires.free in
-    let B : ForksTo w p c.args.left c.args.right c.args.line = subst (λ (z : World). ForksTo z p c.args.left c.args.right c.args.line) (sym c.self.view_is) c.requires.by in
+    let B : (n : ℕ) × ForksTo w p c.args.left c.args.right n = subst (λ (z : World). (n : ℕ) × ForksTo z p c.args.left c.args.right n) (sym c.self.view_is) c.requires.by in
     let low : depth_of w.tree p.task < 1000 = subst (λ (z : World). depth_of z.tree p.task < 1000) (sym c.self.view_is) c.requires.shallow in
     let I : IsWorld w = c.self.invariant in
-    let made : p.task < length w.homes = own_home w k p I F at free c.args.left c.args.right c.args.line B low in
+    let made : p.task < length w.homes = own_home w k p I F at free c.args.left c.args.right B.0 B.1 low in
     let first : c.in-Ok-grown.first ≡ part_child p (length w.homes) c.args.left c.in-Ok-grown.first.heap.slots c.in-Ok-grown.first.heap.spare = c.in-Ok-grown.ensures.left_child ∙ ap (λ n. part_child p n c.args.left c.in-Ok-grown.first.heap.slots c.in-Ok-grown.first.heap.spare) (sym I.made) in
     let second : c.in-Ok-grown.second ≡ part_child p (length w.homes + 1) c.args.right c.in-Ok-grown.second.heap.slots c.in-Ok-grown.second.heap.spare = c.in-Ok-grown.ensures.right_child ∙ ap (λ n. part_child p (n + 1) c.args.right c.in-Ok-grown.second.heap.slots c.in-Ok-grown.second.heap.spare) (sym I.made) in
     let H : HomesFork w.homes c.put_homes.new.homes p c.args.left c.args.right = homes_fork_by w.homes c.grow-grown.new.homes c.put_homes.new.homes p c.args.left c.args.right c.in-Ok-grown.first c.in-Ok-grown.second made c.in-Ok-grown.ensures.homes first second c.put_homes.ensures in
     let N : SetsFork w.sets c.fork_sets.new.sets.items p.task = subst (λ (xs : List SetOf). SetsFork xs c.fork_sets.new.sets.items p.task) c.in-Ok-grown.ensures.sets c.fork_sets.ensures in
     let j : Space Event = record { items = []; room = w.journal.room - 1 } in
     let v : World = record w { steps = w.steps + (p.fresh + 1); sets = c.fork_sets.new.sets.items; marks = c.clear_marks.new.marks } in
-    subst (λ (z : World). ForksOn z (record v { tree = c.grow-grown.new.tree; homes = c.put_homes.new.homes; hands = c.set.new.self; journal = c.push_reserved.new.self }) k p c.in-Ok-grown.first.task c.in-Ok-grown.second.task) c.self.view_is
-    (subst (λ (z : World). ForksOn w z k p c.in-Ok-grown.first.task c.in-Ok-grown.second.task) (sym (four_changed v (forked w.tree p.task) _ c.put_homes.new.homes c.put_homes.new.homes (slice_set w.hands k None) _ (record { items = _; room = w.journal.room - 1 }) _
-    c.in-Ok-grown.ensures.tree refl c.set.ensures (journal_by w.journal _ _ (alone_event k p) c.new-2.ensures c.push_reserved.ensures)))
-    (alone_forks w k p I F at free c.args.left c.args.right c.args.line B low c.put_homes.new.homes c.fork_sets.new.sets.items H N c.clear_marks.new.marks c.clear_marks.ensures j c.in-Ok-grown.first.task c.in-Ok-grown.second.task
-    (ap (λ (z : Child). z.task) c.in-Ok-grown.ensures.left_child) (ap (λ (z : Child). z.task) c.in-Ok-grown.ensures.right_child)))
+    subst (λ (z : World). ForksOn z (record v { steps = c.enter_alone.new.steps; tree = c.grow-grown.new.tree; homes = c.put_homes.new.homes; hands = c.set.new.self; journal = c.enter_alone.new.journal }) k p c.in-Ok-grown.first.task c.in-Ok-grown.second.task) c.self.view_is
+    (along w k p _ _ c.enter_alone.ensures.steps c.enter_alone.ensures.journal (λ n j. ForksOn w (record v { steps = n; tree = c.grow-grown.new.tree; homes = c.put_homes.new.homes; hands = c.set.new.self; journal = j }) k p c.in-Ok-grown.first.task c.in-Ok-grown.second.task)
+    (subst (λ (z : World). ForksOn w z k p c.in-Ok-grown.first.task c.in-Ok-grown.second.task) (sym (four_changed v (forked w.tree p.task) _ c.put_homes.new.homes c.put_homes.new.homes (slice_set w.hands k None) _ (entered w k p) _
+    c.in-Ok-grown.ensures.tree refl c.set.ensures refl))
+    (alone_forks w k p I F at free c.args.left c.args.right B.0 B.1 low c.put_homes.new.homes c.fork_sets.new.sets.items H N c.clear_marks.new.marks c.clear_marks.ensures j c.in-Ok-grown.first.task c.in-Ok-grown.second.task
+    (ap (λ (z : Child). z.task) c.in-Ok-grown.ensures.left_child) (ap (λ (z : Child). z.task) c.in-Ok-grown.ensures.right_child))))
 
 -- the same value, by what a call left that failed
 unchanged_by : (w : World) (n : List Node) (hs : List (Option Rest)) (ss : List SetOf) → n ≡ w.tree → hs ≡ w.homes → ss ≡ w.sets → record w { tree = n; homes = hs; sets = ss } ≡ w
@@ -154,8 +156,8 @@ returns-clause-hand c = c.set.ensures ∙ ap (λ (z : World). slice_set z.hands 
 pub grow-grown-requires-clause-shallow : goal.grow-grown-requires-clause-shallow
 grow-grown-requires-clause-shallow c = subst (λ (z : World). depth_of z.tree c.args.part.task < 1000) (sym c.self.view_is) c.requires.shallow
 
-pub push_reserved-requires : goal.push_reserved-requires
-push_reserved-requires c = subst (λ (z : World). 0 < z.journal.room) (sym c.self.view_is) c.requires.room
+pub enter_alone-requires-clause-room : goal.enter_alone-requires-clause-room
+enter_alone-requires-clause-room c = subst (λ (z : World). 0 < z.journal.room) (sym c.self.view_is) c.requires.room
 
 pub fork_sets-requires-clause-room : goal.fork_sets-requires-clause-room
 fork_sets-requires-clause-room c = c.in-Ok-grown.ensures.room

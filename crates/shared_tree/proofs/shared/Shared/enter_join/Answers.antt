@@ -16,7 +16,7 @@ use Rattle.shared_value.specs.World.{World, rest_at}
 use Rattle.shared_value.specs.Stands.{IsWorld}
 use Rattle.shared_value.specs.Fits.{Fits}
 use Rattle.shared_value.specs.Entered.{refused}
-use Rattle.shared_value.proofs.JournalGoesOn.{four_changed, journal_by}
+use Rattle.shared_value.proofs.JournalGoesOn.{four_changed}
 use Rattle.own_steps.specs.Alone.{alone_event}
 use Rattle.own_steps.proofs.AloneEntries.{alone_small}
 use Rattle.child_tasks.specs.ChildEnds.{EndsChild, IsAtEnd}
@@ -27,6 +27,7 @@ use Rattle.child_tasks.proofs.JoinEntries as entry
 use Rattle.child_tasks.proofs.JoinEntries.{other_made, other_set, own_set, parent_is, parent_made, parent_set}
 use Rattle.child_tasks.proofs.JoinValue.{Put, Taken, both_made, can_join}
 use Rattle.shared_tree.specs.contracts.shared.Shared.{the_view}
+use Rattle.shared_tree.proofs.StepsEntered.{along, entered}
 use Rattle.shared_tree.proofs.shared.Shared.enter_join.Goals as goal
 
 pub sibling_of-other-requires-clause-child : goal.sibling_of-other-requires-clause-child
@@ -58,8 +59,8 @@ sibling_of-other-requires-clause-few c =
     let made = own_made w k p I F at free in
     omega (arith, few, made)
 
-pub overflow_add-self-2 : goal.overflow_add-self-2
-overflow_add-self-2 c =
+pub enter_alone-requires-clause-small : goal.enter_alone-requires-clause-small
+enter_alone-requires-clause-small c =
     let w : World = the_view c.self.inside in
     let p : Private = c.args.part in
     let k : ℕ = c.args.worker in
@@ -69,8 +70,7 @@ overflow_add-self-2 c =
     let free : refused w (alone_event k p) ≡ None = subst (λ (z : World). refused z (alone_event k p) ≡ None) (sym c.self.view_is) c.requires.free in
     let ended : state_of w.tree (sibling p.task) ≡ Some Ended = subst (λ (z : World). state_of z.tree (sibling p.task) ≡ Some Ended) (sym c.self.view_is) c.requires.ended in
     let par : parent_of w.tree p.task ≡ Some c.args.parent = subst (λ (z : World). parent_of z.tree p.task ≡ Some c.args.parent) (sym c.self.view_is) c.requires.parent in
-    let few = alone_small w k p I F (end_shared w p at) free in
-    omega (arith, few.0, few.1)
+    alone_small w k p I F (end_shared w p at) free
 
 pub set_state-requires : goal.set_state-requires
 set_state-requires c =
@@ -410,8 +410,8 @@ invariant_of-self c =
     let both = both_made w k p I F at free ended c.args.parent c.sibling_of-other.result par o n1 n2 n3 x1 x2 x3 h1 h2 above c.leave_own-own.result c.leave_other-beside.result left right pool rest noted sets homes j T P in
     let v : World = record w { pool = pool; sets = sets; steps = w.steps + (p.fresh + 1) } in
     let tree : c.join_children-rest.new.tree ≡ joined_nodes (with_state w.tree p.task Ended) c.args.parent left.side.task right.side.task = c.join_children-rest.ensures.tree ∙ ap (λ ns. joined_nodes ns c.args.parent left.side.task right.side.task) c.set_state.ensures in
-    let same = four_changed v (joined_nodes (with_state w.tree p.task Ended) c.args.parent left.side.task right.side.task) c.join_children-rest.new.tree homes homes (slice_set w.hands k None) c.set.new.self (record { items = _; room = w.journal.room - 1 }) c.push_reserved.new.self tree refl c.set.ensures (journal_by w.journal _ _ (alone_event k p) c.new.ensures c.push_reserved.ensures) in
-    subst IsWorld (sym same) both.0
+    let same = four_changed v (joined_nodes (with_state w.tree p.task Ended) c.args.parent left.side.task right.side.task) c.join_children-rest.new.tree homes homes (slice_set w.hands k None) c.set.new.self (entered w k p) _ tree refl c.set.ensures refl in
+    along w k p _ _ c.enter_alone.ensures.steps c.enter_alone.ensures.journal (λ n j. IsWorld (record v { steps = n; tree = c.join_children-rest.new.tree; homes = homes; hands = c.set.new.self; journal = j })) (subst IsWorld (sym same) both.0)
 
 pub returns-clause-joined : goal.returns-clause-joined
 returns-clause-joined c =
@@ -480,9 +480,10 @@ returns-clause-joined c =
     let both = both_made w k p I F at free ended c.args.parent c.sibling_of-other.result par o n1 n2 n3 x1 x2 x3 h1 h2 above c.leave_own-own.result c.leave_other-beside.result left right pool rest noted sets homes j T P in
     let v : World = record w { pool = pool; sets = sets; steps = w.steps + (p.fresh + 1) } in
     let tree : c.join_children-rest.new.tree ≡ joined_nodes (with_state w.tree p.task Ended) c.args.parent left.side.task right.side.task = c.join_children-rest.ensures.tree ∙ ap (λ ns. joined_nodes ns c.args.parent left.side.task right.side.task) c.set_state.ensures in
-    let same = four_changed v (joined_nodes (with_state w.tree p.task Ended) c.args.parent left.side.task right.side.task) c.join_children-rest.new.tree homes homes (slice_set w.hands k None) c.set.new.self (record { items = _; room = w.journal.room - 1 }) c.push_reserved.new.self tree refl c.set.ensures (journal_by w.journal _ _ (alone_event k p) c.new.ensures c.push_reserved.ensures) in
-    subst (λ (z : World). EndsChild z (record v { tree = c.join_children-rest.new.tree; homes = homes; hands = c.set.new.self; journal = c.push_reserved.new.self }) k p (Some c.args.parent)) c.self.view_is
-    (subst (λ (z : World). EndsChild w z k p (Some c.args.parent)) (sym same) both.1)
+    let same = four_changed v (joined_nodes (with_state w.tree p.task Ended) c.args.parent left.side.task right.side.task) c.join_children-rest.new.tree homes homes (slice_set w.hands k None) c.set.new.self (entered w k p) _ tree refl c.set.ensures refl in
+    subst (λ (z : World). EndsChild z (record v { steps = c.enter_alone.new.steps; tree = c.join_children-rest.new.tree; homes = homes; hands = c.set.new.self; journal = c.enter_alone.new.journal }) k p (Some c.args.parent)) c.self.view_is
+    (along w k p _ _ c.enter_alone.ensures.steps c.enter_alone.ensures.journal (λ n j. EndsChild w (record v { steps = n; tree = c.join_children-rest.new.tree; homes = homes; hands = c.set.new.self; journal = j }) k p (Some c.args.parent))
+    (subst (λ (z : World). EndsChild w z k p (Some c.args.parent)) (sym same) both.1))
 
 pub returns-clause-hand : goal.returns-clause-hand
 returns-clause-hand c = c.set.ensures ∙ ap (λ (z : World). slice_set z.hands c.args.worker None) c.self.view_is

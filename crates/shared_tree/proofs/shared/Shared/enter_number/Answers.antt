@@ -1,33 +1,30 @@
 use Rattle.std.proofs.Common.{◌≡◌, ℕ, ◌+◌, ◌-◌, arith, None, [], ap, ap₂, sym, subst, ◌∙◌}
 use Rattle.std.proofs.Common.{w64}
 use Rattle.std.proofs.lemmas.Int.{to_z-of_z}
-use Rattle.listed.specs.Space.{Space}
-use Rattle.run_trace.specs.Entry.{Event}
 use Rattle.task_frames.specs.Stack.{Stack, with_int, with_next}
 use Rattle.task_machine.specs.declared.part.Private.{Private}
 use Rattle.shared_value.specs.Stands.{IsWorld}
 use Rattle.shared_value.specs.World.{World}
 use Rattle.shared_value.specs.Fits.{Fits}
 use Rattle.shared_value.specs.Entered.{refused}
-use Rattle.shared_value.proofs.JournalGoesOn.{journal_by}
 use Rattle.own_steps.specs.Alone.{GoesAlone, IsShared, alone_event}
 use Rattle.own_steps.proofs.AloneEntries.{alone_small, next_small}
 use Rattle.others_objects.specs.declared.other.OtherStep.TheVariants.{SetsNumber}
 use Rattle.others_objects.specs.Other.{TellsOther}
 use Rattle.others_objects.proofs.OtherEntries.{number_goes, number_world}
 use Rattle.shared_tree.specs.contracts.shared.Shared.{the_view}
+use Rattle.shared_tree.proofs.StepsEntered.{along}
 use Rattle.shared_tree.proofs.shared.Shared.enter_number.Goals as goal
 
-pub overflow_add-self-2 : goal.overflow_add-self-2
-overflow_add-self-2 c =
+pub enter_alone-requires-clause-small : goal.enter_alone-requires-clause-small
+enter_alone-requires-clause-small c =
     let w : World = the_view c.self.inside in
     let p : Private = c.args.part.now in
     let k : ℕ = c.args.worker in
     let F : Fits w k p = subst (λ (z : World). Fits z k p) (sym c.self.view_is) c.requires.fits in
     let shared : IsShared w p = subst (λ (z : World). IsShared z p) (sym c.self.view_is) c.requires.shared in
     let free : refused w (alone_event k p) ≡ None = subst (λ (z : World). refused z (alone_event k p) ≡ None) (sym c.self.view_is) c.requires.free in
-    let few = alone_small w k p c.self.invariant F shared free in
-    omega (arith, few.0, few.1)
+    alone_small w k p c.self.invariant F shared free
 
 pub overflow_add-next : goal.overflow_add-next
 overflow_add-next c =
@@ -49,9 +46,9 @@ invariant_of-self c =
     let F : Fits w k p = subst (λ (z : World). Fits z k p) (sym c.self.view_is) c.requires.fits in
     let shared : IsShared w p = subst (λ (z : World). IsShared z p) (sym c.self.view_is) c.requires.shared in
     let free : refused w (alone_event k p) ≡ None = subst (λ (z : World). refused z (alone_event k p) ≡ None) (sym c.self.view_is) c.requires.free in
-    let T : TellsOther w p (SetsNumber c.args.register c.args.value) c.args.line = subst (λ (z : World). TellsOther z p (SetsNumber c.args.register c.args.value) c.args.line) (sym c.self.view_is) c.requires.reads in
-    subst (λ (j : Space Event). IsWorld (record w { steps = w.steps + (p.fresh + 1); journal = j })) (sym (journal_by w.journal _ _ (alone_event k p) c.new.ensures c.push_reserved.ensures))
-    (number_world w k p c.self.invariant F shared free c.args.register c.args.value c.args.line T (record { items = []; room = w.journal.room - 1 }))
+    let T : (n : ℕ) × TellsOther w p (SetsNumber c.args.register c.args.value) n = subst (λ (z : World). (n : ℕ) × TellsOther z p (SetsNumber c.args.register c.args.value) n) (sym c.self.view_is) c.requires.reads in
+    along w k p _ _ c.enter_alone.ensures.steps c.enter_alone.ensures.journal (λ n j. IsWorld (record w { steps = n; journal = j }))
+    (number_world w k p c.self.invariant F shared free c.args.register c.args.value T.0 T.1 (record { items = []; room = w.journal.room - 1 }))
 
 pub returns : goal.returns
 returns c =
@@ -61,10 +58,10 @@ returns c =
     let F : Fits w k p = subst (λ (z : World). Fits z k p) (sym c.self.view_is) c.requires.fits in
     let shared : IsShared w p = subst (λ (z : World). IsShared z p) (sym c.self.view_is) c.requires.shared in
     let free : refused w (alone_event k p) ≡ None = subst (λ (z : World). refused z (alone_event k p) ≡ None) (sym c.self.view_is) c.requires.free in
-    let T : TellsOther w p (SetsNumber c.args.register c.args.value) c.args.line = subst (λ (z : World). TellsOther z p (SetsNumber c.args.register c.args.value) c.args.line) (sym c.self.view_is) c.requires.reads in
+    let T : (n : ℕ) × TellsOther w p (SetsNumber c.args.register c.args.value) n = subst (λ (z : World). (n : ℕ) × TellsOther z p (SetsNumber c.args.register c.args.value) n) (sym c.self.view_is) c.requires.reads in
     let frames : c.set_next.new.self ≡ with_next (with_int p.frames c.args.register c.args.value) (p.frames.top.next + 1) =
     c.set_next.ensures ∙ ap₂ (λ (s : Stack) n. with_next s (n + 1)) (c.set_int.ensures ∙ (ap (with_int p.frames c.index.result) (to_z-of_z w64 c.args.value c.ranges.value) ∙ ap (λ i. with_int p.frames i c.args.value) c.index.ensures.value)) c.next-next.ensures in
-    subst (λ (z : World). GoesAlone z (record w { steps = w.steps + (p.fresh + 1); journal = c.push_reserved.new.self }) k p (record p { frames = c.set_next.new.self; fresh = 0 })) c.self.view_is
-    (subst (λ (s : Stack). GoesAlone w (record w { steps = w.steps + (p.fresh + 1); journal = c.push_reserved.new.self }) k p (record p { frames = s; fresh = 0 })) (sym frames)
-    (subst (λ (j : Space Event). GoesAlone w (record w { steps = w.steps + (p.fresh + 1); journal = j }) k p (record p { frames = with_next (with_int p.frames c.args.register c.args.value) (p.frames.top.next + 1); fresh = 0 })) (sym (journal_by w.journal _ _ (alone_event k p) c.new.ensures c.push_reserved.ensures))
-    (number_goes w k p c.self.invariant F shared free c.args.register c.args.value c.args.line T (record { items = []; room = w.journal.room - 1 }))))
+    subst (λ (z : World). GoesAlone z (record w { steps = c.enter_alone.new.steps; journal = c.enter_alone.new.journal }) k p (record p { frames = c.set_next.new.self; fresh = 0 })) c.self.view_is
+    (subst (λ (s : Stack). GoesAlone w (record w { steps = c.enter_alone.new.steps; journal = c.enter_alone.new.journal }) k p (record p { frames = s; fresh = 0 })) (sym frames)
+    (along w k p _ _ c.enter_alone.ensures.steps c.enter_alone.ensures.journal (λ n j. GoesAlone w (record w { steps = n; journal = j }) k p (record p { frames = with_next (with_int p.frames c.args.register c.args.value) (p.frames.top.next + 1); fresh = 0 }))
+    (number_goes w k p c.self.invariant F shared free c.args.register c.args.value T.0 T.1 (record { items = []; room = w.journal.room - 1 }))))

@@ -1,20 +1,38 @@
-use Rattle.std.proofs.Common.{ap, subst, ◌∙◌}
+use Rattle.std.proofs.Common.{ℤ, SFits, w64, to_z-of_z, rules, ap, sym, subst, ◌∙◌}
 use Rattle.hh_model.specs.declared.data.End.TheVariants.{Trapped}
 use Rattle.hh_model.specs.Step.{ended_by}
 use Rattle.own_steps.specs.Alone.{then_accounts}
 use Rattle.others_objects.specs.declared.other.OtherStep.{OtherStep}
-use Rattle.others_objects.specs.declared.other.OtherStep.TheVariants.{Stops, Traps}
+use Rattle.others_objects.specs.declared.other.OtherStep.TheVariants.{SetsNumber, Stops, StoresNumber, Traps}
 use Rattle.others_objects.specs.Other.{TellsOther}
 use Rattle.shared_tree.proofs.shared.Shared.enter_other.Goals as goal
 
 pub enter_reference-requires-clause-reads : goal.enter_reference-requires-clause-reads
-enter_reference-requires-clause-reads c = subst (λ (d : OtherStep). TellsOther c.args.self.now c.args.part d c.args.line) c.in-SetsReference.is c.requires.tells
+enter_reference-requires-clause-reads c = (c.args.line, subst (λ (d : OtherStep). TellsOther c.args.self.now c.args.part d c.args.line) c.in-SetsReference.is c.requires.tells)
+
+pub enter_number-requires-clause-reads : goal.enter_number-requires-clause-reads
+enter_number-requires-clause-reads c =
+    let v : ℤ = c.in-SetsNumber.value in
+    let fits : SFits w64 v = search rules in (
+      c.args.line,
+      subst (λ (z : ℤ). TellsOther c.args.self.now c.args.part (SetsNumber c.in-SetsNumber.register z) c.args.line) (sym (to_z-of_z w64 v fits))
+          (subst (λ (d : OtherStep). TellsOther c.args.self.now c.args.part d c.args.line) c.in-SetsNumber.is c.requires.tells),
+    )
+
+pub enter_store_number-requires-clause-stores : goal.enter_store_number-requires-clause-stores
+enter_store_number-requires-clause-stores c =
+    let v : ℤ = c.in-StoresNumber.value in
+    let fits : SFits w64 v = search rules in (
+      c.args.line,
+      subst (λ (z : ℤ). TellsOther c.args.self.now c.args.part (StoresNumber c.in-StoresNumber.object c.in-StoresNumber.field z) c.args.line) (sym (to_z-of_z w64 v fits))
+          (subst (λ (d : OtherStep). TellsOther c.args.self.now c.args.part d c.args.line) c.in-StoresNumber.is c.requires.tells),
+    )
 
 pub store_other-requires-clause-stores : goal.store_other-requires-clause-stores
-store_other-requires-clause-stores c = subst (λ (d : OtherStep). TellsOther c.args.self.now c.args.part d c.args.line) c.in-StoresReference.is c.requires.tells
+store_other-requires-clause-stores c = (c.args.line, subst (λ (d : OtherStep). TellsOther c.args.self.now c.args.part d c.args.line) c.in-StoresReference.is c.requires.tells)
 
 pub store_other-requires-in-Swaps-clause-stores : goal.store_other-requires-in-Swaps-clause-stores
-store_other-requires-in-Swaps-clause-stores c = subst (λ (d : OtherStep). TellsOther c.args.self.now c.args.part d c.args.line) c.in-Swaps.is c.requires.tells
+store_other-requires-in-Swaps-clause-stores c = (c.args.line, subst (λ (d : OtherStep). TellsOther c.args.self.now c.args.part d c.args.line) c.in-Swaps.is c.requires.tells)
 
 pub enter_halt-requires-clause-ends : goal.enter_halt-requires-clause-ends
 enter_halt-requires-clause-ends c =

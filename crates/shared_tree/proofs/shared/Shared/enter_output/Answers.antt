@@ -1,8 +1,6 @@
 use Rattle.std.proofs.Common.{◌≡◌, ℕ, ℤ, ◌+◌, ◌-◌, ◌++◌, ◌∷◌, arith, None, List, [], ap, sym, subst, ◌∙◌}
 use Rattle.std.proofs.Common.{w64}
 use Rattle.std.proofs.lemmas.Int.{to_z-of_z}
-use Rattle.listed.specs.Space.{Space}
-use Rattle.run_trace.specs.Entry.{Event}
 use Rattle.task_frames.specs.Stack.{Stack, with_next}
 use Rattle.task_machine.specs.declared.part.Private.{Private}
 use Rattle.shared_value.specs.declared.next_step.Ending.TheVariants.{Prints}
@@ -10,27 +8,22 @@ use Rattle.shared_value.specs.Stands.{IsWorld}
 use Rattle.shared_value.specs.World.{World}
 use Rattle.shared_value.specs.Fits.{Fits}
 use Rattle.shared_value.specs.Entered.{refused}
-use Rattle.shared_value.proofs.JournalGoesOn.{journal_by}
 use Rattle.own_steps.specs.Alone.{IsShared, alone_event}
 use Rattle.own_steps.specs.Alone.{GoesAlone, Tells}
 use Rattle.own_steps.proofs.AloneEntries.{alone_small, next_small, printed_goes, printed_world}
 use Rattle.shared_tree.specs.contracts.shared.Shared.{the_view}
+use Rattle.shared_tree.proofs.StepsEntered.{along, entered}
 use Rattle.shared_tree.proofs.shared.Shared.enter_output.Goals as goal
 
--- the value by what the code made of it
-printed_by : (w : World) (n : ℕ) (xs xs' : List ℤ) (j j' : Space Event) → xs' ≡ xs → j' ≡ j → record w { outputs = xs; steps = n; journal = j } ≡ record w { outputs = xs'; steps = n; journal = j' }
-printed_by w n xs xs' j j' ex ej = ap (λ z. record w { outputs = z; steps = n; journal = j }) (sym ex) ∙ ap (λ z. record w { outputs = xs'; steps = n; journal = z }) (sym ej)
-
-pub overflow_add-self-2 : goal.overflow_add-self-2
-overflow_add-self-2 c =
+pub enter_alone-requires-clause-small : goal.enter_alone-requires-clause-small
+enter_alone-requires-clause-small c =
     let w : World = the_view c.self.inside in
     let p : Private = c.args.part.now in
     let k : ℕ = c.args.worker in
     let F : Fits w k p = subst (λ (z : World). Fits z k p) (sym c.self.view_is) c.requires.fits in
     let shared : IsShared w p = subst (λ (z : World). IsShared z p) (sym c.self.view_is) c.requires.shared in
     let free : refused w (alone_event k p) ≡ None = subst (λ (z : World). refused z (alone_event k p) ≡ None) (sym c.self.view_is) c.requires.free in
-    let few = alone_small w k p c.self.invariant F shared free in
-    omega (arith, few.0, few.1)
+    alone_small w k p c.self.invariant F shared free
 
 pub overflow_add-next : goal.overflow_add-next
 overflow_add-next c =
@@ -52,9 +45,10 @@ invariant_of-self-2 c =
     let F : Fits w k p = subst (λ (z : World). Fits z k p) (sym c.self.view_is) c.requires.fits in
     let shared : IsShared w p = subst (λ (z : World). IsShared z p) (sym c.self.view_is) c.requires.shared in
     let free : refused w (alone_event k p) ≡ None = subst (λ (z : World). refused z (alone_event k p) ≡ None) (sym c.self.view_is) c.requires.free in
-    let T : Tells w p (Prints c.args.value) c.args.line = subst (λ (z : World). Tells z p (Prints c.args.value) c.args.line) (sym c.self.view_is) c.requires.prints in
-    subst IsWorld (printed_by w (w.steps + (p.fresh + 1)) (w.outputs ++ c.args.value ∷ []) c.push.new.self _ c.push_reserved.new.self (c.in_ok-push.ensures.ok ∙ ap (λ (x : ℤ). w.outputs ++ x ∷ []) (to_z-of_z w64 c.args.value c.ranges.value)) (journal_by w.journal _ _ (alone_event k p) c.new.ensures c.push_reserved.ensures))
-    (printed_world w k p c.self.invariant F shared free c.args.value c.args.line T (record { items = []; room = w.journal.room - 1 }))
+    let T : (n : ℕ) × Tells w p (Prints c.args.value) n = subst (λ (z : World). (n : ℕ) × Tells z p (Prints c.args.value) n) (sym c.self.view_is) c.requires.prints in
+    along w k p _ _ c.enter_alone.ensures.steps c.enter_alone.ensures.journal (λ n j. IsWorld (record w { outputs = c.push.new.self; steps = n; journal = j }))
+    (subst (λ (xs : List ℤ). IsWorld (record w { outputs = xs; steps = w.steps + (p.fresh + 1); journal = entered w k p })) (sym (c.in_ok-push.ensures.ok ∙ ap (λ (x : ℤ). w.outputs ++ x ∷ []) (to_z-of_z w64 c.args.value c.ranges.value)))
+    (printed_world w k p c.self.invariant F shared free c.args.value T.0 T.1 (record { items = []; room = w.journal.room - 1 })))
 
 pub returns-clause-goes : goal.returns-clause-goes
 returns-clause-goes c =
@@ -64,10 +58,10 @@ returns-clause-goes c =
     let F : Fits w k p = subst (λ (z : World). Fits z k p) (sym c.self.view_is) c.requires.fits in
     let shared : IsShared w p = subst (λ (z : World). IsShared z p) (sym c.self.view_is) c.requires.shared in
     let free : refused w (alone_event k p) ≡ None = subst (λ (z : World). refused z (alone_event k p) ≡ None) (sym c.self.view_is) c.requires.free in
-    let T : Tells w p (Prints c.args.value) c.args.line = subst (λ (z : World). Tells z p (Prints c.args.value) c.args.line) (sym c.self.view_is) c.requires.prints in
+    let T : (n : ℕ) × Tells w p (Prints c.args.value) n = subst (λ (z : World). (n : ℕ) × Tells z p (Prints c.args.value) n) (sym c.self.view_is) c.requires.prints in
     let frames : c.set_next.new.self ≡ with_next p.frames (p.frames.top.next + 1) = c.set_next.ensures ∙ ap (λ n. with_next p.frames (n + 1)) c.next-next.ensures in
-    subst (λ (z : World). GoesAlone z (record w { outputs = c.push.new.self; steps = w.steps + (p.fresh + 1); journal = c.push_reserved.new.self }) k p (record p { frames = c.set_next.new.self; fresh = 0 })) c.self.view_is
-    (subst (λ (s : Stack). GoesAlone w (record w { outputs = c.push.new.self; steps = w.steps + (p.fresh + 1); journal = c.push_reserved.new.self }) k p (record p { frames = s; fresh = 0 })) (sym frames)
-    (subst (λ (z : World). GoesAlone w z k p (record p { frames = with_next p.frames (p.frames.top.next + 1); fresh = 0 }))
-    (printed_by w (w.steps + (p.fresh + 1)) (w.outputs ++ c.args.value ∷ []) c.push.new.self _ c.push_reserved.new.self (c.in_ok-push.ensures.ok ∙ ap (λ (x : ℤ). w.outputs ++ x ∷ []) (to_z-of_z w64 c.args.value c.ranges.value)) (journal_by w.journal _ _ (alone_event k p) c.new.ensures c.push_reserved.ensures))
-    (printed_goes w k p c.self.invariant F shared free c.args.value c.args.line T (record { items = []; room = w.journal.room - 1 }))))
+    subst (λ (z : World). GoesAlone z (record w { outputs = c.push.new.self; steps = c.enter_alone.new.steps; journal = c.enter_alone.new.journal }) k p (record p { frames = c.set_next.new.self; fresh = 0 })) c.self.view_is
+    (subst (λ (s : Stack). GoesAlone w (record w { outputs = c.push.new.self; steps = c.enter_alone.new.steps; journal = c.enter_alone.new.journal }) k p (record p { frames = s; fresh = 0 })) (sym frames)
+    (along w k p _ _ c.enter_alone.ensures.steps c.enter_alone.ensures.journal (λ n j. GoesAlone w (record w { outputs = c.push.new.self; steps = n; journal = j }) k p (record p { frames = with_next p.frames (p.frames.top.next + 1); fresh = 0 }))
+    (subst (λ (xs : List ℤ). GoesAlone w (record w { outputs = xs; steps = w.steps + (p.fresh + 1); journal = entered w k p }) k p (record p { frames = with_next p.frames (p.frames.top.next + 1); fresh = 0 })) (sym (c.in_ok-push.ensures.ok ∙ ap (λ (x : ℤ). w.outputs ++ x ∷ []) (to_z-of_z w64 c.args.value c.ranges.value)))
+    (printed_goes w k p c.self.invariant F shared free c.args.value T.0 T.1 (record { items = []; room = w.journal.room - 1 })))))

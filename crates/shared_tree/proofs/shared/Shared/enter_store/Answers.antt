@@ -14,7 +14,6 @@ use Rattle.shared_value.specs.Stands.{IsWorld}
 use Rattle.shared_value.specs.World.{World}
 use Rattle.shared_value.specs.Fits.{Fits}
 use Rattle.shared_value.specs.Entered.{refused}
-use Rattle.shared_value.proofs.JournalGoesOn.{journal_by}
 use Rattle.own_steps.specs.Alone.{GoesAlone, IsShared, alone_event}
 use Rattle.own_steps.proofs.AloneEntries.{alone_small, next_small}
 use Rattle.others_objects.specs.declared.other.OtherStep.{OtherStep}
@@ -22,6 +21,7 @@ use Rattle.others_objects.specs.Other.{SameButRoom, TellsOther, put_rest, store_
 use Rattle.others_objects.proofs.SetRooms.{roomier_same, roomier_world}
 use Rattle.others_objects.proofs.StoreEntries as entries
 use Rattle.shared_tree.specs.contracts.shared.Shared.{the_view}
+use Rattle.shared_tree.proofs.StepsEntered.{along, entered}
 use Rattle.shared_tree.proofs.shared.Shared.enter_store.Goals as goal
 
 always_err : {A E P : Type 0} (r : Result A E) → P → OnErr r P
@@ -29,11 +29,9 @@ always_err (Ok x) h = tt
 always_err (Err e) h = h
 
 -- the value by what the code made of it
-stored_by : (w : World) (n : ℕ) (hs hs' : List (Option Rest)) (ss ss' : List SetOf) (j j' : Space Event) → hs' ≡ hs → ss' ≡ ss → j' ≡ j → record w { homes = hs; sets = ss; steps = n; journal = j } ≡ record w { homes = hs'; sets = ss'; steps = n; journal = j' }
-stored_by w n hs hs' ss ss' j j' eh es ej =
-    ap (λ z. record w { homes = z; sets = ss; steps = n; journal = j }) (sym eh)
-    ∙ (ap (λ z. record w { homes = hs'; sets = z; steps = n; journal = j }) (sym es)
-    ∙ ap (λ z. record w { homes = hs'; sets = ss'; steps = n; journal = z }) (sym ej))
+stored_by : (w : World) (n : ℕ) (j : Space Event) (hs hs' : List (Option Rest)) (ss ss' : List SetOf) → hs' ≡ hs → ss' ≡ ss → record w { homes = hs; sets = ss; steps = n; journal = j } ≡ record w { homes = hs'; sets = ss'; steps = n; journal = j }
+stored_by w n j hs hs' ss ss' eh es =
+    ap (λ z. record w { homes = z; sets = ss; steps = n; journal = j }) (sym eh) ∙ ap (λ z. record w { homes = hs'; sets = z; steps = n; journal = j }) (sym es)
 
 roomier_by : (w : World) (hs : List (Option Rest)) (ss ss' : List SetOf) → hs ≡ w.homes → ss' ≡ ss → record w { sets = ss } ≡ record w { homes = hs; sets = ss' }
 roomier_by w hs ss ss' eh es = ap (λ z. record w { homes = z; sets = ss }) (sym eh) ∙ ap (λ z. record w { homes = hs; sets = z }) (sym es)
@@ -47,8 +45,8 @@ write_reference-requires-clause-there c =
     let shared : IsShared w p = subst (λ (z : World). IsShared z p) (sym c.self.view_is) c.requires.shared in
     let free : refused w (alone_event k p) ≡ None = subst (λ (z : World). refused z (alone_event k p) ≡ None) (sym c.self.view_is) c.requires.free in
     let does : OtherStep = store_of c.args.swap c.args.object c.args.field c.args.value in
-    let T : TellsOther w p does c.args.line = subst (λ (z : World). TellsOther z p does c.args.line) (sym c.self.view_is) c.requires.stores in
-    entries.writable w k p c.self.invariant F shared free c.args.swap c.args.object c.args.field c.args.value c.args.line T
+    let T : (n : ℕ) × TellsOther w p does n = subst (λ (z : World). (n : ℕ) × TellsOther z p does n) (sym c.self.view_is) c.requires.stores in
+    entries.writable w k p c.self.invariant F shared free c.args.swap c.args.object c.args.field c.args.value T.0 T.1
 
 pub write_reference-requires-clause-value : goal.write_reference-requires-clause-value
 write_reference-requires-clause-value c =
@@ -59,8 +57,8 @@ write_reference-requires-clause-value c =
     let shared : IsShared w p = subst (λ (z : World). IsShared z p) (sym c.self.view_is) c.requires.shared in
     let free : refused w (alone_event k p) ≡ None = subst (λ (z : World). refused z (alone_event k p) ≡ None) (sym c.self.view_is) c.requires.free in
     let does : OtherStep = store_of c.args.swap c.args.object c.args.field c.args.value in
-    let T : TellsOther w p does c.args.line = subst (λ (z : World). TellsOther z p does c.args.line) (sym c.self.view_is) c.requires.stores in
-    entries.value_owned w k p c.self.invariant F shared free c.args.swap c.args.object c.args.field c.args.value c.args.line T
+    let T : (n : ℕ) × TellsOther w p does n = subst (λ (z : World). (n : ℕ) × TellsOther z p does n) (sym c.self.view_is) c.requires.stores in
+    entries.value_owned w k p c.self.invariant F shared free c.args.swap c.args.object c.args.field c.args.value T.0 T.1
 
 pub write_reference-requires-clause-place : goal.write_reference-requires-clause-place
 write_reference-requires-clause-place c =
@@ -71,8 +69,8 @@ write_reference-requires-clause-place c =
     let shared : IsShared w p = subst (λ (z : World). IsShared z p) (sym c.self.view_is) c.requires.shared in
     let free : refused w (alone_event k p) ≡ None = subst (λ (z : World). refused z (alone_event k p) ≡ None) (sym c.self.view_is) c.requires.free in
     let does : OtherStep = store_of c.args.swap c.args.object c.args.field c.args.value in
-    let T : TellsOther w p does c.args.line = subst (λ (z : World). TellsOther z p does c.args.line) (sym c.self.view_is) c.requires.stores in
-    entries.value_place w k p c.self.invariant F shared free c.args.swap c.args.object c.args.field c.args.value c.args.line T
+    let T : (n : ℕ) × TellsOther w p does n = subst (λ (z : World). (n : ℕ) × TellsOther z p does n) (sym c.self.view_is) c.requires.stores in
+    entries.value_place w k p c.self.invariant F shared free c.args.swap c.args.object c.args.field c.args.value T.0 T.1
 
 pub invariant_of-self : goal.invariant_of-self
 invariant_of-self c =
@@ -106,16 +104,15 @@ returns-in_err-write_reference-clause-same c =
     (subst (λ (z : World). SameButRoom z (record w { homes = c.write_reference.new.homes; sets = take c.self.inside.sets.len (new ++ drop (length new) items) })) c.self.view_is
     (subst (SameButRoom w) (roomier_by w c.write_reference.new.homes new _ c.in_err-write_reference.ensures.same back) (roomier_same w new many same)))
 
-pub overflow_add-self-2 : goal.overflow_add-self-2
-overflow_add-self-2 c =
+pub enter_alone-requires-clause-small : goal.enter_alone-requires-clause-small
+enter_alone-requires-clause-small c =
     let w : World = the_view c.self.inside in
     let p : Private = c.args.part.now in
     let k : ℕ = c.args.worker in
     let F : Fits w k p = subst (λ (z : World). Fits z k p) (sym c.self.view_is) c.requires.fits in
     let shared : IsShared w p = subst (λ (z : World). IsShared z p) (sym c.self.view_is) c.requires.shared in
     let free : refused w (alone_event k p) ≡ None = subst (λ (z : World). refused z (alone_event k p) ≡ None) (sym c.self.view_is) c.requires.free in
-    let few = alone_small w k p c.self.invariant F shared free in
-    omega (arith, few.0, few.1)
+    alone_small w k p c.self.invariant F shared free
 
 pub go_on-requires : goal.go_on-requires
 go_on-requires c =
@@ -137,20 +134,20 @@ invariant_of-self-2 c =
     let shared : IsShared w p = subst (λ (z : World). IsShared z p) (sym c.self.view_is) c.requires.shared in
     let free : refused w (alone_event k p) ≡ None = subst (λ (z : World). refused z (alone_event k p) ≡ None) (sym c.self.view_is) c.requires.free in
     let does : OtherStep = store_of c.args.swap c.args.object c.args.field c.args.value in
-    let T : TellsOther w p does c.args.line = subst (λ (z : World). TellsOther z p does c.args.line) (sym c.self.view_is) c.requires.stores in
+    let T : (n : ℕ) × TellsOther w p does n = subst (λ (z : World). (n : ℕ) × TellsOther z p does n) (sym c.self.view_is) c.requires.stores in
     let items : List SetOf = c.self.inside.sets.items in
     let new : List SetOf = c.write_reference.new.sets in
     let many : length new ≡ length items = c.write_reference.auto.sets ∙ ap length c.deref_mut.ensures.value in
     let back : take c.self.inside.sets.len (new ++ drop (length new) items) ≡ new = ap (λ n. take n (new ++ drop (length new) items)) (c.self.inside.sets.ok.0 ∙ sym many) ∙ take-append_seam new (drop (length new) items) in
-    let homes : c.write_reference.new.homes ≡ slice_set w.homes (entries.owner w k p c.self.invariant F shared free c.args.swap c.args.object c.args.field c.args.value c.args.line T) (Some (put_rest (entries.foreign w k p c.self.invariant F shared free c.args.swap c.args.object c.args.field c.args.value c.args.line T).rest c.args.object (with_ref (cell_of (entries.foreign w k p c.self.invariant F shared free c.args.swap c.args.object c.args.field c.args.value c.args.line T).rest.heap.chunks c.args.object) c.args.field c.args.value))) =
-    c.in_ok-write_reference.ensures.written (entries.owner w k p c.self.invariant F shared free c.args.swap c.args.object c.args.field c.args.value c.args.line T) (entries.foreign w k p c.self.invariant F shared free c.args.swap c.args.object c.args.field c.args.value c.args.line T).rest (entries.foreign w k p c.self.invariant F shared free c.args.swap c.args.object c.args.field c.args.value c.args.line T).place.chunk (entries.foreign w k p c.self.invariant F shared free c.args.swap c.args.object c.args.field c.args.value c.args.line T).there in
-    let C : (z : ℕ) → content_at new z ≡ option_map (content_after w.tree w.pool (record { object = c.args.object; field = c.args.field }) (slice_index_or (object_of (entries.foreign w k p c.self.invariant F shared free c.args.swap c.args.object c.args.field c.args.value c.args.line T).rest.heap.chunks c.args.object).refs c.args.field None) c.args.value z) (content_at w.sets z) =
+    let homes : c.write_reference.new.homes ≡ slice_set w.homes (entries.owner w k p c.self.invariant F shared free c.args.swap c.args.object c.args.field c.args.value T.0 T.1) (Some (put_rest (entries.foreign w k p c.self.invariant F shared free c.args.swap c.args.object c.args.field c.args.value T.0 T.1).rest c.args.object (with_ref (cell_of (entries.foreign w k p c.self.invariant F shared free c.args.swap c.args.object c.args.field c.args.value T.0 T.1).rest.heap.chunks c.args.object) c.args.field c.args.value))) =
+    c.in_ok-write_reference.ensures.written (entries.owner w k p c.self.invariant F shared free c.args.swap c.args.object c.args.field c.args.value T.0 T.1) (entries.foreign w k p c.self.invariant F shared free c.args.swap c.args.object c.args.field c.args.value T.0 T.1).rest (entries.foreign w k p c.self.invariant F shared free c.args.swap c.args.object c.args.field c.args.value T.0 T.1).place.chunk (entries.foreign w k p c.self.invariant F shared free c.args.swap c.args.object c.args.field c.args.value T.0 T.1).there in
+    let C : (z : ℕ) → content_at new z ≡ option_map (content_after w.tree w.pool (record { object = c.args.object; field = c.args.field }) (slice_index_or (object_of (entries.foreign w k p c.self.invariant F shared free c.args.swap c.args.object c.args.field c.args.value T.0 T.1).rest.heap.chunks c.args.object).refs c.args.field None) c.args.value z) (content_at w.sets z) =
     λ z.
-    c.in_ok-write_reference.ensures.noted (entries.owner w k p c.self.invariant F shared free c.args.swap c.args.object c.args.field c.args.value c.args.line T) (entries.foreign w k p c.self.invariant F shared free c.args.swap c.args.object c.args.field c.args.value c.args.line T).rest (entries.foreign w k p c.self.invariant F shared free c.args.swap c.args.object c.args.field c.args.value c.args.line T).place.chunk (entries.foreign w k p c.self.invariant F shared free c.args.swap c.args.object c.args.field c.args.value c.args.line T).there z
-    ∙ ap (λ xs. option_map (content_after w.tree w.pool (record { object = c.args.object; field = c.args.field }) (slice_index_or (object_of (entries.foreign w k p c.self.invariant F shared free c.args.swap c.args.object c.args.field c.args.value c.args.line T).rest.heap.chunks c.args.object).refs c.args.field None) c.args.value z) (content_at xs z)) c.deref_mut.ensures.value in
-    let journal = journal_by w.journal _ _ (alone_event k p) c.new.ensures c.push_reserved.ensures in
+    c.in_ok-write_reference.ensures.noted (entries.owner w k p c.self.invariant F shared free c.args.swap c.args.object c.args.field c.args.value T.0 T.1) (entries.foreign w k p c.self.invariant F shared free c.args.swap c.args.object c.args.field c.args.value T.0 T.1).rest (entries.foreign w k p c.self.invariant F shared free c.args.swap c.args.object c.args.field c.args.value T.0 T.1).place.chunk (entries.foreign w k p c.self.invariant F shared free c.args.swap c.args.object c.args.field c.args.value T.0 T.1).there z
+    ∙ ap (λ xs. option_map (content_after w.tree w.pool (record { object = c.args.object; field = c.args.field }) (slice_index_or (object_of (entries.foreign w k p c.self.invariant F shared free c.args.swap c.args.object c.args.field c.args.value T.0 T.1).rest.heap.chunks c.args.object).refs c.args.field None) c.args.value z) (content_at xs z)) c.deref_mut.ensures.value in
     let space : Space Event = record { items = []; room = w.journal.room - 1 } in
-    subst IsWorld (stored_by w (w.steps + (p.fresh + 1)) _ c.write_reference.new.homes new _ _ c.push_reserved.new.self homes back journal) (entries.store_world w k p c.self.invariant F shared free c.args.swap c.args.object c.args.field c.args.value c.args.line T new many C space)
+    along w k p _ _ c.enter_alone.ensures.steps c.enter_alone.ensures.journal (λ n j. IsWorld (record w { homes = c.write_reference.new.homes; sets = take c.self.inside.sets.len (new ++ drop (length new) items); steps = n; journal = j }))
+    (subst IsWorld (stored_by w (w.steps + (p.fresh + 1)) (entered w k p) _ c.write_reference.new.homes new _ homes back) (entries.store_world w k p c.self.invariant F shared free c.args.swap c.args.object c.args.field c.args.value T.0 T.1 new many C space))
 
 pub returns-clause-goes : goal.returns-clause-goes
 returns-clause-goes c =
@@ -161,19 +158,19 @@ returns-clause-goes c =
     let shared : IsShared w p = subst (λ (z : World). IsShared z p) (sym c.self.view_is) c.requires.shared in
     let free : refused w (alone_event k p) ≡ None = subst (λ (z : World). refused z (alone_event k p) ≡ None) (sym c.self.view_is) c.requires.free in
     let does : OtherStep = store_of c.args.swap c.args.object c.args.field c.args.value in
-    let T : TellsOther w p does c.args.line = subst (λ (z : World). TellsOther z p does c.args.line) (sym c.self.view_is) c.requires.stores in
+    let T : (n : ℕ) × TellsOther w p does n = subst (λ (z : World). (n : ℕ) × TellsOther z p does n) (sym c.self.view_is) c.requires.stores in
     let items : List SetOf = c.self.inside.sets.items in
     let new : List SetOf = c.write_reference.new.sets in
     let many : length new ≡ length items = c.write_reference.auto.sets ∙ ap length c.deref_mut.ensures.value in
     let back : take c.self.inside.sets.len (new ++ drop (length new) items) ≡ new = ap (λ n. take n (new ++ drop (length new) items)) (c.self.inside.sets.ok.0 ∙ sym many) ∙ take-append_seam new (drop (length new) items) in
-    let homes : c.write_reference.new.homes ≡ slice_set w.homes (entries.owner w k p c.self.invariant F shared free c.args.swap c.args.object c.args.field c.args.value c.args.line T) (Some (put_rest (entries.foreign w k p c.self.invariant F shared free c.args.swap c.args.object c.args.field c.args.value c.args.line T).rest c.args.object (with_ref (cell_of (entries.foreign w k p c.self.invariant F shared free c.args.swap c.args.object c.args.field c.args.value c.args.line T).rest.heap.chunks c.args.object) c.args.field c.args.value))) =
-    c.in_ok-write_reference.ensures.written (entries.owner w k p c.self.invariant F shared free c.args.swap c.args.object c.args.field c.args.value c.args.line T) (entries.foreign w k p c.self.invariant F shared free c.args.swap c.args.object c.args.field c.args.value c.args.line T).rest (entries.foreign w k p c.self.invariant F shared free c.args.swap c.args.object c.args.field c.args.value c.args.line T).place.chunk (entries.foreign w k p c.self.invariant F shared free c.args.swap c.args.object c.args.field c.args.value c.args.line T).there in
-    let C : (z : ℕ) → content_at new z ≡ option_map (content_after w.tree w.pool (record { object = c.args.object; field = c.args.field }) (slice_index_or (object_of (entries.foreign w k p c.self.invariant F shared free c.args.swap c.args.object c.args.field c.args.value c.args.line T).rest.heap.chunks c.args.object).refs c.args.field None) c.args.value z) (content_at w.sets z) =
+    let homes : c.write_reference.new.homes ≡ slice_set w.homes (entries.owner w k p c.self.invariant F shared free c.args.swap c.args.object c.args.field c.args.value T.0 T.1) (Some (put_rest (entries.foreign w k p c.self.invariant F shared free c.args.swap c.args.object c.args.field c.args.value T.0 T.1).rest c.args.object (with_ref (cell_of (entries.foreign w k p c.self.invariant F shared free c.args.swap c.args.object c.args.field c.args.value T.0 T.1).rest.heap.chunks c.args.object) c.args.field c.args.value))) =
+    c.in_ok-write_reference.ensures.written (entries.owner w k p c.self.invariant F shared free c.args.swap c.args.object c.args.field c.args.value T.0 T.1) (entries.foreign w k p c.self.invariant F shared free c.args.swap c.args.object c.args.field c.args.value T.0 T.1).rest (entries.foreign w k p c.self.invariant F shared free c.args.swap c.args.object c.args.field c.args.value T.0 T.1).place.chunk (entries.foreign w k p c.self.invariant F shared free c.args.swap c.args.object c.args.field c.args.value T.0 T.1).there in
+    let C : (z : ℕ) → content_at new z ≡ option_map (content_after w.tree w.pool (record { object = c.args.object; field = c.args.field }) (slice_index_or (object_of (entries.foreign w k p c.self.invariant F shared free c.args.swap c.args.object c.args.field c.args.value T.0 T.1).rest.heap.chunks c.args.object).refs c.args.field None) c.args.value z) (content_at w.sets z) =
     λ z.
-    c.in_ok-write_reference.ensures.noted (entries.owner w k p c.self.invariant F shared free c.args.swap c.args.object c.args.field c.args.value c.args.line T) (entries.foreign w k p c.self.invariant F shared free c.args.swap c.args.object c.args.field c.args.value c.args.line T).rest (entries.foreign w k p c.self.invariant F shared free c.args.swap c.args.object c.args.field c.args.value c.args.line T).place.chunk (entries.foreign w k p c.self.invariant F shared free c.args.swap c.args.object c.args.field c.args.value c.args.line T).there z
-    ∙ ap (λ xs. option_map (content_after w.tree w.pool (record { object = c.args.object; field = c.args.field }) (slice_index_or (object_of (entries.foreign w k p c.self.invariant F shared free c.args.swap c.args.object c.args.field c.args.value c.args.line T).rest.heap.chunks c.args.object).refs c.args.field None) c.args.value z) (content_at xs z)) c.deref_mut.ensures.value in
-    let journal = journal_by w.journal _ _ (alone_event k p) c.new.ensures c.push_reserved.ensures in
+    c.in_ok-write_reference.ensures.noted (entries.owner w k p c.self.invariant F shared free c.args.swap c.args.object c.args.field c.args.value T.0 T.1) (entries.foreign w k p c.self.invariant F shared free c.args.swap c.args.object c.args.field c.args.value T.0 T.1).rest (entries.foreign w k p c.self.invariant F shared free c.args.swap c.args.object c.args.field c.args.value T.0 T.1).place.chunk (entries.foreign w k p c.self.invariant F shared free c.args.swap c.args.object c.args.field c.args.value T.0 T.1).there z
+    ∙ ap (λ xs. option_map (content_after w.tree w.pool (record { object = c.args.object; field = c.args.field }) (slice_index_or (object_of (entries.foreign w k p c.self.invariant F shared free c.args.swap c.args.object c.args.field c.args.value T.0 T.1).rest.heap.chunks c.args.object).refs c.args.field None) c.args.value z) (content_at xs z)) c.deref_mut.ensures.value in
     let space : Space Event = record { items = []; room = w.journal.room - 1 } in
-    subst (λ (z : World). GoesAlone z (record w { homes = c.write_reference.new.homes; sets = take c.self.inside.sets.len (new ++ drop (length new) items); steps = w.steps + (p.fresh + 1); journal = c.push_reserved.new.self }) k p (record p { frames = c.go_on.new.frames; fresh = 0 })) c.self.view_is
-    (subst (λ (s : Stack). GoesAlone w (record w { homes = c.write_reference.new.homes; sets = take c.self.inside.sets.len (new ++ drop (length new) items); steps = w.steps + (p.fresh + 1); journal = c.push_reserved.new.self }) k p (record p { frames = s; fresh = 0 })) (sym c.go_on.ensures)
-    (subst (λ (z : World). GoesAlone w z k p (record p { frames = store_frames c.args.swap p.frames; fresh = 0 })) (stored_by w (w.steps + (p.fresh + 1)) _ c.write_reference.new.homes new _ _ c.push_reserved.new.self homes back journal) (entries.store_goes w k p c.self.invariant F shared free c.args.swap c.args.object c.args.field c.args.value c.args.line T new many C space)))
+    subst (λ (z : World). GoesAlone z (record w { homes = c.write_reference.new.homes; sets = take c.self.inside.sets.len (new ++ drop (length new) items); steps = c.enter_alone.new.steps; journal = c.enter_alone.new.journal }) k p (record p { frames = c.go_on.new.frames; fresh = 0 })) c.self.view_is
+    (subst (λ (s : Stack). GoesAlone w (record w { homes = c.write_reference.new.homes; sets = take c.self.inside.sets.len (new ++ drop (length new) items); steps = c.enter_alone.new.steps; journal = c.enter_alone.new.journal }) k p (record p { frames = s; fresh = 0 })) (sym c.go_on.ensures)
+    (along w k p _ _ c.enter_alone.ensures.steps c.enter_alone.ensures.journal (λ n j. GoesAlone w (record w { homes = c.write_reference.new.homes; sets = take c.self.inside.sets.len (new ++ drop (length new) items); steps = n; journal = j }) k p (record p { frames = store_frames c.args.swap p.frames; fresh = 0 }))
+    (subst (λ (z : World). GoesAlone w z k p (record p { frames = store_frames c.args.swap p.frames; fresh = 0 })) (stored_by w (w.steps + (p.fresh + 1)) (entered w k p) _ c.write_reference.new.homes new _ homes back) (entries.store_goes w k p c.self.invariant F shared free c.args.swap c.args.object c.args.field c.args.value T.0 T.1 new many C space))))

@@ -11,18 +11,14 @@ use Rattle.shared_value.specs.Stands.{IsWorld}
 use Rattle.shared_value.specs.World.{World}
 use Rattle.shared_value.specs.Fits.{Fits}
 use Rattle.shared_value.specs.Entered.{refused}
-use Rattle.shared_value.proofs.JournalGoesOn.{journal_by}
 use Rattle.own_steps.specs.Alone.{GoesAlone, IsShared, alone_event}
 use Rattle.own_steps.proofs.AloneEntries.{alone_small, next_small}
 use Rattle.others_objects.specs.declared.other.OtherStep.TheVariants.{StoresNumber}
 use Rattle.others_objects.specs.Other.{TellsOther, put_rest, store_frames}
 use Rattle.others_objects.proofs.StoreEntries as entries
 use Rattle.shared_tree.specs.contracts.shared.Shared.{the_view}
+use Rattle.shared_tree.proofs.StepsEntered.{along, entered}
 use Rattle.shared_tree.proofs.shared.Shared.enter_store_number.Goals as goal
-
--- the value by what the code made of it
-stored_by : (w : World) (n : ℕ) (hs hs' : List (Option Rest)) (j j' : Space Event) → hs' ≡ hs → j' ≡ j → record w { homes = hs; steps = n; journal = j } ≡ record w { homes = hs'; steps = n; journal = j' }
-stored_by w n hs hs' j j' eh ej = ap (λ z. record w { homes = z; steps = n; journal = j }) (sym eh) ∙ ap (λ z. record w { homes = hs'; steps = n; journal = z }) (sym ej)
 
 pub write_number-requires-clause-used : goal.write_number-requires-clause-used
 write_number-requires-clause-used c =
@@ -32,8 +28,8 @@ write_number-requires-clause-used c =
     let F : Fits w k p = subst (λ (z : World). Fits z k p) (sym c.self.view_is) c.requires.fits in
     let shared : IsShared w p = subst (λ (z : World). IsShared z p) (sym c.self.view_is) c.requires.shared in
     let free : refused w (alone_event k p) ≡ None = subst (λ (z : World). refused z (alone_event k p) ≡ None) (sym c.self.view_is) c.requires.free in
-    let T : TellsOther w p (StoresNumber c.args.object c.args.field c.args.value) c.args.line = subst (λ (z : World). TellsOther z p (StoresNumber c.args.object c.args.field c.args.value) c.args.line) (sym c.self.view_is) c.requires.stores in
-    entries.used_number w k p c.self.invariant F shared free c.args.object c.args.field c.args.value c.args.line T
+    let T : (n : ℕ) × TellsOther w p (StoresNumber c.args.object c.args.field c.args.value) n = subst (λ (z : World). (n : ℕ) × TellsOther z p (StoresNumber c.args.object c.args.field c.args.value) n) (sym c.self.view_is) c.requires.stores in
+    entries.used_number w k p c.self.invariant F shared free c.args.object c.args.field c.args.value T.0 T.1
 
 pub write_number-requires-clause-home : goal.write_number-requires-clause-home
 write_number-requires-clause-home c =
@@ -43,8 +39,8 @@ write_number-requires-clause-home c =
     let F : Fits w k p = subst (λ (z : World). Fits z k p) (sym c.self.view_is) c.requires.fits in
     let shared : IsShared w p = subst (λ (z : World). IsShared z p) (sym c.self.view_is) c.requires.shared in
     let free : refused w (alone_event k p) ≡ None = subst (λ (z : World). refused z (alone_event k p) ≡ None) (sym c.self.view_is) c.requires.free in
-    let T : TellsOther w p (StoresNumber c.args.object c.args.field c.args.value) c.args.line = subst (λ (z : World). TellsOther z p (StoresNumber c.args.object c.args.field c.args.value) c.args.line) (sym c.self.view_is) c.requires.stores in
-    entries.home_number w k p c.self.invariant F shared free c.args.object c.args.field c.args.value c.args.line T
+    let T : (n : ℕ) × TellsOther w p (StoresNumber c.args.object c.args.field c.args.value) n = subst (λ (z : World). (n : ℕ) × TellsOther z p (StoresNumber c.args.object c.args.field c.args.value) n) (sym c.self.view_is) c.requires.stores in
+    entries.home_number w k p c.self.invariant F shared free c.args.object c.args.field c.args.value T.0 T.1
 
 pub write_number-requires-clause-there : goal.write_number-requires-clause-there
 write_number-requires-clause-there c =
@@ -54,8 +50,8 @@ write_number-requires-clause-there c =
     let F : Fits w k p = subst (λ (z : World). Fits z k p) (sym c.self.view_is) c.requires.fits in
     let shared : IsShared w p = subst (λ (z : World). IsShared z p) (sym c.self.view_is) c.requires.shared in
     let free : refused w (alone_event k p) ≡ None = subst (λ (z : World). refused z (alone_event k p) ≡ None) (sym c.self.view_is) c.requires.free in
-    let T : TellsOther w p (StoresNumber c.args.object c.args.field c.args.value) c.args.line = subst (λ (z : World). TellsOther z p (StoresNumber c.args.object c.args.field c.args.value) c.args.line) (sym c.self.view_is) c.requires.stores in
-    entries.there_number w k p c.self.invariant F shared free c.args.object c.args.field c.args.value c.args.line T
+    let T : (n : ℕ) × TellsOther w p (StoresNumber c.args.object c.args.field c.args.value) n = subst (λ (z : World). (n : ℕ) × TellsOther z p (StoresNumber c.args.object c.args.field c.args.value) n) (sym c.self.view_is) c.requires.stores in
+    entries.there_number w k p c.self.invariant F shared free c.args.object c.args.field c.args.value T.0 T.1
 
 pub write_number-requires-clause-field : goal.write_number-requires-clause-field
 write_number-requires-clause-field c =
@@ -65,19 +61,18 @@ write_number-requires-clause-field c =
     let F : Fits w k p = subst (λ (z : World). Fits z k p) (sym c.self.view_is) c.requires.fits in
     let shared : IsShared w p = subst (λ (z : World). IsShared z p) (sym c.self.view_is) c.requires.shared in
     let free : refused w (alone_event k p) ≡ None = subst (λ (z : World). refused z (alone_event k p) ≡ None) (sym c.self.view_is) c.requires.free in
-    let T : TellsOther w p (StoresNumber c.args.object c.args.field c.args.value) c.args.line = subst (λ (z : World). TellsOther z p (StoresNumber c.args.object c.args.field c.args.value) c.args.line) (sym c.self.view_is) c.requires.stores in
-    entries.field_number w k p c.self.invariant F shared free c.args.object c.args.field c.args.value c.args.line T
+    let T : (n : ℕ) × TellsOther w p (StoresNumber c.args.object c.args.field c.args.value) n = subst (λ (z : World). (n : ℕ) × TellsOther z p (StoresNumber c.args.object c.args.field c.args.value) n) (sym c.self.view_is) c.requires.stores in
+    entries.field_number w k p c.self.invariant F shared free c.args.object c.args.field c.args.value T.0 T.1
 
-pub overflow_add-self-2 : goal.overflow_add-self-2
-overflow_add-self-2 c =
+pub enter_alone-requires-clause-small : goal.enter_alone-requires-clause-small
+enter_alone-requires-clause-small c =
     let w : World = the_view c.self.inside in
     let p : Private = c.args.part.now in
     let k : ℕ = c.args.worker in
     let F : Fits w k p = subst (λ (z : World). Fits z k p) (sym c.self.view_is) c.requires.fits in
     let shared : IsShared w p = subst (λ (z : World). IsShared z p) (sym c.self.view_is) c.requires.shared in
     let free : refused w (alone_event k p) ≡ None = subst (λ (z : World). refused z (alone_event k p) ≡ None) (sym c.self.view_is) c.requires.free in
-    let few = alone_small w k p c.self.invariant F shared free in
-    omega (arith, few.0, few.1)
+    alone_small w k p c.self.invariant F shared free
 
 pub go_on-requires : goal.go_on-requires
 go_on-requires c =
@@ -98,13 +93,13 @@ invariant_of-self c =
     let F : Fits w k p = subst (λ (z : World). Fits z k p) (sym c.self.view_is) c.requires.fits in
     let shared : IsShared w p = subst (λ (z : World). IsShared z p) (sym c.self.view_is) c.requires.shared in
     let free : refused w (alone_event k p) ≡ None = subst (λ (z : World). refused z (alone_event k p) ≡ None) (sym c.self.view_is) c.requires.free in
-    let T : TellsOther w p (StoresNumber c.args.object c.args.field c.args.value) c.args.line = subst (λ (z : World). TellsOther z p (StoresNumber c.args.object c.args.field c.args.value) c.args.line) (sym c.self.view_is) c.requires.stores in
-    let homes : c.write_number.new.homes ≡ slice_set w.homes (entries.owner_number w k p c.self.invariant F shared free c.args.object c.args.field c.args.value c.args.line T) (Some (put_rest (entries.foreign_number w k p c.self.invariant F shared free c.args.object c.args.field c.args.value c.args.line T).rest c.args.object (with_int (cell_of (entries.foreign_number w k p c.self.invariant F shared free c.args.object c.args.field c.args.value c.args.line T).rest.heap.chunks c.args.object) c.args.field c.args.value))) =
-    c.write_number.ensures (entries.owner_number w k p c.self.invariant F shared free c.args.object c.args.field c.args.value c.args.line T) (entries.foreign_number w k p c.self.invariant F shared free c.args.object c.args.field c.args.value c.args.line T).rest (entries.foreign_number w k p c.self.invariant F shared free c.args.object c.args.field c.args.value c.args.line T).place.chunk (entries.foreign_number w k p c.self.invariant F shared free c.args.object c.args.field c.args.value c.args.line T).there
-    ∙ ap (λ (z : ℤ). slice_set w.homes (entries.owner_number w k p c.self.invariant F shared free c.args.object c.args.field c.args.value c.args.line T) (Some (put_rest (entries.foreign_number w k p c.self.invariant F shared free c.args.object c.args.field c.args.value c.args.line T).rest c.args.object (with_int (cell_of (entries.foreign_number w k p c.self.invariant F shared free c.args.object c.args.field c.args.value c.args.line T).rest.heap.chunks c.args.object) c.args.field z)))) (to_z-of_z w64 c.args.value c.ranges.value) in
-    let journal = journal_by w.journal _ _ (alone_event k p) c.new.ensures c.push_reserved.ensures in
+    let T : (n : ℕ) × TellsOther w p (StoresNumber c.args.object c.args.field c.args.value) n = subst (λ (z : World). (n : ℕ) × TellsOther z p (StoresNumber c.args.object c.args.field c.args.value) n) (sym c.self.view_is) c.requires.stores in
+    let homes : c.write_number.new.homes ≡ slice_set w.homes (entries.owner_number w k p c.self.invariant F shared free c.args.object c.args.field c.args.value T.0 T.1) (Some (put_rest (entries.foreign_number w k p c.self.invariant F shared free c.args.object c.args.field c.args.value T.0 T.1).rest c.args.object (with_int (cell_of (entries.foreign_number w k p c.self.invariant F shared free c.args.object c.args.field c.args.value T.0 T.1).rest.heap.chunks c.args.object) c.args.field c.args.value))) =
+    c.write_number.ensures (entries.owner_number w k p c.self.invariant F shared free c.args.object c.args.field c.args.value T.0 T.1) (entries.foreign_number w k p c.self.invariant F shared free c.args.object c.args.field c.args.value T.0 T.1).rest (entries.foreign_number w k p c.self.invariant F shared free c.args.object c.args.field c.args.value T.0 T.1).place.chunk (entries.foreign_number w k p c.self.invariant F shared free c.args.object c.args.field c.args.value T.0 T.1).there
+    ∙ ap (λ (z : ℤ). slice_set w.homes (entries.owner_number w k p c.self.invariant F shared free c.args.object c.args.field c.args.value T.0 T.1) (Some (put_rest (entries.foreign_number w k p c.self.invariant F shared free c.args.object c.args.field c.args.value T.0 T.1).rest c.args.object (with_int (cell_of (entries.foreign_number w k p c.self.invariant F shared free c.args.object c.args.field c.args.value T.0 T.1).rest.heap.chunks c.args.object) c.args.field z)))) (to_z-of_z w64 c.args.value c.ranges.value) in
     let space : Space Event = record { items = []; room = w.journal.room - 1 } in
-    subst IsWorld (stored_by w (w.steps + (p.fresh + 1)) _ c.write_number.new.homes _ c.push_reserved.new.self homes journal) (entries.number_world w k p c.self.invariant F shared free c.args.object c.args.field c.args.value c.args.line T space)
+    along w k p _ _ c.enter_alone.ensures.steps c.enter_alone.ensures.journal (λ n j. IsWorld (record w { homes = c.write_number.new.homes; steps = n; journal = j }))
+    (subst (λ (hs : List (Option Rest)). IsWorld (record w { homes = hs; steps = w.steps + (p.fresh + 1); journal = entered w k p })) (sym homes) (entries.number_world w k p c.self.invariant F shared free c.args.object c.args.field c.args.value T.0 T.1 space))
 
 pub returns : goal.returns
 returns c =
@@ -114,12 +109,12 @@ returns c =
     let F : Fits w k p = subst (λ (z : World). Fits z k p) (sym c.self.view_is) c.requires.fits in
     let shared : IsShared w p = subst (λ (z : World). IsShared z p) (sym c.self.view_is) c.requires.shared in
     let free : refused w (alone_event k p) ≡ None = subst (λ (z : World). refused z (alone_event k p) ≡ None) (sym c.self.view_is) c.requires.free in
-    let T : TellsOther w p (StoresNumber c.args.object c.args.field c.args.value) c.args.line = subst (λ (z : World). TellsOther z p (StoresNumber c.args.object c.args.field c.args.value) c.args.line) (sym c.self.view_is) c.requires.stores in
-    let homes : c.write_number.new.homes ≡ slice_set w.homes (entries.owner_number w k p c.self.invariant F shared free c.args.object c.args.field c.args.value c.args.line T) (Some (put_rest (entries.foreign_number w k p c.self.invariant F shared free c.args.object c.args.field c.args.value c.args.line T).rest c.args.object (with_int (cell_of (entries.foreign_number w k p c.self.invariant F shared free c.args.object c.args.field c.args.value c.args.line T).rest.heap.chunks c.args.object) c.args.field c.args.value))) =
-    c.write_number.ensures (entries.owner_number w k p c.self.invariant F shared free c.args.object c.args.field c.args.value c.args.line T) (entries.foreign_number w k p c.self.invariant F shared free c.args.object c.args.field c.args.value c.args.line T).rest (entries.foreign_number w k p c.self.invariant F shared free c.args.object c.args.field c.args.value c.args.line T).place.chunk (entries.foreign_number w k p c.self.invariant F shared free c.args.object c.args.field c.args.value c.args.line T).there
-    ∙ ap (λ (z : ℤ). slice_set w.homes (entries.owner_number w k p c.self.invariant F shared free c.args.object c.args.field c.args.value c.args.line T) (Some (put_rest (entries.foreign_number w k p c.self.invariant F shared free c.args.object c.args.field c.args.value c.args.line T).rest c.args.object (with_int (cell_of (entries.foreign_number w k p c.self.invariant F shared free c.args.object c.args.field c.args.value c.args.line T).rest.heap.chunks c.args.object) c.args.field z)))) (to_z-of_z w64 c.args.value c.ranges.value) in
-    let journal = journal_by w.journal _ _ (alone_event k p) c.new.ensures c.push_reserved.ensures in
+    let T : (n : ℕ) × TellsOther w p (StoresNumber c.args.object c.args.field c.args.value) n = subst (λ (z : World). (n : ℕ) × TellsOther z p (StoresNumber c.args.object c.args.field c.args.value) n) (sym c.self.view_is) c.requires.stores in
+    let homes : c.write_number.new.homes ≡ slice_set w.homes (entries.owner_number w k p c.self.invariant F shared free c.args.object c.args.field c.args.value T.0 T.1) (Some (put_rest (entries.foreign_number w k p c.self.invariant F shared free c.args.object c.args.field c.args.value T.0 T.1).rest c.args.object (with_int (cell_of (entries.foreign_number w k p c.self.invariant F shared free c.args.object c.args.field c.args.value T.0 T.1).rest.heap.chunks c.args.object) c.args.field c.args.value))) =
+    c.write_number.ensures (entries.owner_number w k p c.self.invariant F shared free c.args.object c.args.field c.args.value T.0 T.1) (entries.foreign_number w k p c.self.invariant F shared free c.args.object c.args.field c.args.value T.0 T.1).rest (entries.foreign_number w k p c.self.invariant F shared free c.args.object c.args.field c.args.value T.0 T.1).place.chunk (entries.foreign_number w k p c.self.invariant F shared free c.args.object c.args.field c.args.value T.0 T.1).there
+    ∙ ap (λ (z : ℤ). slice_set w.homes (entries.owner_number w k p c.self.invariant F shared free c.args.object c.args.field c.args.value T.0 T.1) (Some (put_rest (entries.foreign_number w k p c.self.invariant F shared free c.args.object c.args.field c.args.value T.0 T.1).rest c.args.object (with_int (cell_of (entries.foreign_number w k p c.self.invariant F shared free c.args.object c.args.field c.args.value T.0 T.1).rest.heap.chunks c.args.object) c.args.field z)))) (to_z-of_z w64 c.args.value c.ranges.value) in
     let space : Space Event = record { items = []; room = w.journal.room - 1 } in
-    subst (λ (z : World). GoesAlone z (record w { homes = c.write_number.new.homes; steps = w.steps + (p.fresh + 1); journal = c.push_reserved.new.self }) k p (record p { frames = c.go_on.new.frames; fresh = 0 })) c.self.view_is
-    (subst (λ (s : Stack). GoesAlone w (record w { homes = c.write_number.new.homes; steps = w.steps + (p.fresh + 1); journal = c.push_reserved.new.self }) k p (record p { frames = s; fresh = 0 })) (sym c.go_on.ensures)
-    (subst (λ (z : World). GoesAlone w z k p (record p { frames = store_frames None p.frames; fresh = 0 })) (stored_by w (w.steps + (p.fresh + 1)) _ c.write_number.new.homes _ c.push_reserved.new.self homes journal) (entries.number_goes w k p c.self.invariant F shared free c.args.object c.args.field c.args.value c.args.line T space)))
+    subst (λ (z : World). GoesAlone z (record w { homes = c.write_number.new.homes; steps = c.enter_alone.new.steps; journal = c.enter_alone.new.journal }) k p (record p { frames = c.go_on.new.frames; fresh = 0 })) c.self.view_is
+    (subst (λ (s : Stack). GoesAlone w (record w { homes = c.write_number.new.homes; steps = c.enter_alone.new.steps; journal = c.enter_alone.new.journal }) k p (record p { frames = s; fresh = 0 })) (sym c.go_on.ensures)
+    (along w k p _ _ c.enter_alone.ensures.steps c.enter_alone.ensures.journal (λ n j. GoesAlone w (record w { homes = c.write_number.new.homes; steps = n; journal = j }) k p (record p { frames = store_frames None p.frames; fresh = 0 }))
+    (subst (λ (hs : List (Option Rest)). GoesAlone w (record w { homes = hs; steps = w.steps + (p.fresh + 1); journal = entered w k p }) k p (record p { frames = store_frames None p.frames; fresh = 0 })) (sym homes) (entries.number_goes w k p c.self.invariant F shared free c.args.object c.args.field c.args.value T.0 T.1 space))))

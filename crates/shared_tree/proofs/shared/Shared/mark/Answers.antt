@@ -5,6 +5,9 @@ use Rattle.shared_value.specs.Fits.{AllFit}
 use Rattle.shared_value.specs.World.{World}
 use Rattle.shared_tree.proofs.shared.Shared.mark.Goals as goal
 
+pub marking_of-requires : goal.marking_of-requires
+marking_of-requires c = record { free = (c.args.worker, sym c.mark_refused.ensures ∙ c.in_default.is) }
+
 pub enter_mark-requires-clause-free : goal.enter_mark-requires-clause-free
 enter_mark-requires-clause-free c =
     subst (λ (z : World). refused z (record { worker = c.args.worker; kind = Mark c.args.t }) ≡ None) (sym c.marking_of.ensures.same) (sym c.mark_refused.ensures ∙ c.in_default.is)

@@ -1,7 +1,7 @@
-use Rattle.std.proofs.Common.{◌≡◌, ℕ, None, refl, sym, subst, ◌∙◌}
+use Rattle.std.proofs.Common.{◌≡◌, ℕ, ℤ, SFits, w64, to_z-of_z, rules, None, refl, sym, subst, ◌∙◌}
 use Rattle.task_machine.specs.declared.part.Private.{Private}
 use Rattle.shared_value.specs.declared.next_step.Ending.{Ending}
-use Rattle.shared_value.specs.declared.next_step.Ending.TheVariants.{Beyond, Returns}
+use Rattle.shared_value.specs.declared.next_step.Ending.TheVariants.{Beyond, Prints, Returns}
 use Rattle.shared_value.specs.World.{World}
 use Rattle.shared_value.specs.Entered.{RanAnswers, refused}
 use Rattle.own_steps.specs.Alone.{Tells, alone_event}
@@ -59,6 +59,16 @@ next_ending-ending-requires-clause-free c = sym c.alone_refused.ensures ∙ c.in
 pub enter_output-requires-clause-free : goal.enter_output-requires-clause-free
 enter_output-requires-clause-free c = sym c.alone_refused.ensures ∙ c.in_default.is
 
+pub enter_output-requires-clause-prints : goal.enter_output-requires-clause-prints
+enter_output-requires-clause-prints c =
+    let v : ℤ = c.in-Prints.value in
+    let fits : SFits w64 v = search rules in
+    let number : ℕ = c.next_ending-ending.result.1 in (
+      number,
+      subst (λ (z : ℤ). Tells c.args.self.now c.args.part (Prints z) number) (sym (to_z-of_z w64 v fits))
+          (subst (λ (e : Ending). Tells c.args.self.now c.args.part e number) c.in-Prints.is c.next_ending-ending.ensures),
+    )
+
 pub enter_halt-requires-clause-free : goal.enter_halt-requires-clause-free
 enter_halt-requires-clause-free c = sym c.alone_refused.ensures ∙ c.in_default.is
 
@@ -78,7 +88,7 @@ pub returns-in-Err-clause-same : goal.returns-in-Err-clause-same
 returns-in-Err-clause-same c = c.in-Err.ensures.same
 
 pub ran_done-requires-clause-returns : goal.ran_done-requires-clause-returns
-ran_done-requires-clause-returns c = subst (λ (e : Ending). Tells c.args.self.now c.args.part e c.next_ending-ending.result.1) c.in-Returns.is c.next_ending-ending.ensures
+ran_done-requires-clause-returns c = (c.next_ending-ending.result.1, subst (λ (e : Ending). Tells c.args.self.now c.args.part e c.next_ending-ending.result.1) c.in-Returns.is c.next_ending-ending.ensures)
 
 pub enter_halt-requires-clause-other : goal.enter_halt-requires-clause-other
 enter_halt-requires-clause-other c = λ e. cc

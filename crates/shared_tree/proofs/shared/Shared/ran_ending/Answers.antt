@@ -4,7 +4,6 @@ use Rattle.heap_tree.specs.Node.{parent_of, state_of}
 use Rattle.heap_tree.specs.declared.state.State.{State}
 use Rattle.heap_tree.specs.Pairs.{sibling}
 use Rattle.task_machine.specs.declared.part.Private.{Private}
-use Rattle.shared_value.specs.declared.answer.NotEntered.{NotEntered}
 use Rattle.shared_value.specs.declared.answer.NotEntered.TheVariants.{NoMemory}
 use Rattle.shared_value.specs.declared.answer.NotRan.{NotRan}
 use Rattle.shared_value.specs.World.{World}
@@ -94,6 +93,9 @@ returns-in-Some-clause-refused c = sym c.alone_refused.ensures ∙ c.in-Some.is
 
 pub ran_first-requires-clause-alone : goal.ran_first-requires-clause-alone
 ran_first-requires-clause-alone c = λ e. not_yes (c.if-not-is_ended.ensures.1 (state_is c.state.ensures (ap (λ (z : World). state_of z.tree) c.self.view_is) c.sibling_of.ensures ∙ e))
+
+pub make_join_places-requires-clause-held : goal.make_join_places-requires-clause-held
+make_join_places-requires-clause-held c = (c.args.worker, c.requires.fits, sym c.alone_refused.ensures ∙ c.in_default.is)
 
 pub make_join_places-requires-clause-ended : goal.make_join_places-requires-clause-ended
 make_join_places-requires-clause-ended c = sym (state_is c.state.ensures (ap (λ (z : World). state_of z.tree) c.self.view_is) c.sibling_of.ensures) ∙ c.if-not-is_ended.ensures.0 refl

@@ -39,7 +39,7 @@ pub enter_fork-requires-clause-free : goal.enter_fork-requires-clause-free
 enter_fork-requires-clause-free c = sym c.alone_refused.ensures ∙ c.in_default.is
 
 pub enter_fork-requires-clause-by : goal.enter_fork-requires-clause-by
-enter_fork-requires-clause-by c = c.fork_line-left.ensures
+enter_fork-requires-clause-by c = (c.fork_line-left.result.2, c.fork_line-left.ensures)
 
 pub enter_fork-requires-clause-shallow : goal.enter_fork-requires-clause-shallow
 enter_fork-requires-clause-shallow c =

@@ -16,8 +16,8 @@ pub targets_in-roots-requires : goal.targets_in-roots-requires
 targets_in-roots-requires c =
     let w : World = the_view c.self.inside in
     let p : Private = c.args.part.now in
-    let k : ℕ = c.args.worker in
-    let F : Fits w k p = subst (λ (z : World). Fits z k p) (sym c.self.view_is) c.requires.fits in
+    let k : ℕ = c.requires.fits.0 in
+    let F : Fits w k p = subst (λ (z : World). Fits z k p) (sym c.self.view_is) c.requires.fits.1 in
     let F0 : Fits w k (record p { fresh = 0 }) = subst (λ n. Fits w k (record p { fresh = n })) c.requires.fresh F in
     let on : (accounts w).end ≡ None = ap (λ (z : World). (accounts z).end) c.self.view_is ∙ c.requires.goes in
     subst (λ (hs : List (Option Rest)). AreFields refs_in (record { homes = hs; pool = c.replace-2.result }) (sources_of (slice_get c.deref.result.now p.task))) (sym c.replace.ensures.value)

@@ -12,7 +12,7 @@ use Rattle.shared_tree.specs.contracts.shared.Shared.{the_view}
 use Rattle.shared_tree.proofs.shared.Shared.some_refused.Goals as goal
 
 pub returns-then-is_some : goal.returns-then-is_some
-returns-then-is_some c =
+returns-then-is_some c n =
     let z : World = c.args.self.now in
     let k : ℕ = c.args.worker in
     let t : ℕ = c.args.t in
@@ -20,10 +20,10 @@ returns-then-is_some c =
     let w : World = the_view c.self.inside in
     let some : is_some (first_cause w.end w.steps w.settings k false) ≡ true = ap is_some (sym c.first_cause-first.ensures) ∙ (sym c.is_some.ensures ∙ c.if-is_some.true) in
     c.first_cause-first.ensures
-    ∙ subst (λ (y : World). first_cause w.end w.steps w.settings k false ≡ refused y (record { worker = k; kind = More t c.args.n })) c.self.view_is (sym (first_answer w c.self.invariant (record { worker = k; kind = More t c.args.n }) some))
+    ∙ subst (λ (y : World). first_cause w.end w.steps w.settings k false ≡ refused y (record { worker = k; kind = More t n })) c.self.view_is (sym (first_answer w c.self.invariant (record { worker = k; kind = More t n }) some))
 
 pub returns-then-is_some-2 : goal.returns-then-is_some-2
-returns-then-is_some-2 c =
+returns-then-is_some-2 c n =
     let z : World = c.args.self.now in
     let k : ℕ = c.args.worker in
     let t : ℕ = c.args.t in
@@ -32,10 +32,10 @@ returns-then-is_some-2 c =
     ap (λ (y : World). is_some (first_cause y.end y.steps y.settings k false)) (sym c.self.view_is) ∙ (ap is_some (sym c.first_cause-first.ensures) ∙ (sym c.is_some.ensures ∙ c.if-is_some.false)) in
     let marking : c.marking_cause-marking.result ≡ marking_cause z t =
     c.marking_cause-marking.ensures ∙ (ap (λ (xs : List SetOf). marking_cause_in c.self.inside.tree xs c.self.inside.marks t) c.deref.ensures.value ∙ ap (λ (y : World). marking_cause y t) c.self.view_is) in
-    some_as_marking z I k t c.args.n c.marking_cause-marking.result first marking (sym c.is_some-2.ensures ∙ c.if-is_some-2.true)
+    some_as_marking z I k t n c.marking_cause-marking.result first marking (sym c.is_some-2.ensures ∙ c.if-is_some-2.true)
 
 pub returns-then-is_marked : goal.returns-then-is_marked
-returns-then-is_marked c =
+returns-then-is_marked c n =
     let z : World = c.args.self.now in
     let k : ℕ = c.args.worker in
     let t : ℕ = c.args.t in
@@ -44,10 +44,10 @@ returns-then-is_marked c =
     ap (λ (y : World). is_some (first_cause y.end y.steps y.settings k false)) (sym c.self.view_is) ∙ (ap is_some (sym c.first_cause-first.ensures) ∙ (sym c.is_some.ensures ∙ c.if-is_some.false)) in
     let marking : c.marking_cause-marking.result ≡ marking_cause z t =
     c.marking_cause-marking.ensures ∙ (ap (λ (xs : List SetOf). marking_cause_in c.self.inside.tree xs c.self.inside.marks t) c.deref.ensures.value ∙ ap (λ (y : World). marking_cause y t) c.self.view_is) in
-    some_as_left z I k t c.args.n c.marking_cause-marking.result first marking (sym c.is_some-2.ensures ∙ c.if-is_some-2.false) true (sym c.if-is_marked.true ∙ c.is_marked.ensures)
+    some_as_left z I k t n c.marking_cause-marking.result first marking (sym c.is_some-2.ensures ∙ c.if-is_some-2.false) true (sym c.if-is_marked.true ∙ c.is_marked.ensures)
 
 pub returns-else-is_marked : goal.returns-else-is_marked
-returns-else-is_marked c =
+returns-else-is_marked c n =
     let z : World = c.args.self.now in
     let k : ℕ = c.args.worker in
     let t : ℕ = c.args.t in
@@ -56,4 +56,4 @@ returns-else-is_marked c =
     ap (λ (y : World). is_some (first_cause y.end y.steps y.settings k false)) (sym c.self.view_is) ∙ (ap is_some (sym c.first_cause-first.ensures) ∙ (sym c.is_some.ensures ∙ c.if-is_some.false)) in
     let marking : c.marking_cause-marking.result ≡ marking_cause z t =
     c.marking_cause-marking.ensures ∙ (ap (λ (xs : List SetOf). marking_cause_in c.self.inside.tree xs c.self.inside.marks t) c.deref.ensures.value ∙ ap (λ (y : World). marking_cause y t) c.self.view_is) in
-    some_as_left z I k t c.args.n c.marking_cause-marking.result first marking (sym c.is_some-2.ensures ∙ c.if-is_some-2.false) false (sym c.if-is_marked.false ∙ c.is_marked.ensures)
+    some_as_left z I k t n c.marking_cause-marking.result first marking (sym c.is_some-2.ensures ∙ c.if-is_some-2.false) false (sym c.if-is_marked.false ∙ c.is_marked.ensures)

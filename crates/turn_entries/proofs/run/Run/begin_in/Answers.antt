@@ -6,6 +6,7 @@ use Rattle.shared_value.specs.Entered.{Enters, IsCaused, refused}
 use Rattle.shared_value.specs.Fits.{Fits}
 use Rattle.shared_value.specs.LeafBegin.{HasBegun}
 use Rattle.turn_entries.proofs.Free.{begin_free, only_memory}
+use Rattle.turn_entries.proofs.Paying.{pays_nothing}
 use Rattle.turn_entries.proofs.Turning.{not_over, one, unchanged}
 use Rattle.turn_entries.proofs.run.Run.begin_in.Goals as goal
 
@@ -14,7 +15,7 @@ leaf_begin-requires-clause-fits c = subst (Fits c.args.self.paced c.args.worker)
 
 pub wanting-requires : goal.wanting-requires
 wanting-requires c =
-    only_memory c.in-Err.cause _ (begin_free c.args.self.paced c.args.worker c.args.part c.stands.ensures c.requires.free c.requires.paused.may.fits c.requires.paused.may.idle c.requires.fresh c.requires.goes c.requires.paused c.requires.enough)
+    only_memory c.in-Err.cause _ (begin_free c.args.self.paced c.args.worker c.args.part c.stands.ensures c.requires.enter.free c.requires.paused.may.fits c.requires.paused.may.idle c.requires.fresh c.requires.enter.goes c.requires.paused c.requires.enough)
     (subst (λ (q : Private). IsCaused c.in-Err.cause (refused c.args.self.paced (record { worker = c.args.worker; kind = Begin q.task }))) c.get_mut.ensures.value c.in-Err.ensures.refused)
 
 pub returns-in-Ok : goal.returns-in-Ok
@@ -22,7 +23,7 @@ returns-in-Ok c = λ ready.
     c.entered.ensures c.args.self c.args.worker ready (Begin c.args.part.task)
     (one c.args.self.paced c.leaf_begin.new.self c.args.worker (Begin c.args.part.task)
     (subst (λ (q : Private). Enters c.args.self.paced c.leaf_begin.new.self (record { worker = c.args.worker; kind = Begin q.task })) c.get_mut.ensures.value c.in-Ok.ensures.enters) c.in-Ok.ensures.others)
-    c.requires.on
+    c.requires.enter.on
     (λ on. (
       on,
       record {
@@ -34,4 +35,10 @@ returns-in-Ok c = λ ready.
     ))
 
 pub returns-in-Err : goal.returns-in-Err
-returns-in-Err c = λ ready. c.wanting.ensures c.args.self c.args.worker ready (Some (Begin c.args.part.task)) (unchanged c.args.self.paced c.leaf_begin.new.self c.in-Err.ensures.same) (not_over c.args.self c.requires.on c.requires.goes)
+returns-in-Err c = λ ready. c.wanting.ensures c.args.self c.args.worker ready (Some (Begin c.args.part.task)) (unchanged c.args.self.paced c.leaf_begin.new.self c.in-Err.ensures.same) (not_over c.args.self c.requires.enter.on c.requires.enter.goes)
+
+pub leaf_begin-requires-clause-room : goal.leaf_begin-requires-clause-room
+leaf_begin-requires-clause-room c = c.requires.enter.room
+
+pub leaf_begin-requires-clause-pays : goal.leaf_begin-requires-clause-pays
+leaf_begin-requires-clause-pays c = pays_nothing c.args.self.paced c.args.worker (Begin c.get_mut.result.now.task) c.requires.enter.owed

@@ -4,4 +4,4 @@ use Rattle.turn_entries.proofs.Turning.{not_over, unchanged}
 use Rattle.turn_entries.proofs.run.Run.begin_leaf.Goals as goal
 
 pub returns-in-Err : goal.returns-in-Err
-returns-in-Err c = λ ready. c.halted.ensures c.args.self c.args.worker ready (Some (Begin c.args.part.task)) (unchanged c.args.self.paced c.args.self.paced refl) (not_over c.args.self c.requires.on c.requires.goes)
+returns-in-Err c = λ ready. c.halted.ensures c.args.self c.args.worker ready (Some (Begin c.args.part.task)) (unchanged c.args.self.paced c.args.self.paced refl) (not_over c.args.self c.requires.enter.on c.requires.enter.goes)

@@ -7,6 +7,7 @@ use Rattle.leaf_collections.specs.LeafEnd.{FitsCopied, end_event, ended}
 use Rattle.shared_tree.specs.Ends.{end_cause}
 use Rattle.turn_entries.proofs.Free.{end_free, not_refused}
 use Rattle.turn_entries.proofs.Going.{may_ended}
+use Rattle.turn_entries.proofs.Paying.{pays_nothing}
 use Rattle.turn_entries.proofs.Turning.{one}
 use Rattle.turn_entries.proofs.run.Run.end_leaf.Goals as goal
 
@@ -15,7 +16,7 @@ leaf_end-requires-clause-fits c = subst (λ (q : Private). FitsCopied c.args.sel
 
 pub unreachable-requires : goal.unreachable-requires
 unreachable-requires c =
-    not_refused _ c.in-Err.field-0.cause (end_free c.args.self.paced c.args.worker c.args.copied.part c.args.copied.moved c.stands.ensures c.requires.free c.requires.fits)
+    not_refused _ c.in-Err.field-0.cause (end_free c.args.self.paced c.args.worker c.args.copied.part c.args.copied.moved c.stands.ensures c.requires.enter.free c.requires.fits)
     (ap (λ (q : Private). refused c.args.self.paced (end_event c.args.worker q c.args.copied.moved)) (sym c.get_mut.ensures.value) ∙ (sym c.leaf_end.ensures.refused ∙ ap end_cause c.in-Err.is))
 
 pub returns : goal.returns
@@ -24,9 +25,15 @@ returns c = λ ready.
     c.entered.ensures c.args.self c.args.worker ready kind
     (one c.args.self.paced c.leaf_end.new.self c.args.worker kind
     (subst (λ (q : Private). Enters c.args.self.paced c.leaf_end.new.self (end_event c.args.worker q c.args.copied.moved)) c.get_mut.ensures.value c.in-Ok.ensures.enters) c.in-Ok.ensures.others)
-    c.requires.on
+    c.requires.enter.on
     (λ on. (
       on,
       may_ended c.leaf_end.new.self c.args.worker c.args.copied.part c.leaf_end.new.part c.args.self.paced c.args.copied.moved c.in-Ok.ensures.fits c.requires.fits
           (subst (λ (q : Private). c.leaf_end.new.part ≡ ended q) c.get_mut.ensures.value c.in-Ok.ensures.part),
     ))
+
+pub leaf_end-requires-clause-room : goal.leaf_end-requires-clause-room
+leaf_end-requires-clause-room c = c.requires.enter.room
+
+pub leaf_end-requires-clause-pays : goal.leaf_end-requires-clause-pays
+leaf_end-requires-clause-pays c = pays_nothing c.args.self.paced c.args.worker (End c.get_mut.result.now.task c.args.copied.moved.taken c.args.copied.moved.given c.args.copied.moved.left) c.requires.enter.owed

@@ -4,22 +4,28 @@ use Rattle.run_trace.specs.declared.entry.Kind.TheVariants.{Sweep}
 use Rattle.shared_value.specs.Entered.{cause_of}
 use Rattle.turn_entries.specs.Acts.{ActsFor}
 use Rattle.turn_entries.proofs.Free.{sweep_free, not_refused}
-use Rattle.turn_entries.proofs.Paying.{sweep_is_owed}
+use Rattle.turn_entries.proofs.Paying.{pays_sweep, sweep_is_owed}
 use Rattle.turn_entries.proofs.Turning.{one_of_all}
 use Rattle.turn_entries.proofs.run.Run.pay_sweep.Goals as goal
 
 pub would_give-given-requires-clause-marked : goal.would_give-given-requires-clause-marked
-would_give-given-requires-clause-marked c = (sweep_is_owed c.args.self.paced c.args.worker c.args.task c.stands.ensures c.requires.goes c.requires.owes).0
+would_give-given-requires-clause-marked c = (sweep_is_owed c.args.self.paced c.args.worker c.args.task c.stands.ensures c.requires.enter.goes c.requires.enter.owed).0
 
 pub would_give-given-requires-clause-none_left : goal.would_give-given-requires-clause-none_left
-would_give-given-requires-clause-none_left c = (sweep_is_owed c.args.self.paced c.args.worker c.args.task c.stands.ensures c.requires.goes c.requires.owes).1
+would_give-given-requires-clause-none_left c = (sweep_is_owed c.args.self.paced c.args.worker c.args.task c.stands.ensures c.requires.enter.goes c.requires.enter.owed).1
 
 pub unreachable-requires : goal.unreachable-requires
-unreachable-requires c = not_refused _ c.in-Err.field-0 (sweep_free c.args.self.paced c.args.worker c.args.task c.stands.ensures c.requires.free c.would_give-given.result c.requires.owes c.would_give-given.ensures) (sym c.sweep.ensures.refused ∙ ap cause_of c.in-Err.is)
+unreachable-requires c = not_refused _ c.in-Err.field-0 (sweep_free c.args.self.paced c.args.worker c.args.task c.stands.ensures c.requires.enter.free c.would_give-given.result c.requires.enter.owed c.would_give-given.ensures) (sym c.sweep.ensures.refused ∙ ap cause_of c.in-Err.is)
 
 pub returns : goal.returns
 returns c =
     let kind : Kind = Sweep c.args.task c.would_give-given.result in
     subst (λ (n : ℕ). ActsFor c.args.self c.args.worker c.args.ready (Some (Sweep c.args.task n)) c.paid.result) c.would_give-given.ensures
-    (c.paid.ensures c.args.self c.args.worker kind c.stands.ensures c.requires.goes c.requires.met c.requires.brings
-    (one_of_all c.args.self.paced c.sweep.new.self c.args.worker kind c.in-Ok.ensures.enters c.in-Ok.ensures.fits) c.in-Ok.ensures.fits c.requires.on)
+    (c.paid.ensures c.args.self c.args.worker kind c.stands.ensures c.requires.enter.goes c.requires.met c.requires.brings
+    (one_of_all c.args.self.paced c.sweep.new.self c.args.worker kind c.in-Ok.ensures.enters c.in-Ok.ensures.fits) c.in-Ok.ensures.fits c.requires.enter.on)
+
+pub sweep-requires-clause-room : goal.sweep-requires-clause-room
+sweep-requires-clause-room c = c.requires.enter.room
+
+pub sweep-requires-clause-pays : goal.sweep-requires-clause-pays
+sweep-requires-clause-pays c = pays_sweep c.args.self.paced c.args.worker c.args.task c.would_give-given.result c.requires.enter.owed

@@ -5,6 +5,7 @@ use Rattle.shared_value.specs.Entered.{cause_of, Enters, refused}
 use Rattle.shared_value.specs.Fits.{Fits}
 use Rattle.turn_entries.proofs.Free.{not_refused, put_off_free}
 use Rattle.turn_entries.proofs.Going.{may_heap}
+use Rattle.turn_entries.proofs.Paying.{pays_nothing}
 use Rattle.turn_entries.proofs.Turning.{one}
 use Rattle.turn_entries.proofs.run.Run.put_off_leaf.Goals as goal
 
@@ -13,7 +14,7 @@ put_off-requires-clause-fits c = subst (Fits c.args.self.paced c.args.worker) (s
 
 pub unreachable-requires : goal.unreachable-requires
 unreachable-requires c =
-    not_refused _ c.in-Err.field-0 (put_off_free c.args.self.paced c.args.worker c.args.part c.stands.ensures c.requires.free c.requires.paused.may.fits c.requires.paused.may.idle c.requires.fresh c.requires.goes c.requires.paused c.requires.short)
+    not_refused _ c.in-Err.field-0 (put_off_free c.args.self.paced c.args.worker c.args.part c.stands.ensures c.requires.enter.free c.requires.paused.may.fits c.requires.paused.may.idle c.requires.fresh c.requires.enter.goes c.requires.paused c.requires.short)
     (ap (λ (q : Private). refused c.args.self.paced (record { worker = c.args.worker; kind = PutOff q.task })) (sym c.get_mut.ensures.value) ∙ (sym c.put_off.ensures.refused ∙ ap cause_of c.in-Err.is))
 
 pub returns : goal.returns
@@ -21,9 +22,15 @@ returns c = λ ready.
     c.entered.ensures c.args.self c.args.worker ready (PutOff c.args.part.task)
     (one c.args.self.paced c.put_off.new.self c.args.worker (PutOff c.args.part.task)
     (subst (λ (q : Private). Enters c.args.self.paced c.put_off.new.self (record { worker = c.args.worker; kind = PutOff q.task })) c.get_mut.ensures.value c.in-Ok.ensures.enters) c.in-Ok.ensures.others)
-    c.requires.on
+    c.requires.enter.on
     (λ on. (
       on,
       may_heap c.put_off.new.self c.args.worker c.args.part c.put_off.new.part (record c.args.part.heap { since = 0 }) c.put_off.ensures.fits c.requires.paused.may.idle c.requires.fresh
           (subst (λ (q : Private). c.put_off.new.part ≡ record q { heap = record q.heap { since = 0 } }) c.get_mut.ensures.value c.in-Ok.ensures.part),
     ))
+
+pub put_off-requires-clause-room : goal.put_off-requires-clause-room
+put_off-requires-clause-room c = c.requires.enter.room
+
+pub put_off-requires-clause-pays : goal.put_off-requires-clause-pays
+put_off-requires-clause-pays c = pays_nothing c.args.self.paced c.args.worker (PutOff c.get_mut.result.now.task) c.requires.enter.owed

@@ -5,21 +5,28 @@ use Rattle.shared_value.specs.World.{World}
 use Rattle.turn_entries.specs.Parts.{MayRun}
 use Rattle.turn_entries.specs.Values.{is_over}
 use Rattle.turn_entries.proofs.Going.{may}
+use Rattle.turn_entries.proofs.Paying.{pays_nothing}
 use Rattle.turn_entries.proofs.Turning.{not_over, one, unchanged}
 use Rattle.turn_entries.proofs.run.Run.take_in.Goals as goal
 
 pub returns-in-Ok : goal.returns-in-Ok
 returns-in-Ok c = λ ready.
-    c.entered.ensures c.args.self c.args.worker ready (Took c.args.task) (one c.args.self.paced c.took.new.self c.args.worker (Took c.args.task) c.in-Ok.ensures.enters c.in-Ok.ensures.others) c.requires.on
+    c.entered.ensures c.args.self c.args.worker ready (Took c.args.task) (one c.args.self.paced c.took.new.self c.args.worker (Took c.args.task) c.in-Ok.ensures.enters c.in-Ok.ensures.others) c.requires.enter.on
     (λ on. (on, subst (MayRun c.took.new.self c.args.worker) (sym c.fill.ensures) (may c.took.new.self c.args.worker c.in-Ok.part c.in-Ok.ensures.fits c.in-Ok.ensures.fresh c.in-Ok.ensures.idle)))
 
 pub returns-in-Err : goal.returns-in-Err
 returns-in-Err c = λ ready. (
   unchanged c.args.self.paced c.took.new.self c.in-Err.ensures.same,
   (
-    ap (λ (w : World). is_over (record { paced = w })) c.in-Err.ensures.same ∙ not_over c.args.self c.requires.on c.requires.goes,
+    ap (λ (w : World). is_over (record { paced = w })) c.in-Err.ensures.same ∙ not_over c.args.self c.requires.enter.on c.requires.enter.goes,
     c.args.task,
     refl,
     ap is_some (sym c.took.ensures.refused ∙ ap cause_of c.in-Err.is),
   ),
 )
+
+pub took-requires-clause-room : goal.took-requires-clause-room
+took-requires-clause-room c = c.requires.enter.room
+
+pub took-requires-clause-pays : goal.took-requires-clause-pays
+took-requires-clause-pays c = pays_nothing c.args.self.paced c.args.worker (Took c.args.task) c.requires.enter.owed

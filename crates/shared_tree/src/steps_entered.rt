@@ -1,0 +1,20 @@
+// A part's steps are entered, whatever the last of them does.
+
+ghost use Rattle.std.specs.Prelude.{◌≡◌, ◌≤◌, ◌<◌, ◌+◌, ◌-◌, ◌++◌, ◌∷◌, []};
+ghost use Rattle.own_steps.specs.Alone.{alone_event};
+
+use listed::Roomy;
+use run_trace::{Entry, Kind};
+use task_machine::Private;
+
+/// Counts the fresh steps of a part and its next one, and makes the one entry of all of them.
+pub(crate) fn enter_alone(steps: &mut u64, journal: &mut Roomy<Entry>, worker: u32, part: &Private)
+    requires room { 0 < journal.old.room }
+    requires worker { worker < 64 }
+    requires small { (steps.old < 1000000000) × (part.now.fresh ≤ 256) }
+    ensures steps { steps.new ≡ steps.old + (part.now.fresh + 1) }
+    ensures journal { journal.new ≡ record { items = journal.old.items ++ alone_event worker part.now ∷ []; room = journal.old.room - 1 } }
+{
+    *steps += part.fresh as u64 + 1;
+    journal.push_reserved(Entry::new(worker, Kind::Ran(part.task, part.fresh + 1)));
+}
