@@ -43,37 +43,9 @@ pub short_journal : (p : ProgramText) (s : Limits) (journal : List Event) → is
 short_journal p s journal legal none =
     ap₂ (λ (r : Option RefusedAt) (e : Option RunEnd). or_short r e (length journal + 1)) ((first_refused_is_first p s journal).none.1 legal) none
 
-pub whole_shared : (w : World) (p : ProgramText) (s : Limits) (journal : List Event) (end : RunEnd) → IsWorld w → (accounts w).end ≡ Some end
-    → p ≡ w.program → s ≡ w.settings → journal ≡ w.journal.items → refused_as_run p s journal ≡ None
-whole_shared w p s journal end stands ended program settings is =
-    subst (λ q. refused_as_run q s journal ≡ None) (sym program) (subst (λ l. refused_as_run w.program l journal ≡ None) (sym settings)
-    (subst (λ j. refused_as_run w.program w.settings j ≡ None) (sym is) (whole_journal w.program w.settings w.journal.items end stands.legal ended)))
-
--- what is written of it with the report
-pub reported : (w : World) (p : ProgramText) (s : Limits) (journal : List Event) (asked trace : Bool) (bytes : List ℕ) → p ≡ w.program → s ≡ w.settings → journal ≡ w.journal.items
-    → bytes ≡ out_text p s asked trace journal → bytes ≡ out_text w.program w.settings asked trace w.journal.items
-reported w p s journal asked trace bytes program settings is e =
-    subst (λ j. bytes ≡ out_text w.program w.settings asked trace j) is
-    (subst (λ l. bytes ≡ out_text w.program l asked trace journal) settings
-    (subst (λ q. bytes ≡ out_text q s asked trace journal) program e))
-
 -- a journal with a refused entry is refused for that
 pub refused_first : (p : ProgramText) (s : Limits) (journal : List Event) (r : RefusedAt) → first_refused p s journal ≡ Some r → refused_as_run p s journal ≡ Some r
 refused_first p s journal r is = ap (λ (o : Option RefusedAt). or_short o (end_of p s journal) (length journal + 1)) is
-
--- without a report all that is written is what the shared value has
-pub brief_text : (w : World) (end : RunEnd) (trace : Bool) → (accounts w).end ≡ Some end
-    → output_lines (accounts w).machine.outputs ++ trace_part trace w.settings.version w.journal.items ++ end_line (end_words end) ≡ out_text w.program w.settings false trace w.journal.items
-brief_text w end trace ended =
-    let lines = output_lines (machine_of w.program w.settings w.journal.items).outputs in
-    ap₂ (λ (m : State) (e : Option RunEnd). output_lines m.outputs ++ trace_part trace w.settings.version w.journal.items ++ end_line_of e) (machine_is_run w.program w.settings w.journal.items) (sym ended)
-    ∙ ap (λ xs. xs ++ trace_part trace w.settings.version w.journal.items ++ end_line_of (end_of w.program w.settings w.journal.items)) (sym (append-nil lines))
-
-pub unreported : (w : World) (end : RunEnd) (asked trace : Bool) (bytes : List ℕ) → asked ≡ false → (accounts w).end ≡ Some end
-    → bytes ≡ output_lines (accounts w).machine.outputs ++ trace_part trace w.settings.version w.journal.items ++ end_line (end_words end)
-    → bytes ≡ out_text w.program w.settings asked trace w.journal.items
-unreported w end asked trace bytes wants ended e =
-    subst (λ b. bytes ≡ out_text w.program w.settings b trace w.journal.items) (sym wants) (e ∙ brief_text w end trace ended)
 
 -- what is handed back of a shared value
 pub handed : (p : ProgramText) (s : Limits) (w : World) (journal : List Event) (shared : Option World) → IsWorld w → w.program ≡ p → w.settings ≡ s

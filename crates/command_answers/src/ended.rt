@@ -1,21 +1,21 @@
 // The answer of a run that has ended.
 
-ghost use Rattle.std.specs.Prelude.{◌≡◌, ◌++◌, IfOk, IfErr, Some};
-ghost use Rattle.run_ledger.specs.Text.{output_lines, end_line, end_words, out_text};
-ghost use Rattle.run_report.specs.Written.{trace_part};
+ghost use Rattle.std.specs.Prelude.{◌≡◌, IfOk, IfErr, Some, length, string_bytes};
+ghost use Rattle.run_report.specs.Written.{report_part, text_from, trace_part};
 ghost use Rattle.shared_value.specs.Stands.{IsWorld};
 ghost use Rattle.shared_value.specs.World.{accounts, without_journal};
+ghost use Rattle.counted_tree.specs.Counts.{totals_of};
 ghost use Rattle.command_answers.specs.Answers.{extras_of};
 ghost use Rattle.command_answers.specs.Runs.{IsReplayedRun};
 
 use crate::answer::{Answer, Status};
 use crate::wanted::Wanted;
 use command_line::Options;
+use counted_tree::Counted;
 use listed::Listed;
 use run_ledger::RunEnd;
-use run_report::{Extras, end_text, out_text, outputs_text};
+use run_report::{Extras, end_text, outputs_text, report_text};
 use run_trace::trace_text;
-use shared_tree::Shared;
 use std::alloc::{AllocError, Global};
 
 /// What is written beside the outputs and the end line.
@@ -29,7 +29,7 @@ pub fn extras_of(options: Options) -> Extras
 }
 
 // The trace of a run, where it is asked for.
-fn trace_lines(alloc: Global, shared: &Shared, asked: bool) -> Result<Vec<u8>, AllocError>
+fn trace_lines(alloc: Global, shared: &Counted, asked: bool) -> Result<Vec<u8>, AllocError>
     ensures { IfOk result (λ text. text.items ≡ trace_part asked shared.now.settings.version shared.now.journal.items) }
 {
     if asked {
@@ -39,44 +39,37 @@ fn trace_lines(alloc: Global, shared: &Shared, asked: bool) -> Result<Vec<u8>, A
     }
 }
 
-// What is written of a run that ended so, but for a report.
-fn brief_text(
+// The lines of the report, where it is asked for.
+fn report_lines(alloc: Global, shared: &Counted, asked: bool) -> Result<String, AllocError>
+    ensures { IfOk result (λ text. string_bytes text ≡ report_part asked (accounts shared.now) (length shared.now.journal.items) (totals_of shared.now)) }
+{
+    if asked {
+        report_text(alloc, shared.report())
+    } else {
+        Ok(String::new(alloc))
+    }
+}
+
+// All that is written of a run that ended so.
+fn run_text(
     alloc: Global,
-    shared: &Shared,
+    shared: &Counted,
     end: RunEnd,
-    trace: bool,
+    extras: Extras,
 ) -> Result<Vec<u8>, AllocError>
-    ensures { IfOk result (λ text. text.items ≡ output_lines (accounts shared.now).machine.outputs ++ trace_part trace shared.now.settings.version shared.now.journal.items ++ end_line (end_words end)) }
+    ensures { IfOk result (λ text. text.items ≡ text_from shared.now.settings.version (accounts shared.now) (totals_of shared.now) extras.report extras.trace shared.now.journal.items end) }
 {
     let mut text = outputs_text(alloc, shared.outputs())?;
-    let trace = trace_lines(alloc, shared, trace)?;
+    let report = report_lines(alloc, shared, extras.report)?;
+    text.extend_from_slice(report.as_bytes())?;
+    let trace = trace_lines(alloc, shared, extras.trace)?;
     text.extend_from_slice(trace.as_slice())?;
     text.extend_from_slice(end_text(alloc, end)?.as_bytes())?;
     Ok(text)
 }
 
-// All that is written of a run that ended so. What the report counts is found by a replay.
-fn run_text(
-    alloc: Global,
-    shared: &Shared,
-    end: RunEnd,
-    extras: Extras,
-) -> Result<Vec<u8>, AllocError>
-    requires { (accounts shared.now).end ≡ Some end }
-    ensures { IfOk result (λ text. text.items ≡ out_text shared.now.program shared.now.settings extras.report extras.trace shared.now.journal.items) }
-{
-    if extras.report {
-        shared.stands();
-        let program = shared.program();
-        let settings = shared.settings();
-        out_text(alloc, program, settings, shared.journal(), extras)
-    } else {
-        brief_text(alloc, shared, end, extras.trace)
-    }
-}
-
 /// What is left of a run amid which memory was wanting.
-pub fn amid(shared: Shared) -> Wanted
+pub fn amid(shared: Counted) -> Wanted
     ensures left { result ≡ Wanted.Amid shared.journal.items (without_journal shared) }
     ensures stands { IsWorld shared }
 {
@@ -88,7 +81,7 @@ pub fn amid(shared: Shared) -> Wanted
 /// The answer of a run that ended so.
 pub fn answer_ended(
     alloc: Global,
-    shared: Shared,
+    shared: Counted,
     end: RunEnd,
     extras: Extras,
 ) -> Result<Answer, Wanted>

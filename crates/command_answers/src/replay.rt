@@ -14,15 +14,15 @@ use crate::ended::{amid, answer_ended, extras_of};
 use crate::refusals::{refused, trace_short};
 use crate::wanted::Wanted;
 use command_line::Options;
+use counted_tree::Counted;
 use refusal_lines::Refusal;
 use run_report::Extras;
-use shared_tree::Shared;
 use std::alloc::{AllocError, Global};
 use trace_input::{InputError, TraceInput, read_trace_input};
 use world_core::{ReplayStop, World, replay};
 
 // The answer where all entries are made, and the run has no end.
-fn answer_short(alloc: Global, shared: Shared) -> Result<Answer, Wanted>
+fn answer_short(alloc: Global, shared: Counted) -> Result<Answer, Wanted>
     ensures answer { IfOk result (Refuses (Refusal.Entry (short_of shared.journal.items))) }
     ensures wanted { IfErr result (λ w. w ≡ Wanted.Amid shared.journal.items (without_journal shared)) }
 {
@@ -33,7 +33,7 @@ fn answer_short(alloc: Global, shared: Shared) -> Result<Answer, Wanted>
 }
 
 // The answer where all entries are made.
-fn answer_made(alloc: Global, shared: Shared, extras: Extras) -> Result<Answer, Wanted>
+fn answer_made(alloc: Global, shared: Counted, extras: Extras) -> Result<Answer, Wanted>
     ensures answer { IfOk result (WhereWhole (IsReplayedRun shared.program shared.settings extras shared.journal.items) (refused_as_run shared.program shared.settings shared.journal.items)) }
     ensures wanted { IfErr result (λ w. w ≡ Wanted.Amid shared.journal.items (without_journal shared)) }
     ensures stands { IsWorld shared }

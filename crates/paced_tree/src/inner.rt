@@ -9,12 +9,13 @@ ghost use Rattle.paced_tree.specs.Owed.{Pays};
 
 use crate::noting::{note_mark, note_other, reserve_mark};
 use crate::paced::Paced;
+use counted_tree::Counted;
 use run_ledger::Refused;
 use run_trace::Kind;
-use shared_tree::{NotEntered, Shared};
+use shared_tree::NotEntered;
 
 // Why the entry that begins a marking isn't made, where there is no memory to note it.
-fn no_place(shared: &Shared, worker: u32, t: u32) -> NotEntered
+fn no_place(shared: &Counted, worker: u32, t: u32) -> NotEntered
     ensures { IsCaused result (refused shared.now (record { worker = worker; kind = Kind.Mark t })) }
 {
     match shared.mark_refused(worker, t) {

@@ -7,5 +7,6 @@ mod noting;
 mod paced;
 mod steps;
 
+pub use counted_tree::Counted;
 pub use paced::Paced;
-pub use shared_tree::{NotEntered, Ran, Shared};
+pub use shared_tree::{NotEntered, Ran};

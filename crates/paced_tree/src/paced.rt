@@ -15,12 +15,13 @@ ghost use Rattle.heap_marking.specs.MarkCauses.{marking_cause};
 ghost use Rattle.paced_tree.specs.Owed.{owed_by};
 
 use crate::noting::idle_paces;
+use counted_tree::Counted;
 use hh_lang::Program;
 use listed::Listed;
 use out_of_line::Apart;
 use run_ledger::{Owed, Refused, RunEnd};
 use run_trace::{Entry, Settings};
-use shared_tree::{Pace, Shared};
+use shared_tree::Pace;
 use std::alloc::{AllocError, Global};
 use std::marker::Model;
 use task_machine::Private;
@@ -30,7 +31,7 @@ use task_machine::Private;
 #[derive(Drop)]
 pub struct Paced {
     /// Behind a pointer, since it goes out of the turn and back at each entry.
-    pub(crate) shared: Apart<Shared>,
+    pub(crate) shared: Apart<Counted>,
     /// What is kept of each worker's entries.
     pub(crate) paces: Listed<Pace>,
 }
@@ -47,7 +48,7 @@ impl Model for Paced {
 }
 
 // The shared value behind a pointer. For want of memory it is dropped.
-fn put_apart(alloc: Global, shared: Shared) -> Result<Apart<Shared>, AllocError>
+fn put_apart(alloc: Global, shared: Counted) -> Result<Apart<Counted>, AllocError>
     ensures { IfOk result (λ s. s ≡ shared) }
 {
     match Apart::new(alloc, shared) {
@@ -65,7 +66,7 @@ impl Paced {
         ensures on { IfOk result (λ s. s.halted ≡ false) }
         ensures root { IfOk result (λ s. (r : RestOf) → rest_at s.homes 0 ≡ Some r → r.heap.chunks ≡ []) }
     {
-        let shared = Shared::new(alloc, program, settings)?;
+        let shared = Counted::new(alloc, program, settings)?;
         let paces = idle_paces(alloc, settings.workers())?;
         let apart = put_apart(alloc, shared)?;
         Ok(Paced {
@@ -75,7 +76,7 @@ impl Paced {
     }
 
     /// The shared value alone.
-    pub fn into_shared(self) -> Shared
+    pub fn into_shared(self) -> Counted
         ensures same { result ≡ self }
         ensures paced { is_paced result.program result.settings result.journal.items ≡ true }
     {

@@ -84,7 +84,7 @@ module _ (p : ProgramText) (s : Limits) (l : Ledger) where
 
 module _ (p : ProgramText) (s : Limits) where
   -- one entry more at the end
-  totals_last : (before : List Event) (l : Ledger) (e : Event) → totals_from p s l (before ++ e ∷ []) ≡ joined (totals_from p s l before) (entry_totals p s (after_all p s l before) e)
+  pub totals_last : (before : List Event) (l : Ledger) (e : Event) → totals_from p s l (before ++ e ∷ []) ≡ joined (totals_from p s l before) (entry_totals p s (after_all p s l before) e)
   totals_last [] l e = totals_next p s l e [] ∙ (joined_none (entry_totals p s l e) ∙ sym (none_joined (entry_totals p s l e)))
   totals_last (x ∷ before) l e =
       totals_next p s l x (before ++ e ∷ [])
@@ -136,7 +136,7 @@ module _ (p : ProgramText) (s : Limits) where
   one_sweep l (Sweep t given) = omega arith
   one_sweep l Fuel = omega arith
 
-  legal_few : AreLimits s → (journal : List Event) → is_legal p s journal ≡ true → length journal < 2 ^ 64 → AreFew (totals_from p s (opening p s) journal)
+  pub legal_few : AreLimits s → (journal : List Event) → is_legal p s journal ≡ true → length journal < 2 ^ 64 → AreFew (totals_from p s (opening p s) journal)
   legal_few A journal legal short =
       let all = words_are_accounted p s journal legal in
       let stored = legal_stored p s A journal legal in

@@ -9,4 +9,5 @@ mod whole;
 
 pub use paced::is_paced;
 pub use texts::{end_text, outputs_text, refused_text, report_text};
+pub use totals::Totals;
 pub use whole::{Extras, WholeRun, out_text, report_of, whole_run};

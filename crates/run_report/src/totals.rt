@@ -7,24 +7,24 @@ use run_trace::Kind;
 
 /// What the entries of a journal come to, in numbers.
 #[derive(Clone, Copy)]
-pub(crate) struct Totals {
+pub struct Totals {
     /// The leaf collections that ended.
-    pub(crate) leaf: u64,
+    pub leaf: u64,
     /// Those that were put off.
-    pub(crate) putoff: u64,
+    pub putoff: u64,
     /// The words that leaf collections dropped.
-    pub(crate) leaf_freed: u64,
+    pub leaf_freed: u64,
     /// The sweeps.
-    pub(crate) inner: u64,
+    pub inner: u64,
     /// The words that sweeps dropped.
-    pub(crate) inner_freed: u64,
+    pub inner_freed: u64,
     /// The most chunks in use after any entry.
-    pub(crate) peak: u64,
+    pub peak: u64,
 }
 
 impl Totals {
     /// The totals of no entry.
-    pub(crate) fn none() -> Totals
+    pub fn none() -> Totals
         ensures { result ≡ no_totals }
     {
         Totals {
@@ -38,7 +38,7 @@ impl Totals {
     }
 
     /// What an entry counts, with which the heap lost so many words, and behind which so many chunks are in use.
-    pub(crate) fn counted(kind: Kind, lost: u64, used: u64) -> Totals
+    pub fn counted(kind: Kind, lost: u64, used: u64) -> Totals
         ensures { result ≡ counted kind lost used }
     {
         let mut totals = Totals::none();
@@ -59,7 +59,7 @@ impl Totals {
     }
 
     /// The totals of two parts of a journal together.
-    pub(crate) fn join(self, other: Totals) -> Totals
+    pub fn join(self, other: Totals) -> Totals
         requires { AreFew (joined self other) }
         ensures { result ≡ joined self other }
     {

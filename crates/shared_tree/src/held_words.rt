@@ -27,6 +27,18 @@ impl Shared {
         }
     }
 
+    /// The words of the heap of a task, as far as 64 bits count, and 0 of one that runs or wasn't made.
+    pub fn words_held(&self, t: u32) -> u64
+        ensures { result ≡ counted (words_sum (accounts self.now).machine (kept_of (accounts self.now) t)) }
+    {
+        self.stands();
+        if (t as usize) < self.homes.len() {
+            self.held_of(t).1
+        } else {
+            0
+        }
+    }
+
     /// How many objects lie in the heaps of the tasks that neither a worker holds nor are ready, and their words: what the
     /// report of the journal says is held.
     pub fn held(&self) -> (u64, u64)

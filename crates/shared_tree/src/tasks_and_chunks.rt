@@ -1,6 +1,6 @@
 // Which tasks haven't joined, and which chunks are in use.
 
-ghost use Rattle.std.specs.Prelude.{◌≡◌, ◌<◌, IfOk, IfSome, None};
+ghost use Rattle.std.specs.Prelude.{◌≡◌, ◌<◌, IfOk, IfSome, None, length};
 ghost use Rattle.hh_model.specs.Step.{owner_of};
 ghost use Rattle.chunk_pool.specs.Chunks.{AreChunks};
 ghost use Rattle.shared_value.specs.World.{accounts};
@@ -13,6 +13,14 @@ use listed::Listed;
 use std::alloc::{AllocError, Global};
 
 impl Shared {
+    /// How many tasks were made.
+    pub fn tasks(&self) -> u32
+        ensures { result ≡ length (accounts self.now).machine.tasks }
+    {
+        self.stands();
+        self.tree.made()
+    }
+
     /// The tasks that haven't joined, by rising number.
     pub fn live(&self, alloc: Global) -> Result<Listed<Live>, AllocError>
         ensures { IfOk result (λ tasks. AreAll LiveBefore (IsLive self.now) tasks) }

@@ -13,5 +13,5 @@ mod steps;
 pub use act::Acted;
 pub use held::{Collecting, Copied, Next, Ready};
 pub use held_part::{HeldPart, PartBlock};
-pub use paced_tree::{Paced, Shared};
+pub use paced_tree::{Counted, Paced};
 pub use run::{Run, Setup};

@@ -21,6 +21,7 @@ use Rattle.alloc_path.specs.contracts.shelf.Shelf as Shelf
 use Rattle.alloc_path.specs.contracts.view.View as View
 use Rattle.shared_value.specs.contracts.task_at_rest.Rest as Rest
 use Rattle.shared_tree.specs.contracts.shared.Shared as Shared
+use Rattle.counted_tree.specs.contracts.counted.Counted as Counted
 use Rattle.paced_tree.specs.contracts.paced.Paced as Paced
 use Rattle.turn_entries.specs.contracts.run.Run as Run
 use Rattle.std.specs.contracts.option.Option as Opt
@@ -51,8 +52,11 @@ rest_send = search (view_send, heap.the_send, sendable, std.crosses, maps.crosse
 pub shared_send : IsSend Shared.the_row
 shared_send = search (rest_send, program.the_send, tree.the_send, pool.the_send, sets.the_send, marking.the_send, listed.the_send, roomy.the_send, apart.the_send, sendable, std.crosses, maps.crosses) depth 300 fits 1000000
 
+pub counted_send : IsSend Counted.the_row
+counted_send = search (shared_send, listed.the_send, sendable, std.crosses, maps.crosses) depth 300 fits 1000000
+
 pub paced_send : IsSend Paced.the_row
-paced_send = search (shared_send, listed.the_send, roomy.the_send, apart.the_send, sendable, std.crosses, maps.crosses) depth 300 fits 1000000
+paced_send = search (counted_send, listed.the_send, roomy.the_send, apart.the_send, sendable, std.crosses, maps.crosses) depth 300 fits 1000000
 
 pub run_send : IsSend Run.the_row
 run_send = search (paced_send, sendable, std.crosses, maps.crosses) depth 300 fits 1000000
@@ -66,8 +70,11 @@ rest_sync = search (view_sync, work.the_sync, heap.the_sync, sendable, std.cross
 pub shared_sync : IsSync Shared.the_row
 shared_sync = search (rest_sync, program.the_sync, tree.the_sync, pool.the_sync, sets.the_sync, marking.the_sync, listed.the_sync, roomy.the_sync, apart.the_sync, sendable, std.crosses, maps.crosses) depth 300 fits 1000000
 
+pub counted_sync : IsSync Counted.the_row
+counted_sync = search (shared_sync, listed.the_sync, sendable, std.crosses, maps.crosses) depth 300 fits 1000000
+
 pub paced_sync : IsSync Paced.the_row
-paced_sync = search (shared_sync, listed.the_sync, roomy.the_sync, apart.the_sync, sendable, std.crosses, maps.crosses) depth 300 fits 1000000
+paced_sync = search (counted_sync, listed.the_sync, roomy.the_sync, apart.the_sync, sendable, std.crosses, maps.crosses) depth 300 fits 1000000
 
 pub run_sync : IsSync Run.the_row
 run_sync = search (paced_sync, sendable, std.crosses, maps.crosses) depth 300 fits 1000000

@@ -1,7 +1,7 @@
 //! What a run leaves.
 
 use run_ledger::RunEnd;
-use turn_entries::Shared;
+use turn_entries::Counted;
 
 /// How a run finished.
 #[derive(Clone, Copy)]
@@ -17,5 +17,5 @@ pub enum Finish {
 pub struct Outcome {
     pub finish: Finish,
     /// The shared value; None only where memory was wanting before the first entry.
-    pub shared: Option<Shared>,
+    pub shared: Option<Counted>,
 }

@@ -20,7 +20,7 @@ use std::sync::Wait;
 use std::thread;
 use std::thread::Threads;
 use steal_scheduler::{Deques, Hand};
-use turn_entries::{Next, Paced, Run, Shared};
+use turn_entries::{Counted, Next, Paced, Run};
 use turn_lock::{Seat, Turn};
 
 /// Each worker works at its desk in a thread of its own, until the run is over.
@@ -169,7 +169,7 @@ fn run_all<R: Threads + Wait + Sync, G: Gate>(
     program: &Program,
     settings: Settings,
     gate: &G,
-) -> Result<Shared, AllocError>
+) -> Result<Counted, AllocError>
     ensures run { IfOk result (IsRun program.now settings) }
     ensures gave { IfOk result (λ w. WasGivenBack program.now settings w.journal.items) }
 {

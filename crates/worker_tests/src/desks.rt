@@ -240,7 +240,7 @@ fn leave_all<R: Wait>(
     let run = turn.take(rt, &mut first.seat);
     let looked = turn.look(&mut second.seat);
     let shared = run.paced.into_shared();
-    let left = is_left(alloc, program, settings, entries, &shared);
+    let left = is_left(alloc, program, settings, entries, shared.shared());
     left && looked == entries.len() as u64
 }
 

@@ -14,13 +14,14 @@ use crate::apply_put_off::apply_put_off;
 use crate::apply_ran::apply_ran;
 use crate::apply_took::apply_took;
 use crate::held::{Held, Made};
+use counted_tree::Counted;
 use listed::Listed;
 use run_trace::{Entry, Kind};
-use shared_tree::{NotEntered, Shared};
+use shared_tree::NotEntered;
 use std::mem;
 
 // A worker that may make entries makes one for a task that it takes or holds.
-fn make_for(shared: &mut Shared, worker: u32, hand: Held, kind: Kind) -> Made
+fn make_for(shared: &mut Counted, worker: u32, hand: Held, kind: Kind) -> Made
     requires room { 0 < shared.old.journal.room }
     requires first { first_cause shared.old.end shared.old.steps shared.old.settings worker false ≡ None }
     requires holds { Holds shared.old false worker hand }
@@ -43,7 +44,7 @@ fn make_for(shared: &mut Shared, worker: u32, hand: Held, kind: Kind) -> Made
 
 // A worker makes an entry for a task that it takes or holds, if it may make entries.
 fn make_own(
-    shared: &mut Shared,
+    shared: &mut Counted,
     hands: &mut Listed<Held>,
     worker: u32,
     kind: Kind,
@@ -78,7 +79,7 @@ fn is_own(kind: Kind) -> bool
 }
 
 // Makes an entry for which there is room.
-fn make(shared: &mut Shared, hands: &mut Listed<Held>, entry: Entry) -> Result<(), NotEntered>
+fn make(shared: &mut Counted, hands: &mut Listed<Held>, entry: Entry) -> Result<(), NotEntered>
     requires room { 0 < shared.old.journal.room }
     requires count { length hands.old ≡ shared.old.settings.workers }
     requires hold { AllHold shared.old false hands.old }
@@ -97,7 +98,7 @@ fn make(shared: &mut Shared, hands: &mut Listed<Held>, entry: Entry) -> Result<(
 
 /// Makes an entry.
 pub(crate) fn make_entry(
-    shared: &mut Shared,
+    shared: &mut Counted,
     hands: &mut Listed<Held>,
     entry: Entry,
 ) -> Result<(), NotEntered>

@@ -4,11 +4,12 @@ ghost use Rattle.std.specs.Prelude.{◌≡◌, ◌<◌, false};
 ghost use Rattle.run_trace.specs.Entry.{IsKind};
 ghost use Rattle.world_core.specs.Applied.{is_own, AnswersApart};
 
+use counted_tree::Counted;
 use run_trace::Kind;
-use shared_tree::{NotEntered, Shared};
+use shared_tree::NotEntered;
 
 // Up to so many objects more of a heap are marked.
-fn mark_more(shared: &mut Shared, worker: u32, t: u32, n: u32) -> Result<(), NotEntered>
+fn mark_more(shared: &mut Counted, worker: u32, t: u32, n: u32) -> Result<(), NotEntered>
     requires room { 0 < shared.old.journal.room }
     requires kind { IsKind (Kind.More t n) }
     ensures { AnswersApart shared.old shared.new (record { worker = worker; kind = Kind.More t n }) result }
@@ -20,7 +21,7 @@ fn mark_more(shared: &mut Shared, worker: u32, t: u32, n: u32) -> Result<(), Not
 }
 
 // A heap is swept.
-fn sweep(shared: &mut Shared, worker: u32, t: u32, given: u32) -> Result<(), NotEntered>
+fn sweep(shared: &mut Counted, worker: u32, t: u32, given: u32) -> Result<(), NotEntered>
     requires room { 0 < shared.old.journal.room }
     ensures { AnswersApart shared.old shared.new (record { worker = worker; kind = Kind.Sweep t given }) result }
 {
@@ -31,7 +32,7 @@ fn sweep(shared: &mut Shared, worker: u32, t: u32, given: u32) -> Result<(), Not
 }
 
 // The run ends for spent fuel.
-fn end_for_fuel(shared: &mut Shared, worker: u32) -> Result<(), NotEntered>
+fn end_for_fuel(shared: &mut Counted, worker: u32) -> Result<(), NotEntered>
     requires room { 0 < shared.old.journal.room }
     ensures { AnswersApart shared.old shared.new (record { worker = worker; kind = Kind.Fuel }) result }
 {
@@ -42,7 +43,7 @@ fn end_for_fuel(shared: &mut Shared, worker: u32) -> Result<(), NotEntered>
 }
 
 // The marking of a heap begins.
-fn mark(shared: &mut Shared, worker: u32, t: u32) -> Result<(), NotEntered>
+fn mark(shared: &mut Counted, worker: u32, t: u32) -> Result<(), NotEntered>
     requires room { 0 < shared.old.journal.room }
     ensures { AnswersApart shared.old shared.new (record { worker = worker; kind = Kind.Mark t }) result }
 {
@@ -50,7 +51,7 @@ fn mark(shared: &mut Shared, worker: u32, t: u32) -> Result<(), NotEntered>
 }
 
 /// Makes an entry for a task that no worker holds, or ends the run for spent fuel.
-pub(crate) fn apply_apart(shared: &mut Shared, worker: u32, kind: Kind) -> Result<(), NotEntered>
+pub(crate) fn apply_apart(shared: &mut Counted, worker: u32, kind: Kind) -> Result<(), NotEntered>
     requires room { 0 < shared.old.journal.room }
     requires kind { IsKind kind }
     requires apart { is_own kind ≡ false }

@@ -10,16 +10,16 @@ ghost use Rattle.world_core.specs.Applied.{MakesFor};
 ghost use Rattle.world_core.specs.Whole.{Holds, HoldsCopy, HoldsPart};
 
 use crate::held::{Held, Made, idle_part};
+use counted_tree::Counted;
 use leaf_copy_gc::{Moved, ToChunks, copy};
 use object_layout::Addr;
 use outside_io::EmptyGate;
 use run_trace::Kind;
-use shared_tree::Shared;
 use task_machine::Private;
 
 // Copies the heap of a part whose collection has begun.
 fn copy_begun(
-    shared: &Shared,
+    shared: &Counted,
     worker: u32,
     part: &mut Private,
     roots: &[Addr],
@@ -45,7 +45,7 @@ fn copy_begun(
 }
 
 // That of the part begins, and its heap is copied.
-fn begin(shared: &mut Shared, worker: u32, part: Private) -> Made
+fn begin(shared: &mut Counted, worker: u32, part: Private) -> Made
     requires room { 0 < shared.old.journal.room }
     requires holds { HoldsPart shared.old false worker part }
     ensures { MakesFor shared.old shared.new worker (record { worker = worker; kind = Kind.Begin part.task }) result }
@@ -67,7 +67,7 @@ fn begin(shared: &mut Shared, worker: u32, part: Private) -> Made
 }
 
 /// A due leaf collection of a task begins: its heap is copied, which takes no memory.
-pub(crate) fn apply_begin(shared: &mut Shared, worker: u32, hand: Held, t: u32) -> Made
+pub(crate) fn apply_begin(shared: &mut Counted, worker: u32, hand: Held, t: u32) -> Made
     requires room { 0 < shared.old.journal.room }
     requires first { first_cause shared.old.end shared.old.steps shared.old.settings worker false ≡ None }
     requires holds { Holds shared.old false worker hand }

@@ -6,12 +6,12 @@ ghost use Rattle.world_core.specs.Applied.{MakesFor};
 ghost use Rattle.world_core.specs.Whole.{Holds, HoldsPart};
 
 use crate::held::{Held, Made, idle_part};
+use counted_tree::Counted;
 use run_trace::Kind;
-use shared_tree::Shared;
 use task_machine::Private;
 
 // The part gets it.
-fn give_chunk(shared: &mut Shared, worker: u32, part: Private) -> Made
+fn give_chunk(shared: &mut Counted, worker: u32, part: Private) -> Made
     requires room { 0 < shared.old.journal.room }
     requires holds { HoldsPart shared.old false worker part }
     ensures { MakesFor shared.old shared.new worker (record { worker = worker; kind = Kind.Chunk part.task }) result }
@@ -25,7 +25,7 @@ fn give_chunk(shared: &mut Shared, worker: u32, part: Private) -> Made
 }
 
 /// A task gets the chunk that its next step needs.
-pub(crate) fn apply_chunk(shared: &mut Shared, worker: u32, hand: Held, t: u32) -> Made
+pub(crate) fn apply_chunk(shared: &mut Counted, worker: u32, hand: Held, t: u32) -> Made
     requires room { 0 < shared.old.journal.room }
     requires first { first_cause shared.old.end shared.old.steps shared.old.settings worker false ≡ None }
     requires holds { Holds shared.old false worker hand }

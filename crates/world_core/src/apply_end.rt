@@ -7,10 +7,11 @@ ghost use Rattle.world_core.specs.Applied.{MakesFor};
 ghost use Rattle.world_core.specs.Whole.{Holds, HoldsCopy};
 
 use crate::held::{Held, Made, copied_part};
+use counted_tree::Counted;
 use leaf_copy_gc::Moved;
 use run_ledger::Refused;
 use run_trace::Kind;
-use shared_tree::{NotEntered, Shared};
+use shared_tree::NotEntered;
 use task_machine::Private;
 
 // The first of the three numbers that is wrong.
@@ -30,7 +31,7 @@ fn miscounted(moved: &Moved, taken: u32, given: u32, left: u32) -> Option<Refuse
 }
 
 // That of the part ends, with the numbers that copying came to.
-fn end(shared: &mut Shared, worker: u32, part: Private, moved: Moved) -> Made
+fn end(shared: &mut Counted, worker: u32, part: Private, moved: Moved) -> Made
     requires room { 0 < shared.old.journal.room }
     requires first { first_cause shared.old.end shared.old.steps shared.old.settings worker false ≡ None }
     requires holds { HoldsCopy shared.old worker part moved }
@@ -49,7 +50,7 @@ fn end(shared: &mut Shared, worker: u32, part: Private, moved: Moved) -> Made
 
 /// The leaf collection of a task ends, which an entry tells by the chunks taken, those given back and the words left.
 pub(crate) fn apply_end(
-    shared: &mut Shared,
+    shared: &mut Counted,
     worker: u32,
     hand: Held,
     t: u32,

@@ -6,12 +6,13 @@ ghost use Rattle.world_core.specs.Applied.{MakesFor};
 ghost use Rattle.world_core.specs.Whole.{Holds, HoldsPart};
 
 use crate::held::{Held, Made, idle_part};
+use counted_tree::Counted;
 use run_trace::Kind;
-use shared_tree::{NotEntered, Shared};
+use shared_tree::NotEntered;
 use task_machine::Private;
 
 // That of the part is.
-fn put_off(shared: &mut Shared, worker: u32, part: Private) -> Made
+fn put_off(shared: &mut Counted, worker: u32, part: Private) -> Made
     requires room { 0 < shared.old.journal.room }
     requires holds { HoldsPart shared.old false worker part }
     ensures { MakesFor shared.old shared.new worker (record { worker = worker; kind = Kind.PutOff part.task }) result }
@@ -30,7 +31,7 @@ fn put_off(shared: &mut Shared, worker: u32, part: Private) -> Made
 }
 
 /// A due leaf collection of a task is put off for want of chunks.
-pub(crate) fn apply_put_off(shared: &mut Shared, worker: u32, hand: Held, t: u32) -> Made
+pub(crate) fn apply_put_off(shared: &mut Counted, worker: u32, hand: Held, t: u32) -> Made
     requires room { 0 < shared.old.journal.room }
     requires first { first_cause shared.old.end shared.old.steps shared.old.settings worker false ≡ None }
     requires holds { Holds shared.old false worker hand }

@@ -9,10 +9,11 @@ ghost use Rattle.world_core.specs.Next.{standing_by, IsNext};
 ghost use Rattle.world_core.specs.Whole.{Holds, HoldsPart};
 
 use crate::held::{Held, Made, idle_part};
+use counted_tree::Counted;
 use outside_io::EmptyGate;
 use run_ledger::Refused;
 use run_trace::Kind;
-use shared_tree::{NotEntered, Ran, Shared};
+use shared_tree::{NotEntered, Ran};
 use std::alloc::AllocError;
 use task_machine::{Paused, Private, run_local};
 
@@ -21,7 +22,7 @@ const BUDGET: u32 = 256;
 
 // Takes more private steps, as many as the budget or as come before one that isn't, and says what comes next.
 fn run_more(
-    shared: &Shared,
+    shared: &Counted,
     worker: u32,
     part: &mut Private,
     budget: u32,
@@ -46,7 +47,7 @@ fn run_more(
 
 // Takes so many private steps, or as many as come before one that isn't, and says what comes next.
 fn run_part(
-    shared: &Shared,
+    shared: &Counted,
     worker: u32,
     part: &mut Private,
     steps: u32,
@@ -73,7 +74,7 @@ fn run_part(
 }
 
 // Enters the fresh steps of the part.
-fn enter_private(shared: &mut Shared, worker: u32, part: Private) -> Made
+fn enter_private(shared: &mut Counted, worker: u32, part: Private) -> Made
     requires room { 0 < shared.old.journal.room }
     requires first { first_cause shared.old.end shared.old.steps shared.old.settings worker false ≡ None }
     requires fits { Fits shared.old worker part }
@@ -108,7 +109,7 @@ fn hand_of(ran: Ran) -> Held
 }
 
 // Enters the fresh steps of the part and the shared one that comes next.
-fn enter_last(shared: &mut Shared, worker: u32, part: Private) -> Made
+fn enter_last(shared: &mut Counted, worker: u32, part: Private) -> Made
     requires room { 0 < shared.old.journal.room }
     requires first { first_cause shared.old.end shared.old.steps shared.old.settings worker false ≡ None }
     requires fits { Fits shared.old worker part }
@@ -141,7 +142,7 @@ fn standing(part: &Private, paused: Paused) -> u32
 }
 
 // Enters so many steps of the part, where they can stand in one entry.
-fn enter(shared: &mut Shared, worker: u32, part: Private, paused: Paused, steps: u32) -> Made
+fn enter(shared: &mut Counted, worker: u32, part: Private, paused: Paused, steps: u32) -> Made
     requires room { 0 < shared.old.journal.room }
     requires first { first_cause shared.old.end shared.old.steps shared.old.settings worker false ≡ None }
     requires fits { Fits shared.old worker part }
@@ -168,7 +169,7 @@ fn enter(shared: &mut Shared, worker: u32, part: Private, paused: Paused, steps:
 }
 
 // The part takes so many steps, which are entered.
-fn ran(shared: &mut Shared, worker: u32, part: Private, steps: u32) -> Made
+fn ran(shared: &mut Counted, worker: u32, part: Private, steps: u32) -> Made
     requires room { 0 < shared.old.journal.room }
     requires first { first_cause shared.old.end shared.old.steps shared.old.settings worker false ≡ None }
     requires holds { HoldsPart shared.old false worker part }
@@ -190,7 +191,7 @@ fn ran(shared: &mut Shared, worker: u32, part: Private, steps: u32) -> Made
 }
 
 /// A task takes so many steps: all but the last have to be private.
-pub(crate) fn apply_ran(shared: &mut Shared, worker: u32, hand: Held, t: u32, steps: u32) -> Made
+pub(crate) fn apply_ran(shared: &mut Counted, worker: u32, hand: Held, t: u32, steps: u32) -> Made
     requires room { 0 < shared.old.journal.room }
     requires first { first_cause shared.old.end shared.old.steps shared.old.settings worker false ≡ None }
     requires holds { Holds shared.old false worker hand }

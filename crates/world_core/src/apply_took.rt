@@ -6,11 +6,12 @@ ghost use Rattle.world_core.specs.Applied.{MakesFor};
 ghost use Rattle.world_core.specs.Whole.{Holds};
 
 use crate::held::{Held, Made};
+use counted_tree::Counted;
 use run_trace::Kind;
-use shared_tree::{NotEntered, Shared};
+use shared_tree::NotEntered;
 
 /// A worker takes a task, and holds its part then.
-pub(crate) fn apply_took(shared: &mut Shared, worker: u32, hand: Held, t: u32) -> Made
+pub(crate) fn apply_took(shared: &mut Counted, worker: u32, hand: Held, t: u32) -> Made
     requires room { 0 < shared.old.journal.room }
     requires first { first_cause shared.old.end shared.old.steps shared.old.settings worker false ≡ None }
     requires holds { Holds shared.old false worker hand }

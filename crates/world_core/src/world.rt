@@ -8,6 +8,7 @@ ghost use Rattle.world_core.specs.Whole.{IsWhole};
 
 use crate::apply::make_entry;
 use crate::held::Held;
+use counted_tree::Counted;
 use hh_lang::Program;
 use listed::Listed;
 use run_ledger::Refused;
@@ -30,7 +31,7 @@ pub enum NotApplied {
 /// The shared value and what every worker holds, all in one hand: entries are applied one by one.
 #[derive(Drop)]
 pub struct World {
-    shared: Shared,
+    shared: Counted,
     hands: Listed<Held>,
     stopped: bool,
 }
@@ -65,7 +66,7 @@ impl World {
         ensures journal { IfOk result (λ x. x.shared.journal.items ≡ []) }
         ensures goes { IfOk result (λ x. x.stopped ≡ false) }
     {
-        let shared = Shared::new(alloc, program, settings)?;
+        let shared = Counted::new(alloc, program, settings)?;
         shared.stands();
         let hands = empty_hands(alloc, settings.workers())?;
         Ok(World {
@@ -107,7 +108,7 @@ impl World {
     }
 
     /// The shared value alone. What the workers hold is let go of.
-    pub fn into_shared(self) -> Shared
+    pub fn into_shared(self) -> Counted
         ensures { result ≡ self.shared }
     {
         let World { shared, .. } = self;
@@ -125,6 +126,6 @@ impl World {
     pub fn shared(&self) -> &Shared
         ensures { result.now ≡ self.now.shared }
     {
-        &self.shared
+        self.shared.shared()
     }
 }

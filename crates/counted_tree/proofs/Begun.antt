@@ -1,0 +1,297 @@
+-- A leaf collection that goes on: whose heap it is, and how many words that has, over one entry more.
+use Rattle.std.proofs.Common.{◌≡◌, ℕ, zero, suc, ◌+◌, ◌-◌, ◌&&◌, ◌==◌, not, nat_le, Bool, true, false, cond, Option, Some, None, List, [], ◌∷◌, ◌++◌, slice_get, sum_by, nat_lt, inl, inr, refl, ap, ap₂, sym, subst, ◌∙◌, is_some, is_none}
+use Rattle.std.specs.List.{flat_map}
+use Rattle.std.proofs.lemmas.Bool.{false≢true, both_ways, cases_eq, and_parts, eqb-false, eqb-true}
+use Rattle.std.proofs.lemmas.List.Sums.{sum_by-cons}
+use Rattle.listed.proofs.Members.{In, contains_from_in}
+use Rattle.hh_lang.specs.Form.{ProgramText}
+use Rattle.run_trace.specs.declared.entry.Kind.{Kind}
+use Rattle.run_trace.specs.declared.entry.Kind.TheVariants.{Took, Ran, Chunk, Begin, End as EndOf, PutOff, Mark, More, Sweep, Fuel}
+use Rattle.run_trace.specs.Entry.{Event}
+use Rattle.run_trace.specs.Settings.{Limits}
+use Rattle.hh_model.specs.declared.data.Name.{Name}
+use Rattle.hh_model.specs.declared.data.State.{State}
+use Rattle.hh_model.specs.Effect.{object_at}
+use Rattle.hh_model.specs.Step.{asked, can_step, is_running, is_waiting, step}
+use Rattle.run_ledger.specs.declared.data.Heap.{Heap}
+use Rattle.run_ledger.specs.declared.data.Ledger.{Ledger}
+use Rattle.run_ledger.specs.declared.data.RunEnd.TheVariants.{Fuel as FuelEnd, Pool}
+use Rattle.run_ledger.specs.declared.data.Refused.{Refused}
+use Rattle.run_ledger.specs.Frozen.{begins}
+use Rattle.run_ledger.specs.Heaps.{chunk_words, collected, end_numbers, heap_of, held_in, in_use, is_small, or_fresh, swept_heap, take_of, with_heap, within, words_at, words_in, words_of, words_sum}
+use Rattle.run_ledger.specs.Steps.{allocated_by, allocated_in, on_asked, stepped_to, task_step, task_steps}
+use Rattle.run_ledger.specs.Entries.{after, after_kind, chunk_units, ends_as, is_fuel, is_held_by, is_out, is_ready, kind_refusal, on_waiting, refusal, refused_unless, with_chunk}
+use Rattle.run_ledger.specs.Journals.{is_legal, ledger_of, opening}
+use Rattle.run_ledger.specs.Laws.{HoldsOnce, HoldsTasks, LeavesTask}
+use Rattle.run_ledger.specs.Sound.{SoundAt, SoundLedger, collecting}
+use Rattle.run_ledger.proofs.Cuts.{joined_legal, none_is}
+use Rattle.run_ledger.proofs.Frames.{entries_leave_others, left_step}
+use Rattle.run_ledger.proofs.Holders.{tasks_are_held_once}
+use Rattle.run_ledger.proofs.Journals.{entry_tells, legal_sound, none_unless, none_where, out_tells, wait_tells}
+use Rattle.run_ledger.proofs.Moves.{moves_each}
+use Rattle.run_ledger.proofs.Steps.{step_leaves, task_step_sound, task_steps_sound}
+use Rattle.run_ledger.proofs.Stocks.{names_are_held_once}
+use Rattle.run_ledger.proofs.Waiters.{waiters_are_free}
+use Rattle.ledger_steps.proofs.Ahead.{heap_then, with_at, with_machine, with_off}
+
+-- ONE HEAP OF A LEDGER
+
+heap_off : (l : Ledger) (u : ℕ) (f : Heap → Heap) (t : ℕ) → (t ≡ u → ⊥) → heap_of (with_heap l u f) t ≡ heap_of l t
+heap_off l u f t ne = ap or_fresh (with_off l u t f ne)
+
+-- what of a heap a change keeps
+pub heap_view : {A : Type 0} (view : Heap → A) (l : Ledger) (t : ℕ) (f : Heap → Heap) → ((h : Heap) → view (f h) ≡ view h) → view (heap_of (with_heap l t f) t) ≡ view (heap_of l t)
+heap_view view l t f same = ap (λ o. view (or_fresh o)) (with_at l t f) ∙ by (slice_get l.heaps t)
+  where
+    by : (o : Option Heap) → view (or_fresh (heap_then f o)) ≡ view (or_fresh o)
+    by None = refl
+    by (Some h) = same h
+
+collecting_is : (o : Option Heap) → is_some (or_fresh o).begun ≡ collecting o
+collecting_is None = refl
+collecting_is (Some h) = refl
+
+-- STEPS of a task begin no leaf collection of another one
+module _ (p : ProgramText) (t u : ℕ) (ne : t ≡ u → ⊥) where
+  alloc_off : (l : Ledger) (o : Option ℕ) → slice_get (allocated_by l u o).heaps t ≡ slice_get l.heaps t
+  alloc_off l None = refl
+  alloc_off l (Some w) = with_off l u t _ ne
+
+  module _ (l : Ledger) (S : SoundAt u l) (can : can_step l.machine u ≡ true) (idle : collecting (slice_get l.heaps t) ≡ false) where
+    abbrev b : Ledger
+    b = allocated_in p l u
+
+    abbrev k : Ledger
+    k = stepped_to (allocated_in p l u) u (step p l.machine u)
+
+    abbrev Idle : ℕ → Heap → Type 0
+    Idle v h = v ≡ t → is_some h.begun ≡ false
+
+    idle_b : (v : ℕ) (h : Heap) → slice_get b.heaps v ≡ Some h → Idle v h
+    idle_b v h e q = ap collecting (sym (ap (slice_get b.heaps) (sym q) ∙ e)) ∙ (ap collecting (alloc_off l (asked p l.machine u)) ∙ idle)
+
+    idle_k : (v : ℕ) (h : Heap) → slice_get k.heaps v ≡ Some h → Idle v h
+    idle_k =
+        moves_each Idle u l.machine.tasks b.heaps k.heaps (step_leaves p l u S can).2 idle_b (λ h q e. q e) (λ v e. refl) (λ ns h q e. q e) (λ v h x y i j is wait none q qx qy e. none)
+        (λ v h none q e. none)
+
+    idle_then : collecting (slice_get k.heaps t) ≡ false
+    idle_then = by (slice_get k.heaps t) refl
+      where
+        by : (o : Option Heap) → slice_get k.heaps t ≡ o → collecting o ≡ false
+        by None e = refl
+        by (Some h) e = idle_k t h e refl
+
+  on_step_by : (l : Ledger) → SoundAt u l → (v : Bool) → is_running (slice_get l.machine.tasks t) ≡ v → collecting (slice_get (task_step p l u).heaps t) ≡ true → collecting (slice_get l.heaps t) ≡ true
+  on_step_by l S true e c = ap collecting (sym (left_step p l u t S ne e).1) ∙ c
+  on_step_by l S false e c' = by (can_step l.machine u) refl c'
+    where
+      idle : (v : Bool) → collecting (slice_get l.heaps t) ≡ v → v ≡ false
+      idle true c = absurd (both_ways (is_running (slice_get l.machine.tasks t)) e (S.0.running t c))
+      idle false c = refl
+
+      by : (v : Bool) → can_step l.machine u ≡ v → collecting (slice_get (cond v (stepped_to (allocated_in p l u) u (step p l.machine u)) (record l { steps = l.steps + 1 })).heaps t) ≡ true
+          → collecting (slice_get l.heaps t) ≡ true
+      by false can c = c
+      by true can c = absurd (false≢true (sym (idle_then l S can (let q = idle (collecting (slice_get l.heaps t)) refl in q)) ∙ c))
+
+  on_steps : (k : ℕ) (l : Ledger) → SoundAt u l → collecting (slice_get (task_steps p l u k).heaps t) ≡ true → collecting (slice_get l.heaps t) ≡ true
+  on_steps zero l S c = c
+  on_steps (suc k) l S c = on_step_by l S (is_running (slice_get l.machine.tasks t)) refl (on_steps k (task_step p l u) (task_step_sound p l u S) c)
+
+-- THE WORDS of a heap whose names have the objects that they had
+words_same : (m m' : State) (ns : List Name) → ((n : Name) → In ns n → object_at m'.store n ≡ object_at m.store n) → words_sum m' ns ≡ words_sum m ns
+words_same m m' [] same = refl
+words_same m m' (n ∷ ns) same =
+    sum_by-cons (words_at m') n ns
+    ∙ (ap₂ (λ x y. x + y) (ap words_of (same n (inl refl))) (words_same m m' ns (λ k i. same k (inr i))) ∙ sym (sum_by-cons (words_at m) n ns))
+
+-- the collection of t, whose task the worker k holds, went on before: the heap had as many words
+pub record WentOn (l l' : Ledger) (t k : ℕ) : Type 0 where
+  pub worker : (heap_of l t).worker ≡ Some k
+  pub begun : is_some (heap_of l t).begun ≡ true
+  pub words : words_in l'.machine (heap_of l' t) ≡ words_in l.machine (heap_of l t)
+
+went_same : (l l' : Ledger) (t k : ℕ) → l'.machine ≡ l.machine → heap_of l' t ≡ heap_of l t → (heap_of l' t).worker ≡ Some k → is_some (heap_of l' t).begun ≡ true → WentOn l l' t k
+went_same l l' t k m h w c = record {
+  worker = ap (λ (z : Heap). z.worker) (sym h) ∙ w;
+  begun = ap (λ (z : Heap). is_some z.begun) (sym h) ∙ c;
+  words = ap₂ (λ x y. words_in x y) m h;
+}
+
+some_none : {A : Type 0} (o : Option ℕ) → o ≡ None → is_some o ≡ true → A
+some_none o e s = absurd (false≢true (ap is_some (sym e) ∙ s))
+
+pub held_is : (o : Option ℕ) (w : ℕ) → is_held_by o w ≡ true → o ≡ Some w
+held_is None w h = absurd (false≢true h)
+held_is (Some v) w h = ap Some (eqb-true v w h)
+
+module _ (p : ProgramText) (s : Limits) (journal : List Event) (e : Event) (legal : is_legal p s journal ≡ true) (free : refusal p s (ledger_of p s journal) e ≡ None) where
+  abbrev l : Ledger
+  l = ledger_of p s journal
+
+  abbrev l' : Ledger
+  l' = after p s l e
+
+  S : SoundLedger l
+  S = legal_sound p s journal legal
+
+  legal_then : is_legal p s (journal ++ e ∷ []) ≡ true
+  legal_then = joined_legal p s journal (e ∷ []) (opening p s) legal (ap (λ o. is_none o && true) free)
+
+  H : HoldsTasks l
+  H = tasks_are_held_once p s journal legal
+
+  module _ (t k : ℕ) where
+    abbrev Went : Ledger → Type 0
+    Went z = (heap_of z t).worker ≡ Some k → is_some (heap_of z t).begun ≡ true → WentOn l z t k
+
+    went_off : (u : ℕ) (f : Heap → Heap) → (t ≡ u → ⊥) → Went (with_heap l u f)
+    went_off u f ne = went_same l (with_heap l u f) t k (with_machine l u f) (heap_off l u f t ne)
+
+    -- a change of a heap that is amid no collection, and isn't afterwards
+    went_by : (u : ℕ) (f : Heap → Heap) → (t ≡ u → is_some (heap_of (with_heap l u f) u).begun ≡ true → (heap_of (with_heap l u f) u).worker ≡ Some k → ⊥) → Went (with_heap l u f)
+    went_by u f never w c = elim (cases_eq t u) [
+      | inl q ↦ absurd (never q (ap (λ v. is_some (heap_of (with_heap l u f) v).begun) (sym q) ∙ c) (ap (λ v. (heap_of (with_heap l u f) v).worker) (sym q) ∙ w))
+      | inr ne ↦ went_off u f ne w c
+    ]
+
+    went_idle : (u : ℕ) (f : Heap → Heap) → ((h : Heap) → (f h).begun ≡ h.begun) → collecting (slice_get l.heaps u) ≡ false → Went (with_heap l u f)
+    went_idle u f same idle = went_by u f (λ q c w.
+        both_ways (collecting (slice_get l.heaps u)) idle (sym (collecting_is (slice_get l.heaps u)) ∙ (ap is_some (sym (heap_view (λ (h : Heap). h.begun) l u f same)) ∙ c)))
+
+    went_waiting : (u : ℕ) (f : Heap → Heap) → ((h : Heap) → (f h).worker ≡ h.worker) → (heap_of l u).worker ≡ None → Went (with_heap l u f)
+    went_waiting u f same rests = went_by u f (λ q c w. none_some (sym rests ∙ (sym (heap_view (λ (h : Heap). h.worker) l u f same) ∙ w)))
+      where
+        none_some : ◌≡◌ {A = Option ℕ} None (Some k) → ⊥
+        none_some r = absurd cc
+
+    -- steps of u
+    went_steps : (u n : ℕ) → is_out l e.worker u ≡ true → collecting (slice_get l.heaps u) ≡ false → e.kind ≡ Ran u n → Went (task_steps p l u n)
+    went_steps u n out idle is w c = elim (cases_eq t u) [
+      | inl q ↦
+          absurd (both_ways (collecting (slice_get (task_steps p l u n).heaps u)) (task_steps_sound p n l u (S, idle)).1
+          (sym (collecting_is (slice_get (task_steps p l u n).heaps u)) ∙ (ap (λ v. is_some (heap_of (task_steps p l u n) v).begun) (sym q) ∙ c)))
+      | inr ne ↦
+          let before : collecting (slice_get l.heaps t) ≡ true = on_steps p t u ne n l (S, idle) (sym (collecting_is (slice_get (task_steps p l u n).heaps t)) ∙ c) in
+          let begun : is_some (heap_of l t).begun ≡ true = collecting_is (slice_get l.heaps t) ∙ before in
+          by ne begun (heap_of l t).worker refl (H.collecting t begun)
+    ]
+      where
+        mine : (heap_of l u).worker ≡ Some e.worker
+        mine = held_is (heap_of l u).worker e.worker (and_parts (is_running (slice_get l.machine.tasks u)) (is_held_by (heap_of l u).worker e.worker) out).1
+
+        after_is : after p s l e ≡ task_steps p l u n
+        after_is = ap (after_kind p s l e.worker) is
+
+        left : (v : ℕ) → (heap_of l t).worker ≡ Some v → (v ≡ e.worker → ⊥) → is_some (heap_of l t).begun ≡ true → WentOn l (task_steps p l u n) t k
+        left v held other begun =
+            let L : LeavesTask l (task_steps p l u n) t = subst (λ z. LeavesTask l z t) after_is (entries_leave_others p s journal [] e t v legal_then held other) in
+            let O : HoldsOnce l = names_are_held_once p s journal legal in record {
+              worker = ap (λ (z : Heap). z.worker) (sym L.heap) ∙ w;
+              begun = begun;
+              words = ap (words_in (task_steps p l u n).machine) L.heap
+                  ∙ words_same l.machine (task_steps p l u n).machine (held_in (heap_of l t)) (λ m i. L.owner.objects m (O.owned t m (contains_from_in (held_in (heap_of l t)) m i)));
+            }
+
+        by : (t ≡ u → ⊥) → is_some (heap_of l t).begun ≡ true → (o : Option ℕ) → (heap_of l t).worker ≡ o → is_some o ≡ true → WentOn l (task_steps p l u n) t k
+        by ne begun None is some = absurd (false≢true some)
+        by ne begun (Some v) is some = elim (cases_eq v e.worker) [
+          | inl q ↦ absurd (ne (H.one t u e.worker (is ∙ ap Some q) mine))
+          | inr other ↦ left v is other begun
+        ]
+
+    went_chunk : (u : ℕ) (next : Option ℕ) (full : Bool) → collecting (slice_get l.heaps u) ≡ false → Went (cond full (record l { end = Some (Pool (in_use l)) }) (with_heap l u (with_chunk next)))
+    went_chunk u next true idle = went_same l (record l { end = Some (Pool (in_use l)) }) t k refl refl
+    went_chunk u next false idle = went_idle u (with_chunk next) (λ h. same h (on_asked next is_small)) idle
+      where
+        same : (h : Heap) (v : Bool) → (cond v (record h { chunks = h.chunks ++ [] ∷ []; room = chunk_words }) (record h { reserved = chunk_units next })).begun ≡ h.begun
+        same h true = refl
+        same h false = refl
+
+    waits_free : (u : ℕ) (rest : Option Refused) → is_none (on_waiting l u rest) ≡ true → (heap_of l u).worker ≡ None
+    waits_free u rest h = waiters_are_free p s journal legal u (wait_tells l u rest h).0
+
+    went_kind : (kind : Kind) → e.kind ≡ kind → is_none (kind_refusal p s l e.worker kind) ≡ true → begins t kind ≡ false → Went (after_kind p s l e.worker kind)
+    went_kind (Took u) is h off = went_by u _ (λ q c w.
+        let ready = and_parts (is_running (slice_get l.machine.tasks u)) (is_none (heap_of l u).worker) (none_unless (is_ready l u) _ _ h).0 in
+        some_none (heap_of l u).worker (none_is (heap_of l u).worker ready.1) (H.collecting u (ap is_some (sym (heap_view (λ (g : Heap). g.begun) l u (λ g. record g { worker = Some e.worker }) (λ g. refl))) ∙ c)))
+    went_kind (Ran u n) is h off = went_steps u n (none_unless (is_out l e.worker u) _ _ h).0 (out_tells l e.worker u _ h).1 is
+    went_kind (Chunk u) is h off = went_chunk u (asked p l.machine u) (nat_lt s.chunks (in_use l + chunk_units (asked p l.machine u))) (out_tells l e.worker u _ h).1
+    went_kind (Begin u) is h off = went_off u _ (λ q. eqb-false u t off (sym q))
+    went_kind (EndOf u a g n) is h off = went_by u (collected l.machine) (λ q c w. ended (slice_get l.heaps u) refl c)
+      where
+        ended : (o : Option Heap) → slice_get l.heaps u ≡ o → is_some (heap_of (with_heap l u (collected l.machine)) u).begun ≡ true → ⊥
+        ended o q c = over o (ap (λ z. is_some (or_fresh z).begun) (sym (with_at l u (collected l.machine) ∙ ap (heap_then (collected l.machine)) q)) ∙ c)
+          where
+            over : (z : Option Heap) → is_some (or_fresh (heap_then (collected l.machine) z)).begun ≡ true → ⊥
+            over None r = false≢true r
+            over (Some h') r = false≢true r
+    went_kind (PutOff u) is h off = went_idle u _ (λ g. refl) (out_tells l e.worker u _ h).1
+    went_kind (Mark u) is h off = went_waiting u _ (λ g. refl) (waits_free u _ h)
+    went_kind (More u n) is h off = went_waiting u _ (λ g. refl) (waits_free u _ h)
+    went_kind (Sweep u g) is h off = went_waiting u swept_heap (λ z. refl) (waits_free u _ h)
+    went_kind Fuel is h off = went_same l (record l { end = Some (FuelEnd l.steps) }) t k refl refl
+
+    -- where the entry doesn't begin it
+    pub went_on : begins t e.kind ≡ false → (heap_of l' t).worker ≡ Some k → is_some (heap_of l' t).begun ≡ true → WentOn l l' t k
+    went_on off = went_kind e.kind refl (entry_tells p s l e (ap is_none free)).2 off
+
+    -- where it begins the collection of u
+    module _ (u : ℕ) (is : e.kind ≡ Begin u) where
+      after_is : l' ≡ with_heap l u (λ h. record h { begun = Some (take_of l.machine h); survivors = within l u })
+      after_is = ap (after_kind p s l e.worker) is
+
+      mine : (heap_of l u).worker ≡ Some e.worker
+      mine =
+          let h : is_none (kind_refusal p s l e.worker (Begin u)) ≡ true = ap (λ z. is_none (kind_refusal p s l e.worker z)) (sym is) ∙ (entry_tells p s l e (ap is_none free)).2 in
+          held_is (heap_of l u).worker e.worker (and_parts (is_running (slice_get l.machine.tasks u)) (is_held_by (heap_of l u).worker e.worker) (none_unless (is_out l e.worker u) _ _ h).0).1
+
+      pub begin_worker : (heap_of l' u).worker ≡ Some e.worker
+      begin_worker = ap (λ (z : Ledger). (heap_of z u).worker) after_is ∙ (heap_view (λ (h : Heap). h.worker) l u (λ h. record h { begun = Some (take_of l.machine h); survivors = within l u }) (λ h. refl) ∙ mine)
+
+      pub begin_words : words_in l'.machine (heap_of l' u) ≡ words_in l.machine (heap_of l u)
+      begin_words =
+          ap (λ (z : Ledger). words_in z.machine (heap_of z u)) after_is
+          ∙ ap₂ (λ m ns. words_sum m ns) (with_machine l u (λ h. record h { begun = Some (take_of l.machine h); survivors = within l u }))
+          (heap_view held_in l u (λ h. record h { begun = Some (take_of l.machine h); survivors = within l u }) (λ h. refl))
+
+      -- no other one is of its worker
+      pub begin_apart : (t ≡ u → ⊥) → (heap_of l t).worker ≡ Some k → k ≡ e.worker → ⊥
+      begin_apart ne held q = ne (H.one t u e.worker (held ∙ ap Some q) mine)
+
+    -- the collection of u ends
+    module _ (u taken given left : ℕ) (is : e.kind ≡ EndOf u taken given left) where
+      tells : is_none (kind_refusal p s l e.worker (EndOf u taken given left)) ≡ true
+      tells = ap (λ z. is_none (kind_refusal p s l e.worker z)) (sym is) ∙ (entry_tells p s l e (ap is_none free)).2
+
+      out : (is_out l e.worker u ≡ true) × (is_none (refused_unless (is_some (heap_of l u).begun) Refused.NotCollecting (ends_as (taken, given, left) (end_numbers l.machine (heap_of l u)))) ≡ true)
+      out = none_unless (is_out l e.worker u) _ _ tells
+
+      numbers : (is_some (heap_of l u).begun ≡ true) × (is_none (ends_as (taken, given, left) (end_numbers l.machine (heap_of l u))) ≡ true)
+      numbers = none_unless (is_some (heap_of l u).begun) _ _ out.1
+
+      pub end_begun : is_some (heap_of l u).begun ≡ true
+      end_begun = numbers.0
+
+      pub end_worker : (heap_of l u).worker ≡ Some e.worker
+      end_worker = held_is (heap_of l u).worker e.worker (and_parts (is_running (slice_get l.machine.tasks u)) (is_held_by (heap_of l u).worker e.worker) out.0).1
+
+      pub end_left : left ≡ words_in l.machine (collected l.machine (heap_of l u))
+      end_left =
+          let a = none_unless (taken == (end_numbers l.machine (heap_of l u)).0) _ _ numbers.1 in
+          let b = none_unless (given == (end_numbers l.machine (heap_of l u)).1) _ _ a.1 in
+          let c = none_unless (left == (end_numbers l.machine (heap_of l u)).2) _ _ b.1 in
+          eqb-true left (end_numbers l.machine (heap_of l u)).2 c.0
+
+  -- the heap of u, which waits, is swept
+  pub sweep_waits : (u given : ℕ) → e.kind ≡ Sweep u given → is_waiting (slice_get l.machine.tasks u) ≡ true
+  sweep_waits u given is =
+      (wait_tells l u _ (ap (λ z. is_none (kind_refusal p s l e.worker z)) (sym is) ∙ (entry_tells p s l e (ap is_none free)).2)).0
+
+-- the worker of an entry is one of the run's
+pub entry_worker : (p : ProgramText) (s : Limits) (l : Ledger) (e : Event) → refusal p s l e ≡ None → nat_lt e.worker s.workers ≡ true
+entry_worker p s l e free =
+    let a = none_where (is_some l.end) _ _ (ap is_none free) in
+    let b = none_where (nat_le s.fuel l.steps && not (is_fuel e.kind)) _ _ a.1 in
+    (none_unless (nat_lt e.worker s.workers) _ _ b.1).0

@@ -1,0 +1,253 @@
+-- What is kept of the entries of a journal, over one entry more.
+use Rattle.std.proofs.Common.{◌≡◌, ℕ, zero, suc, ◌+◌, ◌-◌, ◌<◌, ◌==◌, ◌&&◌, ◌^◌, Bool, true, false, cond, Option, Some, None, List, [], ◌∷◌, ◌++◌, length, length-set, replicate, slice_get, slice_set, nat_lt, inl, inr, refl, ap, ap₂, sym, subst, ◌∙◌, is_some, is_none, arith, length-append}
+use Rattle.std.proofs.lemmas.Bool.{cases_eq, eqb-true, ltb-true}
+use Rattle.std.proofs.lemmas.Option.{same_Some}
+use Rattle.listed.proofs.Members.{got_back, got_other}
+use Rattle.hh_lang.specs.Form.{ProgramText}
+use Rattle.run_trace.specs.declared.entry.Kind.{Kind}
+use Rattle.run_trace.specs.declared.entry.Kind.TheVariants.{Took, Ran, Chunk, Begin, End as EndOf, PutOff, Mark, More, Sweep, Fuel}
+use Rattle.run_trace.specs.Entry.{Event}
+use Rattle.run_trace.specs.Settings.{Limits}
+use Rattle.hh_model.specs.declared.data.Name.{Name}
+use Rattle.hh_model.specs.declared.data.State.{State}
+use Rattle.hh_model.specs.declared.data.Status.{Status}
+use Rattle.hh_model.specs.declared.data.Status.TheVariants.{Running, Waiting, Ended, Joined}
+use Rattle.hh_model.specs.declared.data.Task.{Task}
+use Rattle.hh_model.specs.Step.{is_running, is_waiting}
+use Rattle.run_ledger.specs.declared.data.Heap.{Heap}
+use Rattle.run_ledger.specs.declared.data.Ledger.{Ledger}
+use Rattle.run_ledger.specs.Entries.{after, after_kind}
+use Rattle.run_ledger.specs.Frozen.{begins}
+use Rattle.run_ledger.specs.Heaps.{collected, heap_of, held_in, in_use, swept_heap, with_heap, words_in, words_sum}
+use Rattle.run_ledger.specs.Journals.{is_legal, ledger_of, opening}
+use Rattle.run_ledger.specs.Report.{lost}
+use Rattle.object_layout.specs.Chunks.{held_words}
+use Rattle.alloc_path.specs.Heap.{counted as counted64}
+use Rattle.ledger_steps.proofs.Ahead.{with_machine}
+use Rattle.core_relation.proofs.whole.Past.{waiting_stops}
+use Rattle.run_report.specs.declared.totals.Totals.{Totals}
+use Rattle.run_report.specs.Totals.{AreFew, cleared_words, counted, entry_totals, joined, no_totals, totals_from}
+use Rattle.run_report.proofs.Sums.{legal_few, lost_is, totals_last}
+use Rattle.task_machine.specs.declared.part.Private.{Private}
+use Rattle.shared_value.specs.declared.answer.NotEntered.{NotEntered}
+use Rattle.shared_value.specs.declared.answer.NotEntered.TheVariants.{NoMemory, Refuses}
+use Rattle.shared_value.specs.Entered.{Enters, refused}
+use Rattle.shared_value.specs.Fits.{Fits}
+use Rattle.shared_value.specs.Stands.{IsWorld}
+use Rattle.shared_value.specs.World.{World, accounts}
+use Rattle.shared_value.proofs.JournalGoesOn.{legal_then}
+use Rattle.own_steps.specs.Alone.{alone_event}
+use Rattle.child_tasks.specs.Joins.{IsUnchanged}
+use Rattle.shared_tree.specs.declared.ran.Ran.{Ran as RanOf}
+use Rattle.shared_tree.specs.declared.ran.Ran.TheVariants.{Goes as GoesOn, Forked as ForksInto, Ended as EndsWith, Over as IsOver, Done as IsDone}
+use Rattle.shared_tree.specs.Ran.{RanTo}
+use Rattle.heap_marking.proofs.ForksTold.{entered_accounts}
+use Rattle.heap_reading.specs.HeldNames.{kept_of}
+use Rattle.counted_tree.specs.declared.counting.Counts.{Counts}
+use Rattle.counted_tree.specs.Counts.{HasWords, IsMade, KeepsBegun, KeepsCounts, begun_with, totals_of}
+use Rattle.counted_tree.proofs.Begun.{WentOn, begin_apart, begin_words, begin_worker, end_begun, end_left, end_worker, entry_worker, sweep_waits, went_on}
+use Rattle.counted_tree.proofs.PartWords.{counted_small, part_words, words_small}
+
+-- LISTS
+
+set_here : {A : Type 0} (xs : List A) (k : ℕ) (y : A) → k < length xs → slice_get (slice_set xs k y) k ≡ Some y
+set_here [] k y lt = absurd (omega arith)
+set_here (x ∷ xs) zero y lt = refl
+set_here (x ∷ xs) (suc k) y lt = set_here xs k y (omega (arith, lt))
+
+pub last_of : {A : Type 0} (xs : List A) (e x : A) → slice_get (xs ++ e ∷ []) (length (xs ++ e ∷ []) - 1) ≡ Some x → x ≡ e
+last_of xs e x h =
+    let long = length-append xs (e ∷ []) in
+    let at : length (xs ++ e ∷ []) - 1 ≡ length xs + 0 = omega (arith, long) in
+    sym (same_Some e x (sym (got_back xs (e ∷ []) 0) ∙ (ap (slice_get (xs ++ e ∷ [])) (sym at) ∙ h)))
+
+pub long_last : {A : Type 0} (xs : List A) (e : A) → 0 < length (xs ++ e ∷ [])
+long_last [] e = omega arith
+long_last (x ∷ xs) e = omega arith
+
+-- BEFORE THE FIRST ENTRY
+
+first_worker : (p : ProgramText) (s : Limits) (t k : ℕ) → (heap_of (opening p s) t).worker ≡ Some k → ⊥
+first_worker p s zero k h = absurd cc
+first_worker p s (suc t) k h = absurd cc
+
+pub first_kept : (w : World) (c : Counts) → w.journal.items ≡ [] → c.totals ≡ no_totals → length c.begun ≡ w.settings.workers → KeepsCounts w c
+first_kept w c none totals workers = record {
+  totals = totals ∙ ap (totals_from w.program w.settings (opening w.program w.settings)) (sym none);
+  workers = workers;
+  begun = λ k t h b. absurd (first_worker w.program w.settings t k (ap (λ j. (heap_of (ledger_of w.program w.settings j) t).worker) (sym none) ∙ h));
+}
+
+-- the same program, settings and entries
+pub same_kept : (w v : World) (c : Counts) → v.program ≡ w.program → v.settings ≡ w.settings → v.journal.items ≡ w.journal.items → KeepsCounts w c → KeepsCounts v c
+same_kept w v c p s j K =
+    let l : accounts v ≡ accounts w =
+    ap (λ q. ledger_of q v.settings v.journal.items) p ∙ (ap (λ z. ledger_of w.program z v.journal.items) s ∙ ap (ledger_of w.program w.settings) j) in record {
+      totals = K.totals
+          ∙ sym (ap (λ q. totals_from q v.settings (opening q v.settings) v.journal.items) p
+          ∙ (ap (λ z. totals_from w.program z (opening w.program z) v.journal.items) s ∙ ap (totals_from w.program w.settings (opening w.program w.settings)) j));
+      workers = K.workers ∙ ap (λ (z : Limits). z.workers) (sym s);
+      begun = λ k t h b.
+          K.begun k t (ap (λ (z : Ledger). (heap_of z t).worker) (sym l) ∙ h) (ap (λ (z : Ledger). is_some (heap_of z t).begun) (sym l) ∙ b)
+          ∙ ap (λ (z : Ledger). Some (words_in z.machine (heap_of z t))) (sym l);
+    }
+
+-- where an entry is refused, or there was no memory for it
+pub unchanged_kept : (w v : World) (cause : NotEntered) (c : Counts) → IsUnchanged cause w v → KeepsCounts w c → KeepsCounts v c
+unchanged_kept w v (Refuses why) c same K = subst (λ (z : World). KeepsCounts z c) (sym same) K
+unchanged_kept w v NoMemory c S K = same_kept w v c (ap (λ (z : World). z.program) S.rest) (ap (λ (z : World). z.settings) S.rest) (ap (λ (z : World). z.journal.items) S.rest) K
+
+-- steps that were entered, whatever they come to
+pub ran_enters : (w v : World) (k : ℕ) (q : Private) (r : RanOf) → RanTo w v k q r → Enters w v (alone_event k q)
+ran_enters w v k q (GoesOn x) a = a.enters
+ran_enters w v k q (ForksInto left right) a = a.0.enters
+ran_enters w v k q (EndsWith resumed) a = a.0.enters
+ran_enters w v k q (IsOver x) a = a.enters
+ran_enters w v k q IsDone a = a.enters
+
+-- an entry that was made
+pub is_made : (w v : World) (c : Counts) (e : Event) (words : ℕ) → IsWorld w → Enters w v e → refused w e ≡ None → KeepsCounts w c → HasWords (accounts w) e.kind words
+    → (z : World) × (x : Event) × IsMade z v c x words
+is_made w v c e words I E free K H = (w, e, record { stands = I; enters = E; free = free; keeps = K; had = H })
+
+-- ONE ENTRY MORE
+module _ (w v : World) (c : Counts) (e : Event) (words : ℕ) (M : IsMade w v c e words) where
+  abbrev p : ProgramText
+  p = w.program
+
+  abbrev s : Limits
+  s = w.settings
+
+  abbrev l : Ledger
+  l = accounts w
+
+  abbrev l' : Ledger
+  l' = after p s l e
+
+  now_is : accounts v ≡ l'
+  now_is = entered_accounts w v e M.enters
+
+  pub worker_few : e.worker < length c.begun
+  worker_few = let q = M.keeps.workers in let h = ltb-true e.worker s.workers (entry_worker p s l e M.free) in omega (arith, q, h)
+
+  -- THE TOTALS
+  totals_then : totals_of v ≡ joined (totals_of w) (entry_totals p s l e)
+  totals_then =
+      ap (λ q. totals_from q v.settings (opening q v.settings) v.journal.items) M.enters.program
+      ∙ (ap (λ z. totals_from p z (opening p z) v.journal.items) M.enters.settings
+      ∙ (ap (totals_from p s (opening p s)) M.enters.journal ∙ totals_last p s w.journal.items (opening p s) e))
+
+  counted_is : (lost used : ℕ) → lost ≡ cleared_words l e.kind - cleared_words (accounts v) e.kind → used ≡ in_use (accounts v) → counted e.kind lost used ≡ entry_totals p s l e
+  counted_is lost used a b =
+      ap₂ (counted e.kind) (a ∙ ap (λ z. cleared_words l e.kind - cleared_words z e.kind) now_is) (b ∙ ap in_use now_is)
+
+  pub totals_few : length v.journal.items < 2 ^ 64 → (lost used : ℕ) → lost ≡ cleared_words l e.kind - cleared_words (accounts v) e.kind → used ≡ in_use (accounts v) → AreFew (joined c.totals (counted e.kind lost used))
+  totals_few short lost used a b =
+      let all : List Event = w.journal.items ++ e ∷ [] in
+      let few : AreFew (totals_from p s (opening p s) all) =
+      legal_few p s M.stands.limits all (legal_then p s w.journal.items e M.stands.legal M.free) (subst (λ xs. length xs < 2 ^ 64) M.enters.journal short) in
+      subst AreFew (totals_last p s w.journal.items (opening p s) e ∙ ap₂ joined (sym M.keeps.totals) (sym (counted_is lost used a b))) few
+
+  -- WHAT IS KEPT OF WORKERS
+  abbrev Kept : Kind → Type 0
+  Kept kind = (k t : ℕ) → (heap_of l' t).worker ≡ Some k → is_some (heap_of l' t).begun ≡ true → slice_get (begun_with c.begun e.worker words kind) k ≡ Some (words_in l'.machine (heap_of l' t))
+
+  other : ((t : ℕ) → begins t e.kind ≡ false) → (k t : ℕ) → (heap_of l' t).worker ≡ Some k → is_some (heap_of l' t).begun ≡ true → slice_get c.begun k ≡ Some (words_in l'.machine (heap_of l' t))
+  other off k t h b =
+      let W : WentOn l l' t k = went_on p s w.journal.items e M.stands.legal M.free t k (off t) h b in
+      M.keeps.begun k t W.worker W.begun ∙ ap Some (sym W.words)
+
+  kept_begin : (u : ℕ) → e.kind ≡ Begin u → HasWords l (Begin u) words → Kept (Begin u)
+  kept_begin u is has k t h b = elim (cases_eq t u) [
+    | inl q ↦
+        let k_is : k ≡ e.worker = same_Some k e.worker (sym h ∙ (ap (λ z. (heap_of l' z).worker) q ∙ begin_worker p s w.journal.items e M.stands.legal M.free t k u is)) in
+        ap (slice_get (slice_set c.begun e.worker words)) k_is
+        ∙ (set_here c.begun e.worker words worker_few
+        ∙ ap Some (has ∙ (sym (begin_words p s w.journal.items e M.stands.legal M.free t k u is) ∙ ap (λ z. words_in l'.machine (heap_of l' z)) (sym q))))
+    | inr ne ↦
+        let W : WentOn l l' t k = went_on p s w.journal.items e M.stands.legal M.free t k (ap (begins t) is ∙ off ne (u == t) refl) h b in
+        got_other c.begun e.worker k words (begin_apart p s w.journal.items e M.stands.legal M.free t k u is ne W.worker)
+        ∙ (M.keeps.begun k t W.worker W.begun ∙ ap Some (sym W.words))
+  ]
+    where
+      off : (t ≡ u → ⊥) → (z : Bool) → (u == t) ≡ z → z ≡ false
+      off ne true q = absurd (ne (sym (eqb-true u t q)))
+      off ne false q = refl
+
+  kept_kind : (kind : Kind) → e.kind ≡ kind → HasWords l kind words → Kept kind
+  kept_kind (Took u) is has = other (λ t. ap (begins t) is)
+  kept_kind (Ran u n) is has = other (λ t. ap (begins t) is)
+  kept_kind (Chunk u) is has = other (λ t. ap (begins t) is)
+  kept_kind (Begin u) is has = kept_begin u is has
+  kept_kind (EndOf u a g n) is has = other (λ t. ap (begins t) is)
+  kept_kind (PutOff u) is has = other (λ t. ap (begins t) is)
+  kept_kind (Mark u) is has = other (λ t. ap (begins t) is)
+  kept_kind (More u n) is has = other (λ t. ap (begins t) is)
+  kept_kind (Sweep u g) is has = other (λ t. ap (begins t) is)
+  kept_kind Fuel is has = other (λ t. ap (begins t) is)
+
+  long_with : (kind : Kind) → length (begun_with c.begun e.worker words kind) ≡ length c.begun
+  long_with (Took u) = refl
+  long_with (Ran u n) = refl
+  long_with (Chunk u) = refl
+  long_with (Begin u) = length-set c.begun e.worker words
+  long_with (EndOf u a g n) = refl
+  long_with (PutOff u) = refl
+  long_with (Mark u) = refl
+  long_with (More u n) = refl
+  long_with (Sweep u g) = refl
+  long_with Fuel = refl
+
+  pub counts_then : (c' : Counts) (lost used : ℕ) → lost ≡ cleared_words l e.kind - cleared_words (accounts v) e.kind → used ≡ in_use (accounts v) → c'.totals ≡ joined c.totals (counted e.kind lost used)
+      → c'.begun ≡ begun_with c.begun e.worker words e.kind → KeepsCounts v c'
+  counts_then c' lost used a b et eb = record {
+    totals = et ∙ (ap₂ joined M.keeps.totals (counted_is lost used a b) ∙ sym totals_then);
+    workers = ap length eb ∙ (long_with e.kind ∙ (M.keeps.workers ∙ ap (λ (z : Limits). z.workers) (sym M.enters.settings)));
+    begun = λ k t h g.
+        ap (λ xs. slice_get xs k) eb
+        ∙ (kept_kind e.kind refl M.had k t (ap (λ (z : Ledger). (heap_of z t).worker) (sym now_is) ∙ h) (ap (λ (z : Ledger). is_some (heap_of z t).begun) (sym now_is) ∙ g)
+        ∙ ap (λ (z : Ledger). Some (words_in z.machine (heap_of z t))) (sym now_is));
+  }
+
+  -- WHAT HEAPS LOSE
+  -- as a leaf collection ends
+  pub end_lost : (t taken given left before : ℕ) → e.kind ≡ EndOf t taken given left → slice_get c.begun e.worker ≡ Some before
+      → before - left ≡ cleared_words l e.kind - cleared_words (accounts v) e.kind
+  end_lost t taken given left before is got =
+      let held = end_worker p s w.journal.items e M.stands.legal M.free t e.worker t taken given left is in
+      let begun = end_begun p s w.journal.items e M.stands.legal M.free t e.worker t taken given left is in
+      let before_is : before ≡ words_in l.machine (heap_of l t) = same_Some before (words_in l.machine (heap_of l t)) (sym got ∙ M.keeps.begun e.worker t held begun) in
+      let left_is : left ≡ words_in l.machine (collected l.machine (heap_of l t)) = end_left p s w.journal.items e M.stands.legal M.free t e.worker t taken given left is in
+      let then_is : accounts v ≡ with_heap l t (collected l.machine) = now_is ∙ ap (after_kind p s l e.worker) is in
+      ap₂ (λ a b. a - b) before_is left_is
+      ∙ (sym (lost_is l t (collected l.machine))
+      ∙ (ap (λ (z : Ledger). words_in l.machine (heap_of l t) - words_in z.machine (heap_of z t)) (sym then_is) ∙ ap (λ k. cleared_words l k - cleared_words (accounts v) k) (sym is)))
+
+  -- and with a sweep
+  pub sweep_lost : IsWorld v → (t given rest : ℕ) → e.kind ≡ Sweep t given → rest ≡ counted64 (words_sum (accounts v).machine (kept_of (accounts v) t))
+      → words - rest ≡ cleared_words l e.kind - cleared_words (accounts v) e.kind
+  sweep_lost I t given rest is r =
+      let has : words ≡ words_in l.machine (heap_of l t) = subst (λ z. HasWords l z words) is M.had in
+      let waits : is_waiting (slice_get l.machine.tasks t) ≡ true = sweep_waits p s w.journal.items e M.stands.legal M.free t given is in
+      let then_is : accounts v ≡ with_heap l t swept_heap = now_is ∙ ap (after_kind p s l e.worker) is in
+      let same : (accounts v).machine ≡ l.machine = ap (λ (z : Ledger). z.machine) then_is ∙ with_machine l t swept_heap in
+      let idle : is_running (slice_get (accounts v).machine.tasks t) ≡ false = ap (λ (m : State). is_running (slice_get m.tasks t)) same ∙ waiting_stops (slice_get l.machine.tasks t) waits in
+      let kept : kept_of (accounts v) t ≡ held_in (heap_of (accounts v) t) = ap (λ b. cond b [] (held_in (heap_of (accounts v) t))) idle in
+      let rest_is : rest ≡ words_in (accounts v).machine (heap_of (accounts v) t) = r ∙ (ap (λ ns. counted64 (words_sum (accounts v).machine ns)) kept ∙ counted_small _ (words_small v I t)) in
+      ap₂ (λ a b. a - b) has rest_is ∙ ap (λ k. cleared_words l k - cleared_words (accounts v) k) (sym is)
+
+-- WHAT A HEAP HAS BEFORE AN ENTRY
+
+-- that of a part whose leaf collection begins
+pub begin_had : (w : World) → IsWorld w → (k : ℕ) (q : Private) → Fits w k (record q { fresh = 0 }) → (words : ℕ) → words ≡ counted64 (held_words q.heap.chunks) → words ≡ words_in (accounts w).machine (heap_of (accounts w) q.task)
+begin_had w I k q F words is =
+    is ∙ (ap counted64 (sym (part_words w k q F)) ∙ counted_small (words_in (accounts w).machine (heap_of (accounts w) q.task)) (words_small w I q.task))
+
+-- and one that is swept
+pub sweep_had : (w : World) → IsWorld w → (e : Event) (t given : ℕ) → e.kind ≡ Sweep t given → refused w e ≡ None → (words : ℕ) → words ≡ counted64 (words_sum (accounts w).machine (kept_of (accounts w) t))
+    → words ≡ words_in (accounts w).machine (heap_of (accounts w) t)
+sweep_had w I e t given is free words r =
+    let l : Ledger = accounts w in
+    let waits : is_waiting (slice_get l.machine.tasks t) ≡ true = sweep_waits w.program w.settings w.journal.items e I.legal free t given is in
+    let kept : kept_of l t ≡ held_in (heap_of l t) = ap (λ b. cond b [] (held_in (heap_of l t))) (waiting_stops (slice_get l.machine.tasks t) waits) in
+    r ∙ (ap (λ ns. counted64 (words_sum l.machine ns)) kept ∙ counted_small (words_in l.machine (heap_of l t)) (words_small w I t))

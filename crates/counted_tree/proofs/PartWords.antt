@@ -1,0 +1,79 @@
+-- The words of a part's heap are those of the names that the accounts hold for it.
+use Rattle.std.proofs.Common.{◌≡◌, ℕ, zero, suc, ◌+◌, ◌*◌, ◌^◌, ◌≤◌, arith, Option, Some, None, List, [], ◌∷◌, ◌++◌, slice_get, sum_by, refl, ap, ap₂, sym, subst, ◌∙◌}
+use Rattle.std.specs.List.{flat_map}
+use Rattle.std.proofs.lemmas.List.Sums.{sum_by-append}
+use Rattle.hh_model.specs.declared.data.Name.{Name}
+use Rattle.hh_model.specs.declared.data.State.{State}
+use Rattle.hh_model.specs.Effect.{object_at}
+use Rattle.run_ledger.specs.declared.data.Heap.{Heap as Account}
+use Rattle.run_ledger.specs.declared.data.Ledger.{Ledger}
+use Rattle.run_ledger.specs.Heaps.{heap_of, held, held_in, in_use, let_go, or_fresh, words_at, words_in, words_of, words_sum}
+use Rattle.run_ledger.proofs.Space.{heaps_fit, use_is_bounded}
+use Rattle.object_layout.specs.Chunks.{held_words}
+use Rattle.alloc_path.specs.Heap.{counted}
+use Rattle.ledger_steps.specs.Accounts.{aside, rested}
+use Rattle.ledger_steps.proofs.Ahead.{with_machine}
+use Rattle.ledger_steps.proofs.Rested.{rested_view, rested_worker}
+use Rattle.core_relation.specs.Fits.{with_home}
+use Rattle.core_relation.specs.Stands.{Stands}
+use Rattle.core_relation.specs.Value.{Home, Value}
+use Rattle.core_relation.proofs.changes.With.{at_home}
+use Rattle.task_machine.specs.declared.part.Private.{Private}
+use Rattle.shared_value.specs.Fits.{Fits, home_of_part}
+use Rattle.shared_value.specs.Stands.{IsWorld}
+use Rattle.shared_value.specs.World.{World, accounts, value_of}
+use Rattle.shared_value.proofs.HeapWords.{words_are}
+
+-- A HEAP IS SMALL
+heap_least : (g : List Name → ℕ) → ((xs ys : List Name) → g (xs ++ ys) ≡ g xs + g ys) → (heaps : List Account) (t : ℕ) → g (held_in (or_fresh (slice_get heaps t))) ≤ g (flat_map held_in heaps) + g []
+heap_least g add [] t = omega arith
+heap_least g add (h ∷ hs) t = by t (λ u. heap_least g add hs u) (add (held_in h) (flat_map held_in hs))
+  where
+    by : (u : ℕ) → ((v : ℕ) → g (held_in (or_fresh (slice_get hs v))) ≤ g (flat_map held_in hs) + g []) → g (held_in h ++ flat_map held_in hs) ≡ g (held_in h) + g (flat_map held_in hs)
+        → g (held_in (or_fresh (slice_get (h ∷ hs) u))) ≤ g (held_in h ++ flat_map held_in hs) + g []
+    by zero rest both = omega (arith, both)
+    by (suc u) rest both = let r = rest u in omega (arith, both, r)
+
+pub words_small : (w : World) → IsWorld w → (t : ℕ) → words_in (accounts w).machine (heap_of (accounts w) t) ≤ 2 ^ 26
+words_small w I t =
+    let k : Ledger = accounts w in
+    let u : in_use k ≤ w.settings.chunks = (use_is_bounded w.program w.settings w.journal.items I.legal).now in
+    let c : w.settings.chunks ≤ 65536 = I.limits.chunks.1 in
+    let f : words_sum k.machine (held k) ≤ 1024 * in_use k = (heaps_fit w.program w.settings w.journal.items I.legal).words in
+    let a : words_in k.machine (heap_of k t) ≤ words_sum k.machine (held k) + words_sum k.machine [] = heap_least (words_sum k.machine) (sum_by-append (words_at k.machine)) k.heaps t in
+    let z : words_sum k.machine [] ≡ 0 = refl in
+    omega (arith, u, c, f, a, z)
+
+pub counted_small : (n : ℕ) → n ≤ 2 ^ 26 → counted n ≡ n
+counted_small n few = omega (arith, few)
+
+-- a part without fresh steps
+module _ (w : World) (k : ℕ) (p : Private) (F : Fits w k (record p { fresh = 0 })) where
+  abbrev l : Ledger
+  l = accounts w
+
+  abbrev t : ℕ
+  t = p.task
+
+  abbrev h : Home
+  h = home_of_part (record p { fresh = 0 })
+
+  abbrev v' : Value
+  v' = with_home (value_of w) t h
+
+  abbrev L : Ledger
+  L = rested (aside l) t
+
+  W : Stands v' L
+  W = F.fits.part.fits.stands
+
+  same_words : (ns : List Name) → words_sum L.machine ns ≡ words_sum l.machine ns
+  same_words ns = ap (λ s. sum_by (λ n. words_of (object_at s n)) ns) (ap (λ (m : State). m.store) (with_machine (aside l) t let_go))
+
+  held_is : held_in (heap_of L t) ≡ held_in (heap_of l t)
+  held_is = rested_view held_in (λ z. refl) (aside l) t
+
+  pub part_words : words_in l.machine (heap_of l t) ≡ held_words p.heap.chunks
+  part_words =
+      sym (same_words (held_in (heap_of L t)) ∙ ap (words_sum l.machine) held_is)
+      ∙ words_are v' L t p.heap.chunks W (rested_worker (aside l) t) (ap (λ (z : Home). z.chunks) (at_home (value_of w) t h)) F.form.tidy

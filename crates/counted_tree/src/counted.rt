@@ -1,0 +1,114 @@
+// The shared value and the totals of its journal.
+
+ghost use Rattle.std.specs.Prelude.{◌≡◌, ◌<◌, [], ℕ, IfOk, OnOk, None, Some, false, true};
+ghost use Rattle.run_ledger.specs.Report.{report_of};
+ghost use Rattle.task_machine.specs.declared.part.Private.{Private as Part};
+ghost use Rattle.shared_value.specs.Fits.{AllFit, Fits};
+ghost use Rattle.shared_value.specs.Stands.{IsWorld};
+ghost use Rattle.shared_value.specs.World.{rest_at, without_journal};
+ghost use Rattle.shared_value.specs.declared.task_at_rest.Rest.{Rest as RestOf};
+
+use crate::counting::Counts;
+use hh_lang::Program;
+use listed::Listed;
+use run_ledger::Report;
+use run_trace::{Entry, Settings};
+use shared_tree::{Left, Shared};
+use std::alloc::{AllocError, Global};
+use std::marker::Model;
+
+/// The shared value, and what the entries of its journal come to: it tells the report without another look at them.
+#[derive(Drop)]
+pub struct Counted {
+    pub(crate) shared: Shared,
+    pub(crate) counts: Counts,
+}
+
+impl Model for Counted {
+    ghost use Rattle.shared_value.specs.World.{World};
+    ghost use Rattle.counted_tree.specs.Counts.{KeepsCounts};
+
+    ghost Value = { World };
+
+    ghost view = { λ c. c.shared };
+
+    ghost invariant = { λ c. KeepsCounts c.shared c.counts };
+}
+
+impl Counted {
+    /// Before the first entry.
+    pub fn new(alloc: Global, program: &Program, settings: Settings) -> Result<Counted, AllocError>
+        ensures program { IfOk result (λ s. s.program ≡ program.now) }
+        ensures settings { IfOk result (λ s. s.settings ≡ settings) }
+        ensures journal { IfOk result (λ s. s.journal.items ≡ []) }
+        ensures on { IfOk result (λ s. s.halted ≡ false) }
+        ensures root { IfOk result (λ s. (r : RestOf) → rest_at s.homes 0 ≡ Some r → r.heap.chunks ≡ []) }
+    {
+        let shared = Shared::new(alloc, program, settings)?;
+        let counts = Counts::none(alloc, settings.workers())?;
+        Ok(Counted { shared, counts })
+    }
+
+    /// Makes place for one entry.
+    pub fn reserve(&mut self) -> Result<(), AllocError>
+        ensures same { self.new ≡ record self.old { journal = record { items = self.old.journal.items; room = self.new.journal.room } } }
+        ensures room { OnOk result (0 < self.new.journal.room) }
+        ensures fit { (k : ℕ) (p : Part) → Fits self.old k p → Fits self.new k p }
+    {
+        self.shared.reserve()
+    }
+
+    /// No more entries are to be made, since some worker has met want of memory. No other call depends on it, and none changes it.
+    pub fn halt(&mut self)
+        ensures same { self.new ≡ record self.old { halted = true } }
+        ensures fits { AllFit self.old self.new }
+    {
+        self.shared.halt();
+    }
+
+    /// What every shared value keeps: it stands for its journal, which is legal.
+    pub fn stands(&self)
+        ensures { IsWorld self.now }
+    {
+        self.shared.stands();
+    }
+
+    /// The shared value, to be read.
+    pub fn shared(&self) -> &Shared
+        ensures { result.now ≡ self.now }
+    {
+        &self.shared
+    }
+
+    /// The report of the journal.
+    pub fn report(&self) -> Report
+        ensures { result ≡ report_of self.now.program self.now.settings self.now.journal.items }
+    {
+        let shared = &self.shared;
+        let totals = self.counts.totals;
+        let held = shared.held();
+        Report {
+            tasks: shared.tasks() as u64,
+            steps: shared.steps(),
+            turns: shared.journal().len() as u64,
+            leaf: totals.leaf,
+            putoff: totals.putoff,
+            leaf_freed: totals.leaf_freed,
+            inner: totals.inner,
+            inner_freed: totals.inner_freed,
+            chunks: shared.in_use() as u64,
+            peak: totals.peak,
+            held: held.0,
+            words: held.1,
+        }
+    }
+
+    /// Takes the journal out: no entry can be made after it.
+    pub fn take_journal(self) -> (Listed<Entry>, Left)
+        ensures journal { result.0 ≡ self.journal.items }
+        ensures rest { result.1 ≡ without_journal self }
+    {
+        let Counted { shared, .. } = self;
+        shared.take_journal()
+    }
+}

@@ -1,0 +1,97 @@
+// What the entries of a journal come to, counted on after each.
+
+ghost use Rattle.std.specs.Prelude.{◌≡◌, ◌-◌, ◌<◌, ◌^◌, IfOk, length};
+ghost use Rattle.run_trace.specs.Entry.{Event};
+ghost use Rattle.run_report.specs.Totals.{cleared_words, no_totals};
+ghost use Rattle.shared_value.specs.World.{World, accounts};
+ghost use Rattle.shared_value.specs.Entered.{Enters};
+ghost use Rattle.counted_tree.specs.Counts.{IsMade, KeepsCounts, begun_with};
+
+use listed::Listed;
+use run_report::Totals;
+use run_trace::{Entry, Kind};
+use shared_tree::Shared;
+use std::alloc::{AllocError, Global};
+
+/// What is kept of the entries of a journal.
+#[derive(Drop)]
+pub(crate) struct Counts {
+    pub(crate) totals: Totals,
+    /// Of each worker, the words of the heap whose leaf collection it is amid, as that began.
+    pub(crate) begun: Listed<u64>,
+}
+
+// So many numbers.
+fn zeros(alloc: Global, count: u32) -> Result<Listed<u64>, AllocError>
+    ensures { IfOk result (λ numbers. length numbers ≡ count) }
+{
+    let mut numbers = Listed::new(alloc);
+    for i in 0..count {
+        let _ = i;
+        numbers.push(0)?;
+    }
+    Ok(numbers)
+}
+
+// The entry that was made last.
+fn last_entry(shared: &Shared) -> Entry
+    requires { (w : World) × (e : Event) × Enters w shared.now e }
+    ensures last { (w : World) (e : Event) → Enters w shared.now e → result ≡ e }
+    ensures short { length shared.now.journal.items < 2 ^ 64 }
+{
+    let journal = shared.journal();
+    journal[journal.len() - 1]
+}
+
+// Where an entry begins a leaf collection, the words of its heap are kept of its worker.
+fn keep_begun(begun: &mut Listed<u64>, entry: Entry, words: u64)
+    requires { entry.worker < length begun.old }
+    ensures { begun.new ≡ begun_with begun.old entry.worker words entry.kind }
+{
+    if let Kind::Begin(_) = entry.kind() {
+        begun.set(entry.worker() as usize, words);
+    }
+}
+
+impl Counts {
+    /// Before the first entry of so many workers.
+    pub(crate) fn none(alloc: Global, workers: u32) -> Result<Counts, AllocError>
+        ensures totals { IfOk result (λ c. c.totals ≡ no_totals) }
+        ensures workers { IfOk result (λ c. length c.begun ≡ workers) }
+    {
+        Ok(Counts {
+            totals: Totals::none(),
+            begun: zeros(alloc, workers)?,
+        })
+    }
+
+    // The words that a heap has lost with the last entry. Of one that sweeps, its heap had so many before.
+    fn lost(&self, shared: &Shared, entry: Entry, words: u64) -> u64
+        requires { (w : World) × IsMade w shared.now self.now entry words }
+        ensures { (w : World) → IsMade w shared.now self.now entry words → result ≡ cleared_words (accounts w) entry.kind - cleared_words (accounts shared.now) entry.kind }
+    {
+        shared.stands();
+        match entry.kind() {
+            Kind::End(_, _, _, left) => {
+                let before = *self.begun.at(entry.worker() as usize);
+                before.saturating_sub(left as u64)
+            }
+            Kind::Sweep(task, _) => words.saturating_sub(shared.words_held(task)),
+            _ => 0,
+        }
+    }
+
+    /// Counts the last entry. Of one that begins a leaf collection or sweeps, its heap had so many words before.
+    pub(crate) fn count(&mut self, shared: &Shared, words: u64)
+        requires { (w : World) × (e : Event) × IsMade w shared.now self.old e words }
+        ensures { KeepsCounts shared.now self.new }
+    {
+        shared.stands();
+        let entry = last_entry(shared);
+        let lost = self.lost(shared, entry, words);
+        let used = shared.in_use() as u64;
+        let counted = Totals::counted(entry.kind(), lost, used);
+        self.totals = self.totals.join(counted);
+        keep_begun(&mut self.begun, entry, words);
+    }
+}

@@ -1,0 +1,75 @@
+// Marking and sweeping the heaps of waiting tasks are entered.
+
+ghost use Rattle.std.specs.Prelude.{◌≡◌, ◌<◌, ◌≤◌, OnErr, OnOk, IfOk, min};
+ghost use Rattle.run_ledger.specs.Heaps.{heap_of, left_in};
+ghost use Rattle.shared_value.specs.Entered.{cause_of, refused, Answers, Enters};
+ghost use Rattle.shared_value.specs.Fits.{AllFit};
+ghost use Rattle.shared_value.specs.World.{accounts};
+
+use crate::counted::Counted;
+use run_ledger::Refused;
+use run_trace::Kind;
+use shared_tree::NotEntered;
+
+impl Counted {
+    /// The marking of the heap of a waiting task begins: from what the task's registers hold, and from the fields of heaps
+    /// above that point down into it.
+    pub fn mark(&mut self, worker: u32, t: u32) -> Result<(), NotEntered>
+        requires room { 0 < self.old.journal.room }
+        ensures refused { Answers result (refused self.old (record { worker = worker; kind = Kind.Mark t })) }
+        ensures same { OnErr result (self.new ≡ self.old) }
+        ensures enters { OnOk result (Enters self.old self.new (record { worker = worker; kind = Kind.Mark t })) }
+        ensures fits { OnOk result (AllFit self.old self.new) }
+    {
+        self.shared.stands();
+        match self.shared.mark(worker, t) {
+            Ok(()) => {
+                self.counts.count(&self.shared, 0);
+                Ok(())
+            }
+            Err(cause) => Err(cause),
+        }
+    }
+
+    /// Up to so many objects more of a heap are marked: the answer is how many. It takes no memory.
+    pub fn some(&mut self, worker: u32, t: u32, n: u32) -> Result<u32, Refused>
+        requires room { 0 < self.old.journal.room }
+        requires some { 0 < n }
+        requires few { n ≤ 1024 }
+        ensures refused { cause_of result ≡ refused self.old (record { worker = worker; kind = Kind.More t n }) }
+        ensures same { OnErr result (self.new ≡ self.old) }
+        ensures count { IfOk result (λ k. k ≡ min n (left_in (heap_of (accounts self.old) t))) }
+        ensures enters { OnOk result (Enters self.old self.new (record { worker = worker; kind = Kind.More t n })) }
+        ensures fits { OnOk result (AllFit self.old self.new) }
+    {
+        self.shared.stands();
+        match self.shared.some(worker, t, n) {
+            Ok(count) => {
+                self.counts.count(&self.shared, 0);
+                Ok(count)
+            }
+            Err(cause) => Err(cause),
+        }
+    }
+
+    /// The heap of a waiting task is swept: of its objects just those that were reached at the task's fork stay, each where
+    /// it lies, and chunks without an object are given back. From then on its overwritten references aren't kept. It takes no
+    /// memory.
+    pub fn sweep(&mut self, worker: u32, t: u32, given: u32) -> Result<(), Refused>
+        requires room { 0 < self.old.journal.room }
+        ensures refused { cause_of result ≡ refused self.old (record { worker = worker; kind = Kind.Sweep t given }) }
+        ensures same { OnErr result (self.new ≡ self.old) }
+        ensures enters { OnOk result (Enters self.old self.new (record { worker = worker; kind = Kind.Sweep t given })) }
+        ensures fits { OnOk result (AllFit self.old self.new) }
+    {
+        self.shared.stands();
+        let words = self.shared.words_held(t);
+        match self.shared.sweep(worker, t, given) {
+            Ok(()) => {
+                self.counts.count(&self.shared, words);
+                Ok(())
+            }
+            Err(cause) => Err(cause),
+        }
+    }
+}

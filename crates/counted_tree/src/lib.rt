@@ -1,0 +1,11 @@
+// The shared value, and what the entries of its journal come to: each call makes one entry and counts it.
+#![tactic(auto)]
+
+mod counted;
+mod counting;
+mod inner;
+mod leaf;
+mod reads;
+mod steps;
+
+pub use counted::Counted;

@@ -1,0 +1,105 @@
+// A worker takes a task, and steps are entered; or the run ends for spent fuel.
+
+ghost use Rattle.std.specs.Prelude.{◌≡◌, ◌<◌, OnErr, OnOk, IfErr, IfOk, None, Some};
+ghost use Rattle.shared_value.specs.Entered.{cause_of, refused, Enters, IsRefusedBy, RanAnswers};
+ghost use Rattle.shared_value.specs.Fits.{AllFit, Fits, OthersFit};
+ghost use Rattle.shared_value.specs.World.{rest_at};
+ghost use Rattle.shared_value.specs.declared.task_at_rest.Rest.{Rest as RestOf};
+ghost use Rattle.own_steps.specs.Alone.{alone_event, IsShared};
+ghost use Rattle.child_tasks.specs.Joins.{IsUnchanged};
+ghost use Rattle.shared_tree.specs.Ran.{RanTo};
+
+use crate::counted::Counted;
+use run_ledger::Refused;
+use run_trace::Kind;
+use shared_tree::{NotRan, Ran};
+use task_machine::Private;
+
+impl Counted {
+    /// The worker takes a ready task, and gets its part.
+    pub fn took(&mut self, worker: u32, t: u32) -> Result<Private, Refused>
+        requires room { 0 < self.old.journal.room }
+        ensures refused { cause_of result ≡ refused self.old (record { worker = worker; kind = Kind.Took t }) }
+        ensures same { OnErr result (self.new ≡ self.old) }
+        ensures enters { OnOk result (Enters self.old self.new (record { worker = worker; kind = Kind.Took t })) }
+        ensures task { IfOk result (λ p. p.task ≡ t) }
+        ensures fresh { IfOk result (λ p. p.fresh ≡ 0) }
+        ensures heap { IfOk result (λ p. (r : RestOf) × (rest_at self.old.homes t ≡ Some r) × (p.heap ≡ r.heap)) }
+        ensures idle { IfOk result (λ p. p.begun ≡ None) }
+        ensures fits { IfOk result (λ p. Fits self.new worker p) }
+        ensures others { OnOk result (OthersFit self.old self.new worker) }
+    {
+        self.shared.stands();
+        match self.shared.took(worker, t) {
+            Ok(part) => {
+                self.counts.count(&self.shared, 0);
+                Ok(part)
+            }
+            Err(cause) => Err(cause),
+        }
+    }
+
+    /// The fresh steps of a part, all private, are entered.
+    pub fn ran_private(&mut self, worker: u32, part: Private) -> Result<Private, NotRan>
+        requires room { 0 < self.old.journal.room }
+        requires fits { Fits self.old worker part }
+        requires fresh { 0 < part.fresh }
+        ensures refused { IsRefusedBy result (refused self.old (record { worker = worker; kind = Kind.Ran part.task part.fresh })) }
+        ensures same { OnErr result (self.new ≡ self.old) }
+        ensures back { IfErr result (λ e. e.part ≡ part) }
+        ensures enters { OnOk result (Enters self.old self.new (record { worker = worker; kind = Kind.Ran part.task part.fresh })) }
+        ensures end { OnOk result (self.new.end ≡ self.old.end) }
+        ensures goes { IfOk result (λ p. p ≡ record part { fresh = 0 }) }
+        ensures fits { IfOk result (λ p. Fits self.new worker p) }
+        ensures others { OnOk result (OthersFit self.old self.new worker) }
+    {
+        self.shared.stands();
+        match self.shared.ran_private(worker, part) {
+            Ok(part) => {
+                self.counts.count(&self.shared, 0);
+                Ok(part)
+            }
+            Err(failed) => Err(failed),
+        }
+    }
+
+    /// The fresh steps of a part, and its next one, which isn't private, are entered. Where memory is wanting nothing is, though
+    /// heaps and sets may have places for more.
+    pub fn ran(&mut self, worker: u32, part: Private) -> Result<Ran, NotRan>
+        requires room { 0 < self.old.journal.room }
+        requires fits { Fits self.old worker part }
+        requires shared { IsShared self.old part }
+        ensures refused { RanAnswers result (refused self.old (alone_event worker part)) }
+        ensures same { IfErr result (λ e. IsUnchanged e.cause self.old self.new) }
+        ensures still { OnErr result (AllFit self.old self.new) }
+        ensures back { IfErr result (λ e. e.part ≡ part) }
+        ensures answered { IfOk result (RanTo self.old self.new worker part) }
+    {
+        self.shared.stands();
+        match self.shared.ran(worker, part) {
+            Ok(ran) => {
+                self.counts.count(&self.shared, 0);
+                Ok(ran)
+            }
+            Err(failed) => Err(failed),
+        }
+    }
+
+    /// The run ends, since its fuel is spent.
+    pub fn fuel(&mut self, worker: u32) -> Result<(), Refused>
+        requires room { 0 < self.old.journal.room }
+        ensures refused { cause_of result ≡ refused self.old (record { worker = worker; kind = Kind.Fuel }) }
+        ensures same { OnErr result (self.new ≡ self.old) }
+        ensures enters { OnOk result (Enters self.old self.new (record { worker = worker; kind = Kind.Fuel })) }
+        ensures all { OnOk result (AllFit self.old self.new) }
+    {
+        self.shared.stands();
+        match self.shared.fuel(worker) {
+            Ok(()) => {
+                self.counts.count(&self.shared, 0);
+                Ok(())
+            }
+            Err(cause) => Err(cause),
+        }
+    }
+}
