@@ -17,7 +17,6 @@ impl Shared {
     pub fn tasks(&self) -> u32
         ensures { result ≡ length (accounts self.now).machine.tasks }
     {
-        self.stands();
         self.tree.made()
     }
 

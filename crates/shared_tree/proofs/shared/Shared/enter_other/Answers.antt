@@ -1,4 +1,5 @@
-use Rattle.std.proofs.Common.{ℤ, SFits, w64, to_z-of_z, rules, ap, sym, subst, ◌∙◌}
+use Rattle.std.proofs.Common.{ℤ, SFits, w64, rules, ap, sym, subst, ◌∙◌}
+use Rattle.std.proofs.lemmas.Int.{to_z-of_z}
 use Rattle.hh_model.specs.declared.data.End.TheVariants.{Trapped}
 use Rattle.hh_model.specs.Step.{ended_by}
 use Rattle.own_steps.specs.Alone.{then_accounts}
