@@ -1,9 +1,11 @@
 -- The one entry of a part's fresh steps and its next one, which isn't private, whatever that is.
-use Rattle.std.specs.Prelude.{◌≡◌, ℕ, true}
+use Rattle.std.specs.Prelude.{◌≡◌, ℕ, true, None}
 use Rattle.task_machine.specs.declared.part.Private.{Private}
 use Rattle.shared_value.specs.World.{World}
+use Rattle.shared_value.specs.Fits.{Fits}
+use Rattle.shared_value.specs.Entered.{refused}
 use Rattle.shared_value.specs.Next.{is_beyond}
-use Rattle.own_steps.specs.Alone.{FinishesAlone, GoesAlone, HaltsAlone, machine_after}
+use Rattle.own_steps.specs.Alone.{FinishesAlone, GoesAlone, HaltsAlone, alone_event, machine_after}
 use Rattle.child_tasks.specs.ChildEnds.{EndsChild, IsAtEnd}
 use Rattle.child_tasks.specs.Forks.{ForksOn, IsAtFork}
 use Rattle.child_tasks.specs.Hands.{HoldsNone}
@@ -12,6 +14,12 @@ use Rattle.shared_tree.specs.declared.ran.Joint.{Joint}
 use Rattle.shared_tree.specs.declared.ran.Joint.TheVariants.{Forks, Returns, Works}
 use Rattle.shared_tree.specs.declared.ran.Ran.{Ran}
 use Rattle.shared_tree.specs.declared.ran.Ran.TheVariants.{Goes, Forked, Ended, Over, Done}
+
+-- a worker holds the part, and its entry of the part's fresh steps and the next one isn't refused
+pub record MayBeEntered (w : World) (p : Private) : Type 0 where
+  pub worker : ℕ
+  pub fits : Fits w worker p
+  pub free : refused w (alone_event worker p) ≡ None
 
 -- other tasks have part in the part's next step
 abbrev pub IsJoint : World → Private → Type 0

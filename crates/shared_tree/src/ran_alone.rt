@@ -5,6 +5,7 @@ ghost use Rattle.hh_model.specs.Step.{ended_by, step};
 ghost use Rattle.shared_value.specs.Entered.{refused, RanAnswers};
 ghost use Rattle.shared_value.specs.Fits.{Fits};
 ghost use Rattle.own_steps.specs.Alone.{alone_event, then_accounts, Answered, FinishesAlone, GoesAlone, HaltsAlone, IsShared, Tells};
+ghost use Rattle.shared_tree.specs.Ran.{MayBeEntered};
 
 use crate::shared::Shared;
 use crate::steps_entered::enter_alone;
@@ -38,10 +39,9 @@ impl Shared {
     }
 
     // What the part's next step does, and the line of the text where it stands.
-    fn next_ending(&self, worker: u32, part: &Private) -> (Ending, u32)
-        requires fits { Fits self.now worker part.now }
+    fn next_ending(&self, part: &Private) -> (Ending, u32)
+        requires held { MayBeEntered self.now part.now }
         requires shared { IsShared self.now part.now }
-        requires free { refused self.now (alone_event worker part.now) ≡ None }
         ensures { Tells self.now part.now result.0 result.1 }
     {
         match self.program.line(part.frames.fun(), part.frames.next()) {
@@ -150,7 +150,7 @@ impl Shared {
             });
         }
         self.stands();
-        let (ending, line) = self.next_ending(worker, &part);
+        let (ending, line) = self.next_ending(&part);
         match ending {
             Ending::Prints(value) => {
                 let mut part = part;

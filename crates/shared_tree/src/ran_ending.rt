@@ -1,6 +1,6 @@
 // A part's steps are entered with the last return of a task that another one forked.
 
-ghost use Rattle.std.specs.Prelude.{◌≡◌, ◌<◌, ℕ, OnErr, OnOk, IfErr, IfOk, None, Some, slice_set};
+ghost use Rattle.std.specs.Prelude.{◌≡◌, ◌<◌, OnErr, OnOk, IfErr, IfOk, None, Some, slice_set};
 ghost use Rattle.heap_tree.specs.Node.{parent_of, state_of};
 ghost use Rattle.heap_tree.specs.Pairs.{sibling};
 ghost use Rattle.shared_value.specs.Entered.{refused, RanAnswers};
@@ -8,6 +8,7 @@ ghost use Rattle.shared_value.specs.Fits.{AllFit, Fits};
 ghost use Rattle.own_steps.specs.Alone.{alone_event};
 ghost use Rattle.child_tasks.specs.ChildEnds.{EndsChild, IsAtEnd};
 ghost use Rattle.child_tasks.specs.Joins.{HasPlaces, IsUnchanged, SameButPlaces};
+ghost use Rattle.shared_tree.specs.Ran.{MayBeEntered};
 
 use crate::shared::Shared;
 use crate::steps_entered::enter_alone;
@@ -70,7 +71,7 @@ impl Shared {
 
     // Makes places in the parent's heap and set for what both children bring; nothing else changes.
     fn make_join_places(&mut self, part: &Private, parent: u32) -> Result<(), AllocError>
-        requires held { (k : ℕ) × Fits self.old k part.now × (refused self.old (alone_event k part.now) ≡ None) }
+        requires held { MayBeEntered self.old part.now }
         requires ends { IsAtEnd self.old part.now }
         requires ended { state_of self.old.tree (sibling part.now.task) ≡ Some State.Ended }
         requires parent { parent_of self.old.tree part.now.task ≡ Some parent }

@@ -7,6 +7,7 @@ ghost use Rattle.shared_value.specs.Fits.{Fits};
 ghost use Rattle.own_steps.specs.Alone.{alone_event};
 ghost use Rattle.child_tasks.specs.Hands.{LeavesHand};
 ghost use Rattle.child_tasks.specs.Forks.{ForkAnswered, ForksTo, IsAtFork};
+ghost use Rattle.shared_tree.specs.Ran.{MayBeEntered};
 
 use crate::shared::Shared;
 use crate::steps_entered::enter_alone;
@@ -21,10 +22,9 @@ const DEPTH_LIMIT: u32 = 1000;
 
 impl Shared {
     // The functions that the children begin, and the line of the text where the fork stands.
-    fn fork_line(&self, worker: u32, part: &Private) -> (u32, u32, u32)
-        requires fits { Fits self.now worker part.now }
+    fn fork_line(&self, part: &Private) -> (u32, u32, u32)
+        requires held { MayBeEntered self.now part.now }
         requires forks { IsAtFork self.now part.now }
-        requires free { refused self.now (alone_event worker part.now) ≡ None }
         ensures { ForksTo self.now part.now result.0 result.1 result.2 }
     {
         let Some(line) = self.program.line(part.frames.fun(), part.frames.next()) else {
@@ -104,7 +104,7 @@ impl Shared {
             });
         }
         self.stands();
-        let (left, right, line) = self.fork_line(worker, &part);
+        let (left, right, line) = self.fork_line(&part);
         if self.tree.depth(part.task) < DEPTH_LIMIT {
             self.enter_fork(worker, part, left, right)
         } else {

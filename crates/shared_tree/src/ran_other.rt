@@ -6,6 +6,7 @@ ghost use Rattle.shared_value.specs.Fits.{Fits};
 ghost use Rattle.own_steps.specs.Alone.{alone_event, GoesAlone, IsShared};
 ghost use Rattle.child_tasks.specs.Joins.{IsUnchanged};
 ghost use Rattle.others_objects.specs.Other.{IsOther, OtherAnswered, SameButRoom, TellsOther};
+ghost use Rattle.shared_tree.specs.Ran.{MayBeEntered};
 
 use crate::shared::Shared;
 use crate::steps_entered::enter_alone;
@@ -19,11 +20,10 @@ use task_machine::Private;
 
 impl Shared {
     // What the part's next step does, and the line of the text where it stands.
-    fn next_other(&self, worker: u32, part: &Private) -> (OtherStep, u32)
-        requires fits { Fits self.now worker part.now }
+    fn next_other(&self, part: &Private) -> (OtherStep, u32)
+        requires held { MayBeEntered self.now part.now }
         requires shared { IsShared self.now part.now }
         requires other { IsOther self.now part.now }
-        requires free { refused self.now (alone_event worker part.now) ≡ None }
         ensures { TellsOther self.now part.now result.0 result.1 }
     {
         let Some(line) = self.program.line(part.frames.fun(), part.frames.next()) else {
@@ -157,7 +157,7 @@ impl Shared {
             });
         }
         self.stands();
-        let (does, line) = self.next_other(worker, &part);
+        let (does, line) = self.next_other(&part);
         self.enter_other(worker, part, does, line)
     }
 }

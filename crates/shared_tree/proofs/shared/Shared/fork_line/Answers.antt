@@ -11,6 +11,7 @@ use Rattle.own_steps.proofs.AloneEntries.{runs_on}
 use Rattle.own_steps.proofs.LastSteps.{some_line}
 use Rattle.child_tasks.specs.Forks.{ForksTo, IsAtFork}
 use Rattle.child_tasks.proofs.NextStepForks.{fork_shared, forks_to, is_par_line, par_is}
+use Rattle.shared_tree.specs.Ran.{MayBeEntered}
 use Rattle.shared_tree.specs.contracts.shared.Shared.{the_view}
 use Rattle.shared_tree.proofs.shared.Shared.fork_line.Goals as goal
 
@@ -21,10 +22,11 @@ pub unreachable-requires : goal.unreachable-requires
 unreachable-requires c =
     let w : World = the_view c.self.inside in
     let p : Private = c.args.part.now in
-    let k : ℕ = c.args.worker in
-    let F : Fits w k p = subst (λ (z : World). Fits z k p) (sym c.self.view_is) c.requires.fits in
+    let held : MayBeEntered w p = subst (λ (z : World). MayBeEntered z p) (sym c.self.view_is) c.requires.held in
+    let k : ℕ = held.worker in
+    let F : Fits w k p = held.fits in
     let at : IsAtFork w p = subst (λ (z : World). IsAtFork z p) (sym c.self.view_is) c.requires.forks in
-    let free : refused w (alone_event k p) ≡ None = subst (λ (z : World). refused z (alone_event k p) ≡ None) (sym c.self.view_is) c.requires.free in
+    let free : refused w (alone_event k p) ≡ None = held.free in
     let line = some_line w k p c.self.invariant F (fork_shared w p at) (runs_on w k p c.self.invariant F (fork_shared w p at) free) in
     none_some line.0 (sym c.in_default.is ∙ (c.line.ensures ∙ (ap₂ (line_at w.program) c.fun.ensures c.next.ensures ∙ line.1)))
 
@@ -32,10 +34,11 @@ pub unreachable-requires-in_default-instr : goal.unreachable-requires-in_default
 unreachable-requires-in_default-instr c =
     let w : World = the_view c.self.inside in
     let p : Private = c.args.part.now in
-    let k : ℕ = c.args.worker in
-    let F : Fits w k p = subst (λ (z : World). Fits z k p) (sym c.self.view_is) c.requires.fits in
+    let held : MayBeEntered w p = subst (λ (z : World). MayBeEntered z p) (sym c.self.view_is) c.requires.held in
+    let k : ℕ = held.worker in
+    let F : Fits w k p = held.fits in
     let at : IsAtFork w p = subst (λ (z : World). IsAtFork z p) (sym c.self.view_is) c.requires.forks in
-    let free : refused w (alone_event k p) ≡ None = subst (λ (z : World). refused z (alone_event k p) ≡ None) (sym c.self.view_is) c.requires.free in
+    let free : refused w (alone_event k p) ≡ None = held.free in
     let is : next_line w.program p ≡ Some c.in-Some.line = ap₂ (line_at w.program) (sym c.fun.ensures) (sym c.next.ensures) ∙ (sym c.line.ensures ∙ c.in-Some.is) in
     let par = par_is c.in-Some.line.instr (is_par_line w k p c.self.invariant F at free c.in-Some.line is) in
     c.in_default-instr.not-Par par.0 par.1 par.2
@@ -44,10 +47,11 @@ pub returns : goal.returns
 returns c =
     let w : World = the_view c.self.inside in
     let p : Private = c.args.part.now in
-    let k : ℕ = c.args.worker in
-    let F : Fits w k p = subst (λ (z : World). Fits z k p) (sym c.self.view_is) c.requires.fits in
+    let held : MayBeEntered w p = subst (λ (z : World). MayBeEntered z p) (sym c.self.view_is) c.requires.held in
+    let k : ℕ = held.worker in
+    let F : Fits w k p = held.fits in
     let at : IsAtFork w p = subst (λ (z : World). IsAtFork z p) (sym c.self.view_is) c.requires.forks in
-    let free : refused w (alone_event k p) ≡ None = subst (λ (z : World). refused z (alone_event k p) ≡ None) (sym c.self.view_is) c.requires.free in
+    let free : refused w (alone_event k p) ≡ None = held.free in
     let is : next_line w.program p ≡ Some c.in-Some.line = ap₂ (line_at w.program) (sym c.fun.ensures) (sym c.next.ensures) ∙ (sym c.line.ensures ∙ c.in-Some.is) in
     subst (λ (z : World). ForksTo z p c.in-Par.left c.in-Par.right c.in-Some.line.number) c.self.view_is
     (forks_to w k p c.self.invariant F at free c.in-Some.line c.in-Par.left c.in-Par.right is c.in-Par.is)

@@ -12,7 +12,7 @@ use Rattle.own_steps.proofs.LastSteps.{some_line}
 use Rattle.child_tasks.specs.ChildEnds.{IsAtEnd}
 use Rattle.child_tasks.specs.Forks.{IsAtFork}
 use Rattle.others_objects.specs.Other.{IsOther}
-use Rattle.shared_tree.specs.Ran.{IsJoint}
+use Rattle.shared_tree.specs.Ran.{IsJoint, MayBeEntered}
 use Rattle.shared_tree.specs.contracts.shared.Shared.{the_view}
 use Rattle.shared_tree.proofs.Joints.{at_end, at_fork, at_other}
 use Rattle.shared_tree.proofs.shared.Shared.joint.Goals as goal
@@ -24,10 +24,11 @@ pub unreachable-requires : goal.unreachable-requires
 unreachable-requires c =
     let w : World = the_view c.self.inside in
     let p : Private = c.args.part.now in
-    let k : ℕ = c.args.worker in
-    let F : Fits w k p = subst (λ (z : World). Fits z k p) (sym c.self.view_is) c.requires.fits in
+    let held : MayBeEntered w p = subst (λ (z : World). MayBeEntered z p) (sym c.self.view_is) c.requires.held in
+    let k : ℕ = held.worker in
+    let F : Fits w k p = held.fits in
     let shared : IsShared w p = subst (λ (z : World). IsShared z p) (sym c.self.view_is) c.requires.shared in
-    let free : refused w (alone_event k p) ≡ None = subst (λ (z : World). refused z (alone_event k p) ≡ None) (sym c.self.view_is) c.requires.free in
+    let free : refused w (alone_event k p) ≡ None = held.free in
     let line = some_line w k p c.self.invariant F shared (runs_on w k p c.self.invariant F shared free) in
     none_some line.0 (sym c.in_default.is ∙ (c.line.ensures ∙ (ap₂ (line_at w.program) c.fun.ensures c.next.ensures ∙ line.1)))
 
@@ -35,10 +36,11 @@ pub returns-in-Par : goal.returns-in-Par
 returns-in-Par c =
     let w : World = the_view c.self.inside in
     let p : Private = c.args.part.now in
-    let k : ℕ = c.args.worker in
-    let F : Fits w k p = subst (λ (z : World). Fits z k p) (sym c.self.view_is) c.requires.fits in
+    let held : MayBeEntered w p = subst (λ (z : World). MayBeEntered z p) (sym c.self.view_is) c.requires.held in
+    let k : ℕ = held.worker in
+    let F : Fits w k p = held.fits in
     let shared : IsShared w p = subst (λ (z : World). IsShared z p) (sym c.self.view_is) c.requires.shared in
-    let free : refused w (alone_event k p) ≡ None = subst (λ (z : World). refused z (alone_event k p) ≡ None) (sym c.self.view_is) c.requires.free in
+    let free : refused w (alone_event k p) ≡ None = held.free in
     let joint : IsJoint w p = subst (λ (z : World). IsJoint z p) (sym c.self.view_is) c.requires.joint in
     let is : next_line w.program p ≡ Some c.in-Some.line = ap₂ (line_at w.program) (sym c.fun.ensures) (sym c.next.ensures) ∙ (sym c.line.ensures ∙ c.in-Some.is) in
     subst (λ (z : World). IsAtFork z p) c.self.view_is (at_fork w k p c.self.invariant F shared free joint c.in-Some.line is c.in-Par.field-0 c.in-Par.field-1 c.in-Par.is)
@@ -47,10 +49,11 @@ pub returns-in-Ret : goal.returns-in-Ret
 returns-in-Ret c =
     let w : World = the_view c.self.inside in
     let p : Private = c.args.part.now in
-    let k : ℕ = c.args.worker in
-    let F : Fits w k p = subst (λ (z : World). Fits z k p) (sym c.self.view_is) c.requires.fits in
+    let held : MayBeEntered w p = subst (λ (z : World). MayBeEntered z p) (sym c.self.view_is) c.requires.held in
+    let k : ℕ = held.worker in
+    let F : Fits w k p = held.fits in
     let shared : IsShared w p = subst (λ (z : World). IsShared z p) (sym c.self.view_is) c.requires.shared in
-    let free : refused w (alone_event k p) ≡ None = subst (λ (z : World). refused z (alone_event k p) ≡ None) (sym c.self.view_is) c.requires.free in
+    let free : refused w (alone_event k p) ≡ None = held.free in
     let joint : IsJoint w p = subst (λ (z : World). IsJoint z p) (sym c.self.view_is) c.requires.joint in
     let is : next_line w.program p ≡ Some c.in-Some.line = ap₂ (line_at w.program) (sym c.fun.ensures) (sym c.next.ensures) ∙ (sym c.line.ensures ∙ c.in-Some.is) in
     subst (λ (z : World). IsAtEnd z p) c.self.view_is (at_end w k p c.self.invariant F shared free joint c.in-Some.line is c.in-Ret.is)
@@ -59,10 +62,11 @@ pub returns-in_default-instr : goal.returns-in_default-instr
 returns-in_default-instr c =
     let w : World = the_view c.self.inside in
     let p : Private = c.args.part.now in
-    let k : ℕ = c.args.worker in
-    let F : Fits w k p = subst (λ (z : World). Fits z k p) (sym c.self.view_is) c.requires.fits in
+    let held : MayBeEntered w p = subst (λ (z : World). MayBeEntered z p) (sym c.self.view_is) c.requires.held in
+    let k : ℕ = held.worker in
+    let F : Fits w k p = held.fits in
     let shared : IsShared w p = subst (λ (z : World). IsShared z p) (sym c.self.view_is) c.requires.shared in
-    let free : refused w (alone_event k p) ≡ None = subst (λ (z : World). refused z (alone_event k p) ≡ None) (sym c.self.view_is) c.requires.free in
+    let free : refused w (alone_event k p) ≡ None = held.free in
     let joint : IsJoint w p = subst (λ (z : World). IsJoint z p) (sym c.self.view_is) c.requires.joint in
     let is : next_line w.program p ≡ Some c.in-Some.line = ap₂ (line_at w.program) (sym c.fun.ensures) (sym c.next.ensures) ∙ (sym c.line.ensures ∙ c.in-Some.is) in
     subst (λ (z : World). IsOther z p) c.self.view_is (at_other w k p c.self.invariant F shared free joint c.in-Some.line is c.in_default-instr.not-Par c.in_default-instr.not-Ret)

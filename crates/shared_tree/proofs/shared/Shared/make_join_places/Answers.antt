@@ -16,6 +16,7 @@ use Rattle.child_tasks.specs.Joins.{SameButPlaces, chunk_count, sources_at}
 use Rattle.child_tasks.proofs.ChildReturns.{few_tasks, own_made, parent_low}
 use Rattle.child_tasks.proofs.JoinEntries.{q, other_made, parent_is, parent_made, parent_other}
 use Rattle.child_tasks.proofs.JoinPlaces.{placed_has, placed_same, places_world}
+use Rattle.shared_tree.specs.Ran.{MayBeEntered}
 use Rattle.shared_tree.specs.contracts.shared.Shared.{the_view}
 use Rattle.shared_tree.proofs.shared.Shared.make_join_places.Goals as goal
 
@@ -23,11 +24,12 @@ pub make_places-requires : goal.make_places-requires
 make_places-requires c =
     let w : World = the_view c.self.inside in
     let p : Private = c.args.part.now in
-    let k : ℕ = c.requires.held.0 in
+    let held : MayBeEntered w p = subst (λ (z : World). MayBeEntered z p) (sym c.self.view_is) c.requires.held in
+    let k : ℕ = held.worker in
     let I : IsWorld w = c.self.invariant in
-    let F : Fits w k p = subst (λ (z : World). Fits z k p) (sym c.self.view_is) c.requires.held.1 in
+    let F : Fits w k p = held.fits in
     let at : IsAtEnd w p = subst (λ (z : World). IsAtEnd z p) (sym c.self.view_is) c.requires.ends in
-    let free : refused w (alone_event k p) ≡ None = subst (λ (z : World). refused z (alone_event k p) ≡ None) (sym c.self.view_is) c.requires.held.2 in
+    let free : refused w (alone_event k p) ≡ None = held.free in
     let ended : state_of w.tree (sibling p.task) ≡ Some Ended = subst (λ (z : World). state_of z.tree (sibling p.task) ≡ Some Ended) (sym c.self.view_is) c.requires.ended in
     let par : parent_of w.tree p.task ≡ Some c.args.parent = subst (λ (z : World). parent_of z.tree p.task ≡ Some c.args.parent) (sym c.self.view_is) c.requires.parent in
     let e = parent_is w k p I F at free ended c.args.parent par in
@@ -68,11 +70,12 @@ pub returns-clause-places : goal.returns-clause-places
 returns-clause-places c =
     let w : World = the_view c.self.inside in
     let p : Private = c.args.part.now in
-    let k : ℕ = c.requires.held.0 in
+    let held : MayBeEntered w p = subst (λ (z : World). MayBeEntered z p) (sym c.self.view_is) c.requires.held in
+    let k : ℕ = held.worker in
     let I : IsWorld w = c.self.invariant in
-    let F : Fits w k p = subst (λ (z : World). Fits z k p) (sym c.self.view_is) c.requires.held.1 in
+    let F : Fits w k p = held.fits in
     let at : IsAtEnd w p = subst (λ (z : World). IsAtEnd z p) (sym c.self.view_is) c.requires.ends in
-    let free : refused w (alone_event k p) ≡ None = subst (λ (z : World). refused z (alone_event k p) ≡ None) (sym c.self.view_is) c.requires.held.2 in
+    let free : refused w (alone_event k p) ≡ None = held.free in
     let ended : state_of w.tree (sibling p.task) ≡ Some Ended = subst (λ (z : World). state_of z.tree (sibling p.task) ≡ Some Ended) (sym c.self.view_is) c.requires.ended in
     let par : parent_of w.tree p.task ≡ Some c.args.parent = subst (λ (z : World). parent_of z.tree p.task ≡ Some c.args.parent) (sym c.self.view_is) c.requires.parent in
     let e = parent_is w k p I F at free ended c.args.parent par in

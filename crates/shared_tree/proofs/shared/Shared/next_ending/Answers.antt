@@ -11,6 +11,7 @@ use Rattle.own_steps.specs.Alone.{IsShared, alone_event}
 use Rattle.own_steps.specs.Alone.{Tells}
 use Rattle.own_steps.proofs.AloneEntries.{is_safe, runs_on}
 use Rattle.own_steps.proofs.LastSteps.{some_line, tells}
+use Rattle.shared_tree.specs.Ran.{MayBeEntered}
 use Rattle.shared_tree.specs.contracts.shared.Shared.{the_view}
 use Rattle.shared_tree.proofs.shared.Shared.next_ending.Goals as goal
 
@@ -21,20 +22,22 @@ pub last_step-requires : goal.last_step-requires
 last_step-requires c =
     let w : World = the_view c.self.inside in
     let p : Private = c.args.part.now in
-    let k : ℕ = c.args.worker in
-    let F : Fits w k p = subst (λ (z : World). Fits z k p) (sym c.self.view_is) c.requires.fits in
+    let held : MayBeEntered w p = subst (λ (z : World). MayBeEntered z p) (sym c.self.view_is) c.requires.held in
+    let k : ℕ = held.worker in
+    let F : Fits w k p = held.fits in
     let shared : IsShared w p = subst (λ (z : World). IsShared z p) (sym c.self.view_is) c.requires.shared in
-    let free : refused w (alone_event k p) ≡ None = subst (λ (z : World). refused z (alone_event k p) ≡ None) (sym c.self.view_is) c.requires.free in
+    let free : refused w (alone_event k p) ≡ None = held.free in
     is_safe w k p c.self.invariant F shared free
 
 pub unreachable-requires : goal.unreachable-requires
 unreachable-requires c =
     let w : World = the_view c.self.inside in
     let p : Private = c.args.part.now in
-    let k : ℕ = c.args.worker in
-    let F : Fits w k p = subst (λ (z : World). Fits z k p) (sym c.self.view_is) c.requires.fits in
+    let held : MayBeEntered w p = subst (λ (z : World). MayBeEntered z p) (sym c.self.view_is) c.requires.held in
+    let k : ℕ = held.worker in
+    let F : Fits w k p = held.fits in
     let shared : IsShared w p = subst (λ (z : World). IsShared z p) (sym c.self.view_is) c.requires.shared in
-    let free : refused w (alone_event k p) ≡ None = subst (λ (z : World). refused z (alone_event k p) ≡ None) (sym c.self.view_is) c.requires.free in
+    let free : refused w (alone_event k p) ≡ None = held.free in
     let line = some_line w k p c.self.invariant F shared (runs_on w k p c.self.invariant F shared free) in
     none_some line.0 (sym c.in-None.is ∙ (c.line.ensures ∙ (ap₂ (line_at w.program) c.fun.ensures c.next.ensures ∙ line.1)))
 
@@ -42,10 +45,11 @@ pub returns : goal.returns
 returns c =
     let w : World = the_view c.self.inside in
     let p : Private = c.args.part.now in
-    let k : ℕ = c.args.worker in
-    let F : Fits w k p = subst (λ (z : World). Fits z k p) (sym c.self.view_is) c.requires.fits in
+    let held : MayBeEntered w p = subst (λ (z : World). MayBeEntered z p) (sym c.self.view_is) c.requires.held in
+    let k : ℕ = held.worker in
+    let F : Fits w k p = held.fits in
     let shared : IsShared w p = subst (λ (z : World). IsShared z p) (sym c.self.view_is) c.requires.shared in
-    let free : refused w (alone_event k p) ≡ None = subst (λ (z : World). refused z (alone_event k p) ≡ None) (sym c.self.view_is) c.requires.free in
+    let free : refused w (alone_event k p) ≡ None = held.free in
     let is : next_line w.program p ≡ Some c.in-Some.line = ap₂ (line_at w.program) (sym c.fun.ensures) (sym c.next.ensures) ∙ (sym c.line.ensures ∙ c.in-Some.is) in
     subst (λ (z : World). Tells z p c.last_step.result c.in-Some.line.number) c.self.view_is
     (subst (λ (e : Ending). Tells w p e c.in-Some.line.number) (sym c.last_step.ensures) (tells w k p c.self.invariant F shared (runs_on w k p c.self.invariant F shared free) c.in-Some.line is))

@@ -12,6 +12,7 @@ use Rattle.own_steps.proofs.LastSteps.{some_line}
 use Rattle.others_objects.specs.declared.other.OtherStep.{OtherStep}
 use Rattle.others_objects.specs.Other.{IsOther, TellsOther}
 use Rattle.others_objects.proofs.NextOtherLine as lines
+use Rattle.shared_tree.specs.Ran.{MayBeEntered}
 use Rattle.shared_tree.specs.contracts.shared.Shared.{the_view}
 use Rattle.shared_tree.proofs.shared.Shared.next_other.Goals as goal
 
@@ -22,10 +23,11 @@ pub unreachable-requires : goal.unreachable-requires
 unreachable-requires c =
     let w : World = the_view c.self.inside in
     let p : Private = c.args.part.now in
-    let k : ℕ = c.args.worker in
-    let F : Fits w k p = subst (λ (z : World). Fits z k p) (sym c.self.view_is) c.requires.fits in
+    let held : MayBeEntered w p = subst (λ (z : World). MayBeEntered z p) (sym c.self.view_is) c.requires.held in
+    let k : ℕ = held.worker in
+    let F : Fits w k p = held.fits in
     let shared : IsShared w p = subst (λ (z : World). IsShared z p) (sym c.self.view_is) c.requires.shared in
-    let free : refused w (alone_event k p) ≡ None = subst (λ (z : World). refused z (alone_event k p) ≡ None) (sym c.self.view_is) c.requires.free in
+    let free : refused w (alone_event k p) ≡ None = held.free in
     let on : (accounts w).end ≡ None = runs_on w k p c.self.invariant F shared free in
     let other : IsOther w p = subst (λ (z : World). IsOther z p) (sym c.self.view_is) c.requires.other in
     let it = some_line w k p c.self.invariant F shared on in
@@ -35,10 +37,11 @@ pub unreachable-requires-in_default-named : goal.unreachable-requires-in_default
 unreachable-requires-in_default-named c =
     let w : World = the_view c.self.inside in
     let p : Private = c.args.part.now in
-    let k : ℕ = c.args.worker in
-    let F : Fits w k p = subst (λ (z : World). Fits z k p) (sym c.self.view_is) c.requires.fits in
+    let held : MayBeEntered w p = subst (λ (z : World). MayBeEntered z p) (sym c.self.view_is) c.requires.held in
+    let k : ℕ = held.worker in
+    let F : Fits w k p = held.fits in
     let shared : IsShared w p = subst (λ (z : World). IsShared z p) (sym c.self.view_is) c.requires.shared in
-    let free : refused w (alone_event k p) ≡ None = subst (λ (z : World). refused z (alone_event k p) ≡ None) (sym c.self.view_is) c.requires.free in
+    let free : refused w (alone_event k p) ≡ None = held.free in
     let on : (accounts w).end ≡ None = runs_on w k p c.self.invariant F shared free in
     let other : IsOther w p = subst (λ (z : World). IsOther z p) (sym c.self.view_is) c.requires.other in
     let next : next_line w.program p ≡ Some c.in-Some.line = ap₂ (line_at w.program) (sym c.fun.ensures) (sym c.next.ensures) ∙ (sym c.line.ensures ∙ c.in-Some.is) in
@@ -48,10 +51,11 @@ pub owner-owner-requires : goal.owner-owner-requires
 owner-owner-requires c =
     let w : World = the_view c.self.inside in
     let p : Private = c.args.part.now in
-    let k : ℕ = c.args.worker in
-    let F : Fits w k p = subst (λ (z : World). Fits z k p) (sym c.self.view_is) c.requires.fits in
+    let held : MayBeEntered w p = subst (λ (z : World). MayBeEntered z p) (sym c.self.view_is) c.requires.held in
+    let k : ℕ = held.worker in
+    let F : Fits w k p = held.fits in
     let shared : IsShared w p = subst (λ (z : World). IsShared z p) (sym c.self.view_is) c.requires.shared in
-    let free : refused w (alone_event k p) ≡ None = subst (λ (z : World). refused z (alone_event k p) ≡ None) (sym c.self.view_is) c.requires.free in
+    let free : refused w (alone_event k p) ≡ None = held.free in
     let on : (accounts w).end ≡ None = runs_on w k p c.self.invariant F shared free in
     let other : IsOther w p = subst (λ (z : World). IsOther z p) (sym c.self.view_is) c.requires.other in
     let next : next_line w.program p ≡ Some c.in-Some.line = ap₂ (line_at w.program) (sym c.fun.ensures) (sym c.next.ensures) ∙ (sym c.line.ensures ∙ c.in-Some.is) in
@@ -61,10 +65,11 @@ pub at-requires : goal.at-requires
 at-requires c =
     let w : World = the_view c.self.inside in
     let p : Private = c.args.part.now in
-    let k : ℕ = c.args.worker in
-    let F : Fits w k p = subst (λ (z : World). Fits z k p) (sym c.self.view_is) c.requires.fits in
+    let held : MayBeEntered w p = subst (λ (z : World). MayBeEntered z p) (sym c.self.view_is) c.requires.held in
+    let k : ℕ = held.worker in
+    let F : Fits w k p = held.fits in
     let shared : IsShared w p = subst (λ (z : World). IsShared z p) (sym c.self.view_is) c.requires.shared in
-    let free : refused w (alone_event k p) ≡ None = subst (λ (z : World). refused z (alone_event k p) ≡ None) (sym c.self.view_is) c.requires.free in
+    let free : refused w (alone_event k p) ≡ None = held.free in
     let on : (accounts w).end ≡ None = runs_on w k p c.self.invariant F shared free in
     let other : IsOther w p = subst (λ (z : World). IsOther z p) (sym c.self.view_is) c.requires.other in
     let next : next_line w.program p ≡ Some c.in-Some.line = ap₂ (line_at w.program) (sym c.fun.ensures) (sym c.next.ensures) ∙ (sym c.line.ensures ∙ c.in-Some.is) in
@@ -74,10 +79,11 @@ pub unreachable-requires-in_default-at : goal.unreachable-requires-in_default-at
 unreachable-requires-in_default-at c =
     let w : World = the_view c.self.inside in
     let p : Private = c.args.part.now in
-    let k : ℕ = c.args.worker in
-    let F : Fits w k p = subst (λ (z : World). Fits z k p) (sym c.self.view_is) c.requires.fits in
+    let held : MayBeEntered w p = subst (λ (z : World). MayBeEntered z p) (sym c.self.view_is) c.requires.held in
+    let k : ℕ = held.worker in
+    let F : Fits w k p = held.fits in
     let shared : IsShared w p = subst (λ (z : World). IsShared z p) (sym c.self.view_is) c.requires.shared in
-    let free : refused w (alone_event k p) ≡ None = subst (λ (z : World). refused z (alone_event k p) ≡ None) (sym c.self.view_is) c.requires.free in
+    let free : refused w (alone_event k p) ≡ None = held.free in
     let on : (accounts w).end ≡ None = runs_on w k p c.self.invariant F shared free in
     let other : IsOther w p = subst (λ (z : World). IsOther z p) (sym c.self.view_is) c.requires.other in
     let next : next_line w.program p ≡ Some c.in-Some.line = ap₂ (line_at w.program) (sym c.fun.ensures) (sym c.next.ensures) ∙ (sym c.line.ensures ∙ c.in-Some.is) in
@@ -88,10 +94,11 @@ pub step_on-does-requires : goal.step_on-does-requires
 step_on-does-requires c =
     let w : World = the_view c.self.inside in
     let p : Private = c.args.part.now in
-    let k : ℕ = c.args.worker in
-    let F : Fits w k p = subst (λ (z : World). Fits z k p) (sym c.self.view_is) c.requires.fits in
+    let held : MayBeEntered w p = subst (λ (z : World). MayBeEntered z p) (sym c.self.view_is) c.requires.held in
+    let k : ℕ = held.worker in
+    let F : Fits w k p = held.fits in
     let shared : IsShared w p = subst (λ (z : World). IsShared z p) (sym c.self.view_is) c.requires.shared in
-    let free : refused w (alone_event k p) ≡ None = subst (λ (z : World). refused z (alone_event k p) ≡ None) (sym c.self.view_is) c.requires.free in
+    let free : refused w (alone_event k p) ≡ None = held.free in
     let on : (accounts w).end ≡ None = runs_on w k p c.self.invariant F shared free in
     let other : IsOther w p = subst (λ (z : World). IsOther z p) (sym c.self.view_is) c.requires.other in
     let next : next_line w.program p ≡ Some c.in-Some.line = ap₂ (line_at w.program) (sym c.fun.ensures) (sym c.next.ensures) ∙ (sym c.line.ensures ∙ c.in-Some.is) in
@@ -101,10 +108,11 @@ pub returns : goal.returns
 returns c =
     let w : World = the_view c.self.inside in
     let p : Private = c.args.part.now in
-    let k : ℕ = c.args.worker in
-    let F : Fits w k p = subst (λ (z : World). Fits z k p) (sym c.self.view_is) c.requires.fits in
+    let held : MayBeEntered w p = subst (λ (z : World). MayBeEntered z p) (sym c.self.view_is) c.requires.held in
+    let k : ℕ = held.worker in
+    let F : Fits w k p = held.fits in
     let shared : IsShared w p = subst (λ (z : World). IsShared z p) (sym c.self.view_is) c.requires.shared in
-    let free : refused w (alone_event k p) ≡ None = subst (λ (z : World). refused z (alone_event k p) ≡ None) (sym c.self.view_is) c.requires.free in
+    let free : refused w (alone_event k p) ≡ None = held.free in
     let on : (accounts w).end ≡ None = runs_on w k p c.self.invariant F shared free in
     let other : IsOther w p = subst (λ (z : World). IsOther z p) (sym c.self.view_is) c.requires.other in
     let next : next_line w.program p ≡ Some c.in-Some.line = ap₂ (line_at w.program) (sym c.fun.ensures) (sym c.next.ensures) ∙ (sym c.line.ensures ∙ c.in-Some.is) in
