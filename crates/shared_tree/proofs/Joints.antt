@@ -1,4 +1,4 @@
--- How other tasks have part in a part's next step, by the line that comes next; and what is left where memory is wanting.
+-- How other tasks have part in a part's next step, by the line that comes next; what is left where memory is wanting.
 use Rattle.std.specs.Result.{IfErr, OnErr}
 use Rattle.std.proofs.Common.{◌≡◌, ℕ, Result, Ok, Err, ◌||◌, not, true, Bool, false, Option, Some, None, List, length, slice_get, slice_set, option_map, is_some, refl, ap, sym, subst, ◌∙◌}
 use Rattle.hh_lang.specs.declared.instr.Instr.{Instr}

@@ -36,8 +36,8 @@ impl Shared {
         false
     }
 
-    /// The fork on which a task waits, if it waits. It takes no time to speak of where the child that is guessed is one of
-    /// that fork, or the task doesn't wait; else it takes as long as there are tasks.
+    /// The fork on which a task waits, if it waits. It takes no time to speak of where the child that is guessed is one
+    /// of that fork, or the task doesn't wait; else it takes as long as there are tasks.
     pub fn fork_of(&self, t: u32, guess: u32) -> Option<Fork>
         requires { (accounts self.now).end ≡ None }
         ensures { IsForkOf (accounts self.now) t result (slice_get (accounts self.now).machine.tasks t) }

@@ -39,8 +39,8 @@ impl Shared {
         }
     }
 
-    /// How many objects lie in the heaps of the tasks that neither a worker holds nor are ready, and their words: what the
-    /// report of the journal says is held.
+    /// How many objects lie in the heaps of the tasks that neither a worker holds nor are ready, and their words: what
+    /// the report of the journal says is held.
     pub fn held(&self) -> (u64, u64)
         ensures objects { result.0 ≡ length (kept (accounts self.now)) }
         ensures words { result.1 ≡ words_sum (accounts self.now).machine (kept (accounts self.now)) }

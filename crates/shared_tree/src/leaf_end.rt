@@ -58,8 +58,8 @@ impl Shared {
             .push_reserved(Entry::new(worker, Kind::End(task, taken, given, left)));
     }
 
-    /// The leaf collection of a part ends, once its heap was copied: fields that still hold old addresses are led to the new
-    /// ones, and the chunks that nothing needs are given back. It takes no memory.
+    /// The leaf collection of a part ends, once its heap was copied: fields that still hold old addresses are led to
+    /// the new ones, and the chunks that nothing needs are given back. It takes no memory.
     pub fn leaf_end(
         &mut self,
         worker: u32,

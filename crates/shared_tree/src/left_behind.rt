@@ -16,8 +16,8 @@ use shared_value::Rest;
 use std::marker::Model;
 use write_barrier::SetOf;
 
-/// What a run leaves beside its journal: the heaps and frames of the tasks that no worker holds, and the totals. No entry
-/// can be made any more.
+/// What a run leaves beside its journal: the heaps and frames of the tasks that no worker holds, and the totals. No
+/// entry can be made any more.
 #[derive(Drop)]
 pub struct Left {
     program: Program,

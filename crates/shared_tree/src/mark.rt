@@ -65,8 +65,8 @@ impl Shared {
         Ok(())
     }
 
-    /// The marking of the heap of a waiting task begins: from what the task's registers hold, and from the fields of heaps
-    /// above that point down into it.
+    /// The marking of the heap of a waiting task begins: from what the task's registers hold, and from the fields of
+    /// heaps above that point down into it.
     pub fn mark(&mut self, worker: u32, t: u32) -> Result<(), NotEntered>
         requires room { 0 < self.old.journal.room }
         ensures refused { Answers result (refused self.old (record { worker = worker; kind = Kind.Mark t })) }

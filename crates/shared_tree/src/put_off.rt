@@ -50,7 +50,7 @@ impl Shared {
         part.reset_since();
     }
 
-    /// A due leaf collection of a part is put off, since too few chunks are free for it: its words are counted from 0 on.
+    /// A due leaf collection of a part is put off, since too few chunks are free for it: its words count from 0 on.
     pub fn put_off(&mut self, worker: u32, part: &mut Private) -> Result<(), Refused>
         requires room { 0 < self.old.journal.room }
         requires fits { Fits self.old worker part.old }

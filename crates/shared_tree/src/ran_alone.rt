@@ -133,7 +133,8 @@ impl Shared {
         }
     }
 
-    /// The fresh steps of a part, and its next one, which isn't private, are entered where no other task has part in that one.
+    /// The fresh steps of a part, and its next one, which isn't private, are entered where no other task has part in
+    /// that one.
     pub fn ran_alone(&mut self, worker: u32, part: Private) -> Result<Alone, NotRan>
         requires room { 0 < self.old.journal.room }
         requires fits { Fits self.old worker part }

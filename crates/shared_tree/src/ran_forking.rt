@@ -85,8 +85,8 @@ impl Shared {
         Ok(Forking::Forked { left, right })
     }
 
-    /// The fresh steps of a part, and its next one, which is a fork, are entered: its task waits for two children, or the run
-    /// ends, where too many forks are above it.
+    /// The fresh steps of a part, and its next one, which is a fork, are entered: its task waits for two children, or
+    /// the run ends, where too many forks are above it.
     pub fn ran_forking(&mut self, worker: u32, part: Private) -> Result<Forking, NotRan>
         requires room { 0 < self.old.journal.room }
         requires fits { Fits self.old worker part }

@@ -9,8 +9,8 @@ use listed::Listed;
 use std::alloc::{AllocError, Global};
 
 impl Shared {
-    /// The fields that were noted to point down into the heap of a task, by rising object and field; none where there is no
-    /// such task.
+    /// The fields that were noted to point down into the heap of a task, by rising object and field; none where there
+    /// is no such task.
     #[tactic(auto, using(heap_reading::proofs::FieldsRead::none_noted))]
     pub fn remembered(&self, alloc: Global, task: u32) -> Result<Listed<Field>, AllocError>
         ensures { IfOk result (λ fields. AreAll FieldBefore (IsNoted self.now task) fields) }

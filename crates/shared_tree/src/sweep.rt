@@ -79,9 +79,9 @@ impl Shared {
         marking.get().would_give(&rest.get().heap)
     }
 
-    /// The heap of a waiting task is swept: of its objects just those that were reached at the task's fork stay, each where
-    /// it lies, and chunks without an object are given back. From then on its overwritten references aren't kept. It takes no
-    /// memory.
+    /// The heap of a waiting task is swept: of its objects just those that were reached at the task's fork stay, each
+    /// where it lies, and chunks without an object are given back. From then on its overwritten references aren't kept.
+    /// It takes no memory.
     pub fn sweep(&mut self, worker: u32, t: u32, given: u32) -> Result<(), Refused>
         requires room { 0 < self.old.journal.room }
         ensures refused { cause_of result ≡ refused self.old (record { worker = worker; kind = Kind.Sweep t given }) }
