@@ -21,7 +21,6 @@ impl Shared {
         ensures fits { Fits self.new worker (record part.now { fresh = 0 }) }
         ensures others { OthersFit self.old self.new worker }
     {
-        let _ = self.settings.fuel();
         self.steps += part.fresh as u64;
         self.journal
             .push_reserved(Entry::new(worker, Kind::Ran(part.task, part.fresh)));
