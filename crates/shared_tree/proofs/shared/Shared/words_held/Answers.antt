@@ -5,7 +5,7 @@ use Rattle.hh_model.specs.Step.{is_running}
 use Rattle.run_ledger.specs.Heaps.{words_sum}
 use Rattle.alloc_path.specs.Heap.{counted}
 use Rattle.shared_value.specs.World.{World, accounts, flat, rest_at}
-use Rattle.heap_reading.specs.HeldNames.{is_state_running, kept_of}
+use Rattle.heap_reading.specs.HeldNames.{is_state_running}
 use Rattle.heap_reading.proofs.KeptNames.{nothing_kept, runs_is}
 use Rattle.shared_tree.proofs.shared.Shared.words_held.Goals as goal
 
