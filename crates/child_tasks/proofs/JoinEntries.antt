@@ -1,4 +1,5 @@
--- An entry of a join, as the call has it: what is asked of the parts that it joins, and what the code makes of homes and sets.
+-- An entry of a join, as the call has it: what is asked of the parts that it joins, and what the code makes of homes
+-- and sets.
 use Rattle.std.proofs.Common.{◌≡◌, ℕ, ◌+◌, ◌<◌, ◌++◌, arith, Bool, true, false, Option, Some, None, List, [], ◌∷◌, length, slice_get, slice_set, option_map, inl, inr, refl, ap, sym, subst, ◌∙◌}
 use Rattle.std.specs.Prelude.{IfSome}
 use Rattle.std.proofs.lemmas.Bool.{cases_eq}

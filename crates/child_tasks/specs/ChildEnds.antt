@@ -27,7 +27,8 @@ abbrev pub is_last_by : ProgramText → Option Task → Bool
 is_last_by p None = false
 is_last_by p (Some x) = is_last_line x (fetched p x.top)
 
--- the part's next step is the last return of its task, which another one forked, and stands in one entry with its fresh ones
+-- the part's next step is the last return of its task, which another one forked,
+-- and stands in one entry with its fresh ones
 pub record IsAtEnd (w : World) (p : Private) : Type 0 where
   pub ends : is_last_by w.program (slice_get (machine_after w p).tasks p.task) ≡ true
   pub few : p.fresh ≤ 256
@@ -42,7 +43,8 @@ where_running tasks (Some parent) = if is_running (slice_get tasks parent) then 
 abbrev pub running_parent : List Task → ℕ → Option ℕ
 running_parent tasks t = where_running tasks (parents tasks t)
 
--- the run goes on, and the answer is the parent of the task exactly where that runs again, since both its children have ended
+-- the run goes on, and the answer is the parent of the task exactly where that runs again,
+-- since both its children have ended
 pub record EndsChild (w after : World) (k : ℕ) (p : Private) (answer : Option ℕ) : Type 0 where
   pub enters : Enters w after (alone_event k p)
   pub goes : (accounts after).end ≡ None

@@ -67,8 +67,8 @@ waiting_rest p = record { work = Calls (with_next p.frames (p.frames.top.next + 
 abbrev pub begun_rest : Child → Rest
 begun_rest c = record { work = Calls c.frames; heap = c.heap; view = c.view; allocations = 0 }
 
--- a child of the part's task, of this number: it begins a function with the registers of the part's top frame, and sees what is
--- immutable in the part's heap, and what the part sees
+-- a child of the part's task, of this number: it begins a function with the registers of the part's top frame, and sees
+-- what is immutable in the part's heap, and what the part sees
 abbrev pub part_child : Private → ℕ → ℕ → ℕ → ℕ → Child
 part_child p task fun slots spare = new_child task p.frames fun (view_below p.heap.chunks (Some p.view)) slots spare
 

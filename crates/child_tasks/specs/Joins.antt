@@ -57,8 +57,8 @@ sources_by (Some c) = c.sources
 abbrev pub sources_at : List SetOf → ℕ → List Source
 sources_at sets u = sources_by (content_at sets u)
 
--- the parent's set has the sources of its children's too, but for those in its own chunks, and keeps nothing any more; the sets
--- of both children hold nothing
+-- the parent's set has the sources of its children's too, but for those in its own chunks, and keeps nothing any more;
+-- the sets of both children hold nothing
 pub record SetsJoin (sets after : List SetOf) (parent left right : ℕ) (chunks : List Content) : Type 0 where
   pub many : length after ≡ length sets
   pub parent_set : content_at after parent ≡ Some (record { sources = lifted (lifted (sources_at sets parent) (sources_at sets left) chunks) (sources_at sets right) chunks; kept = []; keeps = false })

@@ -19,7 +19,8 @@ use write_barrier::SetOf;
 pub enum Forking {
     /// Its task waits for two children of these numbers, which are ready.
     Forked { left: u32, right: u32 },
-    /// Too many forks are above it: the run has ended, the task stands before the fork, and the worker still holds the part.
+    /// Too many forks are above it: the run has ended, the task stands before the fork,
+    /// and the worker still holds the part.
     Over(Private),
 }
 

@@ -159,8 +159,8 @@ fn make_set_places(sets: &mut Vec<SetOf>, t: u32, sources: u32) -> Result<(), Al
     set.make_room(sources)
 }
 
-// How many places the home and the set of a task need for all that two of its children bring: a part, and its sibling, which has
-// ended.
+// How many places the home and the set of a task need for all that two of its children bring: a part, and its sibling,
+// which has ended.
 fn places_for(
     homes: &Listed<Option<Apart<Rest>>>,
     sets: &Vec<SetOf>,
@@ -180,8 +180,8 @@ fn places_for(
     Ok((chunks, sources))
 }
 
-/// Makes places in the home and in the set of a task for all that two of its children bring: a part, and its sibling, which has
-/// ended. Nothing else changes.
+/// Makes places in the home and in the set of a task for all that two of its children bring: a part, and its sibling,
+/// which has ended. Nothing else changes.
 pub fn make_places(
     homes: &mut Listed<Option<Apart<Rest>>>,
     sets: &mut Vec<SetOf>,

@@ -1,4 +1,5 @@
--- A marking of a heap that waits begins, from the registers and the roots as they are now: it can go on to the whole snapshot.
+-- A marking of a heap that waits begins, from the registers and the roots as they are now:
+-- it can go on to the whole snapshot.
 use Rattle.std.proofs.Common.{◌≡◌, ◌⊎◌, ◌↔◌, ℕ, suc, ◌+◌, ◌<◌, ◌≤◌, ◌++◌, true, Option, Some, None, List, [], ◌∷◌, length, slice_get, inl, inr, refl, ap, sym, subst, ◌∙◌}
 use Rattle.std.proofs.lemmas.Bool.{false≢true}
 use Rattle.listed.proofs.Members.{contains_from_in, in_append_cases, in_append_left, in_append_right, in_from_contains}

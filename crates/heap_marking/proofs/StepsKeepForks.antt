@@ -1,5 +1,5 @@
--- What a step of the machine leaves of forks: whose child each task is, and which have joined; a task that waits goes on to wait
--- until its children join.
+-- What a step of the machine leaves of forks: whose child each task is, and which have joined; a task that waits goes
+-- on to wait until its children join.
 use Rattle.std.proofs.Common.{◌≡◌, ◌⊎◌, ℕ, ℤ, zero, suc, ◌+◌, ◌-◌, ◌<◌, Bool, true, false, Option, Some, List, [], ◌∷◌, ◌++◌, length, slice_get, slice_set, inl, inr, refl, ap, sym, subst, ◌∙◌, arith}
 use Rattle.std.proofs.lemmas.Bool.{false≢true, both_ways, cases_eq, cases_lt, cond-true}
 use Rattle.std.proofs.lemmas.Option.{same_Some}

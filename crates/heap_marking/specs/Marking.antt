@@ -23,7 +23,8 @@ use Rattle.shared_value.specs.Stands.{IsWorld}
 use Rattle.shared_value.specs.Fits.{AllFit}
 use Rattle.shared_value.specs.Entered.{refused}
 
--- where a marking of the heap of t begins: at an object of it that a register of t names, or to which a remembered field refers
+-- where a marking of the heap of t begins: at an object of it that a register of t names, or to which a remembered
+-- field refers
 abbrev pub IsStart : Value → Ledger → ℕ → Addr → Type 0
 IsStart v l t a = ((o : Located) × IsAt (v.homes t) a o × ((f : Frame) × In (v.homes t).frames f × In f.refs (Some a))) ⊎ IsRoot v l t a
 
@@ -53,7 +54,8 @@ MarksEnter =
     → (heap_of (after w.program w.settings l e) t).marked ≡ Some (length (marked_of m)) → GoesOn (value_of w) t (heap_of l t).snapshot m
     → IsWorld (marked_more w e marks room) × AllFit w (marked_more w e marks room)
 
--- of a marking that can go on: what it asks of the heap, when nothing is left, and that what is marked further can go on
+-- of a marking that can go on: what it asks of the heap, when nothing is left,
+-- and that what is marked further can go on
 pub record Further (w : World) (t : ℕ) (r : Rest) (m : Marks) : Type 0 where
   pub fork : Fork
   pub since : IsSince fork (kept_of (value_of w) t) r.heap.chunks

@@ -29,8 +29,8 @@ use Rattle.heap_marking.specs.MarkCauses.{is_state_waiting}
 abbrev pub HasGoneOn : Ledger → Strand → Type 0
 HasGoneOn l s = (x : Task) × (slice_get l.machine.tasks s.task ≡ Some x) × (s.joins < x.joins)
 
--- a fork that is told by its task and a child is the one that ended this strand: the task waits on it as long as the child hasn't
--- joined, and has gone on since where it has
+-- a fork that is told by its task and a child is the one that ended this strand: the task waits on it as long as the
+-- child hasn't joined, and has gone on since where it has
 pub record TellsFork (l : Ledger) (f : Fork) (s : Strand) : Type 0 where
   pub task : f.task ≡ s.task
   pub child : parents l.machine.tasks f.left ≡ Some s.task

@@ -27,8 +27,8 @@ fn live_child(tree: &Tree, t: u32) -> Option<u32>
     None
 }
 
-/// The fork on which a task waits, if it waits. It takes no time to speak of where the child that is guessed is one of that
-/// fork, or the task doesn't wait; else it takes as long as there are tasks.
+/// The fork on which a task waits, if it waits. It takes no time to speak of where the child that is guessed is one of
+/// that fork, or the task doesn't wait; else it takes as long as there are tasks.
 pub fn fork_in(tree: &Tree, t: u32, guess: u32) -> Option<Fork>
     ensures { IsForkIn tree.now t result }
 {

@@ -104,8 +104,8 @@ fn begun_in(alloc: Global, sets: &[SetOf], heaps: &Heaps, task: u32) -> Result<M
     }
 }
 
-/// A marking that has marked nothing yet, of the heap of a task at rest: it begins at what the heap's remembered fields hold
-/// now, and at what the task's registers do.
+/// A marking that has marked nothing yet, of the heap of a task at rest: it begins at what the heap's remembered fields
+/// hold now, and at what the task's registers do.
 pub fn begin_marking(
     alloc: Global,
     sets: &[SetOf],

@@ -1,4 +1,5 @@
--- No worker holds a task that doesn't run, whether or not the run has ended: once it is done the root is handed back, and no task runs.
+-- No worker holds a task that doesn't run, whether or not the run has ended: once it is done the root is handed back,
+-- and no task runs.
 use Rattle.std.proofs.Common.{◌≡◌, ◌⊎◌, ℕ, zero, suc, ◌+◌, ◌-◌, Bool, true, false, cond, Option, Some, None, is_none, List, [], ◌∷◌, ◌++◌, ◌&&◌, nat_lt, slice_get, inl, inr, refl, ap, sym, subst, ◌∙◌}
 use Rattle.std.proofs.lemmas.Bool.{cases_eq}
 use Rattle.hh_lang.specs.Form.{IsProgram, ProgramText}

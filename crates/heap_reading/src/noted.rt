@@ -7,8 +7,8 @@ use crate::seen::number_of;
 use remembered_set::Source;
 use std::alloc::{AllocError, Global};
 
-/// A reference field of the object at an address, which is told as a number. Fields are ordered by the object, then by the
-/// field.
+/// A reference field of the object at an address, which is told as a number. Fields are ordered by the object, then by
+/// the field.
 #[derive(Clone, Copy, PartialEq, Eq, PartialOrd, Ord)]
 pub struct Field {
     pub object: u64,

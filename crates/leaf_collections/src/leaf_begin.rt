@@ -14,8 +14,8 @@ use object_layout::{Addr, Chunk};
 use std::alloc::{AllocError, Global};
 use task_machine::{Begun, Private};
 
-// What a collection needs beside its chunks: a copy of its roots, a list for the numbers of the chunks, and what is reserved
-// for copying.
+// What a collection needs beside its chunks: a copy of its roots, a list for the numbers of the chunks, and what is
+// reserved for copying.
 #[derive(Drop)]
 struct Prepared {
     roots: Listed<Addr>,
@@ -54,8 +54,8 @@ fn note_numbers(numbers: &mut Roomy<u32>, chunks: &[Chunk])
     }
 }
 
-/// Takes so many chunks for a collection of a part, and all memory that it needs, and lets the part begin it from these roots.
-/// For want of memory nothing changes but the places of the part's heap.
+/// Takes so many chunks for a collection of a part, and all memory that it needs, and lets the part begin it from these
+/// roots. For want of memory nothing changes but the places of the part's heap.
 pub fn begin_with(
     alloc: Global,
     pool: &mut Pool,

@@ -1,5 +1,5 @@
--- Before the run's end the object in a register of a part that fits lies, where another task owns it, in that task's heap, which
--- no worker holds.
+-- Before the run's end the object in a register of a part that fits lies, where another task owns it, in that task's
+-- heap, which no worker holds.
 use Rattle.std.proofs.Common.{◌≡◌, ℕ, suc, pos, true, Option, Some, None, List, [], ◌∷◌, length, slice_get, unwrap_or, inl, refl, ap, sym, subst, ◌∙◌}
 use Rattle.std.proofs.lemmas.Option.{same_Some}
 use Rattle.hh_model.specs.declared.data.Name.{Name}

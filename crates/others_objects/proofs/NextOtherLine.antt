@@ -1,4 +1,5 @@
--- The next line of a part whose step works on an object that another task owns: the object, and what the step does with it.
+-- The next line of a part whose step works on an object that another task owns:
+-- the object, and what the step does with it.
 use Rattle.std.proofs.Common.{◌≡◌, ℕ, ◌<◌, not, true, Option, Some, None, List, length, slice_get, option_map, is_some, refl, ap, ap₂, sym, subst, ◌∙◌}
 use Rattle.std.specs.Prelude.{IsSome}
 use Rattle.std.proofs.lemmas.Bool.{eq-eqb, false≢true}

@@ -94,8 +94,8 @@ module _ (w : World) (k : ℕ) (p : Private) (I : IsWorld w) (F : Fits w k p) (o
     abbrev u : ℕ
     u = own L n
 
-    -- ---- A REFERENCE, from the register b, into the field i; what stood there is overwritten; the step sets the number register
-    -- swap, or none
+    -- ---- A REFERENCE, from the register b, into the field i; what stood there is overwritten; the step sets the
+    -- number register swap, or none
     module _ (b i : ℕ) (swap : Option (ℕ × ℤ)) (overwritten : Option Addr) (was : slice_get c.refs i ≡ Some overwritten) (sets : List SetOf)
         (C : (z : ℕ) → content_at sets z ≡ option_map (content_after w.tree w.pool (record { object = a; field = i }) overwritten (ref_of p.frames.top b) z) (content_at w.sets z)) (top : Frame) (goes : top ≡ gone_on swap p.frames.top) where
       abbrev value : Option Addr

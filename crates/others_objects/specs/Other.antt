@@ -1,5 +1,5 @@
--- What the next instruction of a part does with an object that another task owns, as the object's cell, the tree and the pool
--- tell it.
+-- What the next instruction of a part does with an object that another task owns, as the object's cell, the tree and
+-- the pool tell it.
 use Rattle.std.specs.Prelude.{◌≡◌, ℕ, ◌+◌, ◌<◌, pos, not, Bool, true, false, Option, Some, None, List, IsSome, length, slice_get, slice_index_or, unwrap_or, if◌then◌else◌}
 use Rattle.hh_lang.specs.declared.instr.Instr.{Instr}
 use Rattle.hh_lang.specs.declared.instr.Instr.TheVariants.{Getr, Geti, Putr, Puti, Cntr, Cnti, Freeze, Cas}
@@ -72,8 +72,8 @@ object_named f (Freeze o) = ref_of f o
 object_named f (Cas d o k e v) = ref_of f o
 object_named f _ = None
 
--- the object at a is there to be read: each reference that it has, if it isn't nil, points into a chunk in use, whose owner
--- was made
+-- the object at a is there to be read: each reference that it has, if it isn't nil, points into a chunk in use, whose
+-- owner was made
 pub record IsReadable (made : ℕ) (pool : Chunks) (t : ℕ) (ks : List Content) (a : Addr) : Type 0 where
   pub object : IsObject (cell_of ks a).mark
   pub reader : t < made
@@ -81,8 +81,8 @@ pub record IsReadable (made : ℕ) (pool : Chunks) (t : ℕ) (ks : List Content)
 
 -- ---- WHAT IT DOES
 
--- the address of an object of this owner goes into a register where the owner stands on the reader's path, else the read is
--- stopped
+-- the address of an object of this owner goes into a register where the owner stands on the reader's path, else the
+-- read is stopped
 abbrev pub yields : List Node → ℕ → ℕ → Addr → Option ℕ → OtherStep
 yields tree t d a None = SetsReference d (Some a)
 yields tree t d a (Some u) = if is_on_path tree u t then SetsReference d (Some a) else Stops u
@@ -188,7 +188,8 @@ OtherAnswered w after k p (Beyond q) = ⊥
 
 -- ---- WRITES
 
--- the field i of the object at an address is there to be written, in the heap of its owner, and what stands in it may be let go
+-- the field i of the object at an address is there to be written, in the heap of its owner, and what stands in it may
+-- be let go
 pub record IsWritable (made : ℕ) (pool : Chunks) (homes : List (Option Rest)) (a : Addr) (i : ℕ) : Type 0 where
   pub owner : ℕ
   pub rest : Rest

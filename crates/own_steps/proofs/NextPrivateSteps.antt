@@ -80,8 +80,8 @@ module _ (p : ProgramText) (s : Limits) (t : ℕ) where
           heap = ap (λ (z : Ledger). slice_get z.heaps t) (steps_last i l) ∙ (H ∙ ap (λ (m : State). Some (account_by m t (account_after p l.machine t h i) (asked p m t))) F.machine);
         }
 
--- WHAT A RUN OF A PART ENSURES, in accounts whose machine the part fitted: the steps are private there, neither due nor in
--- need, the part's heap is as its account is then, and the part fits the machine then
+-- WHAT A RUN OF A PART ENSURES, in accounts whose machine the part fitted: the steps are private there, neither due nor
+-- in need, the part's heap is as its account is then, and the part fits the machine then
 module _ (p : ProgramText) (s : Limits) (old new : Private) (k : ℕ) (R : Runs p old k new) (C : KeepsAccounts p old k new) (leaf : old.leaf_limit ≡ s.leaf) (small : old.leaf_limit < 2 ^ 64)
     (l : Ledger) (x : Task) (h : Heap) (going : l.machine.end ≡ None) (is : slice_get l.machine.tasks old.task ≡ Some x) (run : x.status ≡ Running) (there : slice_get l.heaps old.task ≡ Some h)
     (above : Places) (F : FitsMachine p old l.machine above) (counts : IsCounted old.heap h) where

@@ -1,4 +1,5 @@
--- The home of a part that fits the machine, and whose heap is as its account says, is read by the addresses that it has in a value.
+-- The home of a part that fits the machine, and whose heap is as its account says, is read by the addresses that it has
+-- in a value.
 use Rattle.std.proofs.Common.{◌≡◌, ℕ, ◌-◌, ◌<◌, ◌^◌, arith, Option, Some, None, List, [], ◌∷◌, min, slice_get, inl, inr, refl, ap, ap₂, sym, subst, ◌∙◌}
 use Rattle.std.proofs.lemmas.Bool.{cases_eq}
 use Rattle.std.proofs.lemmas.Option.{same_Some}

@@ -12,7 +12,8 @@ use Rattle.shared_value.specs.Links.{FitsFirst}
 abbrev pub SecondGivesFirst : Type 0
 SecondGivesFirst = (w : World) (k : ℕ) (p : Private) → IsWorld w → Fits w k p → (accounts w).end ≡ None → FitsFirst w p
 
--- before the run's end, amid no leaf collection, it fits the shared value again after private steps, as many as one entry holds at most
+-- before the run's end, amid no leaf collection, it fits the shared value again after private steps, as many as one
+-- entry holds at most
 abbrev pub PartsFitAgain : Type 0
 PartsFitAgain =
     (w : World) (k : ℕ) (p q : Private) (n : ℕ) → IsWorld w → Fits w k p → (accounts w).end ≡ None → p.begun ≡ None → Runs w.program p n q → KeepsAccounts w.program p n q → KeepsRest p q

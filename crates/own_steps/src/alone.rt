@@ -11,10 +11,11 @@ use task_machine::Private;
 pub enum Alone {
     /// Its steps are entered, and it goes on.
     Goes(Private),
-    /// Its steps are entered, and the last of them has ended the run: the task stands before it, and the worker still holds the
-    /// part.
+    /// Its steps are entered, and the last of them has ended the run: the task stands before it, and the worker still
+    /// holds the part.
     Over(Private),
-    /// Its steps are entered, and the last of them is the last return of the root: the run is done, and no worker holds a task.
+    /// Its steps are entered, and the last of them is the last return of the root: the run is done,
+    /// and no worker holds a task.
     Done,
     /// Nothing is entered: other tasks have part in its next step.
     Beyond(Private),
