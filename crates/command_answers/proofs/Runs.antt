@@ -1,20 +1,17 @@
 -- What is answered of runs.
-use Rattle.std.proofs.Common.{◌∙◌, ◌≡◌, ◌+◌, ◌++◌, ℕ, Bool, List, [], true, ap, ap₂, refl, sym, subst, append-nil, length}
-use Rattle.std.specs.Prelude.{Option, Some, None, Result, Ok, Err, IfOk, IfErr, IfSome, false}
+use Rattle.std.proofs.Common.{◌∙◌, ◌≡◌, ◌+◌, List, [], true, ap, ap₂, refl, sym, subst, append-nil, length}
+use Rattle.std.specs.Prelude.{Option, Some, None, Result, Ok, Err, IfOk, IfErr}
 use Rattle.hh_lang.specs.Form.{ProgramText}
-use Rattle.hh_model.specs.declared.data.State.{State}
 use Rattle.run_trace.specs.Entry.{Event}
 use Rattle.run_trace.specs.Settings.{Limits}
 use Rattle.trace_input.specs.declared.input.TraceInput.{TraceInput}
 use Rattle.trace_input.specs.Input.{limits_for}
 use Rattle.run_ledger.specs.declared.data.RunEnd.{RunEnd}
 use Rattle.run_ledger.specs.declared.data.RefusedAt.{RefusedAt}
-use Rattle.run_ledger.specs.Journals.{IsPrefix, end_of, first_refused, is_legal, machine_of, or_short, refused_as_run}
-use Rattle.run_ledger.specs.Text.{end_line, end_line_of, end_words, out_text, output_lines}
+use Rattle.run_ledger.specs.Journals.{IsPrefix, end_of, first_refused, is_legal, or_short, refused_as_run}
+use Rattle.run_ledger.specs.Text.{out_text}
 use Rattle.run_ledger.proofs.Cuts.{first_refused_is_first}
-use Rattle.run_ledger.proofs.Machine.{machine_is_run}
 use Rattle.run_report.specs.declared.whole.Extras.{Extras}
-use Rattle.run_report.specs.Written.{trace_part}
 use Rattle.shared_value.specs.World.{World, accounts, without_journal}
 use Rattle.shared_value.specs.Stands.{IsWorld}
 use Rattle.world_core.specs.declared.replaying.ReplayStop.{ReplayStop}

@@ -16,6 +16,7 @@ use listed::Listed;
 use run_ledger::RunEnd;
 use run_report::{Extras, end_text, outputs_text, report_text};
 use run_trace::trace_text;
+use shared_tree::Shared;
 use std::alloc::{AllocError, Global};
 
 /// What is written beside the outputs and the end line.
@@ -29,7 +30,7 @@ pub fn extras_of(options: Options) -> Extras
 }
 
 // The trace of a run, where it is asked for.
-fn trace_lines(alloc: Global, shared: &Counted, asked: bool) -> Result<Vec<u8>, AllocError>
+fn trace_lines(alloc: Global, shared: &Shared, asked: bool) -> Result<Vec<u8>, AllocError>
     ensures { IfOk result (λ text. text.items ≡ trace_part asked shared.now.settings.version shared.now.journal.items) }
 {
     if asked {
@@ -40,11 +41,11 @@ fn trace_lines(alloc: Global, shared: &Counted, asked: bool) -> Result<Vec<u8>, 
 }
 
 // The lines of the report, where it is asked for.
-fn report_lines(alloc: Global, shared: &Counted, asked: bool) -> Result<String, AllocError>
-    ensures { IfOk result (λ text. string_bytes text ≡ report_part asked (accounts shared.now) (length shared.now.journal.items) (totals_of shared.now)) }
+fn report_lines(alloc: Global, counted: &Counted, asked: bool) -> Result<String, AllocError>
+    ensures { IfOk result (λ text. string_bytes text ≡ report_part asked (accounts counted.now) (length counted.now.journal.items) (totals_of counted.now)) }
 {
     if asked {
-        report_text(alloc, shared.report())
+        report_text(alloc, counted.report())
     } else {
         Ok(String::new(alloc))
     }
@@ -53,14 +54,15 @@ fn report_lines(alloc: Global, shared: &Counted, asked: bool) -> Result<String, 
 // All that is written of a run that ended so.
 fn run_text(
     alloc: Global,
-    shared: &Counted,
+    counted: &Counted,
     end: RunEnd,
     extras: Extras,
 ) -> Result<Vec<u8>, AllocError>
-    ensures { IfOk result (λ text. text.items ≡ text_from shared.now.settings.version (accounts shared.now) (totals_of shared.now) extras.report extras.trace shared.now.journal.items end) }
+    ensures { IfOk result (λ text. text.items ≡ text_from counted.now.settings.version (accounts counted.now) (totals_of counted.now) extras.report extras.trace counted.now.journal.items end) }
 {
+    let shared = counted.shared();
     let mut text = outputs_text(alloc, shared.outputs())?;
-    let report = report_lines(alloc, shared, extras.report)?;
+    let report = report_lines(alloc, counted, extras.report)?;
     text.extend_from_slice(report.as_bytes())?;
     let trace = trace_lines(alloc, shared, extras.trace)?;
     text.extend_from_slice(trace.as_slice())?;

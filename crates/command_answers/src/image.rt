@@ -6,25 +6,25 @@ ghost use Rattle.command_answers.specs.Answers.{AnswersImaging, AnswersTrace, Is
 
 use crate::answer::{Answer, Status};
 use crate::refusals::{bytes_alone, refused, trace_short};
-use counted_tree::Counted;
 use listed::Listed;
 use refusal_lines::Refusal;
 use run_trace::Settings;
 use shared_image::image_text;
+use shared_tree::Shared;
 use std::alloc::{AllocError, Global};
 use trace_input::{InputError, TraceInput, read_trace_input};
 use world_core::{ReplayStop, replay};
 
 // The answer of the heaps that are left.
-fn answer_drawn(alloc: Global, shared: &Counted) -> Result<Answer, AllocError>
+fn answer_drawn(alloc: Global, shared: &Shared) -> Result<Answer, AllocError>
     ensures { IfOk result (λ a. (image : List ℕ) × IsImageOf shared.now image × IsText Status.Done image a) }
 {
-    let text = image_text(alloc, shared.shared())?;
+    let text = image_text(alloc, shared)?;
     Ok(bytes_alone(alloc, Status::Done, Listed::from_vec(text)))
 }
 
 // The answer where all entries are made.
-fn answer_made(alloc: Global, shared: &Counted) -> Result<Answer, AllocError>
+fn answer_made(alloc: Global, shared: &Shared) -> Result<Answer, AllocError>
     ensures { IfOk result (WhereWhole (IsImaged shared.now.program shared.now.settings shared.now.journal.items) (refused_as_run shared.now.program shared.now.settings shared.now.journal.items)) }
 {
     shared.stands();
@@ -42,9 +42,8 @@ fn answer_trace(alloc: Global, settings: Settings, read: &TraceInput) -> Result<
     let settings = settings.with_version(trace.version);
     match replay(alloc, program, settings, trace.entries.as_slice()) {
         Ok(world) => {
-            let shared = world.into_shared();
-            let answer = answer_made(alloc, &shared);
-            drop(shared);
+            let answer = answer_made(alloc, world.shared());
+            drop(world);
             answer
         }
         Err(ReplayStop::RefusedAt(entry)) => refused(alloc, Refusal::Entry(entry)),

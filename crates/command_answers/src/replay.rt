@@ -26,7 +26,7 @@ fn answer_short(alloc: Global, shared: Counted) -> Result<Answer, Wanted>
     ensures answer { IfOk result (Refuses (Refusal.Entry (short_of shared.journal.items))) }
     ensures wanted { IfErr result (λ w. w ≡ Wanted.Amid shared.journal.items (without_journal shared)) }
 {
-    match trace_short(alloc, shared.journal()) {
+    match trace_short(alloc, shared.shared().journal()) {
         Ok(answer) => Ok(answer),
         Err(AllocError) => Err(amid(shared)),
     }
@@ -39,7 +39,7 @@ fn answer_made(alloc: Global, shared: Counted, extras: Extras) -> Result<Answer,
     ensures stands { IsWorld shared }
 {
     shared.stands();
-    match shared.ended() {
+    match shared.shared().ended() {
         None => answer_short(alloc, shared),
         Some(end) => answer_ended(alloc, shared, end, extras),
     }

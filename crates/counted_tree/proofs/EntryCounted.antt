@@ -1,5 +1,5 @@
 -- What is kept of the entries of a journal, over one entry more.
-use Rattle.std.proofs.Common.{◌≡◌, ℕ, zero, suc, ◌+◌, ◌-◌, ◌<◌, ◌==◌, ◌&&◌, ◌^◌, Bool, true, false, cond, Option, Some, None, List, [], ◌∷◌, ◌++◌, length, length-set, replicate, slice_get, slice_set, nat_lt, inl, inr, refl, ap, ap₂, sym, subst, ◌∙◌, is_some, is_none, arith, length-append}
+use Rattle.std.proofs.Common.{◌≡◌, ℕ, zero, suc, ◌+◌, ◌-◌, ◌<◌, ◌==◌, ◌^◌, Bool, true, false, cond, Some, None, List, [], ◌∷◌, ◌++◌, length, length-set, slice_get, slice_set, inl, inr, refl, ap, ap₂, sym, subst, ◌∙◌, is_some, arith, length-append}
 use Rattle.std.proofs.lemmas.Bool.{cases_eq, eqb-true, ltb-true}
 use Rattle.std.proofs.lemmas.Option.{same_Some}
 use Rattle.listed.proofs.Members.{got_back, got_other}
@@ -8,24 +8,18 @@ use Rattle.run_trace.specs.declared.entry.Kind.{Kind}
 use Rattle.run_trace.specs.declared.entry.Kind.TheVariants.{Took, Ran, Chunk, Begin, End as EndOf, PutOff, Mark, More, Sweep, Fuel}
 use Rattle.run_trace.specs.Entry.{Event}
 use Rattle.run_trace.specs.Settings.{Limits}
-use Rattle.hh_model.specs.declared.data.Name.{Name}
 use Rattle.hh_model.specs.declared.data.State.{State}
-use Rattle.hh_model.specs.declared.data.Status.{Status}
-use Rattle.hh_model.specs.declared.data.Status.TheVariants.{Running, Waiting, Ended, Joined}
-use Rattle.hh_model.specs.declared.data.Task.{Task}
 use Rattle.hh_model.specs.Step.{is_running, is_waiting}
-use Rattle.run_ledger.specs.declared.data.Heap.{Heap}
 use Rattle.run_ledger.specs.declared.data.Ledger.{Ledger}
 use Rattle.run_ledger.specs.Entries.{after, after_kind}
 use Rattle.run_ledger.specs.Frozen.{begins}
 use Rattle.run_ledger.specs.Heaps.{collected, heap_of, held_in, in_use, swept_heap, with_heap, words_in, words_sum}
-use Rattle.run_ledger.specs.Journals.{is_legal, ledger_of, opening}
+use Rattle.run_ledger.specs.Journals.{ledger_of, opening}
 use Rattle.run_ledger.specs.Report.{lost}
 use Rattle.object_layout.specs.Chunks.{held_words}
 use Rattle.alloc_path.specs.Heap.{counted as counted64}
 use Rattle.ledger_steps.proofs.Ahead.{with_machine}
 use Rattle.core_relation.proofs.whole.Past.{waiting_stops}
-use Rattle.run_report.specs.declared.totals.Totals.{Totals}
 use Rattle.run_report.specs.Totals.{AreFew, cleared_words, counted, entry_totals, joined, no_totals, totals_from}
 use Rattle.run_report.proofs.Sums.{legal_few, lost_is, totals_last}
 use Rattle.task_machine.specs.declared.part.Private.{Private}
@@ -44,7 +38,7 @@ use Rattle.shared_tree.specs.Ran.{RanTo}
 use Rattle.heap_marking.proofs.ForksTold.{entered_accounts}
 use Rattle.heap_reading.specs.HeldNames.{kept_of}
 use Rattle.counted_tree.specs.declared.counting.Counts.{Counts}
-use Rattle.counted_tree.specs.Counts.{HasWords, IsMade, KeepsBegun, KeepsCounts, begun_with, totals_of}
+use Rattle.counted_tree.specs.Counts.{HasWords, IsMade, KeepsCounts, begun_with, totals_of}
 use Rattle.counted_tree.proofs.Begun.{WentOn, begin_apart, begin_words, begin_worker, end_begun, end_left, end_worker, entry_worker, sweep_waits, went_on}
 use Rattle.counted_tree.proofs.PartWords.{counted_small, part_words, words_small}
 

@@ -1,6 +1,6 @@
 // The shared value and the totals of its journal.
 
-ghost use Rattle.std.specs.Prelude.{◌≡◌, ◌<◌, [], ℕ, IfOk, OnOk, None, Some, false, true};
+ghost use Rattle.std.specs.Prelude.{◌≡◌, ◌<◌, [], ℕ, IfOk, OnOk, Some, false, true};
 ghost use Rattle.run_ledger.specs.Report.{report_of};
 ghost use Rattle.task_machine.specs.declared.part.Private.{Private as Part};
 ghost use Rattle.shared_value.specs.Fits.{AllFit, Fits};

@@ -5,7 +5,6 @@ mod counted;
 mod counting;
 mod inner;
 mod leaf;
-mod reads;
 mod steps;
 
 pub use counted::Counted;

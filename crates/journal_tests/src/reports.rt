@@ -3,8 +3,8 @@
 use crate::programs::{
     LARGE, LARGE_AND_SMALL, LISTS, Limits, SWEEPS, TWO_OBJECTS, joined, read, settings,
 };
-use run_journal::{model_replay, replayed};
-use run_report::{Extras, is_paced, out_text, report_of, whole_run};
+use run_journal::replayed;
+use run_report::{Extras, is_paced, report_of, whole_run};
 use std::alloc::Global;
 use trace_input::TraceInput;
 
@@ -142,15 +142,12 @@ fn collections_are_counted(rt: HostRuntime) {
 // Whether this is written of a journal that was read, with the report and without the trace, if it is that of a whole run.
 fn writes_report(alloc: Global, read: &TraceInput, limits: Limits, text: &str) -> bool {
     let (settings, entries) = (settings(limits), read.trace.entries.as_slice());
-    if model_replay(alloc, &read.program, settings, entries).is_err() {
-        return false;
-    }
     let extras = Extras {
         report: true,
         trace: false,
     };
-    match out_text(alloc, &read.program, settings, entries, extras) {
-        Ok(written) => written.as_slice() == text.as_bytes(),
+    match whole_run(alloc, &read.program, settings, entries, extras) {
+        Ok(written) => written.text.as_slice() == text.as_bytes(),
         Err(_) => false,
     }
 }

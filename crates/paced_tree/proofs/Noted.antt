@@ -18,20 +18,15 @@ use Rattle.run_ledger.specs.Pace.{idle, is_paced, noted, or_idle, pace_after, pa
 use Rattle.run_ledger.proofs.Journals.{none_where}
 use Rattle.run_ledger.proofs.Paced.{pace_goes_on}
 use Rattle.run_ledger.specs.declared.data.Refused.{Refused}
-use Rattle.task_machine.specs.declared.part.Private.{Private}
 use Rattle.shared_value.specs.Entered.{cause_of, refused, Enters}
 use Rattle.shared_value.specs.Stands.{IsWorld}
 use Rattle.shared_value.specs.World.{World, accounts}
-use Rattle.own_steps.specs.Alone.{alone_event}
 use Rattle.heap_marking.specs.declared.pace.Pace.{Pace}
 use Rattle.heap_marking.specs.declared.pace.Previous.TheVariants.{Other}
 use Rattle.heap_marking.specs.declared.pace.Fork.{Fork}
 use Rattle.heap_marking.specs.Pace.{IsForkOf, KeepsPace, previous_of}
 use Rattle.heap_marking.proofs.PaceKeeps.{mark_kept, steps_kept}
 use Rattle.heap_marking.proofs.ForksTold.{entered_accounts, paces_stay}
-use Rattle.shared_tree.specs.declared.ran.Ran.{Ran as RanOf}
-use Rattle.shared_tree.specs.declared.ran.Ran.TheVariants.{Goes as GoesOn, Forked as ForksInto, Ended as EndsWith, Over as IsOver, Done as IsDone}
-use Rattle.shared_tree.specs.Ran.{RanTo}
 use Rattle.paced_tree.specs.Owed.{KeepsNoted, KeepsPaces, NotesAt, NotesOther, Pays, noted_of}
 
 -- WHAT IS NOTED after one entry more
@@ -164,11 +159,3 @@ set_notes old k before q changes at C = record {
     same_in [] k x y z a b = absurd cc
     same_in (v ∷ xs) zero x y z a b = cc
     same_in (v ∷ xs) (suc k) x y z a b = same_in xs k x y z a b
-
--- steps of whatever end are entered
-pub ran_enters : (w w' : World) (k : ℕ) (p : Private) (r : RanOf) → RanTo w w' k p r → Enters w w' (alone_event k p)
-ran_enters w w' k p (GoesOn q) a = a.enters
-ran_enters w w' k p (ForksInto left right) a = a.0.enters
-ran_enters w w' k p (EndsWith resumed) a = a.0.enters
-ran_enters w w' k p (IsOver q) a = a.enters
-ran_enters w w' k p IsDone a = a.enters

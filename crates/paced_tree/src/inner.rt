@@ -9,13 +9,12 @@ ghost use Rattle.paced_tree.specs.Owed.{Pays};
 
 use crate::noting::{note_mark, note_other, reserve_mark};
 use crate::paced::Paced;
-use counted_tree::Counted;
 use run_ledger::Refused;
 use run_trace::Kind;
-use shared_tree::NotEntered;
+use shared_tree::{NotEntered, Shared};
 
 // Why the entry that begins a marking isn't made, where there is no memory to note it.
-fn no_place(shared: &Counted, worker: u32, t: u32) -> NotEntered
+fn no_place(shared: &Shared, worker: u32, t: u32) -> NotEntered
     ensures { IsCaused result (refused shared.now (record { worker = worker; kind = Kind.Mark t })) }
 {
     match shared.mark_refused(worker, t) {
@@ -37,11 +36,11 @@ impl Paced {
         let shared = self.shared.get_mut();
         shared.stands();
         if reserve_mark(&mut self.paces, worker).is_err() {
-            return Err(no_place(shared, worker, t));
+            return Err(no_place(shared.shared(), worker, t));
         }
         match shared.mark(worker, t) {
             Ok(()) => {
-                note_mark(shared, &mut self.paces, worker, t);
+                note_mark(shared.shared(), &mut self.paces, worker, t);
                 Ok(())
             }
             Err(cause) => Err(cause),

@@ -7,9 +7,8 @@ ghost use Rattle.run_ledger.specs.Heaps.{heap_of};
 ghost use Rattle.shared_value.specs.World.{accounts};
 ghost use Rattle.paced_tree.specs.Owed.{AreIdle, HasRoom, KeepsNoted, NotesAt, NotesOther, SameMarks};
 
-use counted_tree::Counted;
 use listed::Listed;
-use shared_tree::{Pace, Previous};
+use shared_tree::{Pace, Previous, Shared};
 use std::alloc::{AllocError, Global};
 
 // What is kept of workers without an entry.
@@ -46,7 +45,7 @@ pub(crate) fn note_other(paces: &mut Listed<Pace>, worker: u32)
 }
 
 // After steps of a task, of the worker that made them: the child that is guessed is its left one, if it has forked.
-fn after_ran(shared: &Counted, pace: &mut Pace, task: u32, guess: u32)
+fn after_ran(shared: &Shared, pace: &mut Pace, task: u32, guess: u32)
     requires { (accounts shared.now).end ≡ None }
     ensures { (k : ℕ) → KeepsNoted (accounts shared.now) (Ran task k) pace.old pace.new }
 {
@@ -57,7 +56,7 @@ fn after_ran(shared: &Counted, pace: &mut Pace, task: u32, guess: u32)
 
 // After steps of a task.
 pub(crate) fn note_ran(
-    shared: &Counted,
+    shared: &Shared,
     paces: &mut Listed<Pace>,
     worker: u32,
     task: u32,
@@ -83,7 +82,7 @@ fn child_before(pace: &Pace, task: u32) -> u32 {
 }
 
 // After the beginning of the marking of a task's heap, of the worker that began it.
-fn after_mark(shared: &Counted, pace: &mut Pace, task: u32)
+fn after_mark(shared: &Shared, pace: &mut Pace, task: u32)
     requires goes { (accounts shared.now).end ≡ None }
     requires waits { is_waiting (slice_get (accounts shared.now).machine.tasks task) ≡ true }
     requires marked { is_some (heap_of (accounts shared.now) task).marked ≡ true }
@@ -98,7 +97,7 @@ fn after_mark(shared: &Counted, pace: &mut Pace, task: u32)
 }
 
 // After the beginning of the marking of a task's heap.
-pub(crate) fn note_mark(shared: &Counted, paces: &mut Listed<Pace>, worker: u32, task: u32)
+pub(crate) fn note_mark(shared: &Shared, paces: &mut Listed<Pace>, worker: u32, task: u32)
     requires goes { (accounts shared.now).end ≡ None }
     requires waits { is_waiting (slice_get (accounts shared.now).machine.tasks task) ≡ true }
     requires marked { is_some (heap_of (accounts shared.now) task).marked ≡ true }

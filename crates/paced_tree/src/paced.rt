@@ -21,7 +21,7 @@ use listed::Listed;
 use out_of_line::Apart;
 use run_ledger::{Owed, Refused, RunEnd};
 use run_trace::{Entry, Settings};
-use shared_tree::Pace;
+use shared_tree::{Pace, Shared};
 use std::alloc::{AllocError, Global};
 use std::marker::Model;
 use task_machine::Private;
@@ -75,13 +75,20 @@ impl Paced {
         })
     }
 
-    /// The shared value alone.
+    /// The shared value alone, with the totals of its journal.
     pub fn into_shared(self) -> Counted
         ensures same { result ≡ self }
         ensures paced { is_paced result.program result.settings result.journal.items ≡ true }
     {
         let Paced { shared, .. } = self;
         shared.into_inner()
+    }
+
+    // The shared value, to be read.
+    fn shared(&self) -> &Shared
+        ensures { result.now ≡ self.now }
+    {
+        self.shared.get().shared()
     }
 
     /// Makes place for one entry.
@@ -105,7 +112,7 @@ impl Paced {
     pub fn halted(&self) -> bool
         ensures { result ≡ self.now.halted }
     {
-        self.shared.get().halted()
+        self.shared().halted()
     }
 
     /// What the worker's next entry has to be.
@@ -114,7 +121,7 @@ impl Paced {
         requires goes { (accounts self.now).end ≡ None }
         ensures { result ≡ owed_by self.now worker }
     {
-        self.shared.get().owed(self.paces.at(worker as usize))
+        self.shared().owed(self.paces.at(worker as usize))
     }
 
     /// It stands for its journal, which is legal.
@@ -128,14 +135,14 @@ impl Paced {
     pub fn ended(&self) -> Option<RunEnd>
         ensures { result ≡ (accounts self.now).end }
     {
-        self.shared.get().ended()
+        self.shared().ended()
     }
 
     /// The entries made so far.
     pub fn journal(&self) -> &[Entry]
         ensures { result.now ≡ self.now.journal.items }
     {
-        self.shared.get().journal()
+        self.shared().journal()
     }
 
     /// Why a worker may make no entry but the end for spent fuel: the run has ended, its fuel is spent, or there is no
@@ -143,7 +150,7 @@ impl Paced {
     pub fn refused_first(&self, worker: u32) -> Option<Refused>
         ensures { result ≡ first_cause self.now.end self.now.steps self.now.settings worker false }
     {
-        self.shared.get().refused_first(worker)
+        self.shared().refused_first(worker)
     }
 
     /// Whether the free chunks are enough for a leaf collection of a part.
@@ -152,7 +159,7 @@ impl Paced {
         requires fresh { part.now.fresh ≡ 0 }
         ensures { result ≡ is_pool_enough self.now.settings (accounts self.now) part.now.task }
     {
-        self.shared.get().pool_enough(part)
+        self.shared().pool_enough(part)
     }
 
     /// How many units of 1,024 words a sweep of a marked heap gives back.
@@ -162,6 +169,6 @@ impl Paced {
         requires none_left { left_in (heap_of (accounts self.now) t) ≡ 0 }
         ensures { result ≡ sweep_number (accounts self.now).machine (heap_of (accounts self.now) t) }
     {
-        self.shared.get().would_give(t)
+        self.shared().would_give(t)
     }
 }

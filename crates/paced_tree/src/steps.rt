@@ -71,7 +71,7 @@ impl Paced {
         let task = part.task;
         match shared.ran_private(worker, part) {
             Ok(part) => {
-                note_ran(shared, &mut self.paces, worker, task, 0);
+                note_ran(shared.shared(), &mut self.paces, worker, task, 0);
                 Ok(part)
             }
             Err(failed) => Err(failed),
@@ -96,7 +96,13 @@ impl Paced {
         let task = part.task;
         match shared.ran(worker, part) {
             Ok(ran) => {
-                note_ran(shared, &mut self.paces, worker, task, left_in(&ran));
+                note_ran(
+                    shared.shared(),
+                    &mut self.paces,
+                    worker,
+                    task,
+                    left_in(&ran),
+                );
                 Ok(ran)
             }
             Err(failed) => Err(failed),

@@ -10,4 +10,4 @@ mod whole;
 pub use paced::is_paced;
 pub use texts::{end_text, outputs_text, refused_text, report_text};
 pub use totals::Totals;
-pub use whole::{Extras, WholeRun, out_text, report_of, whole_run};
+pub use whole::{Extras, WholeRun, report_of, whole_run};

@@ -166,20 +166,3 @@ pub fn whole_run(
     drop(counted);
     whole
 }
-
-/// All that is written of the run of a journal that has an end.
-pub fn out_text(
-    alloc: Global,
-    program: &Program,
-    settings: Settings,
-    journal: &[Entry],
-    extras: Extras,
-) -> Result<Vec<u8>, AllocError>
-    requires { refused_as_run program.now settings journal.now ≡ None }
-    ensures { IfOk result (λ text. text.items ≡ out_text program.now settings extras.report extras.trace journal.now) }
-{
-    match whole_run(alloc, program, settings, journal, extras) {
-        Ok(run) => Ok(run.text.into_vec()),
-        Err(_) => Err(AllocError),
-    }
-}

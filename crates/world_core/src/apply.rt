@@ -58,7 +58,7 @@ fn make_own(
     ensures made { AnswersAll shared.old shared.new (record { worker = worker; kind = kind }) hands.new result }
 {
     shared.stands();
-    if let Some(cause) = shared.refused_first(worker) {
+    if let Some(cause) = shared.shared().refused_first(worker) {
         return Err(NotEntered::Refuses(cause));
     }
     let hand = mem::replace(hands.at_mut(worker as usize), Held::Nothing);

@@ -13,7 +13,7 @@ use counted_tree::Counted;
 use outside_io::EmptyGate;
 use run_ledger::Refused;
 use run_trace::Kind;
-use shared_tree::{NotEntered, Ran};
+use shared_tree::{NotEntered, Ran, Shared};
 use std::alloc::AllocError;
 use task_machine::{Paused, Private, run_local};
 
@@ -22,7 +22,7 @@ const BUDGET: u32 = 256;
 
 // Takes more private steps, as many as the budget or as come before one that isn't, and says what comes next.
 fn run_more(
-    shared: &Counted,
+    shared: &Shared,
     worker: u32,
     part: &mut Private,
     budget: u32,
@@ -47,7 +47,7 @@ fn run_more(
 
 // Takes so many private steps, or as many as come before one that isn't, and says what comes next.
 fn run_part(
-    shared: &Counted,
+    shared: &Shared,
     worker: u32,
     part: &mut Private,
     steps: u32,
@@ -178,9 +178,9 @@ fn ran(shared: &mut Counted, worker: u32, part: Private, steps: u32) -> Made
     ensures { MakesFor shared.old shared.new worker (record { worker = worker; kind = Kind.Ran part.task steps }) result }
 {
     let mut part = part;
-    match run_part(shared, worker, &mut part, steps) {
+    match run_part(shared.shared(), worker, &mut part, steps) {
         Ok(paused) => {
-            part.settle_before_fork(shared.program());
+            part.settle_before_fork(shared.shared().program());
             enter(shared, worker, part, paused, steps)
         }
         Err(AllocError) => Made {

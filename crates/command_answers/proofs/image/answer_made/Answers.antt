@@ -1,4 +1,4 @@
-use Rattle.std.proofs.Common.{◌≡◌, List, ap, subst, sym}
+use Rattle.std.proofs.Common.{List, subst, sym}
 use Rattle.std.proofs.lemmas.Result.{IfOk-weaker}
 use Rattle.run_trace.specs.Entry.{Event}
 use Rattle.refusal_lines.specs.declared.refusal.Refusal.TheVariants.{Entry}

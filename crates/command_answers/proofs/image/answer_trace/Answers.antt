@@ -13,10 +13,10 @@ use Rattle.command_answers.proofs.image.answer_trace.Goals as goal
 
 pub returns-in-Ok : goal.returns-in-Ok
 returns-in-Ok c =
-    let is = c.into_shared-shared.ensures in
+    let is = c.shared.ensures in
     let has = c.in-Ok.ensures.replayed in
     IfOk-weaker c.answer_made-answer.result _ _
-    (λ a h. imaged c.args.settings c.args.read.now c.with_version-settings.result c.as_slice.result.now c.into_shared-shared.result a c.with_version-settings.ensures c.as_slice.ensures
+    (λ a h. imaged c.args.settings c.args.read.now c.with_version-settings.result c.as_slice.result.now c.shared.result.now a c.with_version-settings.ensures c.as_slice.ensures
     (ap (λ (w : World). w.program) is ∙ has.program) (ap (λ (w : World). w.settings) is ∙ has.settings) (ap (λ (w : World). w.journal.items) is ∙ has.journal) h) c.answer_made-answer.ensures
 
 pub returns-in-Err-RefusedAt : goal.returns-in-Err-RefusedAt

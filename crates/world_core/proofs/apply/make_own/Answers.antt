@@ -1,12 +1,15 @@
-use Rattle.std.proofs.Common.{subst, sym, ◌∙◌}
+use Rattle.std.proofs.Common.{false, ap, subst, sym, ◌∙◌}
 use Rattle.run_trace.specs.Entry.{Event}
+use Rattle.shared_value.specs.Causes.{first_cause}
+use Rattle.shared_value.specs.World.{World}
 use Rattle.world_core.specs.Applied.{AnswersAll}
 use Rattle.world_core.proofs.Applying.{made_all, stopped_before}
 use Rattle.world_core.proofs.apply.make_own.Goals as goal
 
 pub returns-in-Some-clause-made : goal.returns-in-Some-clause-made
 returns-in-Some-clause-made c =
-    stopped_before c.args.shared.now c.args.worker c.args.kind c.in-Some.cause c.args.hands.now c.stands.ensures c.requires.own (sym c.refused_first.ensures ∙ c.in-Some.is) c.requires.hold
+    stopped_before c.args.shared.now c.args.worker c.args.kind c.in-Some.cause c.args.hands.now c.stands.ensures c.requires.own
+    (ap (λ (z : World). first_cause z.end z.steps z.settings c.args.worker false) (sym c.shared.ensures) ∙ (sym c.refused_first.ensures ∙ c.in-Some.is)) c.requires.hold
 
 pub returns-clause-made : goal.returns-clause-made
 returns-clause-made c =

@@ -1,4 +1,4 @@
-use Rattle.std.proofs.Common.{◌≡◌, ◌+◌, Some, None, refl, sym, subst, option_map}
+use Rattle.std.proofs.Common.{◌≡◌, None, sym, subst}
 use Rattle.run_trace.specs.declared.entry.Kind.TheVariants.{Begin}
 use Rattle.shared_value.specs.World.{World, accounts}
 use Rattle.shared_value.specs.Entered.{refused, IsCaused}

@@ -1,4 +1,4 @@
-use Rattle.std.proofs.Common.{◌≡◌, ◌+◌, Some, None, refl, sym, subst, option_map}
+use Rattle.std.proofs.Common.{◌≡◌, None, sym, subst}
 use Rattle.run_trace.specs.declared.entry.Kind.TheVariants.{Mark}
 use Rattle.shared_value.specs.World.{World}
 use Rattle.shared_value.specs.Entered.{refused, IsCaused}

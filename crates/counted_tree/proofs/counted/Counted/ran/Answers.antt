@@ -1,11 +1,10 @@
-use Rattle.std.proofs.Common.{◌≡◌, ◌+◌, Some, None, refl, sym, subst, option_map}
+use Rattle.std.proofs.Common.{◌≡◌, None, sym, subst}
 use Rattle.shared_value.specs.World.{World}
 use Rattle.shared_value.specs.Entered.{refused, IsCaused}
 use Rattle.shared_value.specs.Fits.{AllFit, Fits}
 use Rattle.own_steps.specs.Alone.{alone_event, IsShared}
 use Rattle.child_tasks.specs.Joins.{IsUnchanged}
 use Rattle.shared_tree.specs.Ran.{RanTo}
-use Rattle.counted_tree.specs.Counts.{KeepsCounts}
 use Rattle.counted_tree.proofs.EntryCounted.{is_made, ran_enters, unchanged_kept}
 use Rattle.counted_tree.proofs.counted.Counted.ran.Goals as goal
 

@@ -1,4 +1,4 @@
-use Rattle.std.proofs.Common.{◌≡◌, ◌+◌, Some, None, refl, sym, subst, option_map}
+use Rattle.std.proofs.Common.{◌≡◌, Some, None, sym, subst, option_map}
 use Rattle.std.specs.Prelude.{option_map}
 use Rattle.run_trace.specs.declared.entry.Kind.TheVariants.{Ran}
 use Rattle.run_ledger.specs.declared.data.Refused.{Refused}

@@ -1,10 +1,9 @@
-use Rattle.std.proofs.Common.{◌≡◌, List, ap, sym, ◌∙◌, length}
-use Rattle.run_trace.specs.Entry.{Event}
+use Rattle.std.proofs.Common.{◌≡◌, ap, ◌∙◌, length}
 use Rattle.run_ledger.specs.declared.data.Report.{Report}
-use Rattle.run_ledger.specs.Heaps.{in_use, words_sum}
-use Rattle.run_ledger.specs.Report.{kept, report_of}
+use Rattle.run_ledger.specs.Heaps.{in_use}
+use Rattle.run_ledger.specs.Report.{report_of}
 use Rattle.run_report.specs.declared.totals.Totals.{Totals}
-use Rattle.shared_value.specs.World.{World, accounts}
+use Rattle.shared_value.specs.World.{World}
 use Rattle.counted_tree.proofs.counted.Counted.report.Goals as goal
 
 -- the same numbers

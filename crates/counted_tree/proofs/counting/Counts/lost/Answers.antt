@@ -1,4 +1,4 @@
-use Rattle.std.proofs.Common.{◌≡◌, ℕ, Some, slice_get, ap, sym, ◌∙◌}
+use Rattle.std.proofs.Common.{◌≡◌, Some, slice_get, ap, sym, ◌∙◌}
 use Rattle.counted_tree.proofs.EntryCounted.{end_lost, sweep_lost}
 use Rattle.counted_tree.proofs.counting.Counts.lost.Goals as goal
 

@@ -5,6 +5,7 @@ use Rattle.paced_tree.proofs.paced.Paced.owed.Goals as goal
 
 pub returns : goal.returns
 returns c =
-    let w : World = c.get.result.now in
-    let on : (accounts w).end ≡ None = subst (λ (z : World). (accounts z).end ≡ None) (sym (c.get.ensures ∙ c.self.view_is)) c.requires.goes in
-    c.owed.ensures (noted_of w c.args.worker) ((subst (λ (z : World). KeepsPaces z c.self.inside.paces) (sym c.get.ensures) c.self.invariant).keeps on c.args.worker c.at.result.now c.at.ensures) ∙ ap (λ (z : World). owed_by z c.args.worker) (c.get.ensures ∙ c.self.view_is)
+    let w : World = c.shared.result.now in
+    let on : (accounts w).end ≡ None = subst (λ (z : World). (accounts z).end ≡ None) (sym c.shared.ensures) c.requires.goes in
+    let K : KeepsPaces w c.self.inside.paces = subst (λ (z : World). KeepsPaces z c.self.inside.paces) (c.self.view_is ∙ sym c.shared.ensures) c.self.invariant in
+    c.owed.ensures (noted_of w c.args.worker) (K.keeps on c.args.worker c.at.result.now c.at.ensures) ∙ ap (λ (z : World). owed_by z c.args.worker) c.shared.ensures

@@ -1,14 +1,16 @@
 use Rattle.std.proofs.Common.{◌≡◌, ◌+◌, None, sym, subst, inr, ◌∙◌}
 use Rattle.run_trace.specs.Entry.{Event}
-use Rattle.shared_value.specs.World.{World}
+use Rattle.run_trace.specs.declared.entry.Kind.TheVariants.{Ran}
+use Rattle.shared_value.specs.World.{World, accounts}
 use Rattle.shared_value.specs.Entered.{refused, IsCaused}
 use Rattle.shared_value.specs.Fits.{AllFit, Fits}
 use Rattle.own_steps.specs.Alone.{alone_event, IsShared}
 use Rattle.child_tasks.specs.Joins.{IsUnchanged}
 use Rattle.shared_tree.specs.Ran.{RanTo}
-use Rattle.paced_tree.specs.Owed.{KeepsPaces, Pays}
+use Rattle.counted_tree.proofs.EntryCounted.{ran_enters}
+use Rattle.paced_tree.specs.Owed.{KeepsNoted, KeepsPaces, NotesAt, Pays}
 use Rattle.paced_tree.proofs.Idle.{unchanged_kept}
-use Rattle.paced_tree.proofs.Noted.{paced_then, ran_enters}
+use Rattle.paced_tree.proofs.Noted.{paced_then}
 use Rattle.paced_tree.proofs.paced.Paced.ran.Goals as goal
 
 pub ran-requires-clause-fits : goal.ran-requires-clause-fits
@@ -21,7 +23,8 @@ pub invariant_of-self : goal.invariant_of-self
 invariant_of-self c =
     let e : Event = alone_event c.args.worker c.args.part in
     paced_then c.get_mut-shared.result.now c.ran.new.self e c.self.inside.paces c.note_ran.new.paces c.stands.ensures (subst (λ (z : World). KeepsPaces z c.self.inside.paces) (sym c.get_mut-shared.ensures.value) c.self.invariant) (ran_enters c.get_mut-shared.result.now c.ran.new.self c.args.worker c.args.part c.in-Ok.ran c.in-Ok.ensures.answered) c.in-Ok.ensures.refused
-    (inr (subst (λ (z : World). Pays z e) (sym (c.get_mut-shared.ensures.value ∙ c.self.view_is)) c.requires.pays)) c.note_ran.ensures.many (λ on. c.note_ran.ensures.noted on (c.args.part.fresh + 1))
+    (inr (subst (λ (z : World). Pays z e) (sym (c.get_mut-shared.ensures.value ∙ c.self.view_is)) c.requires.pays)) c.note_ran.ensures.many
+    (subst (λ (z : World). (accounts z).end ≡ None → NotesAt c.self.inside.paces c.note_ran.new.paces c.args.worker (KeepsNoted (accounts z) (Ran c.args.part.task (c.args.part.fresh + 1)))) c.shared.ensures (λ on. c.note_ran.ensures.noted on (c.args.part.fresh + 1)))
 
 pub returns-in-Ok-clause-refused : goal.returns-in-Ok-clause-refused
 returns-in-Ok-clause-refused c = subst (λ (z : World). refused z (alone_event c.args.worker c.args.part) ≡ None) (c.get_mut-shared.ensures.value ∙ c.self.view_is) c.in-Ok.ensures.refused

@@ -3,11 +3,11 @@ use Rattle.std.specs.Prelude.{option_map}
 use Rattle.run_trace.specs.Entry.{Event}
 use Rattle.run_trace.specs.declared.entry.Kind.TheVariants.{Ran}
 use Rattle.run_ledger.specs.declared.data.Refused.{Refused}
-use Rattle.shared_value.specs.World.{World}
+use Rattle.shared_value.specs.World.{World, accounts}
 use Rattle.shared_value.specs.declared.answer.NotEntered.TheVariants.{Refuses}
 use Rattle.shared_value.specs.Entered.{refused}
 use Rattle.shared_value.specs.Fits.{Fits, OthersFit}
-use Rattle.paced_tree.specs.Owed.{KeepsPaces, Pays}
+use Rattle.paced_tree.specs.Owed.{KeepsNoted, KeepsPaces, NotesAt, Pays}
 use Rattle.paced_tree.proofs.Noted.{paced_then}
 use Rattle.paced_tree.proofs.paced.Paced.ran_private.Goals as goal
 
@@ -18,7 +18,8 @@ pub invariant_of-self : goal.invariant_of-self
 invariant_of-self c =
     let e : Event = record { worker = c.args.worker; kind = Ran c.args.part.task c.args.part.fresh } in
     paced_then c.get_mut-shared.result.now c.ran_private.new.self e c.self.inside.paces c.note_ran.new.paces c.stands.ensures (subst (λ (z : World). KeepsPaces z c.self.inside.paces) (sym c.get_mut-shared.ensures.value) c.self.invariant) c.in-Ok.ensures.enters c.in-Ok.ensures.refused
-    (inr (subst (λ (z : World). Pays z e) (sym (c.get_mut-shared.ensures.value ∙ c.self.view_is)) c.requires.pays)) c.note_ran.ensures.many (λ on. c.note_ran.ensures.noted on c.args.part.fresh)
+    (inr (subst (λ (z : World). Pays z e) (sym (c.get_mut-shared.ensures.value ∙ c.self.view_is)) c.requires.pays)) c.note_ran.ensures.many
+    (subst (λ (z : World). (accounts z).end ≡ None → NotesAt c.self.inside.paces c.note_ran.new.paces c.args.worker (KeepsNoted (accounts z) (Ran c.args.part.task c.args.part.fresh))) c.shared.ensures (λ on. c.note_ran.ensures.noted on c.args.part.fresh))
 
 pub returns-in-Ok-clause-refused : goal.returns-in-Ok-clause-refused
 returns-in-Ok-clause-refused c = subst (λ (z : World). refused z (record { worker = c.args.worker; kind = Ran c.args.part.task c.args.part.fresh }) ≡ None) (c.get_mut-shared.ensures.value ∙ c.self.view_is) c.in-Ok.ensures.refused

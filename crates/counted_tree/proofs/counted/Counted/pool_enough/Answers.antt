@@ -1,7 +1,0 @@
-use Rattle.std.proofs.Common.{sym, subst}
-use Rattle.shared_value.specs.Due.{IsHeld}
-use Rattle.shared_value.specs.World.{World}
-use Rattle.counted_tree.proofs.counted.Counted.pool_enough.Goals as goal
-
-pub pool_enough-requires-clause-held : goal.pool_enough-requires-clause-held
-pool_enough-requires-clause-held c = subst (λ (z : World). IsHeld z c.args.part.now) (sym c.self.view_is) c.requires.held
