@@ -210,7 +210,7 @@ pub fn run_on_workers<R: Threads + Wait + Sync, G: Gate>(
             shared: None,
         };
     };
-    let finish = match shared.ended() {
+    let finish = match shared.shared().ended() {
         Some(end) => Finish::Ended(end),
         None => Finish::NoMemory,
     };
