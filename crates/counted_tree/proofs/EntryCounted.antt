@@ -1,8 +1,8 @@
 -- What is kept of the entries of a journal, over one entry more.
-use Rattle.std.proofs.Common.{◌≡◌, ℕ, zero, suc, ◌+◌, ◌-◌, ◌<◌, ◌==◌, ◌^◌, Bool, true, false, cond, Some, None, List, [], ◌∷◌, ◌++◌, length, length-set, slice_get, slice_set, inl, inr, refl, ap, ap₂, sym, subst, ◌∙◌, is_some, arith, length-append}
+use Rattle.std.proofs.Common.{◌≡◌, ℕ, zero, suc, ◌+◌, ◌-◌, ◌<◌, ◌==◌, ◌^◌, Bool, true, false, cond, Some, None, List, [], ◌∷◌, ◌++◌, length, length-set, get_or, slice_get, slice_set, inl, inr, refl, ap, ap₂, sym, subst, ◌∙◌, is_some, arith, length-append}
 use Rattle.std.proofs.lemmas.Bool.{cases_eq, eqb-true, ltb-true}
-use Rattle.std.proofs.lemmas.Option.{same_Some}
-use Rattle.listed.proofs.Members.{got_back, got_other}
+use Rattle.std.proofs.lemmas.Option.{same_Some, slice_get-get_or}
+use Rattle.listed.proofs.Members.{got_back, got_other, got_same}
 use Rattle.hh_lang.specs.Form.{ProgramText}
 use Rattle.run_trace.specs.declared.entry.Kind.{Kind}
 use Rattle.run_trace.specs.declared.entry.Kind.TheVariants.{Took, Ran, Chunk, Begin, End as EndOf, PutOff, Mark, More, Sweep, Fuel}
@@ -45,9 +45,7 @@ use Rattle.counted_tree.proofs.PartWords.{counted_small, part_words, words_small
 -- LISTS
 
 set_here : {A : Type 0} (xs : List A) (k : ℕ) (y : A) → k < length xs → slice_get (slice_set xs k y) k ≡ Some y
-set_here [] k y lt = absurd (omega arith)
-set_here (x ∷ xs) zero y lt = refl
-set_here (x ∷ xs) (suc k) y lt = set_here xs k y (omega (arith, lt))
+set_here xs k y lt = got_same xs k (get_or xs k y) y (slice_get-get_or xs k y lt)
 
 pub last_of : {A : Type 0} (xs : List A) (e x : A) → slice_get (xs ++ e ∷ []) (length (xs ++ e ∷ []) - 1) ≡ Some x → x ≡ e
 last_of xs e x h =
