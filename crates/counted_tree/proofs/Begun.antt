@@ -32,6 +32,7 @@ use Rattle.run_ledger.proofs.Steps.{step_leaves, task_step_sound, task_steps_sou
 use Rattle.run_ledger.proofs.Stocks.{names_are_held_once}
 use Rattle.run_ledger.proofs.Waiters.{waiters_are_free}
 use Rattle.ledger_steps.proofs.Ahead.{heap_then, with_at, with_machine, with_off}
+use Rattle.shared_value.proofs.StepsEntered.{collecting_of}
 
 -- ONE HEAP OF A LEDGER
 
@@ -45,10 +46,6 @@ heap_view view l t f same = ap (λ o. view (or_fresh o)) (with_at l t f) ∙ by 
     by : (o : Option Heap) → view (or_fresh (heap_then f o)) ≡ view (or_fresh o)
     by None = refl
     by (Some h) = same h
-
-collecting_is : (o : Option Heap) → is_some (or_fresh o).begun ≡ collecting o
-collecting_is None = refl
-collecting_is (Some h) = refl
 
 -- STEPS of a task begin no leaf collection of another one
 module _ (p : ProgramText) (t u : ℕ) (ne : t ≡ u → ⊥) where
@@ -157,7 +154,7 @@ module _ (p : ProgramText) (s : Limits) (journal : List Event) (e : Event) (lega
 
     went_idle : (u : ℕ) (f : Heap → Heap) → ((h : Heap) → (f h).begun ≡ h.begun) → collecting (slice_get l.heaps u) ≡ false → Went (with_heap l u f)
     went_idle u f same idle = went_by u f (λ q c w.
-        both_ways (collecting (slice_get l.heaps u)) idle (sym (collecting_is (slice_get l.heaps u)) ∙ (ap is_some (sym (heap_view (λ (h : Heap). h.begun) l u f same)) ∙ c)))
+        both_ways (collecting (slice_get l.heaps u)) idle (sym (collecting_of (slice_get l.heaps u)) ∙ (ap is_some (sym (heap_view (λ (h : Heap). h.begun) l u f same)) ∙ c)))
 
     went_waiting : (u : ℕ) (f : Heap → Heap) → ((h : Heap) → (f h).worker ≡ h.worker) → (heap_of l u).worker ≡ None → Went (with_heap l u f)
     went_waiting u f same rests = went_by u f (λ q c w. none_some (sym rests ∙ (sym (heap_view (λ (h : Heap). h.worker) l u f same) ∙ w)))
@@ -170,10 +167,10 @@ module _ (p : ProgramText) (s : Limits) (journal : List Event) (e : Event) (lega
     went_steps u n out idle is w c = elim (cases_eq t u) [
       | inl q ↦
           absurd (both_ways (collecting (slice_get (task_steps p l u n).heaps u)) (task_steps_sound p n l u (S, idle)).1
-          (sym (collecting_is (slice_get (task_steps p l u n).heaps u)) ∙ (ap (λ v. is_some (heap_of (task_steps p l u n) v).begun) (sym q) ∙ c)))
+          (sym (collecting_of (slice_get (task_steps p l u n).heaps u)) ∙ (ap (λ v. is_some (heap_of (task_steps p l u n) v).begun) (sym q) ∙ c)))
       | inr ne ↦
-          let before : collecting (slice_get l.heaps t) ≡ true = on_steps p t u ne n l (S, idle) (sym (collecting_is (slice_get (task_steps p l u n).heaps t)) ∙ c) in
-          let begun : is_some (heap_of l t).begun ≡ true = collecting_is (slice_get l.heaps t) ∙ before in
+          let before : collecting (slice_get l.heaps t) ≡ true = on_steps p t u ne n l (S, idle) (sym (collecting_of (slice_get (task_steps p l u n).heaps t)) ∙ c) in
+          let begun : is_some (heap_of l t).begun ≡ true = collecting_of (slice_get l.heaps t) ∙ before in
           by ne begun (heap_of l t).worker refl (H.collecting t begun)
     ]
       where

@@ -37,10 +37,11 @@ use Rattle.shared_tree.specs.declared.ran.Ran.TheVariants.{Goes as GoesOn, Forke
 use Rattle.shared_tree.specs.Ran.{RanTo}
 use Rattle.heap_marking.proofs.ForksTold.{entered_accounts}
 use Rattle.heap_reading.specs.HeldNames.{kept_of}
+use Rattle.heap_reading.proofs.KeptNames.{counted_few}
 use Rattle.counted_tree.specs.declared.counting.Counts.{Counts}
 use Rattle.counted_tree.specs.Counts.{HasWords, IsMade, KeepsCounts, begun_with, totals_of}
 use Rattle.counted_tree.proofs.Begun.{WentOn, begin_apart, begin_words, begin_worker, end_begun, end_left, end_worker, entry_worker, sweep_waits, went_on}
-use Rattle.counted_tree.proofs.PartWords.{counted_small, part_words, words_small}
+use Rattle.counted_tree.proofs.PartWords.{part_words, words_small}
 
 -- LISTS
 
@@ -225,7 +226,7 @@ module _ (w v : World) (c : Counts) (e : Event) (words : ℕ) (M : IsMade w v c 
       let same : (accounts v).machine ≡ l.machine = ap (λ (z : Ledger). z.machine) then_is ∙ with_machine l t swept_heap in
       let idle : is_running (slice_get (accounts v).machine.tasks t) ≡ false = ap (λ (m : State). is_running (slice_get m.tasks t)) same ∙ waiting_stops (slice_get l.machine.tasks t) waits in
       let kept : kept_of (accounts v) t ≡ held_in (heap_of (accounts v) t) = ap (λ b. cond b [] (held_in (heap_of (accounts v) t))) idle in
-      let rest_is : rest ≡ words_in (accounts v).machine (heap_of (accounts v) t) = r ∙ (ap (λ ns. counted64 (words_sum (accounts v).machine ns)) kept ∙ counted_small _ (words_small v I t)) in
+      let rest_is : rest ≡ words_in (accounts v).machine (heap_of (accounts v) t) = r ∙ (ap (λ ns. counted64 (words_sum (accounts v).machine ns)) kept ∙ counted_few _ (words_small v I t)) in
       ap₂ (λ a b. a - b) has rest_is ∙ ap (λ k. cleared_words l k - cleared_words (accounts v) k) (sym is)
 
 -- WHAT A HEAP HAS BEFORE AN ENTRY
@@ -233,7 +234,7 @@ module _ (w v : World) (c : Counts) (e : Event) (words : ℕ) (M : IsMade w v c 
 -- that of a part whose leaf collection begins
 pub begin_had : (w : World) → IsWorld w → (k : ℕ) (q : Private) → Fits w k (record q { fresh = 0 }) → (words : ℕ) → words ≡ counted64 (held_words q.heap.chunks) → words ≡ words_in (accounts w).machine (heap_of (accounts w) q.task)
 begin_had w I k q F words is =
-    is ∙ (ap counted64 (sym (part_words w k q F)) ∙ counted_small (words_in (accounts w).machine (heap_of (accounts w) q.task)) (words_small w I q.task))
+    is ∙ (ap counted64 (sym (part_words w k q F)) ∙ counted_few (words_in (accounts w).machine (heap_of (accounts w) q.task)) (words_small w I q.task))
 
 -- and one that is swept
 pub sweep_had : (w : World) → IsWorld w → (e : Event) (t given : ℕ) → e.kind ≡ Sweep t given → refused w e ≡ None → (words : ℕ) → words ≡ counted64 (words_sum (accounts w).machine (kept_of (accounts w) t))
@@ -242,4 +243,4 @@ sweep_had w I e t given is free words r =
     let l : Ledger = accounts w in
     let waits : is_waiting (slice_get l.machine.tasks t) ≡ true = sweep_waits w.program w.settings w.journal.items e I.legal free t given is in
     let kept : kept_of l t ≡ held_in (heap_of l t) = ap (λ b. cond b [] (held_in (heap_of l t))) (waiting_stops (slice_get l.machine.tasks t) waits) in
-    r ∙ (ap (λ ns. counted64 (words_sum l.machine ns)) kept ∙ counted_small (words_in l.machine (heap_of l t)) (words_small w I t))
+    r ∙ (ap (λ ns. counted64 (words_sum l.machine ns)) kept ∙ counted_few (words_in l.machine (heap_of l t)) (words_small w I t))

@@ -10,7 +10,6 @@ use Rattle.run_ledger.specs.declared.data.Ledger.{Ledger}
 use Rattle.run_ledger.specs.Heaps.{heap_of, held, held_in, in_use, let_go, or_fresh, words_at, words_in, words_of, words_sum}
 use Rattle.run_ledger.proofs.Space.{heaps_fit, use_is_bounded}
 use Rattle.object_layout.specs.Chunks.{held_words}
-use Rattle.alloc_path.specs.Heap.{counted}
 use Rattle.ledger_steps.specs.Accounts.{aside, rested}
 use Rattle.ledger_steps.proofs.Ahead.{with_machine}
 use Rattle.ledger_steps.proofs.Rested.{rested_view, rested_worker}
@@ -43,9 +42,6 @@ words_small w I t =
     let a : words_in k.machine (heap_of k t) ≤ words_sum k.machine (held k) + words_sum k.machine [] = heap_least (words_sum k.machine) (sum_by-append (words_at k.machine)) k.heaps t in
     let z : words_sum k.machine [] ≡ 0 = refl in
     omega (arith, u, c, f, a, z)
-
-pub counted_small : (n : ℕ) → n ≤ 2 ^ 26 → counted n ≡ n
-counted_small n few = omega (arith, few)
 
 -- a part without fresh steps
 module _ (w : World) (k : ℕ) (p : Private) (F : Fits w k (record p { fresh = 0 })) where
