@@ -29,12 +29,14 @@ pub fn made_are_accepted()
     ensures { MadeAreAccepted }
 {}
 
-/// `replay` and `model` with a program and its trace, and no fault that rose: an end of the run or a refused trace, or want of memory.
+/// `replay` and `model` with a program and its trace, and no fault that rose: an end of the run or a refused trace, or
+/// want of memory.
 pub fn traces_are_replayed()
     ensures { TracesAreReplayed }
 {}
 
-/// `image` with a program and its trace, and no fault that rose: the heaps that it leaves or a refused trace, or want of memory.
+/// `image` with a program and its trace, and no fault that rose: the heaps that it leaves or a refused trace, or want
+/// of memory.
 pub fn traces_are_drawn()
     ensures { TracesAreDrawn }
 {}
@@ -59,8 +61,8 @@ pub fn statuses_of_ends()
     ensures { StatusesOfEnds }
 {}
 
-/// The headline, of every whole run's answer: nothing reachable is freed, each read is stopped exactly where what it reads doesn't
-/// precede the reader, and the heaps handed back hold just the objects that are held.
+/// The headline, of every whole run's answer: nothing reachable is freed, each read is stopped exactly where what it
+/// reads doesn't precede the reader, and the heaps handed back hold just the objects that are held.
 pub fn runs_hold_the_headline()
     ensures { RunsHoldTheHeadline }
 {}

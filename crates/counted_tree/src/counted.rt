@@ -58,7 +58,8 @@ impl Counted {
         self.shared.reserve()
     }
 
-    /// No more entries are to be made, since some worker has met want of memory. No other call depends on it, and none changes it.
+    /// No more entries are to be made, since some worker has met want of memory. No other call depends on it, and none
+    /// changes it.
     pub fn halt(&mut self)
         ensures same { self.new ≡ record self.old { halted = true } }
         ensures fits { AllFit self.old self.new }

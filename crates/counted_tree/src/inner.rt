@@ -12,8 +12,8 @@ use run_trace::Kind;
 use shared_tree::NotEntered;
 
 impl Counted {
-    /// The marking of the heap of a waiting task begins: from what the task's registers hold, and from the fields of heaps
-    /// above that point down into it.
+    /// The marking of the heap of a waiting task begins: from what the task's registers hold, and from the fields of
+    /// heaps above that point down into it.
     pub fn mark(&mut self, worker: u32, t: u32) -> Result<(), NotEntered>
         requires room { 0 < self.old.journal.room }
         ensures refused { Answers result (refused self.old (record { worker = worker; kind = Kind.Mark t })) }
@@ -52,9 +52,9 @@ impl Counted {
         }
     }
 
-    /// The heap of a waiting task is swept: of its objects just those that were reached at the task's fork stay, each where
-    /// it lies, and chunks without an object are given back. From then on its overwritten references aren't kept. It takes no
-    /// memory.
+    /// The heap of a waiting task is swept: of its objects just those that were reached at the task's fork stay, each
+    /// where it lies, and chunks without an object are given back. From then on its overwritten references aren't kept.
+    /// It takes no memory.
     pub fn sweep(&mut self, worker: u32, t: u32, given: u32) -> Result<(), Refused>
         requires room { 0 < self.old.journal.room }
         ensures refused { cause_of result ≡ refused self.old (record { worker = worker; kind = Kind.Sweep t given }) }

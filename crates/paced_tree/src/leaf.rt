@@ -72,8 +72,8 @@ impl Paced {
         }
     }
 
-    /// The leaf collection of a part ends, once its heap was copied: fields that still hold old addresses are led to the new
-    /// ones, and the chunks that nothing needs are given back. It takes no memory.
+    /// The leaf collection of a part ends, once its heap was copied: fields that still hold old addresses are led to
+    /// the new ones, and the chunks that nothing needs are given back. It takes no memory.
     pub fn leaf_end(
         &mut self,
         worker: u32,
@@ -103,7 +103,8 @@ impl Paced {
         }
     }
 
-    /// A due leaf collection of a part is put off, since too few chunks are free for it: its words are counted from 0 on.
+    /// A due leaf collection of a part is put off, since too few chunks are free for it: its words are counted from 0
+    /// on.
     pub fn put_off(&mut self, worker: u32, part: &mut Private) -> Result<(), Refused>
         requires room { 0 < self.old.journal.room }
         requires fits { Fits self.old worker part.old }

@@ -26,8 +26,8 @@ use std::alloc::{AllocError, Global};
 use std::marker::Model;
 use task_machine::Private;
 
-/// The shared value whose journal is paced: each entry gives what its worker owes to the collections of the heaps of waiting
-/// tasks, or ends the run for spent fuel.
+/// The shared value whose journal is paced: each entry gives what its worker owes to the collections of the heaps of
+/// waiting tasks, or ends the run for spent fuel.
 #[derive(Drop)]
 pub struct Paced {
     /// Behind a pointer, since it goes out of the turn and back at each entry.
@@ -100,7 +100,8 @@ impl Paced {
         self.shared.get_mut().reserve()
     }
 
-    /// No more entries are to be made, since some worker has met want of memory. No other call depends on it, and none changes it.
+    /// No more entries are to be made, since some worker has met want of memory. No other call depends on it, and none
+    /// changes it.
     pub fn halt(&mut self)
         ensures same { self.new ≡ record self.old { halted = true } }
         ensures fits { AllFit self.old self.new }

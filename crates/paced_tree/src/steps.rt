@@ -78,8 +78,8 @@ impl Paced {
         }
     }
 
-    /// The fresh steps of a part, and its next one, which isn't private, are entered. Where memory is wanting nothing is, though
-    /// heaps and sets may have places for more.
+    /// The fresh steps of a part, and its next one, which isn't private, are entered. Where memory is wanting nothing
+    /// is, though heaps and sets may have places for more.
     pub fn ran(&mut self, worker: u32, part: Private) -> Result<Ran, NotRan>
         requires room { 0 < self.old.journal.room }
         requires fits { Fits self.old worker part }

@@ -147,8 +147,8 @@ fn whole_of(
     }
 }
 
-/// How the run of a journal ended, and all that is written of it, where the journal is legal and has an end: with the report
-/// and with the trace where they are asked for.
+/// How the run of a journal ended, and all that is written of it, where the journal is legal and has an end: with the
+/// report and with the trace where they are asked for.
 pub fn whole_run(
     alloc: Global,
     program: &Program,

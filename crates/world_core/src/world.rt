@@ -96,8 +96,8 @@ impl World {
         }
     }
 
-    /// What every world keeps: the shared value stands for its journal, which is legal, and what each worker holds fits it;
-    /// with the homes of all parts put in it stands for its accounts.
+    /// What every world keeps: the shared value stands for its journal, which is legal, and what each worker holds fits
+    /// it; with the homes of all parts put in it stands for its accounts.
     pub fn stands(&self)
         ensures shared { IsWorld self.now.shared }
         ensures whole { IsWhole self.now }
