@@ -13,3 +13,6 @@ pub returns-in-Some-clause-answer : goal.returns-in-Some-clause-answer
 returns-in-Some-clause-answer c =
     let ended = ap (λ (w : World). (accounts w).end) (sym c.shared.ensures) ∙ sym c.in-Some.ensures in
     IfOk-weaker c.answer_ended.result _ _ (λ a h. made_ended c.args.shared c.in-Some.end c.args.extras a c.stands.ensures ended h) c.answer_ended.ensures.answer
+
+pub answer_ended-requires : goal.answer_ended-requires
+answer_ended-requires c = ap (λ (w : World). (accounts w).end) (sym c.shared.ensures) ∙ sym c.in-Some.ensures
