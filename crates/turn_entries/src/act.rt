@@ -105,8 +105,9 @@ impl Run {
         }
     }
 
-    /// What the worker does in its turn: where the run isn't over it ends it for spent fuel, or makes the entry that it owes, or
-    /// else the one that it comes with. For a task that it takes it makes a block.
+    /// What the worker does in its turn: where the run isn't over it ends it for spent fuel, or makes the entry that it
+    /// owes, or else the one that it comes with. It makes a block for the part of a task that it takes, and for the new
+    /// chunks of a collection that begins.
     pub fn act(self, alloc: Global, worker: u32, ready: Ready) -> Acted
         requires worker { worker < self.paced.settings.workers }
         requires brings { BringsTo self.paced worker ready }

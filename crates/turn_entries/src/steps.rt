@@ -76,7 +76,8 @@ impl Run {
         }
     }
 
-    // The fresh steps of the part are entered with its next one, which isn't private. There is a block for the part after them.
+    // The fresh steps of the part are entered with its next one, which isn't private. There is a block for the part
+    // after them.
     fn ran_in(self, worker: u32, part: Private, block: PartBlock) -> Acted
         requires enter { MayEnter self.paced worker OwedOf.Nothing }
         requires paused { IsPaused self.paced worker part Paused.Shared }

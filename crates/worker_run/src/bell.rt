@@ -2,8 +2,8 @@
 
 use std::sync::{Condvar, Mutex, Wait};
 
-/// A bell that is rung where there may be a task to find, and where the run is over. Who has found nothing sleeps until it
-/// rings.
+/// A bell that is rung where there may be a task to find, and where the run is over. Who has found nothing sleeps until
+/// it rings.
 #[derive(Drop)]
 pub struct Bell {
     rings: Mutex<u64>,

@@ -12,7 +12,7 @@ pub struct Desk {
     pub seat: Seat<Run>,
     pub hand: Hand,
     pub worker: u32,
-    /// For the blocks of its parts.
+    /// For the blocks of its parts, and of the new chunks of their collections.
     pub alloc: Global,
     pub settings: Settings,
     /// How many entries it gave back.

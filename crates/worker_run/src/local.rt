@@ -14,7 +14,8 @@ use turn_entries::{Collecting, Copied, HeldPart, Ready};
 // The most private steps of one entry.
 const MOST_STEPS: u32 = 256;
 
-// Takes steps of a part until they pause, at most as many as one entry holds, and settles its heap where a fork comes next.
+// Takes steps of a part until they pause, at most as many as one entry holds, and settles its heap where a fork comes
+// next.
 fn take_steps<G: Gate>(
     part: &mut Private,
     program: &Program,

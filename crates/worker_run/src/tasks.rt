@@ -36,8 +36,8 @@ pub(crate) fn put(hand: &mut Hand, task: u32) -> Result<(), AllocError>
     }
 }
 
-/// Puts both children of a fork on the own deque, the left one on top. Where memory is wanting the right one may have been
-/// put.
+/// Puts both children of a fork on the own deque, the left one on top. Where memory is wanting the right one may have
+/// been put.
 pub(crate) fn put_both(hand: &mut Hand, left: u32, right: u32) -> Result<(), AllocError>
     ensures ok { OnOk result (PutsBoth hand.old hand.new left right) }
     ensures err { IfErr result (λ _. PutsFewer hand.old hand.new right) }

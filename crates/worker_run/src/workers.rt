@@ -51,16 +51,13 @@ pub fn all_work<R: Threads + Wait + Sync, G: Gate>(
             requires { IsDesk (identity turn.now) program.now desk.now }
             ensures { IsDesk (identity turn.entry.now) program.entry.now desk.exit.now × SameDesk desk.entry.now desk.exit.now × GoesRound program.entry.now desk.entry.now Next.Idle desk.exit.now Next.Stop × HasStopped desk.exit.now }
         {
-            work(
-                rt,
-                &Workshop {
-                    turn,
-                    bell,
-                    gate,
-                    program,
-                },
-                desk,
-            )
+            let shop = Workshop {
+                turn,
+                bell,
+                gate,
+                program,
+            };
+            work(rt, &shop, desk)
         },
     );
 }
@@ -190,8 +187,8 @@ fn run_all<R: Threads + Wait + Sync, G: Gate>(
     Ok(shared)
 }
 
-/// Runs a program with workers in threads: its journal is legal and paced, its order is that of the turns, and of each worker
-/// it has just the entries that this one gave back.
+/// Runs a program with workers in threads: its journal is legal and paced, its order is that of the turns, and of each
+/// worker it has just the entries that this one gave back.
 pub fn run_on_workers<R: Threads + Wait + Sync, G: Gate>(
     rt: &R,
     alloc: Global,

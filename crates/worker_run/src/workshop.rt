@@ -5,7 +5,8 @@ use hh_lang::Program;
 use turn_entries::Run;
 use turn_lock::Turn;
 
-/// What the workers of a run use together: the turn of its shared value, the bell, the gate that they pass, and the program.
+/// What each worker of a run works with: the turn of the shared value, the bell, the gate that it passes, and the
+/// program.
 #[derive(Drop)]
 pub struct Workshop<'a, G> {
     pub turn: &'a Turn<Run>,

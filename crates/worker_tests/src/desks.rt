@@ -45,61 +45,43 @@ fn two_desks(
 // The worker takes its steps, or copies, while the other one has the turn.
 fn makes_ready<R: Wait>(
     rt: &R,
-    turn: &Turn<Run>,
-    bell: &Bell,
-    program: &Program,
+    shop: &Workshop<EmptyGate>,
     other: &mut Desk,
     desk: &mut Desk,
     next: Next,
 ) -> Option<Ready>
-    requires other { IsDesk (identity turn.now) program.now other.old }
-    requires goes { GoesWith program.now desk.old.worker (view desk.old.seat) next }
+    requires other { IsDesk (identity shop.now.turn.now) shop.now.program.now other.old }
+    requires goes { GoesWith shop.now.program.now desk.old.worker (view desk.old.seat) next }
     requires few { FewThefts desk.old }
-    ensures other { IsDesk (identity turn.now) program.now other.new }
-    ensures still { (n : Next) → GoesWith program.now other.old.worker (view other.old.seat) n → GoesWith program.now other.new.worker (view other.new.seat) n }
+    ensures other { IsDesk (identity shop.now.turn.now) shop.now.program.now other.new }
+    ensures still { (n : Next) → GoesWith shop.now.program.now other.old.worker (view other.old.seat) n → GoesWith shop.now.program.now other.new.worker (view other.new.seat) n }
     ensures hand { ChangesHand desk.old desk.new }
-    ensures comes { IfSome result (ComesWith program.now desk.old.worker (view desk.old.seat)) }
+    ensures comes { IfSome result (ComesWith shop.now.program.now desk.old.worker (view desk.old.seat)) }
 {
-    let run = turn.take(rt, &mut other.seat);
-    let shop = Workshop {
-        turn,
-        bell,
-        gate: &EmptyGate,
-        program,
-    };
-    let ready = prepare(rt, &shop, desk, next);
-    turn.give_same(&mut other.seat, run);
+    let run = shop.turn.take(rt, &mut other.seat);
+    let ready = prepare(rt, shop, desk, next);
+    shop.turn.give_same(&mut other.seat, run);
     ready
 }
 
 // The worker comes for its turn, and has it; one that has stopped stays so.
 fn goes_on<R: Wait>(
     rt: &R,
-    turn: &Turn<Run>,
-    bell: &Bell,
-    program: &Program,
+    shop: &Workshop<EmptyGate>,
     other: &mut Desk,
     desk: &mut Desk,
     next: Next,
 ) -> Next
-    requires other { IsDesk (identity turn.now) program.now other.old }
-    requires desk { IsDesk (identity turn.now) program.now desk.old }
-    requires goes { GoesWith program.now desk.old.worker (view desk.old.seat) next }
-    ensures other { IsDesk (identity turn.now) program.now other.new }
-    ensures still { (n : Next) → GoesWith program.now other.old.worker (view other.old.seat) n → GoesWith program.now other.new.worker (view other.new.seat) n }
-    ensures desk { IsDesk (identity turn.now) program.now desk.new }
-    ensures goes { GoesWith program.now desk.new.worker (view desk.new.seat) result }
+    requires other { IsDesk (identity shop.now.turn.now) shop.now.program.now other.old }
+    requires desk { IsDesk (identity shop.now.turn.now) shop.now.program.now desk.old }
+    requires goes { GoesWith shop.now.program.now desk.old.worker (view desk.old.seat) next }
+    ensures other { IsDesk (identity shop.now.turn.now) shop.now.program.now other.new }
+    ensures still { (n : Next) → GoesWith shop.now.program.now other.old.worker (view other.old.seat) n → GoesWith shop.now.program.now other.new.worker (view other.new.seat) n }
+    ensures desk { IsDesk (identity shop.now.turn.now) shop.now.program.now desk.new }
+    ensures goes { GoesWith shop.now.program.now desk.new.worker (view desk.new.seat) result }
 {
-    match makes_ready(rt, turn, bell, program, other, desk, next) {
-        Some(ready) => {
-            let shop = Workshop {
-                turn,
-                bell,
-                gate: &EmptyGate,
-                program,
-            };
-            take_turn(rt, &shop, desk, ready)
-        }
+    match makes_ready(rt, shop, other, desk, next) {
+        Some(ready) => take_turn(rt, shop, desk, ready),
         None => Next::Stop,
     }
 }
@@ -107,30 +89,29 @@ fn goes_on<R: Wait>(
 // Each entry's worker takes a turn.
 fn drive<R: Wait>(
     rt: &R,
-    turn: &Turn<Run>,
-    program: &Program,
+    shop: &Workshop<EmptyGate>,
     first: &mut Desk,
     second: &mut Desk,
     entries: &[Entry],
 )
-    requires first { IsDesk (identity turn.now) program.now first.old }
-    requires second { IsDesk (identity turn.now) program.now second.old }
-    ensures first { IsDesk (identity turn.now) program.now first.new }
-    ensures second { IsDesk (identity turn.now) program.now second.new }
+    requires first { IsDesk (identity shop.now.turn.now) shop.now.program.now first.old }
+    requires second { IsDesk (identity shop.now.turn.now) shop.now.program.now second.old }
+    ensures first { IsDesk (identity shop.now.turn.now) shop.now.program.now first.new }
+    ensures second { IsDesk (identity shop.now.turn.now) shop.now.program.now second.new }
 {
-    let bell = Bell::new();
     let mut to_first = Next::Idle;
     let mut to_second = Next::Idle;
     for entry in entries {
         if entry.worker() == 0 {
-            to_first = goes_on(rt, turn, &bell, program, second, first, to_first);
+            to_first = goes_on(rt, shop, second, first, to_first);
         } else {
-            to_second = goes_on(rt, turn, &bell, program, first, second, to_second);
+            to_second = goes_on(rt, shop, first, second, to_second);
         }
     }
 }
 
-// Whether a shared value tells just these entries, and what they come to: what is written, the steps and the chunks in use.
+// Whether a shared value tells just these entries, and what they come to: what is written, the steps and the chunks in
+// use.
 fn is_told(shared: &Shared, entries: &[Entry]) -> bool {
     shared.journal() == entries
         && shared.outputs() == [1].as_slice()
@@ -198,8 +179,14 @@ fn looks<R: Wait>(
     ensures second { IsDesk (identity turn.now) program.now second.new }
 {
     let bell = Bell::new();
+    let shop = Workshop {
+        turn,
+        bell: &bell,
+        gate: &EmptyGate,
+        program,
+    };
     let before = (looked(turn, program, first), looked(turn, program, second));
-    let _ = goes_on(rt, turn, &bell, program, second, first, Next::Idle);
+    let _ = goes_on(rt, &shop, second, first, Next::Idle);
     let after = (looked(turn, program, first), looked(turn, program, second));
     (before.0, before.1, after.0, after.1)
 }
@@ -222,7 +209,8 @@ fn see_entries<R: Wait>(
     }
 }
 
-// The desks take the turns that the trace asks for, and leave the value as it should be; a look then gives the number of entries.
+// The desks take the turns that the trace asks for, and leave the value as it should be; a look then gives the number
+// of entries.
 fn leave_all<R: Wait>(
     rt: &R,
     alloc: Global,
@@ -236,7 +224,14 @@ fn leave_all<R: Wait>(
     requires first { IsDesk (identity turn.now) program.now first.old }
     requires second { IsDesk (identity turn.now) program.now second.old }
 {
-    drive(rt, turn, program, first, second, entries);
+    let bell = Bell::new();
+    let shop = Workshop {
+        turn,
+        bell: &bell,
+        gate: &EmptyGate,
+        program,
+    };
+    drive(rt, &shop, first, second, entries);
     let run = turn.take(rt, &mut first.seat);
     let looked = turn.look(&mut second.seat);
     let shared = run.paced.into_shared();
@@ -316,7 +311,8 @@ fn two_seats_look(rt: HostRuntime) {
     assert!(rt; seen);
 }
 
-// Whether a world has stopped at first, whether the end for spent fuel is refused there, and whether it has stopped then.
+// Whether a world has stopped at first, whether the end for spent fuel is refused there, and whether it has stopped
+// then.
 fn stops(mut world: World) -> (bool, bool, bool) {
     let before = world.has_stopped();
     let refused = world.apply(Entry::new(0, Kind::Fuel)).is_err();

@@ -6,4 +6,5 @@ use Rattle.worker_tests.proofs.desks.drive.Given as goal
 
 abbrev pub invariant-loop-entry : goal.invariant-loop-entry
 invariant-loop-entry g l =
-    IsDesk (identity l.turn) l.program l.first × IsDesk (identity l.turn) l.program l.second × GoesWith l.program l.first.worker (view l.first.seat) l.to_first × GoesWith l.program l.second.worker (view l.second.seat) l.to_second
+    IsDesk (identity l.shop.turn.now) l.shop.program.now l.first × IsDesk (identity l.shop.turn.now) l.shop.program.now l.second × GoesWith l.shop.program.now l.first.worker (view l.first.seat) l.to_first
+    × GoesWith l.shop.program.now l.second.worker (view l.second.seat) l.to_second

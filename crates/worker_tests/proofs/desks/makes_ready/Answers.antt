@@ -5,5 +5,5 @@ use Rattle.worker_tests.proofs.Beside.{goes_still}
 use Rattle.worker_tests.proofs.desks.makes_ready.Goals as goal
 
 pub returns-clause-still : goal.returns-clause-still
-returns-clause-still g c = λ n goes. goes_still c.args.program.now c.args.other.now.worker (view c.args.other.now.seat) (view c.give_same.new.seat) n
+returns-clause-still g c = λ n goes. goes_still c.args.shop.now.program.now c.args.other.now.worker (view c.args.other.now.seat) (view c.give_same.new.seat) n
     (ap (λ (v : Sight). v.part) c.give_same.ensures.seat.1 ∙ ap (λ (v : Sight). v.part) c.take-run.ensures.seat) goes
