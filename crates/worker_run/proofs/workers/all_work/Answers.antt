@@ -43,9 +43,9 @@ returns-clause-over g c = let before = c.args.desks.now in let after = c.for_eac
     let to : did.after_call.now ≡ e = did.left ∙ get_or_from_slice_get after k e e at in
     subst HasStopped to did.call.3)
 
--- what its threads share: the host, the turn, the bell, the gate and the program
+-- what its threads share: the turn, the bell, the gate, the program and the host
 pub for_each_mut-requires-sync-F : goal.for_each_mut-requires-sync-F
 for_each_mut-requires-sync-F g c κs within =
     let host = given_sync 0 g.row.R c.type_bounds.sync-R in
     let gate = given_sync 1 g.row.G c.type_bounds.sync-G in
-    record { shared = λ x b o κ. ((((λ q. tt), host.shared x.0.now x.0.ref_ptr.0 x.0.ref_ptr.1 _), (((λ q. tt), turn_sync.shared x.1.now x.1.ref_ptr.0 x.1.ref_ptr.1 _), (((λ q. tt), bell.the_sync.shared x.2.now x.2.ref_ptr.0 x.2.ref_ptr.1 _), (((λ q. tt), gate.shared x.3.now x.3.ref_ptr.0 x.3.ref_ptr.1 _), (((λ q. tt), program.the_sync.shared x.4.now x.4.ref_ptr.0 x.4.ref_ptr.1 _), tt))))), λ q. tt) }
+    record { shared = λ x b o κ. ((((λ q. tt), turn_sync.shared x.0.now x.0.ref_ptr.0 x.0.ref_ptr.1 _), (((λ q. tt), bell.the_sync.shared x.1.now x.1.ref_ptr.0 x.1.ref_ptr.1 _), (((λ q. tt), gate.shared x.2.now x.2.ref_ptr.0 x.2.ref_ptr.1 _), (((λ q. tt), program.the_sync.shared x.3.now x.3.ref_ptr.0 x.3.ref_ptr.1 _), (((λ q. tt), host.shared x.4.now x.4.ref_ptr.0 x.4.ref_ptr.1 _), tt))))), λ q. tt) }
